@@ -1,0 +1,9 @@
+pub mod Calls
+pub mod File
+pub mod FilesOn
+pub mod Label
+pub mod Layout
+pub mod Memory
+pub mod Moment
+pub mod Sectors
+pub mod State

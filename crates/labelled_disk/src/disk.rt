@@ -1,0 +1,104 @@
+// A disk as the code above it sees it: sectors, each with a label and a page, and calls that may fail.
+ghost use Rattle.std.specs.Prelude.{◌≡◌, ℕ, ◌<◌, ◌^◌, List, length, Some};
+ghost use Rattle.labelled_disk.specs.State.{DiskState, lent_state};
+ghost use Rattle.labelled_disk.specs.Sectors.{Sector};
+ghost use Rattle.labelled_disk.specs.Calls.{Reads, Writes, WritesData, Settles};
+
+use crate::{Label, Page, Wanted};
+
+/// Why a call of a disk has no answer.
+#[derive(Clone, Copy, Debug, PartialEq, Eq)]
+pub enum DiskError {
+    /// The disk failed, and counted a fault.
+    Failed,
+    /// The sector has another label than the wanted one.
+    Wrong { found: Label },
+}
+
+/// A write that was made on a disk.
+#[derive(Clone, Copy)]
+pub enum DiskWrite {
+    Whole { sector: u32, label: Label, page: Page },
+    LabelOnly { sector: u32, label: Label },
+    Page { sector: u32, wanted: Wanted, page: Page },
+}
+
+/// Sectors that are read and written one by one.
+pub trait Disk {
+    ghost state: { Self → DiskState };
+
+    fn sectors(&self) -> u32
+        ensures { result ≡ (state self.now).sectors };
+
+    fn read(&mut self, sector: u32, page: &mut Page) -> Result<Label, DiskError>
+        requires { sector < (state self.old).sectors }
+        ensures { Reads (state self.old) sector page.new result (state self.new) };
+
+    fn write(&mut self, sector: u32, label: &Label, page: &Page) -> Result<(), DiskError>
+        requires { sector < (state self.old).sectors }
+        ensures { Writes (DiskWrite.Whole sector label.now page.now) (state self.old) result (state self.new) };
+
+    fn write_label(&mut self, sector: u32, label: &Label) -> Result<(), DiskError>
+        requires { sector < (state self.old).sectors }
+        ensures { Writes (DiskWrite.LabelOnly sector label.now) (state self.old) result (state self.new) };
+
+    fn write_data(&mut self, sector: u32, wanted: Wanted, page: &Page) -> Result<(), DiskError>
+        requires { sector < (state self.old).sectors }
+        ensures { WritesData sector wanted page.now (state self.old) result (state self.new) };
+
+    /// After an Ok all earlier writes are on the medium.
+    fn settle(&mut self) -> Result<(), DiskError>
+        ensures { Settles (state self.old) result (state self.new) };
+
+    fn transfers(&self) -> u64
+        ensures { result ≡ (state self.now).transfers };
+
+    fn faults(&self) -> u64
+        ensures { result ≡ (state self.now).faults };
+
+    /// There are as many sectors as the disk says.
+    ghost whole: { (d : Self) (all : List Sector) → (state d).contents ≡ Some all → length all ≡ (state d).sectors };
+
+    /// The number of sectors fits a u32.
+    ghost few: { (d : Self) → (state d).sectors < 2 ^ 32 };
+}
+
+impl<'m, D: Disk> Disk for &'m mut D {
+    ghost state = { λ d. lent_state d.ghost_name (D.state d.now) };
+
+    ghost whole = { λ d all told. D.whole d.now all told };
+
+    ghost few = { λ d. D.few d.now };
+
+    fn sectors(&self) -> u32 {
+        (**self).sectors()
+    }
+
+    fn read(&mut self, sector: u32, page: &mut Page) -> Result<Label, DiskError> {
+        (**self).read(sector, page)
+    }
+
+    fn write(&mut self, sector: u32, label: &Label, page: &Page) -> Result<(), DiskError> {
+        (**self).write(sector, label, page)
+    }
+
+    fn write_label(&mut self, sector: u32, label: &Label) -> Result<(), DiskError> {
+        (**self).write_label(sector, label)
+    }
+
+    fn write_data(&mut self, sector: u32, wanted: Wanted, page: &Page) -> Result<(), DiskError> {
+        (**self).write_data(sector, wanted, page)
+    }
+
+    fn settle(&mut self) -> Result<(), DiskError> {
+        (**self).settle()
+    }
+
+    fn transfers(&self) -> u64 {
+        (**self).transfers()
+    }
+
+    fn faults(&self) -> u64 {
+        (**self).faults()
+    }
+}

@@ -1,0 +1,14 @@
+//! A disk of sectors, each a label and a page of 512 bytes, and the files that the labels name.
+#![tactic(auto)]
+
+mod disk;
+mod evidence;
+mod label;
+mod layout;
+mod memory;
+
+pub use disk::{Disk, DiskError, DiskWrite};
+pub use evidence::{Evidence, Halt};
+pub use label::{FileId, Label, NoMemory, Page, Wanted};
+pub use layout::{Difference, Layout, RootFault};
+pub use memory::MemoryDisk;

@@ -1,0 +1,229 @@
+// A disk in memory. It can be made to fail at given calls, and to keep the list of its writes.
+ghost use Rattle.std.specs.Prelude.{◌≡◌, ℕ, ◌<◌, ◌≤◌, ◌^◌, List, [], length, slice_get, Some, None, IfOk, IfErr, OnOk, OnErr, IsErr, IsTrue, is_ok, true, unwrap_or, vec_capacity, replicate, Contains, ◌⊎◌, ◌↔◌, ◌+◌, ◌-◌, ◌++◌, ◌∷◌, min, option_map, refl, if◌then◌else◌};
+ghost use Rattle.labelled_disk.specs.Sectors.{zero_sector};
+ghost use Rattle.labelled_disk.specs.Calls.{Rose, TellsSame, Moves, FailsWith, Reads, Writes, Settles};
+
+use crate::{Disk, DiskError, DiskWrite, Label, NoMemory, Page, Wanted};
+use std::alloc::{AllocError, Allocator};
+
+#[derive(Drop)]
+pub struct MemoryDisk<A: Allocator> {
+    cells: Vec<(Label, Page), A>,
+    failing: Vec<u64, A>,
+    recording: bool,
+    writes: Vec<DiskWrite, A>,
+    room: u32,
+    transfers: u64,
+    faults: u64,
+    synced: bool,
+    ghost few: { length cells.items < 2 ^ 32 },
+    ghost room_kept: { recording ≡ true → room ≤ vec_capacity writes },
+}
+
+impl<A: Allocator + Clone> MemoryDisk<A> {
+    ghost use Rattle.labelled_disk.specs.Memory.{memory_state, memory_plan};
+
+    /// Zero sectors, all free. The disk never fails, and doesn't tell its writes.
+    pub fn new(alloc: A, sectors: u32) -> Result<MemoryDisk<A>, NoMemory>
+        ensures contents { IfOk result (λ d. (memory_state d).contents ≡ Some (replicate sectors zero_sector)) }
+        ensures writes { IfOk result (λ d. (memory_state d).writes ≡ None) }
+        ensures plan { IfOk result (λ d. memory_plan d ≡ record { calls = []; room = None }) }
+        ensures counts { IfOk result (λ d. memory_state d ≡ record (memory_state d) { transfers = 0; faults = 0; synced = true }) }
+    {
+        Ok(MemoryDisk {
+            cells: zero_sectors(alloc.clone()?, sectors)?,
+            failing: Vec::new(alloc.clone()?),
+            recording: false,
+            writes: Vec::new(alloc),
+            room: 0,
+            transfers: 0,
+            faults: 0,
+            synced: true,
+        })
+    }
+
+    /// Such a disk that fails at the calls with these numbers, counted from 1 over the calls that move a sector.
+    /// It tells its writes. A write beyond the room fails too.
+    pub fn failing(alloc: A, sectors: u32, calls: &[u64], room: u32) -> Result<MemoryDisk<A>, NoMemory>
+        ensures contents { IfOk result (λ d. (memory_state d).contents ≡ Some (replicate sectors zero_sector)) }
+        ensures writes { IfOk result (λ d. (memory_state d).writes ≡ Some []) }
+        ensures plan { IfOk result (λ d. memory_plan d ≡ record { calls = calls.now; room = Some room }) }
+        ensures counts { IfOk result (λ d. memory_state d ≡ record (memory_state d) { transfers = 0; faults = 0; synced = true }) }
+    {
+        let mut failing = Vec::new(alloc.clone()?);
+        failing.extend_from_slice(calls)?;
+        Ok(MemoryDisk {
+            cells: zero_sectors(alloc.clone()?, sectors)?,
+            failing,
+            recording: true,
+            writes: Vec::with_capacity(alloc, room as usize)?,
+            room,
+            transfers: 0,
+            faults: 0,
+            synced: true,
+        })
+    }
+}
+
+fn zero_sectors<A: Allocator>(alloc: A, sectors: u32) -> Result<Vec<(Label, Page), A>, AllocError>
+    ensures { IfOk result (λ cells. cells.items ≡ replicate sectors zero_sector) }
+{
+    let mut cells = Vec::with_capacity(alloc, sectors as usize)?;
+    for _sector in 0..sectors {
+        cells.push((Label::FREE, [0; 512]))?;
+    }
+    Ok(cells)
+}
+
+impl<A: Allocator> MemoryDisk<A> {
+    ghost use Rattle.labelled_disk.specs.Memory.{memory_state, memory_plan, next_call, is_full};
+
+    /// The writes that were made, in their order.
+    pub fn written(&self) -> &[DiskWrite]
+        ensures { result.now ≡ unwrap_or (memory_state self.now).writes [] }
+    {
+        if self.recording { &self.writes } else { &[] }
+    }
+
+    // Counts a call that moves a sector, and answers whether the call fails.
+    fn moves(&mut self) -> Result<(), DiskError>
+        ensures cells { self.new.cells.items ≡ self.old.cells.items }
+        ensures same { TellsSame (memory_state self.old) (memory_state self.new) }
+        ensures moves { Moves (memory_state self.old) (memory_state self.new) }
+        ensures fails { FailsWith result (memory_state self.old) (memory_state self.new) }
+        ensures exact { IsErr result ↔ Contains (memory_plan self.old).calls (next_call self.old) }
+        ensures plan { memory_plan self.new ≡ memory_plan self.old }
+        ensures synced { self.new.synced ≡ self.old.synced }
+    {
+        if self.transfers < u64::MAX {
+            self.transfers += 1;
+        }
+        if self.failing.contains(&self.transfers) {
+            return Err(self.fault());
+        }
+        Ok(())
+    }
+
+    // Keeps a write in the list, where there is one.
+    fn record(&mut self, write: DiskWrite) -> Result<(), DiskError>
+        ensures cells { self.new.cells.items ≡ self.old.cells.items }
+        ensures recorded { OnOk result ((memory_state self.new).writes ≡ option_map (λ writes. writes ++ write ∷ []) (memory_state self.old).writes) }
+        ensures same { OnErr result (TellsSame (memory_state self.old) (memory_state self.new)) }
+        ensures fails { FailsWith result (memory_state self.old) (memory_state self.new) }
+        ensures exact { IsErr result ↔ IsTrue (is_full self.old) }
+        ensures plan { memory_plan self.new ≡ memory_plan self.old }
+        ensures faults { self.old.faults ≤ self.new.faults }
+        ensures transfers { self.new.transfers ≡ self.old.transfers }
+    {
+        self.synced = false;
+        if self.recording {
+            if self.writes.len() >= self.room as usize {
+                return Err(self.fault());
+            }
+            if self.writes.push(write).is_err() {
+                return Err(self.fault());
+            }
+        }
+        Ok(())
+    }
+
+    fn fault(&mut self) -> DiskError
+        ensures result { result ≡ DiskError.Failed }
+        ensures cause { Rose self.old.faults self.new.faults }
+        ensures faults { self.old.faults ≤ self.new.faults }
+        ensures cells { self.new.cells.items ≡ self.old.cells.items }
+        ensures same { TellsSame (memory_state self.old) (memory_state self.new) }
+        ensures plan { memory_plan self.new ≡ memory_plan self.old }
+        ensures transfers { self.new.transfers ≡ self.old.transfers }
+        ensures synced { self.new.synced ≡ self.old.synced }
+    {
+        if self.faults < u64::MAX {
+            self.faults += 1;
+        }
+        DiskError::Failed
+    }
+}
+
+impl<A: Allocator> Disk for MemoryDisk<A> {
+    ghost use Rattle.labelled_disk.specs.Memory.{memory_state, memory_plan, next_call, is_full, same_some};
+
+    ghost state = { memory_state };
+
+    ghost whole = { λ d all is. same_some is (λ l. length l ≡ length d.cells.items) refl };
+
+    ghost few = { λ d. d.few };
+
+    fn sectors(&self) -> u32 {
+        self.cells.len() as u32
+    }
+
+    fn read(&mut self, sector: u32, page: &mut Page) -> Result<Label, DiskError>
+        requires { sector < (memory_state self.old).sectors }
+        ensures reads { Reads (memory_state self.old) sector page.new result (memory_state self.new) }
+        ensures fails { IsErr result ↔ Contains (memory_plan self.old).calls (next_call self.old) }
+        ensures plan { memory_plan self.new ≡ memory_plan self.old }
+    {
+        self.moves()?;
+        let (label, found) = self.cells[sector as usize];
+        *page = found;
+        Ok(label)
+    }
+
+    fn write(&mut self, sector: u32, label: &Label, page: &Page) -> Result<(), DiskError>
+        requires { sector < (memory_state self.old).sectors }
+        ensures writes { Writes (DiskWrite.Whole sector label.now page.now) (memory_state self.old) result (memory_state self.new) }
+        ensures fails { IsErr result → Contains (memory_plan self.old).calls (next_call self.old) ⊎ IsTrue (is_full self.old) }
+        ensures plan { memory_plan self.new ≡ memory_plan self.old }
+    {
+        self.moves()?;
+        self.record(DiskWrite::Whole {
+            sector,
+            label: *label,
+            page: *page,
+        })?;
+        self.cells[sector as usize] = (*label, *page);
+        Ok(())
+    }
+
+    fn write_label(&mut self, sector: u32, label: &Label) -> Result<(), DiskError> {
+        self.moves()?;
+        self.record(DiskWrite::LabelOnly {
+            sector,
+            label: *label,
+        })?;
+        self.cells[sector as usize].0 = *label;
+        Ok(())
+    }
+
+    fn write_data(&mut self, sector: u32, wanted: Wanted, page: &Page) -> Result<(), DiskError> {
+        self.moves()?;
+        let (found, _) = self.cells[sector as usize];
+        if !found.names(wanted) {
+            return Err(DiskError::Wrong { found });
+        }
+        self.record(DiskWrite::Page {
+            sector,
+            wanted,
+            page: *page,
+        })?;
+        self.cells[sector as usize] = (found, *page);
+        Ok(())
+    }
+
+    fn settle(&mut self) -> Result<(), DiskError>
+        ensures settles { Settles (memory_state self.old) result (memory_state self.new) }
+        ensures never_fails { result ≡ Ok tt }
+        ensures plan { memory_plan self.new ≡ memory_plan self.old }
+    {
+        self.synced = true;
+        Ok(())
+    }
+
+    fn transfers(&self) -> u64 {
+        self.transfers
+    }
+
+    fn faults(&self) -> u64 {
+        self.faults
+    }
+}

@@ -1,0 +1,10 @@
+pub mod Stream
+pub mod Memory
+pub mod Grammar
+pub mod Reading
+pub mod Words
+pub mod Progress
+pub mod Lines
+pub mod Scan
+pub mod Course
+pub mod Form

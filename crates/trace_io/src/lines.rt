@@ -1,0 +1,171 @@
+// The lines of a trace, one after another.
+ghost use Rattle.std.specs.Prelude.{◌≡◌, ◌≤◌, ◌<◌, ℕ, List, length, slice_index, Some, None, IfSome};
+ghost use Rattle.trace_io.specs.Stream.{Rose};
+ghost use Rattle.trace_io.specs.Grammar.{call_of};
+ghost use Rattle.flat_machine.specs.Form.{IsInForm};
+ghost use Rattle.trace_io.specs.Form.{GivesForm};
+ghost use Rattle.trace_io.specs.Scan.{Scans, Keeps255};
+ghost use Rattle.trace_io.specs.Lines.{TakesNext, answer_of, line_of};
+
+use crate::progress::{Line, Stop};
+use crate::{Source, SourceFault, words};
+use flat_machine::Call;
+use std::marker::Model;
+
+const LINE: usize = 255;
+
+/// Reads a trace line by line, up to a limit of bytes.
+#[derive(Drop)]
+pub struct Lines {
+    buffer: [u8; LINE],
+    taken: u64,
+    limit: u64,
+    stopped: Option<Stop>,
+}
+
+impl Model for Lines {
+    ghost use Rattle.std.specs.Prelude.{◌≤◌};
+    ghost use Rattle.trace_io.specs.Progress.{Progress};
+
+    ghost Value = { Progress };
+
+    ghost view = { λ l. record { taken = l.taken; limit = l.limit; stopped = l.stopped } };
+
+    ghost invariant = { λ l. l.taken ≤ l.limit };
+}
+
+// How a line ended: at its line feed, at the source's end, by a fault, or where there was no more room.
+#[derive(Clone, Copy)]
+pub(crate) enum Ending {
+    Feed,
+    Source,
+    Fault,
+    Room,
+}
+
+#[derive(Clone, Copy)]
+pub(crate) struct Scan {
+    size: u64,
+    end: Ending,
+}
+
+// Takes bytes to the next line feed, but no more than there is room for, and keeps the front of them.
+fn take_line<S: Source>(source: &mut S, buffer: &mut [u8; LINE], room: u64) -> Scan
+    ensures scan { Scans (S.left source.old) (S.left source.new) buffer.new room result }
+    ensures faults { S.faults source.old ≤ S.faults source.new }
+    ensures fault { result.end ≡ Ending.Fault → Rose (S.faults source.old) (S.faults source.new) }
+{
+    for size in 0..room {
+        let Ok(got) = source.next() else {
+            return Scan {
+                size,
+                end: Ending::Fault,
+            };
+        };
+        let byte = match got {
+            Some(byte) => byte,
+            None => {
+                return Scan {
+                    size,
+                    end: Ending::Source,
+                };
+            }
+        };
+        if byte == b'\n' {
+            return Scan {
+                size,
+                end: Ending::Feed,
+            };
+        }
+        if size < LINE as u64 {
+            buffer[size as usize] = byte;
+        }
+    }
+    Scan {
+        size: room,
+        end: Ending::Room,
+    }
+}
+
+// The item of a line, of which the buffer has the front.
+fn item(buffer: &[u8; LINE], size: u64) -> Option<Call>
+    ensures form { IfSome result IsInForm }
+    ensures line { (line : List ℕ) → length line ≡ size → Keeps255 buffer.now line → result ≡ call_of line }
+{
+    if size > LINE as u64 {
+        return None;
+    }
+    words::call_of(&buffer[..size as usize])
+}
+
+fn line_of(item: Option<Call>) -> Line
+    ensures line { result ≡ line_of item }
+    ensures form { IfSome item IsInForm → GivesForm result }
+{
+    match item {
+        Some(call) => Line::Call(call),
+        None => Line::Bad,
+    }
+}
+
+impl Lines {
+    /// No line yet of a trace of which at most that many bytes are taken.
+    pub fn with_limit(limit: u64) -> Lines
+        ensures { result ≡ record { taken = 0; limit = limit; stopped = None } }
+    {
+        Lines {
+            buffer: [0; LINE],
+            taken: 0,
+            limit,
+            stopped: None,
+        }
+    }
+
+    /// The bytes taken so far.
+    pub fn taken(&self) -> u64
+        ensures { result ≡ self.now.taken }
+    {
+        self.taken
+    }
+
+    /// The next line. After `End`, `ReadFault` and `Long` it is the same again, and nothing is taken.
+    pub fn next<S: Source>(&mut self, source: &mut S) -> Line
+        ensures next { self.old.stopped ≡ None → TakesNext result (S.left source.old) (S.left source.new) self.old self.new }
+        ensures again { IfSome self.old.stopped (λ why. (result ≡ answer_of why) × (self.new ≡ self.old) × (source.new ≡ source.old)) }
+        // A call that it gives is in form.
+        ensures form { self.old.stopped ≡ None → GivesForm result }
+        ensures bound { self.new.taken ≤ self.new.limit }
+        ensures faults { S.faults source.old ≤ S.faults source.new }
+        ensures fault { self.old.stopped ≡ None → result ≡ Line.ReadFault → Rose (S.faults source.old) (S.faults source.new) }
+    {
+        match self.stopped {
+            Some(Stop::End) => return Line::End,
+            Some(Stop::ReadFault) => return Line::ReadFault,
+            Some(Stop::Long) => return Line::Long,
+            None => {}
+        }
+        let scan = take_line(source, &mut self.buffer, self.limit - self.taken);
+        self.taken += scan.size;
+        match scan.end {
+            Ending::Feed => {
+                self.taken += 1;
+                line_of(item(&self.buffer, scan.size))
+            }
+            Ending::Source => {
+                self.stopped = Some(Stop::End);
+                if scan.size == 0 {
+                    return Line::End;
+                }
+                line_of(item(&self.buffer, scan.size))
+            }
+            Ending::Fault => {
+                self.stopped = Some(Stop::ReadFault);
+                Line::ReadFault
+            }
+            Ending::Room => {
+                self.stopped = Some(Stop::Long);
+                Line::Long
+            }
+        }
+    }
+}
