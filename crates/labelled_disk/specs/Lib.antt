@@ -5,5 +5,9 @@ pub mod Label
 pub mod Layout
 pub mod Memory
 pub mod Moment
+pub mod Right
+pub mod Rising
+pub mod Root
 pub mod Sectors
 pub mod State
+pub mod WriteLaws
