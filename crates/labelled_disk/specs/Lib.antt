@@ -4,6 +4,7 @@ pub mod FilesOn
 pub mod Label
 pub mod Lawful
 pub mod Layout
+pub mod Lowest
 pub mod Memory
 pub mod Moment
 pub mod Right
