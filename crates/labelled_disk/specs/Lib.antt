@@ -11,6 +11,7 @@ pub mod Right
 pub mod Rising
 pub mod Root
 pub mod RootLaws
+pub mod Runs
 pub mod Sectors
 pub mod State
 pub mod WriteLaws

@@ -4,6 +4,7 @@ ghost use Rattle.std.specs.Prelude.{ℕ, Bool, List};
 ghost use Rattle.labelled_disk.specs.Sectors.{Sector};
 ghost use Rattle.labelled_disk.specs.Lowest.{FilesAreAsTold, NeededLaws};
 ghost use Rattle.labelled_disk.specs.RootLaws.{RootLaws};
+ghost use Rattle.labelled_disk.specs.Runs.{RunLaws};
 ghost use Rattle.labelled_disk.specs.WriteLaws.{WriteLaws, FilesAreThose};
 
 /// The list of files has what each identifier has, in rising order.
@@ -29,4 +30,9 @@ pub fn files_are_as_told()
 /// Which sectors the files of a disk need, whatever labels it has.
 pub fn unneeded_sectors_are_free()
     ensures { (temps : Bool) → NeededLaws temps }
+{}
+
+/// The files at each moment of a creation, a growth, a shrinking and a deletion.
+pub fn runs_go_one_way()
+    ensures { (temps : Bool) (serial counter : ℕ) → RunLaws temps serial counter }
 {}
