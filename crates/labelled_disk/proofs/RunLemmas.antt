@@ -1,24 +1,27 @@
 -- Runs of writes, moment by moment.
 use Rattle.std.proofs.Common.{◌≡◌, ◌≢◌, ℕ, zero, suc, ◌+◌, ◌-◌, ◌<◌, ◌≤◌, ◌/◌, ◌%◌, ◌^◌, Bool, true, false, ◌&&◌, ◌||◌, List, [], ◌∷◌, ◌++◌, map, length, Option, Some, None, refl, sym, ◌∙◌, ap, subst, arith, take, append_assoc, append-nil, length-set, eqb}
-use Rattle.std.specs.Prelude.{slice_get, slice_set, replicate, option_map, find, nat_lt}
+use Rattle.std.specs.Prelude.{slice_get, slice_set, replicate, option_map, find, nat_lt, if◌then◌else◌}
 use Rattle.std.specs.Option.{option_map_or}
 use Rattle.std.specs.List.{AllByRecursion}
 use Rattle.std.proofs.lemmas.List.{length_push, length-take-le, take_all, take-take}
 use Rattle.std.proofs.lemmas.Option.{same_Some, none-some}
 use Rattle.std.proofs.lemmas.Bool.{and_parts, and_left, and_from, eq-eqb}
-use Rattle.labelled_disk.specs.Label.{is_file, is_file_id, is_permanent, leader_page}
+use Rattle.labelled_disk.specs.Label.{is_file, is_file_id, is_permanent, leader_page, names}
 use Rattle.labelled_disk.specs.declared.label.Label.{Label}
-use Rattle.labelled_disk.specs.Sectors.{Sector, free_label}
-use Rattle.labelled_disk.specs.Moment.{moment}
+use Rattle.labelled_disk.specs.declared.disk.DiskWrite.{DiskWrite}
+use Rattle.labelled_disk.specs.declared.disk.DiskWrite.TheVariants as write
+use Rattle.labelled_disk.specs.Sectors.{Sector, IsSector, AreSectors, free_label}
+use Rattle.labelled_disk.specs.Moment.{moment, written}
 use Rattle.labelled_disk.specs.Layout.{capacity, data_sectors, first_data}
 use Rattle.labelled_disk.specs.File.{File, Page, byte, size, file_at, room_of, total_room, zero_page}
 use Rattle.labelled_disk.specs.FilesOn.{is_of, is_page, leads, leads_file, leader_among, files_among, disk_file}
 use Rattle.labelled_disk.specs.Right.{FilesRight}
 use Rattle.labelled_disk.specs.WriteLaws.{HasData, Changed, Kept}
-use Rattle.labelled_disk.specs.Runs.{page_label, zero_bytes, growth, creation, freeing, IsUnused, AreUnused, IsAt, ArePagesDown, ArePagesUp, lengthened, shortened, GrowthMoments, CreationMoments, ShrinkingMoments, DeletionMoments}
+use Rattle.labelled_disk.specs.Runs.{page_label, zero_bytes, growth, creation, freeing, IsUnused, AreUnused, IsAt, ArePagesDown, ArePagesUp, lengthened, shortened, GrowthMoments, CreationMoments, ShrinkingMoments, DeletionMoments, CreationUnseen, DataRuns, SectorsStay, sector_of}
 use Rattle.labelled_disk.proofs.Finds.{get_set_other, found_at, find_none}
 use Rattle.labelled_disk.proofs.SectorWrites as w
 use Rattle.labelled_disk.proofs.WriteLemmas as laws
+use Rattle.labelled_disk.proofs.RootLemmas.{only_self, right_still}
 
 -- zero bytes are cells of zero
 zero_cells : map byte zero_bytes ≡ zero_page
@@ -236,3 +239,113 @@ module _ (temps : Bool) (serial counter : ℕ) where
       let rest = gone_from (slice_set d leader t) id 0 is once.right once.file (led_still d temps id 0 leader s t is led.there led.passes pages) k low in
       then_changed d (slice_set d leader t) _ id None None once
       (subst (λ (e : List Sector). Changed temps serial counter (slice_set d leader t) e id None) (freed d leader s is k led.there.here) rest)
+
+  -- pages of a file that doesn't count
+  unseen_from : (d : List Sector) (id kind page : ℕ) (is : List ℕ) → FilesRight temps serial counter d → disk_file temps d id ≡ None → AreUnused d is → page + length is ≤ leader_page
+      → (k : ℕ) → k ≤ length is → Changed temps serial counter d (moment d (growth id kind page is) k) id None
+  unseen_from d id kind page is right none unused few zero low = unchanged d id None right none
+  unseen_from d id kind page [] right none unused few (suc k) low = absurd (omega (arith, low))
+  unseen_from d id kind page (i ∷ is) right none unused few (suc k) low =
+      let t : Sector = (page_label id kind page, zero_bytes) in
+      let kept = laws.temporary_written temps serial counter d i unused.0.s t id right unused.0.there
+      (laws.only_none temps serial counter id unused.0.s unused.0.unused) (only_self t id refl) none
+      (w.other_than_leader temps id t (λ e. omega (arith, e, few))) in
+      let once = as_changed d (slice_set d i t) id none kept in
+      let rest = unseen_from (slice_set d i t) id kind (page + 1) is once.right once.file (unused_still d i t is unused.1 unused.2) (omega (arith, few)) k (omega (arith, low)) in
+      then_changed d (slice_set d i t) _ id None None once rest
+
+  pub creation_unseen : CreationUnseen temps serial counter
+  creation_unseen d id kind leader is right none hidden unused few zero low = unchanged d id None right none
+  creation_unseen d id kind leader is right none hidden unused few (suc k) low =
+      let t : Sector = (page_label id kind leader_page, zero_bytes) in
+      let kept = laws.temporary_written temps serial counter d leader unused.0.s t id right unused.0.there
+      (laws.only_none temps serial counter id unused.0.s unused.0.unused) (only_self t id refl) none hidden in
+      let once = as_changed d (slice_set d leader t) id none kept in
+      let rest = unseen_from (slice_set d leader t) id kind 0 is once.right once.file (unused_still d leader t is unused.1 unused.2) (omega (arith, few)) k (omega (arith, low)) in
+      then_changed d (slice_set d leader t) _ id None None once rest
+
+-- Writes of data sectors.
+
+set_low : (d : List Sector) (i j : ℕ) (t : Sector) → j < i → slice_get (slice_set d i t) j ≡ slice_get d j
+set_low d i j t low = get_set_other d i j t (λ e. omega (arith, e, low))
+
+-- one write changes its own sector alone, and no length
+written_apart : (d : List Sector) (one : DiskWrite) (j : ℕ) → j < sector_of one → slice_get (written one d) j ≡ slice_get d j
+written_apart d (write.Whole sector label page) j low = set_low d sector j (label, page) low
+written_apart d (write.LabelOnly sector label) j low = either (slice_get d sector)
+  where
+    either : (o : Option Sector) → slice_get (option_map_or (λ old. slice_set d sector (label, old.1)) o d) j ≡ slice_get d j
+    either None = refl
+    either (Some s) = set_low d sector j (label, s.1) low
+written_apart d (write.Page sector wanted page) j low = either (slice_get d sector)
+  where
+    choice : (b : Bool) (s : Sector) → slice_get (if b then slice_set d sector (s.0, page) else d) j ≡ slice_get d j
+    choice true s = set_low d sector j (s.0, page) low
+    choice false s = refl
+
+    either : (o : Option Sector) → slice_get (option_map_or (λ old. if names old.0 wanted then slice_set d sector (old.0, page) else d) o d) j ≡ slice_get d j
+    either None = refl
+    either (Some s) = choice (names s.0 wanted) s
+
+written_long : (d : List Sector) (one : DiskWrite) → length (written one d) ≡ length d
+written_long d (write.Whole sector label page) = length-set d sector (label, page)
+written_long d (write.LabelOnly sector label) = either (slice_get d sector)
+  where
+    either : (o : Option Sector) → length (option_map_or (λ old. slice_set d sector (label, old.1)) o d) ≡ length d
+    either None = refl
+    either (Some s) = length-set d sector (label, s.1)
+written_long d (write.Page sector wanted page) = either (slice_get d sector)
+  where
+    choice : (b : Bool) (s : Sector) → length (if b then slice_set d sector (s.0, page) else d) ≡ length d
+    choice true s = length-set d sector (s.0, page)
+    choice false s = refl
+
+    either : (o : Option Sector) → length (option_map_or (λ old. if names old.0 wanted then slice_set d sector (old.0, page) else d) o d) ≡ length d
+    either None = refl
+    either (Some s) = choice (names s.0 wanted) s
+
+-- the sectors before the data, after writes of data sectors
+moment_long : (d : List Sector) (writes : List DiskWrite) (k : ℕ) → length (moment d writes k) ≡ length d
+moment_long d writes zero = refl
+moment_long d [] (suc k) = refl
+moment_long d (one ∷ writes) (suc k) = moment_long (written one d) writes k ∙ written_long d one
+
+moment_low : (n : ℕ) (d : List Sector) (writes : List DiskWrite) (k j : ℕ) → j < n → AllByRecursion (λ one. n ≤ sector_of one) writes → slice_get (moment d writes k) j ≡ slice_get d j
+moment_low n d writes zero j low all = refl
+moment_low n d [] (suc k) j low all = refl
+moment_low n d (one ∷ writes) (suc k) j low all = moment_low n (written one d) writes k j low all.1 ∙ written_apart d one j (omega (arith, low, all.0))
+
+pub data_runs : (temps : Bool) → DataRuns temps
+data_runs temps d writes k right all files =
+    right_still temps d (moment d writes k) (moment_long d writes k)
+    (moment_low (first_data (length d)) d writes k 0 (laws.first_positive temps 0 0 (length d)) all)
+    (λ i high low. ap (λ (o : Option Sector). option_map (λ s. s.0) o) (moment_low (first_data (length d)) d writes k i low all))
+    files right
+
+-- Sectors stay sectors.
+
+each_set : (P : Sector → Type 0) (d : List Sector) (i : ℕ) (t : Sector) → ((k : ℕ) (s : Sector) → slice_get d k ≡ Some s → P s) → P t
+    → (k : ℕ) (s : Sector) → slice_get (slice_set d i t) k ≡ Some s → P s
+each_set P [] i t each new k s is = each k s is
+each_set P (x ∷ xs) zero t each new zero s is = subst P (same_Some t s is) new
+each_set P (x ∷ xs) zero t each new (suc k) s is = each (suc k) s is
+each_set P (x ∷ xs) (suc i) t each new zero s is = each zero s is
+each_set P (x ∷ xs) (suc i) t each new (suc k) s is = each_set P xs i t (λ k s is. each (suc k) s is) new k s is
+
+pub sectors_stay : SectorsStay
+sectors_stay d (write.Whole sector label page) are form = each_set IsSector d sector (label, page) are form
+sectors_stay d (write.LabelOnly sector label) are form = either (slice_get d sector) refl
+  where
+    either : (o : Option Sector) → slice_get d sector ≡ o → AreSectors (option_map_or (λ old. slice_set d sector (label, old.1)) o d)
+    either None e = are
+    either (Some s) e = let was = are sector s e in each_set IsSector d sector (label, s.1) are (form s.1 was.whole_page was.bytes)
+sectors_stay d (write.Page sector wanted page) are form = either (slice_get d sector) refl
+  where
+    choice : (b : Bool) (s : Sector) → IsSector s → AreSectors (if b then slice_set d sector (s.0, page) else d)
+    choice true s was = each_set IsSector d sector (s.0, page) are
+        (record { id_fits = was.id_fits; page_fits = was.page_fits; kind_fits = was.kind_fits; flags_fit = was.flags_fit; last_fits = was.last_fits; whole_page = form.0; bytes = form.1 })
+    choice false s was = are
+
+    either : (o : Option Sector) → slice_get d sector ≡ o → AreSectors (option_map_or (λ old. if names old.0 wanted then slice_set d sector (old.0, page) else d) o d)
+    either None e = are
+    either (Some s) e = choice (names s.0 wanted) s (are sector s e)

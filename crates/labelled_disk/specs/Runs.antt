@@ -1,16 +1,17 @@
 -- The writes in a row that make, lengthen, shorten and remove a file, and the files at each moment of them.
-use Rattle.std.specs.Prelude.{◌≡◌, ◌≢◌, ℕ, zero, suc, ◌+◌, ◌-◌, ◌/◌, ◌%◌, ◌^◌, ◌<◌, ◌≤◌, Bool, true, false, List, [], ◌∷◌, ◌++◌, length, take, replicate, slice_get, Some, None}
+use Rattle.std.specs.Prelude.{◌≡◌, ◌≢◌, ℕ, zero, suc, ◌+◌, ◌-◌, ◌/◌, ◌%◌, ◌^◌, ◌<◌, ◌≤◌, Bool, true, false, List, [], ◌∷◌, ◌++◌, length, take, replicate, slice_get, Some, None, All}
 use Rattle.std.specs.List.{AllByRecursion}
 use Rattle.labelled_disk.specs.declared.label.Label.{Label}
 use Rattle.labelled_disk.specs.declared.disk.DiskWrite.{DiskWrite}
-use Rattle.labelled_disk.specs.declared.disk.DiskWrite.TheVariants.{Whole, LabelOnly}
+use Rattle.labelled_disk.specs.declared.disk.DiskWrite.TheVariants.{Whole, LabelOnly, Page}
 use Rattle.labelled_disk.specs.Label.{is_file, is_file_id, leader_page}
-use Rattle.labelled_disk.specs.Sectors.{Sector, free_label}
-use Rattle.labelled_disk.specs.Moment.{moment}
-use Rattle.labelled_disk.specs.Layout.{capacity, data_sectors}
+use Rattle.labelled_disk.specs.Sectors.{Sector, IsSector, AreSectors, free_label}
+use Rattle.labelled_disk.specs.Moment.{moment, written}
+use Rattle.labelled_disk.specs.Layout.{capacity, data_sectors, first_data}
 use Rattle.labelled_disk.specs.File.{File, size, total_room, zero_page}
 use Rattle.labelled_disk.specs.FilesOn.{is_of, is_page, leads_file, files_among, disk_file}
 use Rattle.labelled_disk.specs.Right.{FilesRight}
+use Rattle.labelled_disk.specs.Root.{RightFor, serial_of, counter_of}
 use Rattle.labelled_disk.specs.WriteLaws.{HasData, Changed, Kept}
 
 -- the label of a page of a file, or with the leader's page number that of its leader: temporary and mutable
@@ -96,9 +97,37 @@ module _ (temps : Bool) (serial counter : ℕ) where
   DeletionMoments = (d : List Sector) (id leader : ℕ) (f : File) (is : List ℕ) → FilesRight temps serial counter d → disk_file temps d id ≡ Some f → IsAt (leads_file temps id) d leader
       → ArePagesUp d id 0 is → (k : ℕ) → k ≤ length is → Changed temps serial counter d (moment d (freeing (leader ∷ is)) (suc k)) id None
 
+  -- of a creation whose leader doesn't count, at each moment: there is no such file, and all others are as before
+  abbrev pub CreationUnseen : Type 0
+  CreationUnseen = (d : List Sector) (id kind leader : ℕ) (is : List ℕ) → FilesRight temps serial counter d → disk_file temps d id ≡ None
+      → leads_file temps id (page_label id kind leader_page, zero_bytes) ≡ false → AreUnused d (leader ∷ is) → length is < leader_page → (k : ℕ) → k ≤ suc (length is)
+      → Changed temps serial counter d (moment d (creation id kind leader is) k) id None
+
   -- what each run of writes does
   pub record RunLaws : Type 0 where
+    pub creation_unseen : CreationUnseen
     pub growth_moments : GrowthMoments
     pub creation_moments : CreationMoments
     pub shrinking_moments : ShrinkingMoments
     pub deletion_moments : DeletionMoments
+
+-- the sector that a write is made on
+abbrev pub sector_of : DiskWrite → ℕ
+sector_of (Whole sector label page) = sector
+sector_of (LabelOnly sector label) = sector
+sector_of (Page sector wanted page) = sector
+
+-- writes of data sectors, at each moment, leave root and maps: only the files' labels count
+abbrev pub DataRuns : Bool → Type 0
+DataRuns temps = (d : List Sector) (writes : List DiskWrite) (k : ℕ) → RightFor temps d → AllByRecursion (λ write. first_data (length d) ≤ sector_of write) writes
+    → FilesRight temps (serial_of d) (counter_of d) (moment d writes k) → RightFor temps (moment d writes k)
+
+-- the label and the page of a write fit
+abbrev pub IsWriteInForm : DiskWrite → Type 0
+IsWriteInForm (Whole sector label page) = IsSector (label, page)
+IsWriteInForm (LabelOnly sector label) = (page : List ℕ) → length page ≡ 512 → All (λ b. b < 256) page → IsSector (label, page)
+IsWriteInForm (Page sector wanted page) = (length page ≡ 512) × All (λ b. b < 256) page
+
+-- one write in form leaves sectors
+abbrev pub SectorsStay : Type 0
+SectorsStay = (d : List Sector) (write : DiskWrite) → AreSectors d → IsWriteInForm write → AreSectors (written write d)

@@ -4,7 +4,7 @@ ghost use Rattle.std.specs.Prelude.{ℕ, Bool, List};
 ghost use Rattle.labelled_disk.specs.Sectors.{Sector};
 ghost use Rattle.labelled_disk.specs.Lowest.{FilesAreAsTold, NeededLaws};
 ghost use Rattle.labelled_disk.specs.RootLaws.{RootLaws};
-ghost use Rattle.labelled_disk.specs.Runs.{RunLaws};
+ghost use Rattle.labelled_disk.specs.Runs.{DataRuns, RunLaws, SectorsStay};
 ghost use Rattle.labelled_disk.specs.WriteLaws.{WriteLaws, FilesAreThose};
 
 /// The list of files has what each identifier has, in rising order.
@@ -34,5 +34,7 @@ pub fn unneeded_sectors_are_free()
 
 /// The files at each moment of a creation, a growth, a shrinking and a deletion.
 pub fn runs_go_one_way()
-    ensures { (temps : Bool) (serial counter : ℕ) → RunLaws temps serial counter }
+    ensures files { (temps : Bool) (serial counter : ℕ) → RunLaws temps serial counter }
+    ensures volume { (temps : Bool) → DataRuns temps }
+    ensures sectors { SectorsStay }
 {}
