@@ -1,4 +1,5 @@
 pub mod Calls
+pub mod Example
 pub mod File
 pub mod FilesOn
 pub mod Label

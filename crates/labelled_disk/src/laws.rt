@@ -2,6 +2,7 @@
 
 ghost use Rattle.std.specs.Prelude.{ℕ, Bool, List};
 ghost use Rattle.labelled_disk.specs.Sectors.{Sector};
+ghost use Rattle.labelled_disk.specs.Example.{ExampleFiles};
 ghost use Rattle.labelled_disk.specs.Lowest.{FilesAreAsTold, NeededLaws};
 ghost use Rattle.labelled_disk.specs.RootLaws.{RootLaws};
 ghost use Rattle.labelled_disk.specs.Runs.{DataRuns, RunLaws, SectorsStay};
@@ -37,4 +38,9 @@ pub fn runs_go_one_way()
     ensures files { (temps : Bool) (serial counter : ℕ) → RunLaws temps serial counter }
     ensures volume { (temps : Bool) → DataRuns temps }
     ensures sectors { SectorsStay }
+{}
+
+/// The files of a disk that is written out sector by sector.
+pub fn example_files()
+    ensures { ExampleFiles }
 {}
