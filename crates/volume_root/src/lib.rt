@@ -1,0 +1,10 @@
+//! The root of a volume: read, judged and written.
+#![tactic(auto)]
+
+mod page;
+mod read;
+mod root;
+
+pub use labelled_disk::{Difference, Layout, RootFault};
+pub use read::read_root;
+pub use root::Root;
