@@ -1,26 +1,40 @@
-// A disk as the code above it sees it: sectors, each with a label and a page, and calls that may fail.
+//! A disk as the code above it sees it: sectors, each with a label and a page, and calls that may fail.
 ghost use Rattle.std.specs.Prelude.{◌≡◌, ℕ, ◌<◌, ◌^◌, List, length, Some};
 ghost use Rattle.labelled_disk.specs.State.{DiskState, lent_state};
-ghost use Rattle.labelled_disk.specs.Sectors.{Sector};
+ghost use Rattle.labelled_disk.specs.Sectors.{Sector, AreSectors};
 ghost use Rattle.labelled_disk.specs.Calls.{Reads, Writes, WritesData, Settles};
 
 use crate::{Label, Page, Wanted};
+use thiserror::Error;
 
 /// Why a call of a disk has no answer.
-#[derive(Clone, Copy, Debug, PartialEq, Eq)]
+#[derive(Clone, Copy, Debug, PartialEq, Eq, Error)]
 pub enum DiskError {
     /// The disk failed, and counted a fault.
+    #[error("the disk failed")]
     Failed,
-    /// The sector has another label than the wanted one.
+    /// The label in the sector, which is carried, doesn't name the wanted page.
+    #[error("another label stands there")]
     Wrong { found: Label },
 }
 
 /// A write that was made on a disk.
-#[derive(Clone, Copy)]
+#[derive(Clone, Copy, Debug, PartialEq, Eq)]
 pub enum DiskWrite {
-    Whole { sector: u32, label: Label, page: Page },
+    /// The sector got this label and this page.
+    Whole {
+        sector: u32,
+        label: Label,
+        page: Page,
+    },
+    /// The sector got this label, and kept its page.
     LabelOnly { sector: u32, label: Label },
-    Page { sector: u32, wanted: Wanted, page: Page },
+    /// The sector, whose label named the wanted page, got this page, and kept its label.
+    Page {
+        sector: u32,
+        wanted: Wanted,
+        page: Page,
+    },
 }
 
 /// Sectors that are read and written one by one.
@@ -59,6 +73,9 @@ pub trait Disk {
     /// There are as many sectors as the disk says.
     ghost whole: { (d : Self) (all : List Sector) → (state d).contents ≡ Some all → length all ≡ (state d).sectors };
 
+    /// What is told of a sector fits: each field of its label, and its 512 bytes.
+    ghost in_form: { (d : Self) (all : List Sector) → (state d).contents ≡ Some all → AreSectors all };
+
     /// The number of sectors fits a u32.
     ghost few: { (d : Self) → (state d).sectors < 2 ^ 32 };
 }
@@ -67,6 +84,8 @@ impl<'m, D: Disk> Disk for &'m mut D {
     ghost state = { λ d. lent_state d.ghost_name (D.state d.now) };
 
     ghost whole = { λ d all told. D.whole d.now all told };
+
+    ghost in_form = { λ d all told. D.in_form d.now all told };
 
     ghost few = { λ d. D.few d.now };
 

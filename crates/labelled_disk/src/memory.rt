@@ -1,7 +1,7 @@
-// A disk in memory. It can be made to fail at given calls, and to keep the list of its writes.
-ghost use Rattle.std.specs.Prelude.{◌≡◌, ℕ, ◌<◌, ◌≤◌, ◌^◌, List, [], length, slice_get, Some, None, IfOk, IfErr, OnOk, OnErr, IsErr, IsTrue, is_ok, true, unwrap_or, vec_capacity, replicate, Contains, ◌⊎◌, ◌↔◌, ◌+◌, ◌-◌, ◌++◌, ◌∷◌, min, option_map, refl, if◌then◌else◌};
-ghost use Rattle.labelled_disk.specs.Sectors.{zero_sector};
-ghost use Rattle.labelled_disk.specs.Calls.{Rose, TellsSame, Moves, FailsWith, Reads, Writes, Settles};
+//! A disk in memory. It can be made to fail at given calls, and to keep the list of its writes.
+ghost use Rattle.std.specs.Prelude.{◌≡◌, ℕ, ◌<◌, ◌≤◌, ◌^◌, List, [], length, slice_get, slice_set, Some, None, IfOk, IfErr, OnOk, OnErr, IsErr, IsTrue, is_ok, true, false, unwrap_or, vec_capacity, replicate, Contains, ◌⊎◌, ◌↔◌, ◌+◌, ◌-◌, ◌++◌, ◌∷◌, min, option_map, refl, if◌then◌else◌};
+ghost use Rattle.labelled_disk.specs.Sectors.{zero_sector, AreSectors};
+ghost use Rattle.labelled_disk.specs.Calls.{Rose, TellsSame, Moves, FailsWith, Reads, Writes, WritesData, Settles};
 
 use crate::{Disk, DiskError, DiskWrite, Label, NoMemory, Page, Wanted};
 use std::alloc::{AllocError, Allocator};
@@ -18,6 +18,7 @@ pub struct MemoryDisk<A: Allocator> {
     synced: bool,
     ghost few: { length cells.items < 2 ^ 32 },
     ghost room_kept: { recording ≡ true → room ≤ vec_capacity writes },
+    ghost in_form: { AreSectors cells.items },
 }
 
 impl<A: Allocator + Clone> MemoryDisk<A> {
@@ -76,7 +77,7 @@ fn zero_sectors<A: Allocator>(alloc: A, sectors: u32) -> Result<Vec<(Label, Page
 }
 
 impl<A: Allocator> MemoryDisk<A> {
-    ghost use Rattle.labelled_disk.specs.Memory.{memory_state, memory_plan, next_call, is_full};
+    ghost use Rattle.labelled_disk.specs.Memory.{memory_state, memory_plan, IsFull, FailsNext, Counts, CountsFault};
 
     /// The writes that were made, in their order.
     pub fn written(&self) -> &[DiskWrite]
@@ -91,8 +92,8 @@ impl<A: Allocator> MemoryDisk<A> {
         ensures same { TellsSame (memory_state self.old) (memory_state self.new) }
         ensures moves { Moves (memory_state self.old) (memory_state self.new) }
         ensures fails { FailsWith result (memory_state self.old) (memory_state self.new) }
-        ensures exact { IsErr result ↔ Contains (memory_plan self.old).calls (next_call self.old) }
-        ensures plan { memory_plan self.new ≡ memory_plan self.old }
+        ensures exact { IsErr result ↔ FailsNext self.old }
+        ensures counts { Counts result self.old self.new }
         ensures synced { self.new.synced ≡ self.old.synced }
     {
         if self.transfers < u64::MAX {
@@ -110,12 +111,13 @@ impl<A: Allocator> MemoryDisk<A> {
         ensures recorded { OnOk result ((memory_state self.new).writes ≡ option_map (λ writes. writes ++ write ∷ []) (memory_state self.old).writes) }
         ensures same { OnErr result (TellsSame (memory_state self.old) (memory_state self.new)) }
         ensures fails { FailsWith result (memory_state self.old) (memory_state self.new) }
-        ensures exact { IsErr result ↔ IsTrue (is_full self.old) }
+        ensures exact { IsErr result ↔ IsFull self.old }
         ensures plan { memory_plan self.new ≡ memory_plan self.old }
-        ensures faults { self.old.faults ≤ self.new.faults }
+        ensures never_falls { self.old.faults ≤ self.new.faults }
+        ensures faults { CountsFault result self.old.faults self.new.faults }
         ensures transfers { self.new.transfers ≡ self.old.transfers }
+        ensures synced { self.new.synced ≡ self.old.synced }
     {
-        self.synced = false;
         if self.recording {
             if self.writes.len() >= self.room as usize {
                 return Err(self.fault());
@@ -127,10 +129,27 @@ impl<A: Allocator> MemoryDisk<A> {
         Ok(())
     }
 
+    // Puts a label and a page in a sector.
+    fn put(&mut self, sector: u32, label: Label, page: &Page)
+        requires { sector < length self.old.cells.items }
+        ensures cells { self.new.cells.items ≡ slice_set self.old.cells.items sector (label, page.now) }
+        ensures writes { (memory_state self.new).writes ≡ (memory_state self.old).writes }
+        ensures plan { memory_plan self.new ≡ memory_plan self.old }
+        ensures faults { self.new.faults ≡ self.old.faults }
+        ensures transfers { self.new.transfers ≡ self.old.transfers }
+        ensures synced { self.new.synced ≡ false }
+    {
+        let Label { id, page: number, kind, flags, last } = label;
+        let label = Label { id, page: number, kind, flags, last };
+        self.cells[sector as usize] = (label, *page);
+        self.synced = false;
+    }
+
     fn fault(&mut self) -> DiskError
         ensures result { result ≡ DiskError.Failed }
         ensures cause { Rose self.old.faults self.new.faults }
-        ensures faults { self.old.faults ≤ self.new.faults }
+        ensures never_falls { self.old.faults ≤ self.new.faults }
+        ensures faults { self.new.faults ≡ min (self.old.faults + 1) (2 ^ 64 - 1) }
         ensures cells { self.new.cells.items ≡ self.old.cells.items }
         ensures same { TellsSame (memory_state self.old) (memory_state self.new) }
         ensures plan { memory_plan self.new ≡ memory_plan self.old }
@@ -145,11 +164,13 @@ impl<A: Allocator> MemoryDisk<A> {
 }
 
 impl<A: Allocator> Disk for MemoryDisk<A> {
-    ghost use Rattle.labelled_disk.specs.Memory.{memory_state, memory_plan, next_call, is_full, same_some};
+    ghost use Rattle.labelled_disk.specs.Memory.{memory_state, memory_plan, names_at, IsFull, FailsNext, Counts, IsFailed, StaysSyncedIfErr, same_some};
 
     ghost state = { memory_state };
 
     ghost whole = { λ d all is. same_some is (λ l. length l ≡ length d.cells.items) refl };
+
+    ghost in_form = { λ d all is. same_some is AreSectors d.in_form };
 
     ghost few = { λ d. d.few };
 
@@ -160,8 +181,9 @@ impl<A: Allocator> Disk for MemoryDisk<A> {
     fn read(&mut self, sector: u32, page: &mut Page) -> Result<Label, DiskError>
         requires { sector < (memory_state self.old).sectors }
         ensures reads { Reads (memory_state self.old) sector page.new result (memory_state self.new) }
-        ensures fails { IsErr result ↔ Contains (memory_plan self.old).calls (next_call self.old) }
-        ensures plan { memory_plan self.new ≡ memory_plan self.old }
+        ensures fails { IsErr result ↔ FailsNext self.old }
+        ensures counts { Counts result self.old self.new }
+        ensures synced { (memory_state self.new).synced ≡ (memory_state self.old).synced }
     {
         self.moves()?;
         let (label, found) = self.cells[sector as usize];
@@ -172,8 +194,9 @@ impl<A: Allocator> Disk for MemoryDisk<A> {
     fn write(&mut self, sector: u32, label: &Label, page: &Page) -> Result<(), DiskError>
         requires { sector < (memory_state self.old).sectors }
         ensures writes { Writes (DiskWrite.Whole sector label.now page.now) (memory_state self.old) result (memory_state self.new) }
-        ensures fails { IsErr result → Contains (memory_plan self.old).calls (next_call self.old) ⊎ IsTrue (is_full self.old) }
-        ensures plan { memory_plan self.new ≡ memory_plan self.old }
+        ensures fails { IsErr result ↔ (FailsNext self.old ⊎ IsFull self.old) }
+        ensures counts { Counts result self.old self.new }
+        ensures synced { StaysSyncedIfErr result (memory_state self.old) (memory_state self.new) }
     {
         self.moves()?;
         self.record(DiskWrite::Whole {
@@ -181,21 +204,34 @@ impl<A: Allocator> Disk for MemoryDisk<A> {
             label: *label,
             page: *page,
         })?;
-        self.cells[sector as usize] = (*label, *page);
+        self.put(sector, *label, page);
         Ok(())
     }
 
-    fn write_label(&mut self, sector: u32, label: &Label) -> Result<(), DiskError> {
+    fn write_label(&mut self, sector: u32, label: &Label) -> Result<(), DiskError>
+        requires { sector < (memory_state self.old).sectors }
+        ensures writes { Writes (DiskWrite.LabelOnly sector label.now) (memory_state self.old) result (memory_state self.new) }
+        ensures fails { IsErr result ↔ (FailsNext self.old ⊎ IsFull self.old) }
+        ensures counts { Counts result self.old self.new }
+        ensures synced { StaysSyncedIfErr result (memory_state self.old) (memory_state self.new) }
+    {
         self.moves()?;
         self.record(DiskWrite::LabelOnly {
             sector,
             label: *label,
         })?;
-        self.cells[sector as usize].0 = *label;
+        let (_, page) = self.cells[sector as usize];
+        self.put(sector, *label, &page);
         Ok(())
     }
 
-    fn write_data(&mut self, sector: u32, wanted: Wanted, page: &Page) -> Result<(), DiskError> {
+    fn write_data(&mut self, sector: u32, wanted: Wanted, page: &Page) -> Result<(), DiskError>
+        requires { sector < (memory_state self.old).sectors }
+        ensures writes { WritesData sector wanted page.now (memory_state self.old) result (memory_state self.new) }
+        ensures fails { IsFailed result ↔ (FailsNext self.old ⊎ (IsTrue (names_at self.old sector wanted) × IsFull self.old)) }
+        ensures counts { Counts result self.old self.new }
+        ensures synced { StaysSyncedIfErr result (memory_state self.old) (memory_state self.new) }
+    {
         self.moves()?;
         let (found, _) = self.cells[sector as usize];
         if !found.names(wanted) {
@@ -206,13 +242,14 @@ impl<A: Allocator> Disk for MemoryDisk<A> {
             wanted,
             page: *page,
         })?;
-        self.cells[sector as usize] = (found, *page);
+        self.put(sector, found, page);
         Ok(())
     }
 
     fn settle(&mut self) -> Result<(), DiskError>
         ensures settles { Settles (memory_state self.old) result (memory_state self.new) }
         ensures never_fails { result ≡ Ok tt }
+        ensures faults { (memory_state self.new).faults ≡ (memory_state self.old).faults }
         ensures plan { memory_plan self.new ≡ memory_plan self.old }
     {
         self.synced = true;
