@@ -2,6 +2,7 @@
 use Rattle.std.specs.Prelude.{◌≡◌, ℕ, ◌+◌, ◌-◌, ◌^◌, ◌≤◌, min, length, Bool, true, false, List, [], Contains, slice_get, Option, Some, None, Result, Ok, Err, if◌then◌else◌}
 use Rattle.std.specs.Option.{option_map_or}
 use Rattle.labelled_disk.specs.declared.label.Wanted.{Wanted}
+use Rattle.labelled_disk.specs.declared.disk.DiskWrite.{DiskWrite}
 use Rattle.labelled_disk.specs.declared.disk.DiskError.{DiskError}
 use Rattle.labelled_disk.specs.declared.disk.DiskError.TheVariants.{Failed, Wrong}
 use Rattle.labelled_disk.specs.Label.{names}
@@ -37,9 +38,15 @@ next_call d = min (d.transfers + 1) (2 ^ 64 - 1)
 abbrev pub FailsNext : {A : Type 0} → MemoryDisk A → Type 0
 FailsNext d = Contains (memory_plan d).calls (next_call d)
 
+-- there is room for some writes alone, and these are as many
+abbrev pub FillsRoom : Option ℕ → Option (List DiskWrite) → Type 0
+FillsRoom (Some room) (Some writes) = room ≤ length writes
+FillsRoom (Some room) None = ⊥
+FillsRoom None writes = ⊥
+
 -- writes are kept, and there is no room for one more
 abbrev pub IsFull : {A : Type 0} → MemoryDisk A → Type 0
-IsFull d = (d.recording ≡ true) × (d.room ≤ length d.writes.items)
+IsFull d = FillsRoom (memory_plan d).room (memory_state d).writes
 
 -- the label of that sector names the page
 abbrev pub names_at : {A : Type 0} → MemoryDisk A → ℕ → Wanted → Bool
