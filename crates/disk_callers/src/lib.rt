@@ -2,7 +2,9 @@
 #![tactic(auto)]
 
 mod copy;
+mod through;
 #[cfg(test)]
 mod tests;
 
 pub use copy::copy_page;
+pub use through::through_memory;

@@ -12,3 +12,6 @@ pub use evidence::{Evidence, Halt};
 pub use label::{FileId, Label, NoMemory, Page, Wanted};
 pub use layout::{Difference, Layout, RootFault};
 pub use memory::MemoryDisk;
+
+#[cfg(test)]
+mod tests;
