@@ -80,7 +80,7 @@ zero_sectors_fit n k s is =
     let below : k < n = subst (λ (m : ℕ). k < m) (length-replicate n zero_sector) (slice_get_within (replicate n zero_sector) k s is) in
     let same : zero_sector ≡ s = sym (get_or-replicate n k zero_sector s below) ∙ get_or_from_slice_get (replicate n zero_sector) k s s is in
     subst IsSector same (fits free_label (replicate 512 0) (omega arith) (omega arith) (omega arith) (omega arith) (omega arith) refl
-        (λ k. zero_byte 512 k))
+    (λ k. zero_byte 512 k))
   where
     zero_byte : (n k : ℕ) → get_or (replicate n 0) k 0 < 256
     zero_byte zero k = omega arith

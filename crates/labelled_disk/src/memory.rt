@@ -1,4 +1,4 @@
-//! A disk in memory. It can be made to fail at given calls, and to keep the list of its writes.
+//! A disk in memory, for tests. It can be made to fail at given calls, and to keep its writes.
 ghost use Rattle.std.specs.Prelude.{◌≡◌, ℕ, ◌<◌, ◌≤◌, ◌^◌, List, [], length, slice_get, slice_set, Some, None, IfOk, IfErr, OnOk, OnErr, IsErr, IsTrue, is_ok, true, false, unwrap_or, vec_capacity, replicate, Contains, ◌⊎◌, ◌↔◌, ◌+◌, ◌-◌, ◌++◌, ◌∷◌, min, option_map, refl, if◌then◌else◌};
 ghost use Rattle.labelled_disk.specs.Sectors.{zero_sector, AreSectors};
 ghost use Rattle.labelled_disk.specs.Calls.{Rose, TellsSame, Moves, FailsWith, Reads, Writes, WritesData, Settles};
@@ -6,6 +6,8 @@ ghost use Rattle.labelled_disk.specs.Calls.{Rose, TellsSame, Moves, FailsWith, R
 use crate::{Disk, DiskError, DiskWrite, Label, NoMemory, Page, Wanted};
 use std::alloc::{AllocError, Allocator};
 
+/// A disk that holds its sectors in memory and tells them. It is settled by `settle` alone, which
+/// never fails.
 #[derive(Drop)]
 pub struct MemoryDisk<A: Allocator> {
     cells: Vec<(Label, Page), A>,
@@ -24,12 +26,15 @@ pub struct MemoryDisk<A: Allocator> {
 impl<A: Allocator + Clone> MemoryDisk<A> {
     ghost use Rattle.labelled_disk.specs.Memory.{memory_state, memory_plan};
 
-    /// Zero sectors, all free. The disk never fails, and doesn't tell its writes.
+    /// A disk of zero sectors, all free, which never fails and doesn't tell its writes. The memory
+    /// for all sectors, 528 bytes each, is taken here, and none later.
     pub fn new(alloc: A, sectors: u32) -> Result<MemoryDisk<A>, NoMemory>
-        ensures contents { IfOk result (λ d. (memory_state d).contents ≡ Some (replicate sectors zero_sector)) }
+        ensures contents { IfOk result (λ d. (memory_state d).contents
+            ≡ Some (replicate sectors zero_sector)) }
         ensures writes { IfOk result (λ d. (memory_state d).writes ≡ None) }
         ensures plan { IfOk result (λ d. memory_plan d ≡ record { calls = []; room = None }) }
-        ensures counts { IfOk result (λ d. memory_state d ≡ record (memory_state d) { transfers = 0; faults = 0; synced = true }) }
+        ensures counts { IfOk result (λ d. memory_state d
+            ≡ record (memory_state d) { transfers = 0; faults = 0; synced = true }) }
     {
         Ok(MemoryDisk {
             cells: zero_sectors(alloc.clone()?, sectors)?,
@@ -43,13 +48,21 @@ impl<A: Allocator + Clone> MemoryDisk<A> {
         })
     }
 
-    /// Such a disk that fails at the calls with these numbers, counted from 1 over the calls that move a sector.
-    /// It tells its writes. A write beyond the room fails too.
-    pub fn failing(alloc: A, sectors: u32, calls: &[u64], room: u32) -> Result<MemoryDisk<A>, NoMemory>
-        ensures contents { IfOk result (λ d. (memory_state d).contents ≡ Some (replicate sectors zero_sector)) }
+    /// Such a disk that fails at the calls with these numbers, counted from 1 over the calls that
+    /// move a sector, those that failed among them. It tells its writes, and has room for so many;
+    /// a write beyond them fails. All memory is taken here.
+    pub fn failing(
+        alloc: A,
+        sectors: u32,
+        calls: &[u64],
+        room: u32,
+    ) -> Result<MemoryDisk<A>, NoMemory>
+        ensures contents { IfOk result (λ d. (memory_state d).contents
+            ≡ Some (replicate sectors zero_sector)) }
         ensures writes { IfOk result (λ d. (memory_state d).writes ≡ Some []) }
         ensures plan { IfOk result (λ d. memory_plan d ≡ record { calls = calls.now; room = Some room }) }
-        ensures counts { IfOk result (λ d. memory_state d ≡ record (memory_state d) { transfers = 0; faults = 0; synced = true }) }
+        ensures counts { IfOk result (λ d. memory_state d
+            ≡ record (memory_state d) { transfers = 0; faults = 0; synced = true }) }
     {
         let mut failing = Vec::new(alloc.clone()?);
         failing.extend_from_slice(calls)?;
@@ -79,7 +92,7 @@ fn zero_sectors<A: Allocator>(alloc: A, sectors: u32) -> Result<Vec<(Label, Page
 impl<A: Allocator> MemoryDisk<A> {
     ghost use Rattle.labelled_disk.specs.Memory.{memory_state, memory_plan, IsFull, FailsNext, Counts, CountsFault};
 
-    /// The writes that were made, in their order.
+    /// The writes that were made, in their order; none of a disk made by `new`.
     pub fn written(&self) -> &[DiskWrite]
         ensures { result.now ≡ unwrap_or (memory_state self.now).writes [] }
     {
@@ -108,7 +121,8 @@ impl<A: Allocator> MemoryDisk<A> {
     // Keeps a write in the list, where there is one.
     fn record(&mut self, write: DiskWrite) -> Result<(), DiskError>
         ensures cells { self.new.cells.items ≡ self.old.cells.items }
-        ensures recorded { OnOk result ((memory_state self.new).writes ≡ option_map (λ writes. writes ++ write ∷ []) (memory_state self.old).writes) }
+        ensures recorded { OnOk result ((memory_state self.new).writes
+            ≡ option_map (λ writes. writes ++ write ∷ []) (memory_state self.old).writes) }
         ensures same { OnErr result (TellsSame (memory_state self.old) (memory_state self.new)) }
         ensures fails { FailsWith result (memory_state self.old) (memory_state self.new) }
         ensures exact { IsErr result ↔ IsFull self.old }
@@ -139,8 +153,6 @@ impl<A: Allocator> MemoryDisk<A> {
         ensures transfers { self.new.transfers ≡ self.old.transfers }
         ensures synced { self.new.synced ≡ false }
     {
-        let Label { id, page: number, kind, flags, last } = label;
-        let label = Label { id, page: number, kind, flags, last };
         self.cells[sector as usize] = (label, *page);
         self.synced = false;
     }
@@ -193,7 +205,8 @@ impl<A: Allocator> Disk for MemoryDisk<A> {
 
     fn write(&mut self, sector: u32, label: &Label, page: &Page) -> Result<(), DiskError>
         requires { sector < (memory_state self.old).sectors }
-        ensures writes { Writes (DiskWrite.Whole sector label.now page.now) (memory_state self.old) result (memory_state self.new) }
+        ensures writes { Writes (DiskWrite.Whole sector label.now page.now) (memory_state self.old)
+            result (memory_state self.new) }
         ensures fails { IsErr result ↔ (FailsNext self.old ⊎ IsFull self.old) }
         ensures counts { Counts result self.old self.new }
         ensures synced { StaysSyncedIfErr result (memory_state self.old) (memory_state self.new) }
@@ -210,7 +223,8 @@ impl<A: Allocator> Disk for MemoryDisk<A> {
 
     fn write_label(&mut self, sector: u32, label: &Label) -> Result<(), DiskError>
         requires { sector < (memory_state self.old).sectors }
-        ensures writes { Writes (DiskWrite.LabelOnly sector label.now) (memory_state self.old) result (memory_state self.new) }
+        ensures writes { Writes (DiskWrite.LabelOnly sector label.now) (memory_state self.old)
+            result (memory_state self.new) }
         ensures fails { IsErr result ↔ (FailsNext self.old ⊎ IsFull self.old) }
         ensures counts { Counts result self.old self.new }
         ensures synced { StaysSyncedIfErr result (memory_state self.old) (memory_state self.new) }
@@ -227,8 +241,10 @@ impl<A: Allocator> Disk for MemoryDisk<A> {
 
     fn write_data(&mut self, sector: u32, wanted: Wanted, page: &Page) -> Result<(), DiskError>
         requires { sector < (memory_state self.old).sectors }
-        ensures writes { WritesData sector wanted page.now (memory_state self.old) result (memory_state self.new) }
-        ensures fails { IsFailed result ↔ (FailsNext self.old ⊎ (IsTrue (names_at self.old sector wanted) × IsFull self.old)) }
+        ensures writes { WritesData sector wanted page.now (memory_state self.old) result
+            (memory_state self.new) }
+        ensures fails { IsFailed result ↔ (FailsNext self.old
+            ⊎ (IsTrue (names_at self.old sector wanted) × IsFull self.old)) }
         ensures counts { Counts result self.old self.new }
         ensures synced { StaysSyncedIfErr result (memory_state self.old) (memory_state self.new) }
     {

@@ -11,15 +11,23 @@ const LEADER: Label = Label {
 
 #[test]
 fn the_label_of_a_leader(rt: HostRuntime) {
-    let bytes = [
-        0, 0, 0, 7, 0, 0, 0, 1, 0xff, 0xff, 0xff, 0xff, 0, 9, 1, 0,
-    ];
+    let bytes = [0, 0, 0, 7, 0, 0, 0, 1, 0xff, 0xff, 0xff, 0xff, 0, 9, 1, 0];
     assert_eq!(rt; LEADER.to_bytes(), bytes);
     assert_eq!(rt; Label::from_bytes(&bytes), LEADER);
     assert!(rt; LEADER.is_file());
     assert!(rt; !LEADER.is_free());
-    assert!(rt; LEADER.names(Wanted { id: LEADER.id, page: 0xffff_ffff }));
-    assert!(rt; !LEADER.names(Wanted { id: LEADER.id, page: 0 }));
+    assert!(rt;
+        LEADER.names(Wanted {
+            id: LEADER.id,
+            page: 0xffff_ffff
+        })
+    );
+    assert!(rt;
+        !LEADER.names(Wanted {
+            id: LEADER.id,
+            page: 0
+        })
+    );
 }
 
 #[test]
@@ -120,8 +128,17 @@ fn writes_are_kept_in_order(rt: HostRuntime) -> Result<(), Fail> {
 #[test]
 fn the_texts_of_the_errors(rt: HostRuntime) -> Result<(), Fail> {
     let wrong = DiskError::Wrong { found: LEADER };
-    assert_eq!(rt; format!(in rt.alloc(); "{}", NoMemory)?.as_str(), "there is no memory left");
-    assert_eq!(rt; format!(in rt.alloc(); "{}", DiskError::Failed)?.as_str(), "the disk failed");
-    assert_eq!(rt; format!(in rt.alloc(); "{}", wrong)?.as_str(), "another label stands there");
+    assert_eq!(rt;
+        format!(in rt.alloc(); "{}", NoMemory)?.as_str(),
+        "there is no memory left"
+    );
+    assert_eq!(rt;
+        format!(in rt.alloc(); "{}", DiskError::Failed)?.as_str(),
+        "the disk failed"
+    );
+    assert_eq!(rt;
+        format!(in rt.alloc(); "{}", wrong)?.as_str(),
+        "another label stands there"
+    );
     Ok(())
 }
