@@ -1,5 +1,5 @@
 -- A list of sectors after one was replaced.
-use Rattle.std.proofs.Common.{◌≡◌, ◌≢◌, ℕ, zero, suc, ◌<◌, List, [], ◌∷◌, length, Option, Some, true, false, refl, sym, ◌∙◌, ap, subst, arith, get_or}
+use Rattle.std.proofs.Common.{◌≡◌, ◌≢◌, ℕ, zero, suc, ◌<◌, List, [], ◌∷◌, length, Option, Some, true, refl, sym, ◌∙◌, ap, subst, arith, get_or}
 use Rattle.std.specs.Prelude.{slice_get, slice_set, option_map, if◌then◌else◌, Bool, replicate, ◌^◌}
 use Rattle.std.proofs.lemmas.List.{get_or-replicate, length-replicate}
 use Rattle.std.proofs.lemmas.List.Elements.{All-from_get_or}
@@ -7,7 +7,7 @@ use Rattle.std.specs.Option.{option_map_or}
 use Rattle.std.proofs.lemmas.Option.{same_Some, slice_get_read, slice_get_within, get_or_from_slice_get}
 use Rattle.labelled_disk.specs.declared.label.Label.{Label}
 use Rattle.labelled_disk.specs.declared.label.Wanted.{Wanted}
-use Rattle.labelled_disk.specs.declared.disk.DiskWrite.TheVariants.{LabelOnly, Page}
+use Rattle.labelled_disk.specs.declared.disk.DiskWrite.TheVariants.{Page}
 use Rattle.labelled_disk.specs.Label.{names}
 use Rattle.labelled_disk.specs.Sectors.{Sector, IsSector, AreSectors, free_label, zero_sector}
 use Rattle.labelled_disk.specs.Moment.{written}
@@ -36,18 +36,6 @@ each-set P (x ∷ xs) (suc i) a each new (suc k) s is = each-set P xs i a (λ k 
 module _ (sectors : List Sector) (i : ℕ) (cell : Sector) (below : i < length sectors) (is : cell ≡ get_or sectors i cell) where
   here : slice_get sectors i ≡ Some cell
   here = slice_get_read sectors (length sectors) i cell refl below is
-
-  pub written-label : (label : Label) → written (LabelOnly i label) sectors ≡ slice_set sectors i (label, cell.1)
-  written-label label = ap (λ (o : Option Sector). option_map_or (λ (old : Sector). slice_set sectors i (label, old.1)) o sectors) here
-
-  -- the label is there, in whichever list is told
-  pub label_there : (all : List Sector) → Some sectors ≡ Some all → option_map (λ (s : Sector). s.0) (slice_get all i) ≡ Some cell.0
-  label_there all same =
-      ap (λ (l : List Sector). option_map (λ (s : Sector). s.0) (slice_get l i)) (sym (same_Some sectors all same))
-      ∙ ap (λ (o : Option Sector). option_map (λ (s : Sector). s.0) o) here
-
-  pub named_at : (wanted : Wanted) (answer : Bool) → names cell.0 wanted ≡ answer → option_map_or (λ (s : Sector). names s.0 wanted) (slice_get sectors i) false ≡ answer
-  named_at wanted answer named = ap (λ (o : Option Sector). option_map_or (λ (s : Sector). names s.0 wanted) o false) here ∙ named
 
   module _ (wanted : Wanted) (named : names cell.0 wanted ≡ true) where
     pub names_there : (all : List Sector) → Some sectors ≡ Some all → option_map (λ (s : Sector). names s.0 wanted) (slice_get all i) ≡ Some true

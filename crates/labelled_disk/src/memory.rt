@@ -1,5 +1,7 @@
 //! A disk in memory, for tests. It can be made to fail at given calls, and to keep its writes.
-ghost use Rattle.std.specs.Prelude.{◌≡◌, ℕ, ◌<◌, ◌≤◌, ◌^◌, List, [], length, slice_get, slice_set, Some, None, IfOk, IfErr, OnOk, OnErr, IsErr, IsTrue, is_ok, true, false, unwrap_or, vec_capacity, replicate, Contains, ◌⊎◌, ◌↔◌, ◌+◌, ◌-◌, ◌++◌, ◌∷◌, min, option_map, refl, if◌then◌else◌};
+ghost use Rattle.std.specs.Prelude.{◌≡◌, ℕ, ◌<◌, ◌≤◌, ◌^◌, ◌⊎◌, ◌↔◌, ◌+◌, ◌-◌, min, refl, true, false, IsTrue, if◌then◌else◌};
+ghost use Rattle.std.specs.Prelude.{List, [], ◌++◌, ◌∷◌, length, replicate, slice_get, slice_set, Contains, vec_capacity};
+ghost use Rattle.std.specs.Prelude.{Some, None, IfOk, IfErr, OnOk, OnErr, IsErr, is_ok, unwrap_or, option_map};
 ghost use Rattle.labelled_disk.specs.Sectors.{zero_sector, AreSectors};
 ghost use Rattle.labelled_disk.specs.Calls.{Rose, TellsSame, Moves, FailsWith, Reads, Writes, WritesData, Settles};
 

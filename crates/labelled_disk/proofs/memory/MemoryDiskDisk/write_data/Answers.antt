@@ -1,7 +1,4 @@
-use Rattle.std.proofs.Common.{◌≡◌, ◌<◌, List, Option, ◌++◌, ◌∷◌, [], length, get_or, true, Some, ap, sym, ◌∙◌, arith, rules}
-use Rattle.std.specs.Prelude.{slice_set, option_map}
-use Rattle.labelled_disk.specs.declared.disk.DiskWrite.{DiskWrite}
-use Rattle.labelled_disk.specs.declared.disk.DiskWrite.TheVariants.{Page}
+use Rattle.std.proofs.Common.{◌≡◌, ◌<◌, List, length, get_or, true, Some, ap, arith, rules}
 use Rattle.labelled_disk.specs.Sectors.{Sector}
 use Rattle.labelled_disk.specs.Label.{names}
 use Rattle.labelled_disk.proofs.Sectors.{names_there, written-page}
@@ -16,11 +13,8 @@ returns-clause-writes g c =
     let page = written-page cells c.args.sector c.index.result.now below is c.args.wanted named c.args.page.now in
     record {
       written = record {
-        contents = ap (λ (l : List Sector). Some l)
-            (c.put.ensures.cells ∙ ap (λ (l : List Sector). slice_set l c.args.sector (c.index.result.now.0, c.args.page.now)) (c.in_ok-record.ensures.cells ∙ c.moves.ensures.cells)
-            ∙ sym page);
-        writes = c.put.ensures.writes ∙ c.in_ok-record.ensures.recorded
-            ∙ ap (λ (o : Option (List DiskWrite)). option_map (λ (writes : List DiskWrite). writes ++ Page c.args.sector c.args.wanted c.args.page.now ∷ []) o) c.moves.ensures.same.writes;
+        contents = ap (λ (l : List Sector). Some l) (cc (c.put.ensures.cells, c.in_ok-record.ensures.cells, c.moves.ensures.cells, page));
+        writes = search rules;
       };
       named = names_there cells c.args.sector c.index.result.now below is c.args.wanted named;
       wrong = tt;
