@@ -3,7 +3,8 @@ ghost use Rattle.std.specs.Prelude.{◌≡◌, false, List, Some, IfOk, OnErr};
 ghost use Rattle.labelled_disk.specs.Sectors.{Sector};
 ghost use Rattle.labelled_disk.specs.FilesOn.{disk_file};
 ghost use Rattle.labelled_disk.specs.Calls.{Rose, OnlyReads};
-ghost use Rattle.pilot_top.specs.Machine.{StandsFor, told_of};
+ghost use Rattle.pilot_top.specs.Attributes.{told_of};
+ghost use Rattle.pilot_top.specs.Built.{StandsFor};
 ghost use Rattle.pilot_top.specs.Turn.{Answers};
 
 use crate::attributes::{Attributes, find_attributes};

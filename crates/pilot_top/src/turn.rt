@@ -3,7 +3,7 @@ ghost use Rattle.std.specs.Prelude.{◌≡◌, ◌⊎◌, ◌≤◌, Some, None}
 ghost use Rattle.labelled_disk.specs.Calls.{Rose as DiskRose, OnlyReads};
 ghost use Rattle.trace_io.specs.Stream.{Rose};
 ghost use Rattle.trace_io.specs.Reading.{is_last};
-ghost use Rattle.pilot_top.specs.Machine.{StandsFor};
+ghost use Rattle.pilot_top.specs.Built.{StandsFor};
 ghost use Rattle.pilot_top.specs.Turn.{Turns};
 
 use crate::engine::Engine;
