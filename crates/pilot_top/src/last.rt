@@ -1,6 +1,6 @@
 //! The last line of a command that stopped.
 ghost use Rattle.std.specs.Prelude.{◌≡◌, ◌≤◌, ◌++◌, codes, decimal, length};
-ghost use Rattle.trace_io.specs.Stream.{Rose};
+ghost use Rattle.labelled_disk.specs.Calls.{Rose};
 ghost use Rattle.pilot_top.specs.Last.{last_line, Puts};
 
 use arrayvec::ArrayVec;

@@ -1,7 +1,6 @@
 //! One line of a trace, and the reply to it.
 ghost use Rattle.std.specs.Prelude.{◌≡◌, ◌⊎◌, ◌≤◌, Some, None};
-ghost use Rattle.labelled_disk.specs.Calls.{Rose as DiskRose, OnlyReads};
-ghost use Rattle.trace_io.specs.Stream.{Rose};
+ghost use Rattle.labelled_disk.specs.Calls.{Rose, OnlyReads};
 ghost use Rattle.trace_io.specs.Reading.{is_last};
 ghost use Rattle.pilot_top.specs.Built.{StandsFor};
 ghost use Rattle.pilot_top.specs.Turn.{Turns};
@@ -39,7 +38,7 @@ pub(crate) fn take_turn<D: Disk, S: Source>(
         (StandsFor (D.state engine.old.disk)) (StandsFor (D.state engine.new.disk)) }
     ensures bound { lines.new.taken ≤ lines.new.limit }
     ensures only_reads { OnlyReads (D.state engine.old.disk) (D.state engine.new.disk) }
-    ensures disk_cause { result ≡ Turn.DiskFault → DiskRose (D.state engine.old.disk).faults (D.state engine.new.disk).faults }
+    ensures disk_cause { result ≡ Turn.DiskFault → Rose (D.state engine.old.disk).faults (D.state engine.new.disk).faults }
     ensures source_later { S.faults source.old ≤ S.faults source.new }
     ensures source_cause { result ≡ Turn.ReadFault → Rose (S.faults source.old) (S.faults source.new) }
 {
