@@ -2,8 +2,14 @@ pub mod Calls
 pub mod File
 pub mod FilesOn
 pub mod Label
+pub mod Lawful
 pub mod Layout
 pub mod Memory
 pub mod Moment
+pub mod Right
+pub mod Rising
+pub mod Root
+pub mod RootLaws
 pub mod Sectors
 pub mod State
+pub mod WriteLaws

@@ -4,11 +4,13 @@
 mod disk;
 mod evidence;
 mod label;
+mod laws;
 mod layout;
 mod memory;
 
 pub use disk::{Disk, DiskError, DiskWrite};
 pub use evidence::{Evidence, Halt};
 pub use label::{FileId, Label, NoMemory, Page, Wanted};
+pub use laws::{files_are_looked_up, write_changes_files, write_keeps_volume};
 pub use layout::{Difference, Layout, RootFault};
 pub use memory::MemoryDisk;
