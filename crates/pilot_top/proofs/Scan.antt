@@ -1,5 +1,5 @@
 -- A scan of the data sectors, one by one.
-use Rattle.std.proofs.Common.{◌≡◌, ℕ, zero, suc, ◌+◌, ◌≤◌, ◌<◌, Bool, true, false, cond, List, [], ◌∷◌, length, drop, Option, Some, None, Result, refl, sym, ◌∙◌, ap, arith}
+use Rattle.std.proofs.Common.{◌≡◌, ℕ, zero, suc, ◌+◌, ◌≤◌, ◌<◌, Bool, true, false, cond, List, [], ◌∷◌, length, drop, fold, Option, Some, None, Result, refl, sym, ◌∙◌, ap, arith}
 use Rattle.std.specs.Prelude.{slice_get, find, option_map}
 use Rattle.std.proofs.lemmas.Option.{same_Some, none-some}
 use Rattle.std.proofs.lemmas.List.{drop_all}
@@ -28,6 +28,17 @@ module _ {X : Type 0} (test : X → Bool) where
   -- there is no next one
   pub find_end : (xs : List X) (i : ℕ) → length xs ≤ i → find test (drop i xs) ≡ None
   find_end xs i long = ap (find test) (drop_all i xs long)
+
+module _ {X Y : Type 0} (f : Y → X → Y) where
+  -- one more
+  pub fold_step : (xs : List X) (i : ℕ) (x : X) (y : Y) → slice_get xs i ≡ Some x → fold f y (drop i xs) ≡ fold f (f y x) (drop (i + 1) xs)
+  fold_step [] i x y here = absurd (none-some x here)
+  fold_step (z ∷ zs) zero x y here = ap (λ (w : X). fold f (f y w) zs) (same_Some z x here)
+  fold_step (z ∷ zs) (suc i) x y here = let same : suc (i + 1) ≡ suc i + 1 = omega arith in fold_step zs i x y here ∙ ap (λ (n : ℕ). fold f (f y x) (drop n (z ∷ zs))) same
+
+  -- no more
+  pub fold_end : (xs : List X) (i : ℕ) (y : Y) → length xs ≤ i → fold f y (drop i xs) ≡ y
+  fold_end xs i y long = ap (fold f y) (drop_all i xs long)
 
 -- the page of a sector says nothing of what is sought
 pub sought_by_label : (sought : Sought) (id : ℕ) (label : Label) (page : List ℕ) → is_sought sought id (label, []) ≡ is_sought sought id (label, page)

@@ -152,18 +152,25 @@ module _ (d : List Sector) (x t : List ℕ) (b u : Option (List ℕ)) (p : Progr
   -- a line was read, and the disk failed
   pub Run-disk : (c v : Option (List ℕ)) → p.stopped ≡ None → Puts failed u v (last_line cause.DiskFault) → Run status.DiskFault d x c t v failed
   Run-disk c v none more =
-      let front = told_front x b p going.lines going.read none in
-      (length going.lines, going.out, rw front.1 (answered_more (start d) going.lines front.0 going.out (going.script (start d) is)),
-        wrote_last failed t u v going.out (last_line cause.DiskFault) going.wrote more)
+      let front = told_front x b p going.lines going.read none in (
+        length going.lines,
+        going.out,
+        rw front.1 (answered_more (start d) going.lines front.0 going.out (going.script (start d) is)),
+        wrote_last failed t u v going.out (last_line cause.DiskFault) going.wrote more,
+      )
 
   -- as many bytes as the limit were taken
   pub Run-long : (c v : Option (List ℕ)) (q : Progress) → p.stopped ≡ None → TakesPart stop.Long b c p q → q.taken ≡ 2 ^ 32 → Puts failed u v (last_line cause.Long)
       → Run status.Long d x c t v failed
   Run-long c v q none takes full more =
       let read = HasRead-part (Some x) b c p q stop.Long going.lines going.read none takes in
-      let taken = told_taken x c read.bytes read.took in
-      (taken.0, ap length taken.1 ∙ sym read.count ∙ full, going.out, rw (taken.1, read.items_are) (going.script (start d) is),
-        wrote_last failed t u v going.out (last_line cause.Long) going.wrote more)
+      let taken = told_taken x c read.bytes read.took in (
+        taken.0,
+        ap length taken.1 ∙ sym read.count ∙ full,
+        going.out,
+        rw (taken.1, read.items_are) (going.script (start d) is),
+        wrote_last failed t u v going.out (last_line cause.Long) going.wrote more,
+      )
 
   -- the source failed
   pub Run-read_fault : (c : Option (List ℕ)) (q : Progress) → p.stopped ≡ None → TakesPart stop.ReadFault b c p q → Run status.StreamFault d x c t u failed

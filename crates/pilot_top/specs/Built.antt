@@ -11,6 +11,7 @@ use Rattle.flat_machine.specs.Start.{start}
 -- the call is built; the others are answered `later`, and change nothing
 abbrev pub is_built : Call → Bool
 is_built (call.Attributes id) = true
+is_built (call.Next id) = true
 is_built call.Close = true
 is_built call.Halt = true
 is_built c = false

@@ -4,14 +4,12 @@ ghost use Rattle.std.specs.Option.{is_some};
 ghost use Rattle.labelled_disk.specs.Sectors.{Sector};
 ghost use Rattle.labelled_disk.specs.Calls.{Rose, OnlyReads};
 ghost use Rattle.labelled_disk.specs.Label.{leader_page};
-ghost use Rattle.labelled_disk.specs.Layout.{first_data, data_sectors};
+ghost use Rattle.labelled_disk.specs.Layout.{data_sectors};
 ghost use Rattle.labelled_disk.specs.FilesOn.{disk_file, pages_from, page_at};
 ghost use Rattle.pilot_top.specs.Attributes.{attributes_of, is_sought, lowest_label};
 
+use crate::labels::{LEADER, first_data_sector, leads};
 use labelled_disk::{Disk, DiskError, FileId, Label};
-
-// The page number of a leader.
-const LEADER: u32 = 0xffff_ffff;
 
 /// What a client is told of a file.
 #[derive(Clone, Copy, Debug, PartialEq, Eq)]
@@ -34,16 +32,17 @@ impl Sought {
         ensures { result ≡ is_sought self id (label.now, []) }
     {
         match self {
-            Sought::Leader => {
-                label.is_file() && label.page == LEADER && label.flags % 2 == 1 && label.id == id
-            }
+            Sought::Leader => leads(label) && label.id == id,
             Sought::Page(page) => label.is_file() && label.id == id && label.page == page,
         }
     }
 }
 
 /// The attributes of the permanent file of this identifier, if there is one.
-pub(crate) fn find_attributes<D: Disk>(disk: &mut D, id: FileId) -> Result<Option<Attributes>, DiskError>
+pub(crate) fn find_attributes<D: Disk>(
+    disk: &mut D,
+    id: FileId,
+) -> Result<Option<Attributes>, DiskError>
     ensures answer { IfOk result (λ found. (d : List Sector) → (D.state disk.old).contents ≡ Some d
         → found ≡ option_map attributes_of (disk_file false d id)) }
     ensures only_reads { OnlyReads (D.state disk.old) (D.state disk.new) }
@@ -101,11 +100,4 @@ fn find_label<D: Disk>(disk: &mut D, id: FileId, sought: Sought) -> Result<Optio
         }
     }
     Ok(None)
-}
-
-#[tactic(auto, unfolding(labelled_disk::specs::Layout::first_data))]
-fn first_data_sector(sectors: u32) -> u32
-    ensures { result ≡ first_data sectors }
-{
-    1 + sectors.div_ceil(4096) + (sectors / 8 + 2)
 }

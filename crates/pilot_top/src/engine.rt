@@ -3,11 +3,14 @@ ghost use Rattle.std.specs.Prelude.{◌≡◌, false, List, Some, IfOk, OnErr};
 ghost use Rattle.labelled_disk.specs.Sectors.{Sector};
 ghost use Rattle.labelled_disk.specs.FilesOn.{disk_file};
 ghost use Rattle.labelled_disk.specs.Calls.{Rose, OnlyReads};
+ghost use Rattle.flat_machine.specs.Start.{start};
+ghost use Rattle.flat_machine.specs.Allows.{plain_reply};
 ghost use Rattle.pilot_top.specs.Attributes.{told_of};
 ghost use Rattle.pilot_top.specs.Built.{StandsFor};
 ghost use Rattle.pilot_top.specs.Turn.{Answers};
 
 use crate::attributes::{Attributes, find_attributes};
+use crate::next::find_next;
 use flat_machine::{Call, Refusal, Reply};
 use labelled_disk::{Disk, DiskError, FileId};
 
@@ -32,6 +35,7 @@ impl<D: Disk> Engine<D> {
     {
         match call {
             Call::Attributes { id } => self.attributes(*id),
+            Call::Next { id } => self.next(*id),
             Call::Close | Call::Halt => Ok(Reply::Done),
             _ => Ok(Reply::Refused(Refusal::Later)),
         }
@@ -57,6 +61,18 @@ impl<D: Disk> Engine<D> {
             kind,
             permanent,
             immutable,
+        })
+    }
+
+    fn next(&mut self, id: FileId) -> Result<Reply, DiskError>
+        ensures answer { IfOk result (λ reply. (d : List Sector) → (D.state self.old.disk).contents ≡ Some d
+            → reply ≡ plain_reply (start d) (Call.Next id)) }
+        ensures only_reads { OnlyReads (D.state self.old.disk) (D.state self.new.disk) }
+        ensures cause { OnErr result (Rose (D.state self.old.disk).faults (D.state self.new.disk).faults) }
+    {
+        Ok(match find_next(&mut self.disk, id)? {
+            Some(found) => Reply::File(found),
+            None => Reply::Nothing,
         })
     }
 

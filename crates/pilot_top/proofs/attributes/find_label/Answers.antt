@@ -20,6 +20,6 @@ pub returns-then-is_it-clause-found : goal.returns-then-is_it-clause-found
 returns-then-is_it-clause-found g c = λ d told.
     let so_far = c.loop-sector.invariant in
     let found = find_here (is_sought c.args.sought c.args.id) d c.loop-sector.sector (c.in_ok-label.label, c.read.new.page)
-        (c.in_ok-label.ensures.found d (so_far.only_reads.contents ∙ told))
-        (sym (sought_by_label c.args.sought c.args.id c.in_ok-label.label c.read.new.page) ∙ sym c.is_it.ensures ∙ c.if-is_it.true) in
+    (c.in_ok-label.ensures.found d (so_far.only_reads.contents ∙ told))
+    (sym (sought_by_label c.args.sought c.args.id c.in_ok-label.label c.read.new.page) ∙ sym c.is_it.ensures ∙ c.if-is_it.true) in
     sym (ap (option_map (λ (s : Sector). s.0)) (so_far.rest d told ∙ found))
