@@ -1,2 +1,14 @@
-pub mod Form
+pub mod File
+pub mod Space
+pub mod Machine
+pub mod At
+pub mod Refusal
+pub mod Next
+pub mod Allows
 pub mod Text
+pub mod Form
+pub mod After
+pub mod Settled
+pub mod Start
+pub mod Projection
+pub mod Laws

@@ -1,63 +1,105 @@
 -- A run, turn by turn.
-use Rattle.std.proofs.Common.{◌≡◌, ◌⊎◌, inl, inr, ℕ, ◌+◌, ◌^◌, ◌<◌, ◌≤◌, Bool, true, false, List, [], ◌∷◌, ◌++◌, length, map, get_or, take, Option, Some, None, refl, sym, ap, ◌∙◌, subst, arith, append_assoc, append-nil, length-append}
-use Rattle.std.specs.List.{list_any}
+use Rattle.std.proofs.Common.{◌≡◌, ◌≢◌, ◌⊎◌, inl, inr, ℕ, suc, ◌+◌, ◌^◌, ◌<◌, ◌≤◌, Bool, true, false, List, [], ◌∷◌, ◌++◌, length, map, drop, get_or, fold, Option, Some, None, Result, Ok, Err, OnOk, OnErr, refl, sym, ap, ◌∙◌, subst, arith, append_assoc, append-nil, length-append}
+use Rattle.std.specs.Prelude.{String, flat_map}
 use Rattle.std.specs.String.{string_bytes}
-use Rattle.std.specs.Prelude.{String}
 use Rattle.std.specs.declared.alloc.Global.{Global}
 use Rattle.std.specs.Io.KnownBytes.{Consumes, Appends, IsAtEnd}
 use Rattle.std.proofs.KnownBytes.{Appends-trans, Appends-nil}
-use Rattle.std.proofs.lemmas.List.{take_at}
-use Rattle.flat_machine.specs.declared.call.Call.{Call}
+use Rattle.std.proofs.lemmas.List.{flat_map_more, length_push}
+use Rattle.std.proofs.lemmas.List.Sums.{fold-append}
+use Rattle.labelled_disk.specs.Sectors.{Sector}
+use Rattle.labelled_disk.specs.State.{DiskState, lent_state}
+use Rattle.labelled_disk.specs.Calls.{Rose, OnlyReads}
 use Rattle.flat_machine.specs.declared.call.Reply.{Reply}
-use Rattle.trace_io.specs.Stream.{Rose, IsFrontOf}
+use Rattle.flat_machine.specs.Text.{text}
+use Rattle.flat_machine.specs.Machine.{Machine}
+use Rattle.flat_machine.specs.After.{TraceLine, AllowsLine, AllowsAll, next_line, Transcript}
+use Rattle.flat_machine.specs.Start.{start}
+use Rattle.trace_io.specs.Stream.{IsFrontOf}
 use Rattle.trace_io.specs.Progress.{Progress}
 use Rattle.trace_io.specs.Lines.{TakesLine, TakesPart}
-use Rattle.trace_io.specs.Reading.{is_last, reading, whole_reading, rest_of}
+use Rattle.trace_io.specs.Reading.{is_last, reading, whole_reading, rest_of, IsShort}
 use Rattle.trace_io.specs.Course.{AreLines, HasRead, HasReadAll, HasReadWhole}
-use Rattle.flat_machine.specs.Text.{text}
 use Rattle.trace_io.specs.declared.progress.Stop.TheVariants as stop
-use Rattle.trace_io.proofs.CourseLemmas.{HasRead-none, HasRead-line, HasRead-last, HasRead-end, HasRead-part, HasRead-item, HasRead-none_last}
-use Rattle.pilot_top.specs.Machine.{next_of, Allows, after, Transcript}
-use Rattle.pilot_top.specs.Headline.{IsShort, HasWritten, PutsLast, last_of, Taken, Run}
-use Rattle.pilot_top.specs.declared.top.Status.{Status}
-use Rattle.pilot_top.specs.declared.top.Status.TheVariants as status
+use Rattle.trace_io.specs.declared.stream.SinkFault.{SinkFault}
+use Rattle.trace_io.proofs.CourseLemmas.{HasRead-none, HasRead-line, HasRead-last, HasRead-end, HasRead-part, HasRead-item, HasRead-long}
+use Rattle.pilot_top.specs.Built.{is_built, Answered}
+use Rattle.pilot_top.specs.Turn.{Answers}
+use Rattle.pilot_top.specs.Last.{last_line, Puts}
+use Rattle.pilot_top.specs.Headline.{HasWritten, Taken, Run}
+use Rattle.pilot_top.specs.declared.last.Cause.TheVariants as cause
+use Rattle.pilot_top.specs.declared.status.Status.{Status}
+use Rattle.pilot_top.specs.declared.status.Status.TheVariants as status
 
-pub Transcript-push : (m : ℕ) (items : List (Option Call)) (out : List ℕ) (item : Option Call) (r : Reply) → Transcript m items out → Allows (after m items) item r
-    → Transcript m (items ++ item ∷ []) (out ++ text r)
-Transcript-push m [] out item r script allowed = (r, [], allowed, ap (λ o. o ++ text r) script ∙ sym (append-nil (text r)), refl)
-Transcript-push m (x ∷ xs) out item r script allowed =
-    (script.0, script.1 ++ text r, script.2, ap (λ o. o ++ text r) script.3 ∙ append_assoc (text script.0) script.1 (text r), Transcript-push (next_of m x) xs script.1 item r script.4 allowed)
+-- the machine after lines
+abbrev last_of : Machine → List TraceLine → Machine
+last_of m lines = fold (next_line is_built) m lines
 
-pub after-push : (m : ℕ) (items : List (Option Call)) (item : Option Call) → after m (items ++ item ∷ []) ≡ next_of (after m items) item
-after-push m [] item = refl
-after-push m (x ∷ xs) item = after-push (next_of m x) xs item
+allowed_push : (m : Machine) (lines : List TraceLine) (rs : List Reply) (line : TraceLine) (r : Reply) → length rs ≡ length lines → AllowsAll is_built m lines rs
+    → AllowsLine is_built (last_of m lines) line r → AllowsAll is_built m (lines ++ line ∷ []) (rs ++ r ∷ [])
+allowed_push m [] [] line r same all allowed = (allowed, tt)
+allowed_push m [] (s ∷ rs) line r same all allowed = absurd all
+allowed_push m (l ∷ lines) [] line r same all allowed = absurd (omega (arith, same))
+allowed_push m (l ∷ lines) (s ∷ rs) line r same all allowed = (all.0, allowed_push (next_line is_built m l) lines rs line r (omega (arith, same)) all.1 allowed)
 
--- so many lines are answered
-pub record Going (a c t u : Option (List ℕ)) (p : Progress) (m : ℕ) : Type 0 where
-  pub items : List (Option Call)
+allowed_more : (m : Machine) (lines more : List TraceLine) (rs : List Reply) → AllowsAll is_built m lines rs → AllowsAll is_built m (lines ++ more) rs
+allowed_more m lines more [] all = tt
+allowed_more m [] more (r ∷ rs) all = absurd all
+allowed_more m (l ∷ lines) more (r ∷ rs) all = (all.0, allowed_more (next_line is_built m l) lines more rs all.1)
+
+-- one reply more
+answered_push : (m : Machine) (lines : List TraceLine) (out : List ℕ) (line : TraceLine) (r : Reply) → Answered m lines out → AllowsLine is_built (last_of m lines) line r
+    → Answered m (lines ++ line ∷ []) (out ++ text r)
+answered_push m lines out line r script allowed = record {
+  replies = script.replies ++ r ∷ [];
+  one_a_line = omega (arith, length_push script.replies r, length_push lines line, script.one_a_line);
+  allowed = allowed_push m lines script.replies line r script.one_a_line script.allowed allowed;
+  text_is = ap (λ b. b ++ text r) script.text_is ∙ flat_map_more text [] script.replies r;
+}
+
+-- replies to the first of more lines
+answered_more : (m : Machine) (lines more : List TraceLine) (out : List ℕ) → Answered m lines out → Transcript is_built m (lines ++ more) (length lines) out
+answered_more m lines more out script = record {
+  replies = script.replies;
+  one_a_line = script.one_a_line;
+  allowed = allowed_more m lines more script.replies script.allowed;
+  text_is = script.text_is;
+}
+
+-- So many lines are answered: for each machine for which the first state stands, and the state now stands for the machine after them.
+pub record Going (a c t u : Option (List ℕ)) (p : Progress) (first now : Machine → Type 0) : Type 0 where
+  pub lines : List TraceLine
   pub out : List ℕ
-  pub read : HasRead a c p items
+  pub read : HasRead a c p lines
   pub wrote : Appends t u out
-  pub script : Transcript 0 items out
-  pub now : m ≡ after 0 items
+  pub script : (m : Machine) → first m → Answered m lines out
+  pub stands : (m : Machine) → first m → now (last_of m lines)
 
-pub Going-start : (a t : Option (List ℕ)) (p : Progress) (m : ℕ) → p.taken ≡ 0 → p.stopped ≡ None → m ≡ 0 → Going a a t t p m
-Going-start a t p m zero none first = record { items = []; out = []; read = HasRead-none a p zero none; wrote = Appends-nil t; script = refl; now = first }
+pub Going-start : (a t : Option (List ℕ)) (p : Progress) (first : Machine → Type 0) → p.taken ≡ 0 → p.stopped ≡ None → Going a a t t p first first
+Going-start a t p first zero none = record {
+  lines = [];
+  out = [];
+  read = HasRead-none a p zero none;
+  wrote = Appends-nil t;
+  script = λ m is. record { replies = []; one_a_line = refl; allowed = tt; text_is = refl };
+  stands = λ m is. is;
+}
 
--- The steps of a run whose source and sink may tell nothing.
-module _ (a b t u : Option (List ℕ)) (p : Progress) (m : ℕ) (going : Going a b t u p m) where
-  told_script : (item : Option Call) (r : Reply) → Allows m item r → Transcript 0 (going.items ++ item ∷ []) (going.out ++ text r)
-  told_script item r allowed = Transcript-push 0 going.items going.out item r going.script (rw going.now at allowed)
+-- the steps of a run, whether or not source and sink tell anything
+module _ (a b t u : Option (List ℕ)) (p : Progress) (first now : Machine → Type 0) (going : Going a b t u p first now) where
+  more_script : (then : Machine → Type 0) (line : TraceLine) (r : Reply) → Answers now then line r → (m : Machine) → first m → Answered m (going.lines ++ line ∷ []) (going.out ++ text r)
+  more_script then line r answers m is = answered_push m going.lines going.out line r (going.script m is) (answers.allowed (last_of m going.lines) (going.stands m is))
 
-  pub Going-reply : (c v : Option (List ℕ)) (q : Progress) (n : ℕ) (item : Option Call) (r : Reply) → p.stopped ≡ None → TakesLine item b c p q → Allows m item r → n ≡ next_of m item
-      → is_last item ≡ false → Appends u v (text r) → Going a c t v q n
-  Going-reply c v q n item r none takes allowed is goes wrote = record {
-    items = going.items ++ item ∷ [];
+  pub Going-reply : (c v : Option (List ℕ)) (q : Progress) (then : Machine → Type 0) (line : TraceLine) (r : Reply) → p.stopped ≡ None → TakesLine line b c p q → Answers now then line r
+      → is_last line ≡ false → Appends u v (text r) → Going a c t v q first then
+  Going-reply c v q then line r none takes answers goes wrote = record {
+    lines = going.lines ++ line ∷ [];
     out = going.out ++ text r;
-    read = HasRead-line a b c p q going.items item going.read none takes goes;
+    read = HasRead-line a b c p q going.lines line going.read none takes goes;
     wrote = Appends-trans t u v going.out (text r) going.wrote wrote;
-    script = told_script item r allowed;
-    now = is ∙ ap (λ k. next_of k item) going.now ∙ sym (after-push 0 going.items item);
+    script = more_script then line r answers;
+    stands = λ m is.
+        subst then (sym (fold-append (next_line is_built) m going.lines (line ∷ []))) (answers.next (last_of m going.lines) (going.stands m is) goes);
   }
 
 told_bytes : (t : List ℕ) (u : Option (List ℕ)) (out : List ℕ) → Appends (Some t) u out → u ≡ Some (t ++ out)
@@ -68,72 +110,85 @@ told_taken : (b : List ℕ) (c : Option (List ℕ)) (bytes : List ℕ) → Consu
 told_taken b None bytes took = absurd took
 told_taken b (Some s) bytes took = (record { bytes = bytes; rest = s; all = took; left_is = refl }, refl)
 
--- the first lines of what the source had
-told_front : (b : List ℕ) (c : Option (List ℕ)) (p : Progress) (items : List (Option Call)) → HasRead (Some b) c p items → p.stopped ≡ None → take (length items) (reading b) ≡ items
-told_front b None p items read none = absurd read.took
-told_front b (Some s) p items read none =
-    let are : AreLines read.bytes items = rw none at read.goes_on in
-    ap (λ r. take (length items) (reading r)) read.took ∙ ap (take (length items)) (are.reads s) ∙ take_at items (reading s) (length items) refl
+-- the lines read are the first of the trace's
+told_front : (b : List ℕ) (c : Option (List ℕ)) (p : Progress) (lines : List TraceLine) → HasRead (Some b) c p lines → p.stopped ≡ None → (more : List TraceLine) × (reading b ≡ lines ++ more)
+told_front b None p lines read none = absurd read.took
+told_front b (Some s) p lines read none =
+    let are : AreLines read.bytes lines = rw none at read.goes_on in
+    (reading s, ap reading read.took ∙ are.reads s)
 
 -- a last line behind what was written
-wrote_last : (failed : Type 0) (t : List ℕ) (u v : Option (List ℕ)) (out last : List ℕ) → Appends (Some t) u out
-    → (Appends u v last) ⊎ (failed × (front : List ℕ) × IsFrontOf front last × Appends u v front) → HasWritten failed (t ++ out) v last
+wrote_last : (failed : Type 0) (t : List ℕ) (u v : Option (List ℕ)) (out last : List ℕ) → Appends (Some t) u out → Puts failed u v last → HasWritten failed (t ++ out) v last
 wrote_last failed t u v out last wrote (inl more) = inl (told_bytes t v (out ++ last) (Appends-trans (Some t) u v out last wrote more) ∙ ap Some (sym (append_assoc t out last)))
 wrote_last failed t u v out last wrote (inr more) =
     inr (more.0, more.1, more.2, told_bytes t v (out ++ more.1) (Appends-trans (Some t) u v out more.1 wrote more.3) ∙ ap Some (sym (append_assoc t out more.1)))
 
-module _ (x t : List ℕ) (b u : Option (List ℕ)) (p : Progress) (m : ℕ) (going : Going (Some x) b (Some t) u p m) (failed : Type 0) where
-  done_all : (c v : Option (List ℕ)) (items : List (Option Call)) (out : List ℕ) → HasReadAll (Some x) c items → Transcript 0 items out → Appends (Some t) v out
-      → Run status.Done 0 x c t v failed
-  done_all c v items out all script wrote = (out, rw all.items_are script, told_bytes t v out wrote, all.rest_is)
+-- a last line alone
+pub wrote_alone : (failed : Type 0) (t : List ℕ) (v : Option (List ℕ)) (last : List ℕ) → Puts failed (Some t) v last → HasWritten failed t v last
+wrote_alone failed t v last (inl all) = inl (told_bytes t v last all)
+wrote_alone failed t v last (inr some) = inr (some.0, some.1, some.2, told_bytes t v some.1 some.3)
+
+-- the ways out of a run on the sectors d, whose source has the bytes x and whose sink has the bytes t
+module _ (d : List Sector) (x t : List ℕ) (b u : Option (List ℕ)) (p : Progress) (first now : Machine → Type 0) (going : Going (Some x) b (Some t) u p first now) (is : first (start d)) (failed : Type 0) where
+  done_all : (c v : Option (List ℕ)) (taken limit : ℕ) (lines : List TraceLine) (out : List ℕ) → HasReadAll (Some x) c taken limit lines → Answered (start d) lines out → Appends (Some t) v out
+      → Run status.Done d x c t v failed
+  done_all c v taken limit lines out all script wrote = (out, rw all.items_are script, told_bytes t v out wrote, all.rest_is)
 
   -- the line that ends the trace was answered
-  pub Run-last : (c v : Option (List ℕ)) (q : Progress) (item : Option Call) (r : Reply) → p.stopped ≡ None → TakesLine item b c p q → Allows m item r
-      → is_last item ≡ true → Appends u v (text r) → Run status.Done 0 x c t v failed
-  Run-last c v q item r none takes allowed last wrote =
-      done_all c v (going.items ++ item ∷ []) (going.out ++ text r) (HasRead-last (Some x) b c p q going.items item going.read none takes last)
-      (told_script (Some x) b (Some t) u p m going item r allowed) (Appends-trans (Some t) u v going.out (text r) going.wrote wrote)
+  pub Run-last : (c v : Option (List ℕ)) (q : Progress) (then : Machine → Type 0) (line : TraceLine) (r : Reply) → p.stopped ≡ None → TakesLine line b c p q → Answers now then line r
+      → is_last line ≡ true → Appends u v (text r) → Run status.Done d x c t v failed
+  Run-last c v q then line r none takes answers last wrote =
+      done_all c v q.taken q.limit (going.lines ++ line ∷ []) (going.out ++ text r) (HasRead-last (Some x) b c p q going.lines line going.read none takes last)
+      (more_script (Some x) b (Some t) u p first now going then line r answers (start d) is) (Appends-trans (Some t) u v going.out (text r) going.wrote wrote)
 
   -- the source is at its end
-  pub Run-end : (c : Option (List ℕ)) → ((p.stopped ≡ None) × Consumes b c [] × IsAtEnd c) ⊎ ((p.stopped ≡ Some stop.End) × (c ≡ b)) → Run status.Done 0 x c t u failed
-  Run-end c (inl ended) = done_all c u going.items going.out (HasRead-end (Some x) b c p going.items going.read ended.0 ended.1 ended.2) going.script going.wrote
+  pub Run-end : (c : Option (List ℕ)) → ((p.stopped ≡ None) × Consumes b c [] × IsAtEnd c × (p.taken < p.limit)) ⊎ ((p.stopped ≡ Some stop.End) × (c ≡ b)) → Run status.Done d x c t u failed
+  Run-end c (inl ended) =
+      done_all c u p.taken p.limit going.lines going.out (HasRead-end (Some x) b c p going.lines going.read ended.0 ended.1 ended.2 ended.3) (going.script (start d) is) going.wrote
   Run-end c (inr ended) =
       let all = rw ended.0 at going.read.goes_on in
-      done_all c u going.items going.out (subst (λ d. HasReadAll (Some x) d going.items) (sym ended.1) all.0) going.script going.wrote
+      done_all c u p.taken p.limit going.lines going.out (subst (λ e. HasReadAll (Some x) e p.taken p.limit going.lines) (sym ended.1) all.0) (going.script (start d) is) going.wrote
 
   -- a line was read, and the disk failed
-  pub Run-disk : (c v : Option (List ℕ)) → p.stopped ≡ None
-      → (Appends u v (last_of status.DiskFault)) ⊎ (failed × (front : List ℕ) × IsFrontOf front (last_of status.DiskFault) × Appends u v front) → Run status.DiskFault 0 x c t v failed
+  pub Run-disk : (c v : Option (List ℕ)) → p.stopped ≡ None → Puts failed u v (last_line cause.DiskFault) → Run status.DiskFault d x c t v failed
   Run-disk c v none more =
-      let script : Transcript 0 (take (length going.items) (reading x)) going.out = rw (told_front x b p going.items going.read none) going.script in
-      (length going.items, going.out, script, wrote_last failed t u v going.out (last_of status.DiskFault) going.wrote more)
+      let front = told_front x b p going.lines going.read none in (
+        length going.lines,
+        going.out,
+        rw front.1 (answered_more (start d) going.lines front.0 going.out (going.script (start d) is)),
+        wrote_last failed t u v going.out (last_line cause.DiskFault) going.wrote more,
+      )
 
   -- as many bytes as the limit were taken
-  pub Run-long : (c v : Option (List ℕ)) (q : Progress) → p.stopped ≡ None → TakesPart stop.Long b c p q → q.taken ≡ 2 ^ 32
-      → (Appends u v (last_of status.Long)) ⊎ (failed × (front : List ℕ) × IsFrontOf front (last_of status.Long) × Appends u v front) → Run status.Long 0 x c t v failed
+  pub Run-long : (c v : Option (List ℕ)) (q : Progress) → p.stopped ≡ None → TakesPart stop.Long b c p q → q.taken ≡ 2 ^ 32 → Puts failed u v (last_line cause.Long)
+      → Run status.Long d x c t v failed
   Run-long c v q none takes full more =
-      let read = HasRead-part (Some x) b c p q stop.Long going.items going.read none takes in
-      let taken = told_taken x c read.bytes read.took in
-      let none_last : list_any is_last (whole_reading taken.0.bytes) ≡ false = rw (taken.1, read.items_are) (HasRead-none_last (Some x) b p going.items going.read none) in
-      (taken.0, ap length taken.1 ∙ sym read.count ∙ full, none_last, going.out, rw (taken.1, read.items_are) going.script, wrote_last failed t u v going.out (last_of status.Long) going.wrote more)
+      let read = HasRead-part (Some x) b c p q stop.Long going.lines going.read none takes in
+      let taken = told_taken x c read.bytes read.took in (
+        taken.0,
+        ap length taken.1 ∙ sym read.count ∙ full,
+        going.out,
+        rw (taken.1, read.items_are) (going.script (start d) is),
+        wrote_last failed t u v going.out (last_line cause.Long) going.wrote more,
+      )
 
   -- the source failed
-  pub Run-read_fault : (c : Option (List ℕ)) (q : Progress) → p.stopped ≡ None → TakesPart stop.ReadFault b c p q → Run status.StreamFault 0 x c t u failed
+  pub Run-read_fault : (c : Option (List ℕ)) (q : Progress) → p.stopped ≡ None → TakesPart stop.ReadFault b c p q → Run status.StreamFault d x c t u failed
   Run-read_fault c q none takes =
-      let read = HasRead-part (Some x) b c p q stop.ReadFault going.items going.read none takes in
+      let read = HasRead-part (Some x) b c p q stop.ReadFault going.lines going.read none takes in
       let taken = told_taken x c read.bytes read.took in
-      inl (taken.0, going.out, rw (taken.1, read.items_are) going.script, inl (told_bytes t u going.out going.wrote))
+      inl (taken.0, going.out, rw (taken.1, read.items_are) (going.script (start d) is), inl (told_bytes t u going.out going.wrote))
 
   -- the sink failed on a reply
-  pub Run-write_fault : (c v : Option (List ℕ)) (q : Progress) (item : Option Call) (r : Reply) → p.stopped ≡ None → TakesLine item b c p q → Allows m item r
-      → failed → (front : List ℕ) → IsFrontOf front (text r) → Appends u v front → Run status.StreamFault 0 x c t v failed
-  Run-write_fault c v q item r none takes allowed rose front is_front wrote =
+  pub Run-write_fault : (c v : Option (List ℕ)) (q : Progress) (then : Machine → Type 0) (line : TraceLine) (r : Reply) → p.stopped ≡ None → TakesLine line b c p q → Answers now then line r
+      → failed → (front : List ℕ) → IsFrontOf front (text r) → Appends u v front → Run status.StreamFault d x c t v failed
+  Run-write_fault c v q then line r none takes answers rose front is_front wrote =
       let all = going.out ++ text r in
       let some = going.out ++ front in
-      let script = told_script (Some x) b (Some t) u p m going item r allowed in
+      let script = more_script (Some x) b (Some t) u p first now going then line r answers (start d) is in
       let is_some : IsFrontOf some all = (is_front.0, ap (λ s. going.out ++ s) is_front.1 ∙ sym (append_assoc going.out front is_front.0)) in
       let took : v ≡ Some (t ++ some) = told_bytes t v some (Appends-trans (Some t) u v going.out front going.wrote wrote) in
-      elim (HasRead-item (Some x) b c p q going.items item going.read none takes) [
+      elim (HasRead-item (Some x) b c p q going.lines line going.read none takes) [
         | inl read ↦ let taken = told_taken x c read.bytes read.took in inl (taken.0, all, rw (taken.1, read.items_are) script, inr (rose, some, is_some, took))
         | inr read ↦ inr (rose, at_end x c read.0.bytes read.0.took read.1, all, rw read.0.items_are script, some, is_some, took)
       ]
@@ -142,43 +197,90 @@ module _ (x t : List ℕ) (b u : Option (List ℕ)) (p : Progress) (m : ℕ) (go
       at_end x None bytes took end = absurd took
       at_end x (Some s) bytes took end = ap Some end
 
-pub rose_later : (a b c : ℕ) → a ≤ b → Rose b c → Rose a c
-rose_later a b c le (inl more) = inl (omega arith)
-rose_later a b c le (inr full) = inr full
-
-pub rose_sooner : (a b c : ℕ) → Rose a b → b ≤ c → Rose a c
-rose_sooner a b c (inl more) le = inl (omega arith)
-rose_sooner a b c (inr full) le = inr (omega arith)
+-- where the source tells its bytes
+pub Going-source : (a b t u : Option (List ℕ)) (p : Progress) (first now : Machine → Type 0) (x : List ℕ) → Going a b t u p first now → a ≡ Some x → Going (Some x) b t u p first now
+Going-source a b t u p first now x going source = subst (λ r. Going r b t u p first now) source going
 
 -- where source and sink tell their bytes
-pub Going-told : (a b t u : Option (List ℕ)) (p : Progress) (m : ℕ) (x y : List ℕ) → Going a b t u p m → a ≡ Some x → t ≡ Some y → Going (Some x) b (Some y) u p m
-Going-told a b t u p m x y going source sink = subst (λ s. Going (Some x) b s u p m) sink (subst (λ r. Going r b t u p m) source going)
+pub Going-told : (a b t u : Option (List ℕ)) (p : Progress) (first now : Machine → Type 0) (x y : List ℕ) → Going a b t u p first now → a ≡ Some x → t ≡ Some y
+    → Going (Some x) b (Some y) u p first now
+Going-told a b t u p first now x y going source sink = subst (λ s. Going (Some x) b s u p first now) sink (subst (λ r. Going r b t u p first now) source going)
 
-pub PutsLast-later : (P Q : Type 0) (u v : Option (List ℕ)) (last : List ℕ) → (P → Q) → PutsLast P u v last → PutsLast Q u v last
-PutsLast-later P Q u v last f (inl all) = inl all
-PutsLast-later P Q u v last f (inr some) = inr (f some.0, some.1, some.2, some.3)
+-- a trace that was read to its end is short enough, and one of which as many bytes as the limit were taken is not
+module _ (x : List ℕ) (b t u : Option (List ℕ)) (p : Progress) (first now : Machine → Type 0) (going : Going (Some x) b t u p first now) where
+  pub short_at_last : (c : Option (List ℕ)) (q : Progress) (line : TraceLine) → p.stopped ≡ None → TakesLine line b c p q → is_last line ≡ true → p.limit ≡ 2 ^ 32 → IsShort (2 ^ 32) x
+  short_at_last c q line none takes last limit =
+      let all = HasRead-last (Some x) b c p q going.lines line going.read none takes last in
+      subst (λ (n : ℕ). IsShort n x) (takes.limit ∙ limit) all.short
 
--- a long trace is not short
-pub long_not_short : (b : List ℕ) (left : Option (List ℕ)) (taken : Taken b left) → length taken.bytes ≡ 2 ^ 32 → list_any is_last (whole_reading taken.bytes) ≡ false → IsShort b → ⊥
-long_not_short b left taken full none (inl short) = omega (arith, ap length taken.all, length-append taken.bytes taken.rest)
-long_not_short b left taken full none (inr ends) =
-    let front : take (2 ^ 32) b ≡ taken.bytes = ap (take (2 ^ 32)) taken.all ∙ take_at taken.bytes taken.rest (2 ^ 32) full in
-    let same : true ≡ false = sym ends ∙ ap (λ r. list_any is_last (whole_reading r)) front ∙ none in
-    absurd (cc)
+  pub short_at_end : (c : Option (List ℕ)) → ((p.stopped ≡ None) × Consumes b c [] × IsAtEnd c × (p.taken < p.limit)) ⊎ ((p.stopped ≡ Some stop.End) × (c ≡ b)) → p.limit ≡ 2 ^ 32 → IsShort (2 ^ 32) x
+  short_at_end c (inl ended) limit =
+      let all = HasRead-end (Some x) b c p going.lines going.read ended.0 ended.1 ended.2 ended.3 in
+      subst (λ (n : ℕ). IsShort n x) limit all.short
+  short_at_end c (inr ended) limit = let all = rw ended.0 at going.read.goes_on in subst (λ (n : ℕ). IsShort n x) limit all.0.short
+
+  pub not_short : (c : Option (List ℕ)) (q : Progress) → p.stopped ≡ None → TakesPart stop.Long b c p q → q.taken ≡ q.limit → p.limit ≡ 2 ^ 32 → IsShort (2 ^ 32) x → ⊥
+  not_short c q none takes met limit short =
+      HasRead-long x b c p q going.lines going.read none takes met (subst (λ (n : ℕ). IsShort n x) (sym (takes.limit ∙ limit)) short)
+
+pub rose_later : (a b c : ℕ) → a ≤ b → Rose b c → Rose a c
+rose_later a b c le rose = omega (arith, le, rose)
+
+pub Puts-later : (P Q : Type 0) (u v : Option (List ℕ)) (last : List ℕ) → (P → Q) → Puts P u v last → Puts Q u v last
+Puts-later P Q u v last f (inl all) = inl all
+Puts-later P Q u v last f (inr some) = inr (f some.0, some.1, some.2, some.3)
 
 -- where nothing failed and the trace is short, the run is done
-pub Run-complete : (s : Status) (m : ℕ) (b : List ℕ) (left : Option (List ℕ)) (t : List ℕ) (took : Option (List ℕ)) (disk source sink : Type 0) → Run s m b left t took sink
-    → (s ≡ status.DiskFault → disk) → (s ≡ status.StreamFault → source ⊎ sink) → (s ≡ status.Usage → ⊥) → (s ≡ status.NotOpened → ⊥) → IsShort b
-    → (disk → ⊥) → (source → ⊥) → (sink → ⊥) → s ≡ status.Done
-Run-complete status.Done m b left t took disk source sink run on_disk on_stream usage opened short no_disk no_source no_sink = refl
-Run-complete status.DiskFault m b left t took disk source sink run on_disk on_stream usage opened short no_disk no_source no_sink = absurd (no_disk (on_disk refl))
-Run-complete status.StreamFault m b left t took disk source sink run on_disk on_stream usage opened short no_disk no_source no_sink = elim (on_stream refl) [ inl h ↦ absurd (no_source h) | inr h ↦ absurd (no_sink h) ]
-Run-complete status.Long m b left t took disk source sink run on_disk on_stream usage opened short no_disk no_source no_sink = absurd (long_not_short b left run.0 run.1 run.2 short)
-Run-complete status.Usage m b left t took disk source sink run on_disk on_stream usage opened short no_disk no_source no_sink = absurd (usage refl)
-Run-complete status.NotOpened m b left t took disk source sink run on_disk on_stream usage opened short no_disk no_source no_sink = absurd (opened refl)
+pub is_done : (s : Status) (disk source sink short : Type 0) → (s ≡ status.DiskFault → disk) → (s ≡ status.StreamFault → source ⊎ sink) → (s ≡ status.Long → short → ⊥)
+    → s ≢ status.Usage → s ≢ status.NotOpened → (s ≢ status.NoMemory) × (s ≢ status.Damaged) × (s ≢ status.Unfit)
+    → short → (disk → ⊥) → (source → ⊥) → (sink → ⊥) → s ≡ status.Done
+is_done status.Done disk source sink is_short on_disk on_stream on_long usage opened other short no_disk no_source no_sink = refl
+is_done status.DiskFault disk source sink is_short on_disk on_stream on_long usage opened other short no_disk no_source no_sink = absurd (no_disk (on_disk refl))
+is_done status.StreamFault disk source sink is_short on_disk on_stream on_long usage opened other short no_disk no_source no_sink = elim (on_stream refl) [ inl h ↦ absurd (no_source h) | inr h ↦ absurd (no_sink h) ]
+is_done status.Long disk source sink is_short on_disk on_stream on_long usage opened other short no_disk no_source no_sink = absurd (on_long refl short)
+is_done status.Usage disk source sink is_short on_disk on_stream on_long usage opened other short no_disk no_source no_sink = absurd (usage refl)
+is_done status.NotOpened disk source sink is_short on_disk on_stream on_long usage opened other short no_disk no_source no_sink = absurd (opened refl)
+is_done status.NoMemory disk source sink is_short on_disk on_stream on_long usage opened other short no_disk no_source no_sink = absurd (other.0 refl)
+is_done status.Damaged disk source sink is_short on_disk on_stream on_long usage opened other short no_disk no_source no_sink = absurd (other.1 refl)
+is_done status.Unfit disk source sink is_short on_disk on_stream on_long usage opened other short no_disk no_source no_sink = absurd (other.2 refl)
+
+-- what holds of the state behind a reference holds of the state
+pub reads_behind : {D : Type 0} (state : D → DiskState) (first : DiskState) (x y : D) (m n : ℕ) → x ≡ y → OnlyReads (lent_state m first) (lent_state n (state y)) → OnlyReads first (state x)
+reads_behind state first x y m n same reads = rw same (record {
+  sectors = reads.sectors;
+  lent = lent_parts m n first.lent (state y).lent reads.lent;
+  contents = reads.contents;
+  writes = reads.writes;
+  transfers = reads.transfers;
+  faults = reads.faults;
+  synced = reads.synced;
+})
+  where
+    lent_parts : (m n : ℕ) (xs ys : List ℕ) → n ∷ ys ≡ m ∷ xs → ys ≡ xs
+    lent_parts m n xs ys e = ap (drop 1) e
 
 -- one word, and its text
 pub words_are : (words : List (String Global)) (word : String Global) (text : List ℕ) → length words ≡ 1 → word ≡ get_or words 0 word → string_bytes word ≡ text → map string_bytes words ≡ text ∷ []
 words_are [] word text one is same = absurd (omega arith)
 words_are (w ∷ []) word text one is same = ap (λ v. string_bytes v ∷ []) (sym is) ∙ ap (λ b. b ∷ []) same
 words_are (w ∷ v ∷ more) word text one is same = absurd (omega arith)
+
+pub word_is : (words : List (String Global)) (word : String Global) (text : List ℕ) → length words ≡ 1 → word ≡ get_or words 0 word → map string_bytes words ≡ text ∷ [] → string_bytes word ≡ text
+word_is [] word text one is same = absurd (omega arith)
+word_is (w ∷ []) word text one is same = ap string_bytes is ∙ ap (λ l. get_or l 0 text) same
+word_is (w ∷ v ∷ more) word text one is same = absurd (omega arith)
+
+-- a text was put, or a front of it
+pub puts : (result : Result (Unit {0}) SinkFault) (failed : Type 0) (u v : Option (List ℕ)) (line last : List ℕ) → line ≡ last
+    → OnOk result (Appends u v line) → OnErr result ((front : List ℕ) × IsFrontOf front line × Appends u v front) → OnErr result failed → Puts failed u v last
+puts (Ok done) failed u v line last same ok err cause = inl (subst (λ l. Appends u v l) same ok)
+puts (Err fault) failed u v line last same ok err cause = inr (cause, err.0, subst (λ l. IsFrontOf err.0 l) same err.1, err.2)
+
+-- the last line of a refused count, alone
+pub count_alone : (failed : Type 0) (t : List ℕ) (u v : Option (List ℕ)) (n m : ℕ) → u ≡ Some t → n ≡ m → Puts failed u v (last_line (cause.Count n)) → HasWritten failed t v (last_line (cause.Count m))
+count_alone failed t u v n m told same put =
+    wrote_alone failed t v (last_line (cause.Count m)) (subst (λ (k : ℕ). Puts failed (Some t) v (last_line (cause.Count k))) same (subst (λ (o : Option (List ℕ)). Puts failed o v (last_line (cause.Count n))) told put))
+
+-- no fault rose behind a reference
+pub none_rose_behind : {D : Type 0} (state : D → DiskState) (before : ℕ) (x y : D) → (Rose before (state x).faults → ⊥) → x ≡ y → Rose before (state y).faults → ⊥
+none_rose_behind state before x y none same = subst (λ z. Rose before (state z).faults → ⊥) same none

@@ -8,3 +8,4 @@ pub mod Lines
 pub mod Scan
 pub mod Course
 pub mod Form
+pub mod Adapters

@@ -1,0 +1,4 @@
+pub mod ReplyLemmas
+pub mod AfterLemmas
+pub mod StartLemmas
+pub mod ProjectionLemmas

@@ -1,0 +1,53 @@
+-- What the definitions say.
+use Rattle.std.specs.Prelude.{◌≡◌, ℕ, suc, ◌≤◌, Bool, List, [], ◌++◌, Some, slice_get}
+use Rattle.labelled_disk.specs.Sectors.{Sector}
+use Rattle.labelled_disk.specs.FilesOn.{files_on}
+use Rattle.flat_machine.specs.declared.call.Call.{Call}
+use Rattle.flat_machine.specs.declared.call.Reply.{Reply}
+use Rattle.flat_machine.specs.declared.call.Refusal.{Refusal}
+use Rattle.flat_machine.specs.Text.{text}
+use Rattle.flat_machine.specs.Space.{Space}
+use Rattle.flat_machine.specs.Machine.{Machine, IsMachine}
+use Rattle.flat_machine.specs.Refusal.{refusal}
+use Rattle.flat_machine.specs.Next.{next}
+use Rattle.flat_machine.specs.Allows.{Allows, reply_of}
+use Rattle.flat_machine.specs.After.{TraceLine, AllowsLine, next_line, after, Transcript}
+use Rattle.flat_machine.specs.Settled.{settled, Agrees}
+use Rattle.flat_machine.specs.Start.{opened, start}
+use Rattle.flat_machine.specs.Projection.{Interval, IsProjection}
+
+-- some reply is allowed, whatever the machine and the call
+abbrev pub SomeReplyIsAllowed : Type 0
+SomeReplyIsAllowed = (m : Machine) (call : Call) → Allows m call (reply_of m call)
+
+-- a refused call changes nothing
+abbrev pub RefusedChangesNothing : Type 0
+RefusedChangesNothing = (m : Machine) (call : Call) (word : Refusal) → refusal m call ≡ Some word → next m call ≡ m
+
+-- no line has the empty transcript
+abbrev pub TranscriptBegins : Type 0
+TranscriptBegins = (built : Call → Bool) (m : Machine) (lines : List TraceLine) → Transcript built m lines 0 []
+
+-- an allowed reply to the next line makes a transcript longer
+abbrev pub TranscriptGrows : Type 0
+TranscriptGrows = (built : Call → Bool) (m : Machine) (lines : List TraceLine) (k : ℕ) (bytes : List ℕ) (line : TraceLine) (r : Reply)
+    → Transcript built m lines k bytes → slice_get lines k ≡ Some line → AllowsLine built (after built m lines k) line r
+    → Transcript built m lines (suc k) (bytes ++ text r)
+
+-- one line more, and the machine is the next
+abbrev pub AfterGrows : Type 0
+AfterGrows = (built : Call → Bool) (m : Machine) (lines : List TraceLine) (k : ℕ) (line : TraceLine)
+    → slice_get lines k ≡ Some line → after built m lines (suc k) ≡ next_line built (after built m lines k) line
+
+-- a machine without files is one
+abbrev pub OpenedIsMachine : Type 0
+OpenedIsMachine = (serial counter capacity : ℕ) → 1 ≤ serial → serial ≤ 4294967295 → 1 ≤ counter → counter ≤ 4294967295
+    → IsMachine (opened serial counter capacity)
+
+-- the files of a disk agree with the settled files of the machine that it starts
+abbrev pub StartAgrees : Type 0
+StartAgrees = (d : List Sector) → (settled (start d) ≡ files_on d) × Agrees (files_on d) (settled (start d))
+
+-- the spaces have one projection at most
+abbrev pub ProjectionIsUnique : Type 0
+ProjectionIsUnique = (spaces : List Space) (is js : List Interval) → IsProjection spaces is → IsProjection spaces js → is ≡ js

@@ -1,0 +1,58 @@
+-- The projection of the spaces on the pages of the root, and the pages that are swapped together.
+use Rattle.std.specs.Prelude.{ℕ, ◌≡◌, ◌≢◌, ◌+◌, ◌-◌, ◌*◌, ◌/◌, ◌<◌, ◌≤◌, min, max, List, [], ◌∷◌, Option, option_map}
+use Rattle.flat_machine.specs.Space.{Space, root_pages, innermost, mapped_at}
+
+-- the innermost space and the mapped space at a page, by their handles
+pub record View : Type 0 where
+  pub innermost_handle : Option ℕ
+  pub mapped_handle : Option ℕ
+
+-- the view of a page
+abbrev pub view_at : List Space → ℕ → View
+view_at spaces page = record {
+  innermost_handle = option_map (λ s. s.handle) (innermost spaces page);
+  mapped_handle = option_map (λ s. s.handle) (mapped_at spaces page);
+}
+
+-- pages in a row that have one view
+pub record Interval : Type 0 where
+  pub first : ℕ
+  pub pages : ℕ
+  pub view : View
+
+-- the first page behind an interval
+abbrev pub end_of : Interval → ℕ
+end_of i = i.first + i.pages
+
+-- the interval begins at the page, each of its pages has its view, and the page behind it, if it is one of the root, has another
+pub record IsMaximalFrom (spaces : List Space) (page : ℕ) (i : Interval) : Type 0 where
+  pub begins : i.first ≡ page
+  pub not_empty : 1 ≤ i.pages
+  pub in_root : end_of i ≤ root_pages
+  pub one_view : (p : ℕ) → page ≤ p → p < end_of i → view_at spaces p ≡ i.view
+  pub maximal : end_of i < root_pages → view_at spaces (end_of i) ≢ i.view
+
+-- the maximal intervals from a page on to the end of the root, in order
+abbrev pub IsProjectionFrom : List Space → ℕ → List Interval → Type 0
+IsProjectionFrom spaces page [] = page ≡ root_pages
+IsProjectionFrom spaces page (i ∷ is) = IsMaximalFrom spaces page i × IsProjectionFrom spaces (end_of i) is
+
+-- the maximal intervals of the root
+abbrev pub IsProjection : List Space → List Interval → Type 0
+IsProjection spaces intervals = IsProjectionFrom spaces 0 intervals
+
+-- where the block of a page starts, counted in units from the first page of its innermost space
+abbrev pub block_start : Space → ℕ → ℕ
+block_start space page = space.first + space.unit * ((page - space.first) / space.unit)
+
+-- the first page of the block, cut to the interval
+abbrev pub unit_first : Space → Interval → ℕ → ℕ
+unit_first space i page = max i.first (block_start space page)
+
+-- the first page behind the block, cut to the interval
+abbrev pub unit_end : Space → Interval → ℕ → ℕ
+unit_end space i page = min (end_of i) (block_start space page + space.unit)
+
+-- the swap unit of a page, by its innermost space and its interval: the unit's first page, and how many pages it has
+abbrev pub unit : Space → Interval → ℕ → ℕ × ℕ
+unit space i page = (unit_first space i page, unit_end space i page - unit_first space i page)

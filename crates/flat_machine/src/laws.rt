@@ -1,0 +1,36 @@
+//! What the definitions of the machine say, shown on functions that do nothing.
+
+ghost use Rattle.flat_machine.specs.Laws.{SomeReplyIsAllowed, RefusedChangesNothing, TranscriptBegins, TranscriptGrows, AfterGrows};
+ghost use Rattle.flat_machine.specs.Laws.{OpenedIsMachine, StartAgrees, ProjectionIsUnique};
+
+/// Every call has an allowed reply.
+pub fn some_reply_is_allowed()
+    ensures { SomeReplyIsAllowed }
+{}
+
+/// A refused call leaves the machine as it is.
+pub fn refused_changes_nothing()
+    ensures { RefusedChangesNothing }
+{}
+
+/// A transcript grows by an allowed reply to the next line.
+pub fn transcript_grows()
+    ensures begins { TranscriptBegins }
+    ensures grows { TranscriptGrows }
+    ensures after { AfterGrows }
+{}
+
+/// A volume without files is a machine.
+pub fn opened_is_machine()
+    ensures { OpenedIsMachine }
+{}
+
+/// A disk's own files are the settled files of the machine that it starts.
+pub fn start_agrees()
+    ensures { StartAgrees }
+{}
+
+/// Spaces have one projection at most.
+pub fn projection_is_unique()
+    ensures { ProjectionIsUnique }
+{}

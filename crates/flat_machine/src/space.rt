@@ -1,0 +1,33 @@
+//! Spaces, the windows that they have on files, and pages of files.
+
+use labelled_disk::FileId;
+
+/// Which file is shown, from which of its pages on, and how.
+#[derive(Clone, Copy, Debug, PartialEq, Eq)]
+pub struct Window {
+    pub file: FileId,
+    pub first: u32,
+    pub writable: bool,
+    /// No call can name the file, and it goes with the window.
+    pub anonymous: bool,
+}
+
+/// A run of pages of the virtual memory, with or without a window.
+#[derive(Clone, Copy, Debug, PartialEq, Eq)]
+pub struct Space {
+    pub handle: u32,
+    pub parent: u32,
+    pub first: u32,
+    pub pages: u32,
+    /// So many pages are swapped together.
+    pub unit: u8,
+    pub window: Option<Window>,
+}
+
+/// A page of a file. Its number has room for the sum of a window's first page and a page of its
+/// space.
+#[derive(Clone, Copy, Debug, PartialEq, Eq)]
+pub struct FilePage {
+    pub file: FileId,
+    pub page: u64,
+}

@@ -1,0 +1,18 @@
+//! The texts of `--help` and `--version`.
+
+/// The name and the version.
+pub const VERSION: &str = "pilot 0.1.0\n";
+
+/// How the program is called.
+pub const HELP: &str = "\
+usage: pilot IMAGE COMMAND
+       pilot --help | --version
+
+images    :n       a disk of n sectors in memory, 256 to 1048576 for a volume
+commands  run      reads calls from standard input, a line each, and writes a
+                   reply to each; attr, next, close and halt are built, any
+                   other call is answered 'error later'
+exit      0 done, 2 usage, 3 disk fault, 4 stream fault, 5 volume refused,
+          6 trace too long, 7 no memory
+manual    docs/MANUAL.md in the repository
+";

@@ -1,0 +1,15 @@
+use Rattle.std.proofs.Common.{rules, ◌+◌, take, drop, arith}
+use Rattle.std.proofs.lemmas.List.{take_rest}
+use Rattle.trace_io.proofs.Pieces.{appends_part, written_front}
+use Rattle.trace_io.proofs.adapters.WriterSinkSink.put.Goals as goal
+
+pub loop-at-preserved : goal.loop-at-preserved
+loop-at-preserved g c =
+    let piece = c.args.piece.now in
+    let next = rw (take_rest piece c.loop-at.at) at c.in-Ok.ensures.bytes in
+    (search rules, appends_part _ _ _ piece c.loop-at.at c.in-Ok.count c.loop-at.invariant.1 next, search rules)
+
+pub returns-in_default-clause-err : goal.returns-in_default-clause-err
+returns-in_default-clause-err g c =
+    let piece = c.args.piece.now in
+    written_front _ _ _ piece c.loop-at.at c.write.result c.loop-at.invariant.1 (rw (take_rest piece c.loop-at.at) at c.write.ensures.bytes)
