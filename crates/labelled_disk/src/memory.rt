@@ -210,6 +210,7 @@ impl<A: Allocator> Disk for MemoryDisk<A> {
         ensures writes { Writes (DiskWrite.Whole sector label.now page.now) (memory_state self.old)
             result (memory_state self.new) }
         ensures fails { IsErr result ↔ (FailsNext self.old ⊎ IsFull self.old) }
+        ensures same { OnErr result (TellsSame (memory_state self.old) (memory_state self.new)) }
         ensures counts { Counts result self.old self.new }
         ensures synced { StaysSyncedIfErr result (memory_state self.old) (memory_state self.new) }
     {
@@ -228,6 +229,7 @@ impl<A: Allocator> Disk for MemoryDisk<A> {
         ensures writes { Writes (DiskWrite.LabelOnly sector label.now) (memory_state self.old)
             result (memory_state self.new) }
         ensures fails { IsErr result ↔ (FailsNext self.old ⊎ IsFull self.old) }
+        ensures same { OnErr result (TellsSame (memory_state self.old) (memory_state self.new)) }
         ensures counts { Counts result self.old self.new }
         ensures synced { StaysSyncedIfErr result (memory_state self.old) (memory_state self.new) }
     {
@@ -247,6 +249,7 @@ impl<A: Allocator> Disk for MemoryDisk<A> {
             (memory_state self.new) }
         ensures fails { IsFailed result ↔ (FailsNext self.old
             ⊎ (IsTrue (names_at self.old sector wanted) × IsFull self.old)) }
+        ensures same { OnErr result (TellsSame (memory_state self.old) (memory_state self.new)) }
         ensures counts { Counts result self.old self.new }
         ensures synced { StaysSyncedIfErr result (memory_state self.old) (memory_state self.new) }
     {
