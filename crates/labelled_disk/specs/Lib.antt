@@ -7,3 +7,4 @@ pub mod Memory
 pub mod Moment
 pub mod Sectors
 pub mod State
+pub mod WriteRuns
