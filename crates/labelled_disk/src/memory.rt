@@ -31,6 +31,7 @@ impl<A: Allocator + Clone> MemoryDisk<A> {
     /// A disk of zero sectors, all free, which never fails and doesn't tell its writes. The memory
     /// for all sectors, 528 bytes each, is taken here, and none later.
     pub fn new(alloc: A, sectors: u32) -> Result<MemoryDisk<A>, NoMemory>
+        ensures sectors { IfOk result (λ d. (memory_state d).sectors ≡ sectors) }
         ensures contents { IfOk result (λ d. (memory_state d).contents
             ≡ Some (replicate sectors zero_sector)) }
         ensures writes { IfOk result (λ d. (memory_state d).writes ≡ None) }
@@ -59,6 +60,7 @@ impl<A: Allocator + Clone> MemoryDisk<A> {
         calls: &[u64],
         room: u32,
     ) -> Result<MemoryDisk<A>, NoMemory>
+        ensures sectors { IfOk result (λ d. (memory_state d).sectors ≡ sectors) }
         ensures contents { IfOk result (λ d. (memory_state d).contents
             ≡ Some (replicate sectors zero_sector)) }
         ensures writes { IfOk result (λ d. (memory_state d).writes ≡ Some []) }
