@@ -2,9 +2,9 @@
 #![tactic(auto)]
 
 mod copy;
-mod through;
 #[cfg(test)]
 mod tests;
+mod through;
 
 pub use copy::copy_page;
 pub use through::through_memory;

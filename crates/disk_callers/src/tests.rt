@@ -1,3 +1,6 @@
+ghost use Rattle.std.specs.Prelude.{◌≡◌, IfOk};
+ghost use Rattle.labelled_disk.specs.Memory.{memory_state};
+
 use crate::copy_page;
 use labelled_disk::{Disk, DiskError, Label, MemoryDisk, Wanted};
 use std::alloc::Global;
@@ -25,7 +28,9 @@ const WANTED: Wanted = Wanted {
 };
 
 // A disk whose sector 1 has a page of sevens, and sector 2 a page of zeros. Two calls made it.
-fn two_pages(alloc: Global, calls: &[u64]) -> Result<MemoryDisk<Global>, Fail> {
+fn two_pages(alloc: Global, calls: &[u64]) -> Result<MemoryDisk<Global>, Fail>
+    ensures { IfOk result (λ disk. (memory_state disk).sectors ≡ 4) }
+{
     let mut disk = MemoryDisk::failing(alloc, 4, calls, 8)?;
     disk.write(1, &SOURCE, &[7; 512])?;
     disk.write(2, &TARGET, &[0; 512])?;

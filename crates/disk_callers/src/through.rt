@@ -5,7 +5,11 @@ use labelled_disk::{Disk, Label, MemoryDisk, NoMemory, Page};
 use std::alloc::Allocator;
 
 /// Writes a sector of a new disk in memory and reads it back. Only want of memory can stop it.
-pub fn through_memory<A: Allocator + Clone>(alloc: A, label: Label, page: &Page) -> Result<(Label, Page), NoMemory>
+pub fn through_memory<A: Allocator + Clone>(
+    alloc: A,
+    label: Label,
+    page: &Page,
+) -> Result<(Label, Page), NoMemory>
     ensures { IfOk result (λ back. back ≡ (label, page.now)) }
 {
     let mut disk = MemoryDisk::new(alloc, 1)?;

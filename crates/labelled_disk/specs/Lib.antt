@@ -16,3 +16,4 @@ pub mod Runs
 pub mod Sectors
 pub mod State
 pub mod WriteLaws
+pub mod WriteRuns

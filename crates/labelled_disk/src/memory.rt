@@ -31,6 +31,7 @@ impl<A: Allocator + Clone> MemoryDisk<A> {
     /// A disk of zero sectors, all free, which never fails and doesn't tell its writes. The memory
     /// for all sectors, 528 bytes each, is taken here, and none later.
     pub fn new(alloc: A, sectors: u32) -> Result<MemoryDisk<A>, NoMemory>
+        ensures sectors { IfOk result (λ d. (memory_state d).sectors ≡ sectors) }
         ensures contents { IfOk result (λ d. (memory_state d).contents
             ≡ Some (replicate sectors zero_sector)) }
         ensures writes { IfOk result (λ d. (memory_state d).writes ≡ None) }
@@ -59,6 +60,7 @@ impl<A: Allocator + Clone> MemoryDisk<A> {
         calls: &[u64],
         room: u32,
     ) -> Result<MemoryDisk<A>, NoMemory>
+        ensures sectors { IfOk result (λ d. (memory_state d).sectors ≡ sectors) }
         ensures contents { IfOk result (λ d. (memory_state d).contents
             ≡ Some (replicate sectors zero_sector)) }
         ensures writes { IfOk result (λ d. (memory_state d).writes ≡ Some []) }
@@ -210,6 +212,7 @@ impl<A: Allocator> Disk for MemoryDisk<A> {
         ensures writes { Writes (DiskWrite.Whole sector label.now page.now) (memory_state self.old)
             result (memory_state self.new) }
         ensures fails { IsErr result ↔ (FailsNext self.old ⊎ IsFull self.old) }
+        ensures same { OnErr result (TellsSame (memory_state self.old) (memory_state self.new)) }
         ensures counts { Counts result self.old self.new }
         ensures synced { StaysSyncedIfErr result (memory_state self.old) (memory_state self.new) }
     {
@@ -228,6 +231,7 @@ impl<A: Allocator> Disk for MemoryDisk<A> {
         ensures writes { Writes (DiskWrite.LabelOnly sector label.now) (memory_state self.old)
             result (memory_state self.new) }
         ensures fails { IsErr result ↔ (FailsNext self.old ⊎ IsFull self.old) }
+        ensures same { OnErr result (TellsSame (memory_state self.old) (memory_state self.new)) }
         ensures counts { Counts result self.old self.new }
         ensures synced { StaysSyncedIfErr result (memory_state self.old) (memory_state self.new) }
     {
@@ -247,6 +251,7 @@ impl<A: Allocator> Disk for MemoryDisk<A> {
             (memory_state self.new) }
         ensures fails { IsFailed result ↔ (FailsNext self.old
             ⊎ (IsTrue (names_at self.old sector wanted) × IsFull self.old)) }
+        ensures same { OnErr result (TellsSame (memory_state self.old) (memory_state self.new)) }
         ensures counts { Counts result self.old self.new }
         ensures synced { StaysSyncedIfErr result (memory_state self.old) (memory_state self.new) }
     {
