@@ -2,3 +2,4 @@ pub mod ReplyLemmas
 pub mod AfterLemmas
 pub mod StartLemmas
 pub mod ProjectionLemmas
+pub mod RowLemmas

@@ -11,4 +11,5 @@ pub mod After
 pub mod Settled
 pub mod Start
 pub mod Projection
+pub mod Rows
 pub mod Laws

@@ -1,6 +1,7 @@
 //! What the definitions of the machine say, shown on functions that do nothing.
 
 ghost use Rattle.flat_machine.specs.Laws.{SomeReplyIsAllowed, RefusedChangesNothing, TranscriptBegins, TranscriptGrows, AfterGrows};
+ghost use Rattle.flat_machine.specs.Rows.{WorkedRows};
 ghost use Rattle.flat_machine.specs.Laws.{OpenedIsMachine, StartAgrees, ProjectionIsUnique};
 
 /// Every call has an allowed reply.
@@ -33,4 +34,9 @@ pub fn start_agrees()
 /// Spaces have one projection at most.
 pub fn projection_is_unique()
     ensures { ProjectionIsUnique }
+{}
+
+/// The worked rows come out as they are written.
+pub fn worked_rows()
+    ensures { WorkedRows }
 {}
