@@ -3,3 +3,6 @@ pub mod AfterLemmas
 pub mod StartLemmas
 pub mod ProjectionLemmas
 pub mod RowLemmas
+pub mod Lists
+pub mod TestLemmas
+pub mod FileLemmas
