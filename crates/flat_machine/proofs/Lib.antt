@@ -6,3 +6,6 @@ pub mod RowLemmas
 pub mod Lists
 pub mod TestLemmas
 pub mod FileLemmas
+pub mod LowestLemmas
+pub mod HandleLemmas
+pub mod SpaceLemmas

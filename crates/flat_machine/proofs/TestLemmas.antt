@@ -16,11 +16,46 @@ use Rattle.flat_machine.specs.Machine.{Machine, used, nameable, is_anonymous}
 use Rattle.flat_machine.specs.Refusal.{Test, first_of, no_room, no_file, no_room_as, no_ids, is_immutable, of_file, file_mapped, cut_while_mapped, lowest_handle, no_space, of_space, is_root, has_children, self_mapped, path_mapped, not_mapped, shows_immutable, past_end}
 use Rattle.flat_machine.proofs.Lists.{In, find_in, not_found}
 
--- none holds where the first does not
-pub none_holds : (tests : List Test) → first_of tests ≡ None → AllByRecursion (λ t. t ≡ None) tests
-none_holds [] e = tt
-none_holds (None ∷ tests) e = (refl, none_holds tests e)
-none_holds (Some word ∷ tests) e = absurd (none-some word (sym e))
+-- Where no word is the first, no test holds.
+
+pub one_none : (a : Test) → first_of (a ∷ []) ≡ None → (a ≡ None)
+one_none (Some w) e = absurd (none-some w (sym e))
+one_none None e = refl
+
+pub two_none : (a b : Test) → first_of (a ∷ b ∷ []) ≡ None → (a ≡ None) × (b ≡ None)
+two_none (Some w) b e = absurd (none-some w (sym e))
+two_none None (Some w) e = absurd (none-some w (sym e))
+two_none None None e = (refl, refl)
+
+pub three_none : (a b c : Test) → first_of (a ∷ b ∷ c ∷ []) ≡ None → (a ≡ None) × (b ≡ None) × (c ≡ None)
+three_none (Some w) b c e = absurd (none-some w (sym e))
+three_none None (Some w) c e = absurd (none-some w (sym e))
+three_none None None (Some w) e = absurd (none-some w (sym e))
+three_none None None None e = (refl, refl, refl)
+
+pub four_none : (a b c d : Test) → first_of (a ∷ b ∷ c ∷ d ∷ []) ≡ None → (a ≡ None) × (b ≡ None) × (c ≡ None) × (d ≡ None)
+four_none (Some w) b c d e = absurd (none-some w (sym e))
+four_none None (Some w) c d e = absurd (none-some w (sym e))
+four_none None None (Some w) d e = absurd (none-some w (sym e))
+four_none None None None (Some w) e = absurd (none-some w (sym e))
+four_none None None None None e = (refl, refl, refl, refl)
+
+pub five_none : (a b c d f : Test) → first_of (a ∷ b ∷ c ∷ d ∷ f ∷ []) ≡ None → (a ≡ None) × (b ≡ None) × (c ≡ None) × (d ≡ None) × (f ≡ None)
+five_none (Some w) b c d f e = absurd (none-some w (sym e))
+five_none None (Some w) c d f e = absurd (none-some w (sym e))
+five_none None None (Some w) d f e = absurd (none-some w (sym e))
+five_none None None None (Some w) f e = absurd (none-some w (sym e))
+five_none None None None None (Some w) e = absurd (none-some w (sym e))
+five_none None None None None None e = (refl, refl, refl, refl, refl)
+
+pub six_none : (a b c d f g : Test) → first_of (a ∷ b ∷ c ∷ d ∷ f ∷ g ∷ []) ≡ None → (a ≡ None) × (b ≡ None) × (c ≡ None) × (d ≡ None) × (f ≡ None) × (g ≡ None)
+six_none (Some w) b c d f g e = absurd (none-some w (sym e))
+six_none None (Some w) c d f g e = absurd (none-some w (sym e))
+six_none None None (Some w) d f g e = absurd (none-some w (sym e))
+six_none None None None (Some w) f g e = absurd (none-some w (sym e))
+six_none None None None None (Some w) g e = absurd (none-some w (sym e))
+six_none None None None None None (Some w) e = absurd (none-some w (sym e))
+six_none None None None None None None e = (refl, refl, refl, refl, refl, refl)
 
 pub then_none : (b : Bool) (word : Refusal) → then_some b word ≡ None → b ≡ false
 then_none true word e = absurd (none-some word (sym e))

@@ -1,5 +1,5 @@
 -- What the definitions say.
-use Rattle.std.specs.Prelude.{◌≡◌, ℕ, suc, ◌≤◌, Bool, List, [], ◌++◌, Some, slice_get}
+use Rattle.std.specs.Prelude.{◌≡◌, ℕ, suc, ◌≤◌, Bool, false, IsTrue, IsSomeAnd, List, [], ◌++◌, Some, slice_get}
 use Rattle.labelled_disk.specs.Sectors.{Sector}
 use Rattle.labelled_disk.specs.FilesOn.{files_on}
 use Rattle.flat_machine.specs.declared.call.Call.{Call}
@@ -8,8 +8,8 @@ use Rattle.flat_machine.specs.declared.call.Refusal.{Refusal}
 use Rattle.flat_machine.specs.Text.{text}
 use Rattle.flat_machine.specs.Space.{Space}
 use Rattle.flat_machine.specs.Machine.{Machine, IsMachine}
-use Rattle.flat_machine.specs.Refusal.{refusal}
-use Rattle.flat_machine.specs.Next.{next}
+use Rattle.flat_machine.specs.Refusal.{refusal, fits, lowest_gap}
+use Rattle.flat_machine.specs.Next.{next, is_unused, lowest_unused}
 use Rattle.flat_machine.specs.Allows.{Allows, reply_of}
 use Rattle.flat_machine.specs.After.{TraceLine, AllowsLine, next_line, after, Transcript}
 use Rattle.flat_machine.specs.Settled.{settled, Agrees}
@@ -51,3 +51,13 @@ StartAgrees = (d : List Sector) → (settled (start d) ≡ files_on d) × Agrees
 -- the spaces have one projection at most
 abbrev pub ProjectionIsUnique : Type 0
 ProjectionIsUnique = (spaces : List Space) (is js : List Interval) → IsProjection spaces is → IsProjection spaces js → is ≡ js
+
+-- where so many pages fit, they fit at the lowest gap, and it is no higher
+abbrev pub LowestGapIsLeast : Type 0
+LowestGapIsLeast = (spaces : List Space) (parent : Space) (pages first : ℕ) → IsTrue (fits spaces parent pages first)
+    → IsSomeAnd (lowest_gap spaces parent pages) (λ gap. gap ≤ first × IsTrue (fits spaces parent pages gap))
+
+-- where a handle is unused, the lowest unused one is no higher, and it is unused and not the root's
+abbrev pub LowestUnusedIsLeast : Type 0
+LowestUnusedIsLeast = (spaces : List Space) (handle : ℕ) → is_unused spaces 0 ≡ false → IsTrue (is_unused spaces handle)
+    → (lowest_unused spaces ≤ handle) × IsTrue (is_unused spaces (lowest_unused spaces)) × (1 ≤ lowest_unused spaces)

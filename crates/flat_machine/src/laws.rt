@@ -2,7 +2,7 @@
 
 ghost use Rattle.flat_machine.specs.Laws.{SomeReplyIsAllowed, RefusedChangesNothing, TranscriptBegins, TranscriptGrows, AfterGrows};
 ghost use Rattle.flat_machine.specs.Rows.{WorkedRows};
-ghost use Rattle.flat_machine.specs.Laws.{OpenedIsMachine, StartAgrees, ProjectionIsUnique};
+ghost use Rattle.flat_machine.specs.Laws.{OpenedIsMachine, StartAgrees, ProjectionIsUnique, LowestGapIsLeast, LowestUnusedIsLeast};
 
 /// Every call has an allowed reply.
 pub fn some_reply_is_allowed()
@@ -39,4 +39,10 @@ pub fn projection_is_unique()
 /// The worked rows come out as they are written.
 pub fn worked_rows()
     ensures { WorkedRows }
+{}
+
+/// A new space stands as low as it can, and has the least handle.
+pub fn lowest_is_least()
+    ensures gap { LowestGapIsLeast }
+    ensures handle { LowestUnusedIsLeast }
 {}
