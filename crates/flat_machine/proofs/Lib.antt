@@ -9,3 +9,4 @@ pub mod FileLemmas
 pub mod LowestLemmas
 pub mod HandleLemmas
 pub mod SpaceLemmas
+pub mod SpaceEdits
