@@ -10,3 +10,5 @@ pub mod LowestLemmas
 pub mod HandleLemmas
 pub mod SpaceLemmas
 pub mod SpaceEdits
+pub mod Keep
+pub mod KeepFiles
