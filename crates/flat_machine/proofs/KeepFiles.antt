@@ -20,6 +20,8 @@ use Rattle.flat_machine.specs.Next.{next, new_id, new_file, with_new_file, chang
 use Rattle.flat_machine.proofs.Lists.{In, all_in, in_all, in_filter, filter_in, in_map, looked_up, look_up, look_up_none, not_any, rising_filter}
 use Rattle.flat_machine.proofs.TestLemmas.{one_none, two_none, three_none, four_none, then_none, room_there, file_there, of_file_none, windows_fail, not_shown, none_anonymous}
 use Rattle.flat_machine.proofs.FileLemmas.{AreFiles, Follows, fewer_files, changed_files, found_changed, same_room, one_id, changed_here, unchanged, room_of_one, each_put, room_put}
+use Rattle.flat_machine.proofs.Cells.{resized_size, resized_file, byte_size, byte_file, killed_size, killed_is_file, zero_file}
+use Rattle.std.specs.Bool.{then_some}
 use Rattle.flat_machine.proofs.Keep.{Linked, files_of, refused_or, at_there, relinked, with_files}
 
 pub follows_self : (w : Window) (f : File) → Follows w f f
@@ -94,3 +96,81 @@ immutable_keeps id m h = refused_or m (MakeImmutable id) h kept
         one_file_changed m id (λ f. record f { immutable = true }) there.0 (λ x. refl)
         (λ x w. record { kind_fits = w.kind_fits; whole_pages = w.whole_pages; cells = w.cells }) there.1 (omega (arith, h.room))
         (λ s w i is q. record { size = omega arith; immutable = λ t z. absurd (true≢false (sym t ∙ windows_fail m id (λ v. v.writable) tests.1 s w i is q)); permanent = λ t z. z }) h
+
+-- setsize
+
+pub size_keeps : (id pages : ℕ) (m : Machine) → IsMachine m → IsMachine (next m (SetSize id pages))
+size_keeps id pages m h = refused_or m (SetSize id pages) h kept
+  where
+    -- a file that windows show is not cut
+    no_cut : (f : File) → (if nat_lt pages (size f) then file_mapped m id (λ w. true) else None) ≡ None
+        → (s : Space) (w : Window) → In s m.spaces → s.window ≡ Some w → w.file ≡ id → size f ≤ pages
+    no_cut f e s w i is q = either (nat_lt pages (size f)) refl e
+      where
+        either : (b : Bool) → nat_lt pages (size f) ≡ b → (if b then file_mapped m id (λ w. true) else None) ≡ None → size f ≤ pages
+        either true t e = absurd (not_shown m id e s w i is q)
+        either false t e = ltb-false pages (size f) t
+
+    kept : refusal m (SetSize id pages) ≡ None → IsMachine (record m { files = change_file id (resized pages) m.files })
+    kept e =
+        let tests = four_none (no_file m id) (is_immutable m id) (cut_while_mapped m id pages) (no_room_as m id pages) e in
+        let there = file_there m id tests.0 in
+        let f : File = there.0 in
+        let cut = of_file_none m id (λ x. if nat_lt pages (size x) then file_mapped m id (λ w. true) else None) f there.1 tests.2 in
+        let room = ltb-false m.capacity (used m + pages - size f) (then_none (nat_lt m.capacity (used m + pages - size f)) why.Full
+            (of_file_none m id (λ x. then_some (nat_lt m.capacity (used m + pages - size x)) why.Full) f there.1 tests.3)) in
+        let long : size (resized pages f) ≡ pages = resized_size pages f in
+        one_file_changed m id (resized pages) f (λ x. refl) (resized_file pages) there.1 (omega (arith, room, long, h.room))
+        (λ s w i is q. record { size = omega (arith, no_cut f cut s w i is q, long); immutable = λ t z. z; permanent = λ t z. z }) h
+
+-- All files are changed, and keep their sizes and marks.
+
+pub all_files_changed : (m : Machine) (g : File → File) → ((f : File) → (g f).id ≡ f.id) → ((f : File) → size (g f) ≡ size f)
+    → ((f : File) → (g f).immutable ≡ f.immutable) → ((f : File) → (g f).permanent ≡ f.permanent) → ((f : File) → IsFile f → IsFile (g f))
+    → IsMachine m → IsMachine (record m { files = map g m.files })
+all_files_changed m g ids sizes immutable permanent whole h =
+    with_files m (map g m.files)
+    (changed_files m.serial m.counter m.capacity g ids m.files (λ f i w. whole f w) (omega (arith, same_room g sizes m.files, h.room)) (files_of m h))
+    (relinked m.files (map g m.files) m.spaces h.whole_windows
+    (λ s w i e f found. (g f, found_changed g ids m.files w.file f found, record {
+      size = omega (arith, sizes f);
+      immutable = λ t z. immutable f ∙ z;
+      permanent = λ t z. permanent f ∙ z;
+    }))) h
+
+pub kill_keeps : (space : ℕ) (m : Machine) → IsMachine m → IsMachine (next m (Kill space))
+kill_keeps space m h = refused_or m (Kill space) h (λ e. at_there m (space_at m.spaces space) (λ s. record m { files = map (killed_file m.spaces s) m.files }) h
+    (λ s there. all_files_changed m (killed_file m.spaces s) (λ f. refl) (killed_size m.spaces s) (λ f. refl) (λ f. refl) (killed_is_file m.spaces s) h))
+
+-- the bytes of a store
+
+stored_byte : (m : Machine) (spot : Spot) (b : ℕ) → b < 256 → IsMachine m → IsMachine (record m { files = change_file spot.file (with_byte spot b) m.files })
+stored_byte m spot b fits h =
+    all_files_changed m (λ f. if f.id == spot.file then with_byte spot b f else f) (one_id spot.file (with_byte spot b) (λ f. refl))
+    (λ f. sizes f (f.id == spot.file)) (λ f. immutable f (f.id == spot.file)) (λ f. permanent f (f.id == spot.file)) (λ f w. whole f w (f.id == spot.file)) h
+  where
+    sizes : (f : File) (c : Bool) → size (if c then with_byte spot b f else f) ≡ size f
+    sizes f true = byte_size spot b f
+    sizes f false = refl
+
+    immutable : (f : File) (c : Bool) → (if c then with_byte spot b f else f).immutable ≡ f.immutable
+    immutable f true = refl
+    immutable f false = refl
+
+    permanent : (f : File) (c : Bool) → (if c then with_byte spot b f else f).permanent ≡ f.permanent
+    permanent f true = refl
+    permanent f false = refl
+
+    whole : (f : File) → IsFile f → (c : Bool) → IsFile (if c then with_byte spot b f else f)
+    whole f w true = byte_file spot b f fits w
+    whole f w false = w
+
+pub stored_bytes : (ss : List Space) (bytes : List ℕ) (address : ℕ) (m : Machine) → AllByRecursion (λ b. b < 256) bytes → IsMachine m
+    → IsMachine (record m { files = store_bytes ss address bytes m.files })
+stored_bytes ss [] address m fit h = h
+stored_bytes ss (b ∷ bs) address m fit h =
+    stored_bytes ss bs (address + 1) (record m { files = store_byte ss address b m.files }) fit.1 (either (spot_at ss address))
+  where
+    either : (o : Option Spot) → IsMachine (record m { files = option_map_or (λ spot. change_file spot.file (with_byte spot b) m.files) o m.files })
+    either None = h
+    either (Some spot) = stored_byte m spot b fit.0 h

@@ -10,5 +10,6 @@ pub mod LowestLemmas
 pub mod HandleLemmas
 pub mod SpaceLemmas
 pub mod SpaceEdits
+pub mod Cells
 pub mod Keep
 pub mod KeepFiles
