@@ -13,3 +13,5 @@ pub mod SpaceEdits
 pub mod Cells
 pub mod Keep
 pub mod KeepFiles
+pub mod KeepNew
+pub mod KeepSpaces
