@@ -15,3 +15,4 @@ pub mod Keep
 pub mod KeepFiles
 pub mod KeepNew
 pub mod KeepSpaces
+pub mod KeepWindows

@@ -75,12 +75,12 @@ IsHandle ss h = (s : Space) × In s ss × (s.handle ≡ h)
 -- Changes of units and windows.
 
 -- the space with that unit and that window
-pub fitted : (Space → ℕ) → (Space → Option Window) → Space → Space
+abbrev pub fitted : (Space → ℕ) → (Space → Option Window) → Space → Space
 fitted u w s = record s { unit = u s; window = w s }
 
 module _ (u : Space → ℕ) (w : Space → Option Window) where
   pub fitted_parents : (ss : List Space) (h : ℕ) → parent_of (map (fitted u w) ss) h ≡ parent_of ss h
-  unfolding parent_of fitted
+  unfolding parent_of
   fitted_parents [] h = refl
   fitted_parents (s ∷ ss) h = either (s.handle == h) (fitted_parents ss h)
     where
@@ -94,7 +94,6 @@ module _ (u : Space → ℕ) (w : Space → Option Window) where
       → EachTwo (λ s t. IsTrue (is_some (w s) && is_some (w t)) → IsFalse (overlap s t)) ss
       → EachTwo (λ s t. IsFalse (shares_anonymous (fitted u w s) (fitted u w t))) ss
       → AreSpaces ss → AreSpaces (map (fitted u w) ss)
-  unfolding fitted
   fitted_spaces ss keeps_root units path alone h =
       let new = map (fitted u w) ss in
       let rise : IsRising (map (λ s. s.handle) new) = rising_map (λ s. s.handle) (fitted u w) (λ s. refl) ss h.rise in
