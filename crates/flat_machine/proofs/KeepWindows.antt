@@ -25,29 +25,29 @@ use Rattle.flat_machine.proofs.KeepSpaces.{mapped_of}
 use Rattle.flat_machine.proofs.StartLemmas.{opened_is_machine}
 use Rattle.flat_machine.proofs.Keep.{Linked, Shown, join, files_of, spaces_of, refused_or, at_there, with_spaces, with_unforced, shown_filter, window_at, if_window}
 
-map_same : {X Y : Type 0} (f g : X → Y) → ((x : X) → f x ≡ g x) → (xs : List X) → map f xs ≡ map g xs
+pub map_same : {X Y : Type 0} (f g : X → Y) → ((x : X) → f x ≡ g x) → (xs : List X) → map f xs ≡ map g xs
 map_same f g k [] = refl
 map_same f g k (x ∷ xs) = λ t. k x t ∷ map_same f g k xs t
 
 -- The windows of changed spaces.
 
-linked_fitted : (fs : List File) (u : Space → ℕ) (w : Space → Option Window) (ss : List Space)
+pub linked_fitted : (fs : List File) (u : Space → ℕ) (w : Space → Option Window) (ss : List Space)
     → ((s : Space) (v : Window) → In s ss → w s ≡ Some v → IsWindow fs s.pages v) → Linked fs (map (fitted u w) ss)
 linked_fitted fs u w ss f = in_all _ (map (fitted u w) ss) (λ y i. let r = in_map (fitted u w) ss y i in
     subst (λ (t : Space). IfSome t.window (IsWindow fs t.pages)) r.2 (if_window (IsWindow fs r.0.pages) (w r.0) (λ v e. f r.0 v r.1 e)))
 
 -- each page is shown by a space whose window stays
-shown_fitted : (u : Space → ℕ) (w : Space → Option Window) (ss : List Space) (us : List FilePage)
+pub shown_fitted : (u : Space → ℕ) (w : Space → Option Window) (ss : List Space) (us : List FilePage)
     → ((x : FilePage) → In x us → (s : Space) × In s ss × (is_writable (fitted u w s) && shows x.file x.page (fitted u w s) ≡ true)) → Shown (map (fitted u w) ss) us
 shown_fitted u w ss us f = in_all _ us (λ x i. let r = f x i in
     in_any (λ s. is_writable s && shows x.file x.page s) (map (fitted u w) ss) (fitted u w r.0) (map_in (fitted u w) ss r.0 r.1) r.2)
 
-shown_still : (u : Space → ℕ) (w : Space → Option Window) (s : Space) (x : FilePage) → w s ≡ s.window → is_writable s && shows x.file x.page s ≡ true
+pub shown_still : (u : Space → ℕ) (w : Space → Option Window) (s : Space) (x : FilePage) → w s ≡ s.window → is_writable s && shows x.file x.page s ≡ true
     → is_writable (fitted u w s) && shows x.file x.page (fitted u w s) ≡ true
 shown_still u w s x e t = subst (λ (o : Option Window). is_writable (record s { unit = u s; window = o }) && shows x.file x.page (record s { unit = u s; window = o }) ≡ true) (sym e) t
 
 -- the same unit
-abbrev own : Space → ℕ
+abbrev pub own : Space → ℕ
 own s = s.unit
 
 -- units
@@ -91,30 +91,30 @@ units_keeps space n m h = refused_or m (Units space n) h kept
 -- One space's window.
 
 -- the given window for one space
-abbrev win : ℕ → Option Window → Space → Option Window
+abbrev pub win : ℕ → Option Window → Space → Option Window
 win k o s = if s.handle == k then o else s.window
 
-win_here : (k : ℕ) (o : Option Window) (s : Space) → s.handle ≡ k → win k o s ≡ o
+pub win_here : (k : ℕ) (o : Option Window) (s : Space) → s.handle ≡ k → win k o s ≡ o
 win_here k o s e = let t : eqb s.handle k ≡ true = eq-eqb s.handle k e in ap (λ (b : Bool). if b then o else s.window) t
 
-win_else : (k : ℕ) (o : Option Window) (s : Space) → s.handle ≢ k → win k o s ≡ s.window
+pub win_else : (k : ℕ) (o : Option Window) (s : Space) → s.handle ≢ k → win k o s ≡ s.window
 win_else k o s n = let t : eqb s.handle k ≡ false = ne_eqb s.handle k n in ap (λ (b : Bool). if b then o else s.window) t
 
-win_is_set : (k : ℕ) (o : Option Window) (ss : List Space) → map (fitted own (win k o)) ss ≡ set_window k o ss
+pub win_is_set : (k : ℕ) (o : Option Window) (ss : List Space) → map (fitted own (win k o)) ss ≡ set_window k o ss
 win_is_set k o ss = map_same (fitted own (win k o)) (λ s. if s.handle == k then record s { window = o } else s) (λ s. either s (s.handle == k)) ss
   where
     either : (s : Space) (b : Bool) → record s { unit = s.unit; window = if b then o else s.window } ≡ (if b then record s { window = o } else s)
     either s true = refl
     either s false = refl
 
-win_root : (k : ℕ) (o : Option Window) → k ≢ 0 → fitted own (win k o) root ≡ root
+pub win_root : (k : ℕ) (o : Option Window) → k ≢ 0 → fitted own (win k o) root ≡ root
 win_root k o n = ap (λ (p : Option Window). record root { window = p }) (win_else k o root (λ e. n (sym e)))
 
 -- the first window is anonymous, and the second is on its file
 abbrev pub shares : Option Window → Option Window → Bool
 shares o p = option_map_or (λ w. w.anonymous && option_map_or (λ v. v.file == w.file) p false) o false
 
-shares_none : (o : Option Window) → shares o None ≡ false
+pub shares_none : (o : Option Window) → shares o None ≡ false
 shares_none None = refl
 shares_none (Some w) = either w.anonymous
   where
@@ -124,7 +124,7 @@ shares_none (Some w) = either w.anonymous
 
 -- A window is given to a space that shares no page with a mapped one.
 
-given_spaces : (ss : List Space) (k : ℕ) (s : Space) (w : Window) → space_at ss k ≡ Some s → k ≢ 0 → ((t : Space) → In t ss → is_mapped t ≡ true → overlap s t ≡ false)
+pub given_spaces : (ss : List Space) (k : ℕ) (s : Space) (w : Window) → space_at ss k ≡ Some s → k ≢ 0 → ((t : Space) → In t ss → is_mapped t ≡ true → overlap s t ≡ false)
     → ((t : Space) → In t ss → t.handle ≢ k → shares (Some w) t.window ≡ false) → ((t : Space) → In t ss → t.handle ≢ k → shares t.window (Some w) ≡ false)
     → AreSpaces ss → AreSpaces (map (fitted own (win k (Some w))) ss)
 given_spaces ss k s w is n free first second h =
@@ -167,7 +167,7 @@ given_spaces ss k s w is n free first second h =
         (subst (λ (o : Option Window). shares x.window o ≡ false) (sym (win_else k (Some w) y q)) (two_at _ ss h.alone x y i j d))
 
 -- a space on whose path nothing is mapped is not mapped itself
-own_free : (m : Machine) (k : ℕ) (s : Space) → IsMachine m → space_at m.spaces k ≡ Some s → path_mapped m k ≡ None → s.window ≡ None
+pub own_free : (m : Machine) (k : ℕ) (s : Space) → IsMachine m → space_at m.spaces k ≡ Some s → path_mapped m k ≡ None → s.window ≡ None
 own_free m k s h is e = either s.window refl
   where
     either : (o : Option Window) → s.window ≡ o → s.window ≡ None
@@ -182,7 +182,7 @@ own_free m k s h is e = either s.window refl
         inside a b l = grind (arith, nat_tests)
 
 -- what was shown before a space got a window is shown
-given_shown : (ss : List Space) (us : List FilePage) (k : ℕ) (s : Space) (w : Window) → AreSpaces ss → space_at ss k ≡ Some s → s.window ≡ None → Shown ss us
+pub given_shown : (ss : List Space) (us : List FilePage) (k : ℕ) (s : Space) (w : Window) → AreSpaces ss → space_at ss k ≡ Some s → s.window ≡ None → Shown ss us
     → Shown (map (fitted own (win k (Some w))) ss) us
 given_shown ss us k s w h is free shown = shown_fitted own (win k (Some w)) ss us (λ x i.
     let r = any_in _ ss (all_in _ us shown x i) in
@@ -191,7 +191,7 @@ given_shown ss us k s w h is free shown = shown_fitted own (win k (Some w)) ss u
     (r.0, r.1, shown_still own (win k (Some w)) r.0 x (win_else k (Some w) r.0 other) r.2))
 
 -- the given window is one on its file, and the others are as they were
-given_linked : (fs : List File) (ss : List Space) (k : ℕ) (s : Space) (w : Window) → AreSpaces ss → space_at ss k ≡ Some s → Linked fs ss → IsWindow fs s.pages w
+pub given_linked : (fs : List File) (ss : List Space) (k : ℕ) (s : Space) (w : Window) → AreSpaces ss → space_at ss k ≡ Some s → Linked fs ss → IsWindow fs s.pages w
     → Linked fs (map (fitted own (win k (Some w))) ss)
 given_linked fs ss k s w h is linked good = linked_fitted fs own (win k (Some w)) ss (λ x v i e. either x v i e (cases_eq x.handle k))
   where

@@ -16,3 +16,7 @@ pub mod KeepFiles
 pub mod KeepNew
 pub mod KeepSpaces
 pub mod KeepWindows
+pub mod KeepAnonymous
+pub mod KeepUnmap
+pub mod KeepPages
+pub mod NextLemmas

@@ -6,6 +6,7 @@ use Rattle.flat_machine.specs.declared.call.Call.{Call}
 use Rattle.flat_machine.specs.declared.call.Reply.{Reply}
 use Rattle.flat_machine.specs.declared.call.Refusal.{Refusal}
 use Rattle.flat_machine.specs.Text.{text}
+use Rattle.flat_machine.specs.Form.{IsTyped}
 use Rattle.flat_machine.specs.Space.{Space}
 use Rattle.flat_machine.specs.Machine.{Machine, IsMachine}
 use Rattle.flat_machine.specs.Refusal.{refusal, fits, lowest_gap}
@@ -61,3 +62,7 @@ LowestGapIsLeast = (spaces : List Space) (parent : Space) (pages first : ℕ) �
 abbrev pub LowestUnusedIsLeast : Type 0
 LowestUnusedIsLeast = (spaces : List Space) (handle : ℕ) → is_unused spaces 0 ≡ false → IsTrue (is_unused spaces handle)
     → (lowest_unused spaces ≤ handle) × IsTrue (is_unused spaces (lowest_unused spaces)) × (1 ≤ lowest_unused spaces)
+
+-- what holds of every machine holds of the machine after a call
+abbrev pub NextKeepsMachine : Type 0
+NextKeepsMachine = (m : Machine) (call : Call) → IsTyped call → IsMachine m → IsMachine (next m call)

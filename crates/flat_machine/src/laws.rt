@@ -3,6 +3,7 @@
 ghost use Rattle.flat_machine.specs.Laws.{SomeReplyIsAllowed, RefusedChangesNothing, TranscriptBegins, TranscriptGrows, AfterGrows};
 ghost use Rattle.flat_machine.specs.Rows.{WorkedRows};
 ghost use Rattle.flat_machine.specs.Laws.{OpenedIsMachine, StartAgrees, ProjectionIsUnique, LowestGapIsLeast, LowestUnusedIsLeast};
+ghost use Rattle.flat_machine.specs.Laws.{NextKeepsMachine};
 
 /// Every call has an allowed reply.
 pub fn some_reply_is_allowed()
@@ -45,4 +46,9 @@ pub fn worked_rows()
 pub fn lowest_is_least()
     ensures gap { LowestGapIsLeast }
     ensures handle { LowestUnusedIsLeast }
+{}
+
+/// What holds of every machine holds after every call.
+pub fn next_keeps_machine()
+    ensures { NextKeepsMachine }
 {}

@@ -1,0 +1,5 @@
+use Rattle.flat_machine.proofs.NextLemmas as lemmas
+use Rattle.flat_machine.proofs.laws.next_keeps_machine.Goals as goal
+
+pub returns : goal.returns
+returns c = lemmas.next_keeps_machine
