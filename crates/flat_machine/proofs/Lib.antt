@@ -20,3 +20,5 @@ pub mod KeepAnonymous
 pub mod KeepUnmap
 pub mod KeepPages
 pub mod NextLemmas
+pub mod StartMachine
+pub mod UnitLemmas

@@ -1,6 +1,7 @@
 -- What the definitions say.
-use Rattle.std.specs.Prelude.{◌≡◌, ℕ, suc, ◌≤◌, Bool, false, IsTrue, IsSomeAnd, List, [], ◌++◌, Some, slice_get}
-use Rattle.labelled_disk.specs.Sectors.{Sector}
+use Rattle.std.specs.Prelude.{◌≡◌, ℕ, suc, ◌+◌, ◌<◌, ◌≤◌, Bool, false, IsTrue, IsSomeAnd, List, [], ◌++◌, Some, slice_get}
+use Rattle.labelled_disk.specs.Sectors.{Sector, AreSectors}
+use Rattle.labelled_disk.specs.Root.{LabelsRight}
 use Rattle.labelled_disk.specs.FilesOn.{files_on}
 use Rattle.flat_machine.specs.declared.call.Call.{Call}
 use Rattle.flat_machine.specs.declared.call.Reply.{Reply}
@@ -15,7 +16,7 @@ use Rattle.flat_machine.specs.Allows.{Allows, reply_of}
 use Rattle.flat_machine.specs.After.{TraceLine, AllowsLine, next_line, after, Transcript}
 use Rattle.flat_machine.specs.Settled.{settled, Agrees}
 use Rattle.flat_machine.specs.Start.{opened, start}
-use Rattle.flat_machine.specs.Projection.{Interval, IsProjection}
+use Rattle.flat_machine.specs.Projection.{Interval, IsProjection, end_of, unit}
 
 -- some reply is allowed, whatever the machine and the call
 abbrev pub SomeReplyIsAllowed : Type 0
@@ -49,6 +50,10 @@ OpenedIsMachine = (serial counter capacity : ℕ) → 1 ≤ serial → serial �
 abbrev pub StartAgrees : Type 0
 StartAgrees = (d : List Sector) → (settled (start d) ≡ files_on d) × Agrees (files_on d) (settled (start d))
 
+-- a disk with right labels starts a machine
+abbrev pub StartIsMachine : Type 0
+StartIsMachine = (d : List Sector) → AreSectors d → LabelsRight d → IsMachine (start d)
+
 -- the spaces have one projection at most
 abbrev pub ProjectionIsUnique : Type 0
 ProjectionIsUnique = (spaces : List Space) (is js : List Interval) → IsProjection spaces is → IsProjection spaces js → is ≡ js
@@ -66,3 +71,15 @@ LowestUnusedIsLeast = (spaces : List Space) (handle : ℕ) → is_unused spaces 
 -- what holds of every machine holds of the machine after a call
 abbrev pub NextKeepsMachine : Type 0
 NextKeepsMachine = (m : Machine) (call : Call) → IsTyped call → IsMachine m → IsMachine (next m call)
+
+-- the unit of a page: it lies in the interval, holds the page, and has no more pages than the space's unit size
+pub record IsUnitOf (space : Space) (i : Interval) (page : ℕ) : Type 0 where
+  pub lies_in_interval : i.first ≤ (unit space i page).0
+  pub ends_in_interval : (unit space i page).0 + (unit space i page).1 ≤ end_of i
+  pub begins_before : (unit space i page).0 ≤ page
+  pub ends_behind : page < (unit space i page).0 + (unit space i page).1
+  pub short : (unit space i page).1 ≤ space.unit
+
+-- it is so for each page of an interval that lies in the space
+abbrev pub UnitHoldsItsPage : Type 0
+UnitHoldsItsPage = (space : Space) (i : Interval) (page : ℕ) → space.first ≤ page → 1 ≤ space.unit → i.first ≤ page → page < end_of i → IsUnitOf space i page

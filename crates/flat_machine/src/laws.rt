@@ -3,7 +3,7 @@
 ghost use Rattle.flat_machine.specs.Laws.{SomeReplyIsAllowed, RefusedChangesNothing, TranscriptBegins, TranscriptGrows, AfterGrows};
 ghost use Rattle.flat_machine.specs.Rows.{WorkedRows};
 ghost use Rattle.flat_machine.specs.Laws.{OpenedIsMachine, StartAgrees, ProjectionIsUnique, LowestGapIsLeast, LowestUnusedIsLeast};
-ghost use Rattle.flat_machine.specs.Laws.{NextKeepsMachine};
+ghost use Rattle.flat_machine.specs.Laws.{NextKeepsMachine, StartIsMachine, UnitHoldsItsPage};
 
 /// Every call has an allowed reply.
 pub fn some_reply_is_allowed()
@@ -51,4 +51,14 @@ pub fn lowest_is_least()
 /// What holds of every machine holds after every call.
 pub fn next_keeps_machine()
     ensures { NextKeepsMachine }
+{}
+
+/// A disk with right labels starts a machine.
+pub fn start_is_machine()
+    ensures { StartIsMachine }
+{}
+
+/// A swap unit lies in its interval, and holds its page.
+pub fn unit_holds_its_page()
+    ensures { UnitHoldsItsPage }
 {}
