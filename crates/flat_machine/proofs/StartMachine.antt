@@ -1,7 +1,6 @@
 -- A disk with right labels starts a machine.
 use Rattle.std.proofs.Common.{◌≡◌, ◌≢◌, ◌⊎◌, inl, inr, ℕ, zero, suc, ◌+◌, ◌-◌, ◌%◌, ◌^◌, ◌<◌, ◌≤◌, Bool, true, false, ◌&&◌, cond, List, [], ◌∷◌, map, length, take, drop, Option, Some, None, refl, sym, ◌∙◌, ap, subst, arith, eqb}
 use Rattle.std.specs.Prelude.{All, slice_get, slice_index, slice_range, find, option_map, if◌then◌else◌}
-use Rattle.std.specs.Int.{w32, from_be_bytes}
 use Rattle.std.specs.List.{AllByRecursion}
 use Rattle.std.specs.Option.{option_map_or}
 use Rattle.std.proofs.lemmas.Option.{same_Some, none-some}
@@ -42,14 +41,6 @@ every_by_index P (x ∷ xs) h = (h 0 x (omega arith), every_by_index P xs (λ k 
 
 -- Numbers of the root.
 
-below_32 : (bs : List ℕ) → ((i : ℕ) → slice_index bs i < 256) → from_be_bytes w32 bs < 2 ^ 32
-below_32 bs h = omega (arith, h 0, h 1, h 2, h 3)
-
-every_take : (P : ℕ → Type 0) (n : ℕ) (xs : List ℕ) → AllByRecursion P xs → AllByRecursion P (take n xs)
-every_take P zero xs h = tt
-every_take P (suc n) [] h = tt
-every_take P (suc n) (x ∷ xs) h = (h.0, every_take P n xs h.1)
-
 every_drop : (P : ℕ → Type 0) (n : ℕ) (xs : List ℕ) → AllByRecursion P xs → AllByRecursion P (drop n xs)
 every_drop P zero xs h = h
 every_drop P (suc n) [] h = tt
@@ -61,7 +52,9 @@ byte_at (x ∷ xs) h zero = h.0
 byte_at (x ∷ xs) h (suc i) = byte_at xs h.1 i
 
 number_fits : (page : List ℕ) (i : ℕ) → AllByRecursion (λ b. b < 256) page → number_at page i < 2 ^ 32
-number_fits page i h = below_32 (slice_range page i (i + 4)) (byte_at (slice_range page i (i + 4)) (every_take _ (i + 4 - i) (drop i page) (every_drop _ i page h)))
+number_fits page i h =
+    let at = byte_at (drop i page) (every_drop _ i page h) in
+    omega (arith, at 0, at 1, at 2, at 3)
 
 root_bytes : (d : List Sector) → AreSectors d → AllByRecursion (λ b. b < 256) (root_page d)
 root_bytes d each = either (slice_get d 0) refl
