@@ -22,3 +22,5 @@ pub mod KeepPages
 pub mod NextLemmas
 pub mod StartMachine
 pub mod UnitLemmas
+pub mod PathLemmas
+pub mod MoreLaws

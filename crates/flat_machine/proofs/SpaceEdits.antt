@@ -63,7 +63,7 @@ child_parts parent s e =
     let parts = and_parts (not (s.handle == 0)) (s.parent == parent) e in
     (eqb-false s.handle 0 (not-true (s.handle == 0) parts.0), eqb-true s.parent parent parts.1)
 
-child_by : (parent : ℕ) (s : Space) → s.handle ≢ 0 → s.parent ≡ parent → is_child_of parent s ≡ true
+pub child_by : (parent : ℕ) (s : Space) → s.handle ≢ 0 → s.parent ≡ parent → is_child_of parent s ≡ true
 child_by parent s n e =
     let a : eqb s.handle 0 ≡ false = ne_eqb s.handle 0 n in
     let b : eqb s.parent parent ≡ true = eq-eqb s.parent parent e in
