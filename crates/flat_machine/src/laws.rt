@@ -1,6 +1,9 @@
 //! What the definitions of the machine say, shown on functions that do nothing.
 
+use crate::Call;
+
 ghost use Rattle.flat_machine.specs.Laws.{SomeReplyIsAllowed, RefusedChangesNothing, TranscriptBegins, TranscriptGrows, AfterGrows};
+ghost use Rattle.flat_machine.specs.Form.{IsTyped};
 ghost use Rattle.flat_machine.specs.Rows.{WorkedRows};
 ghost use Rattle.flat_machine.specs.Laws.{OpenedIsMachine, StartAgrees, ProjectionIsUnique, LowestGapIsLeast, LowestUnusedIsLeast};
 ghost use Rattle.flat_machine.specs.Laws.{NextKeepsMachine, AfterIsMachine, StartIsMachine, UnitHoldsItsPage, ProjectionCovers};
@@ -86,3 +89,18 @@ pub fn shown_is_there()
 pub fn forced_is_settled()
     ensures { ForcedIsSettled }
 {}
+
+/// The numbers of every call fit their types.
+pub fn every_call_is_typed(call: &Call)
+    ensures { IsTyped call.now }
+{
+    match call {
+        Call::Create { kind, .. } => {
+            let _kind = *kind;
+        }
+        Call::Store { bytes, .. } => {
+            bytes.as_slice();
+        }
+        _ => {}
+    }
+}
