@@ -1,5 +1,5 @@
 -- Replies that are allowed, and calls that are refused.
-use Rattle.std.proofs.Common.{◌≡◌, List, [], ◌∷◌, map, Option, None, Some, refl, ap, ℕ, arith}
+use Rattle.std.proofs.Common.{◌≡◌, List, [], ◌∷◌, map, Option, None, Some, refl, ap, arith}
 use Rattle.std.specs.Prelude.{MatchOption, unwrap_or, is_none, if◌then◌else◌}
 use Rattle.std.specs.Option.{option_map_or}
 use Rattle.flat_machine.specs.declared.call.Call.{Call}
@@ -10,7 +10,7 @@ use Rattle.flat_machine.specs.File.{Cell}
 use Rattle.flat_machine.specs.Machine.{Machine}
 use Rattle.flat_machine.specs.At.{cells_at}
 use Rattle.flat_machine.specs.Refusal.{refusal}
-use Rattle.flat_machine.specs.Next.{change, next}
+use Rattle.flat_machine.specs.Next.{change}
 use Rattle.flat_machine.specs.Allows.{Answers, AgreesWithCells, plain_reply}
 use Rattle.flat_machine.specs.Laws.{SomeReplyIsAllowed, RefusedChangesNothing}
 

@@ -1,13 +1,13 @@
 //! What the definitions of the machine say, shown on functions that do nothing.
 
-use crate::Call;
-
 ghost use Rattle.flat_machine.specs.Laws.{SomeReplyIsAllowed, RefusedChangesNothing, TranscriptBegins, TranscriptGrows, AfterGrows};
 ghost use Rattle.flat_machine.specs.Form.{IsTyped};
 ghost use Rattle.flat_machine.specs.Rows.{WorkedRows};
 ghost use Rattle.flat_machine.specs.Laws.{OpenedIsMachine, StartAgrees, ProjectionIsUnique, LowestGapIsLeast, LowestUnusedIsLeast};
 ghost use Rattle.flat_machine.specs.Laws.{NextKeepsMachine, AfterIsMachine, StartIsMachine, UnitHoldsItsPage, ProjectionCovers};
 ghost use Rattle.flat_machine.specs.Laws.{ProjectionExists, SharingIsOnePath, ReferenceTouches, ShownIsThere, ForcedIsSettled};
+
+use crate::Call;
 
 /// Every call has an allowed reply.
 pub fn some_reply_is_allowed()
