@@ -1,3 +1,4 @@
+pub mod Bytes
 pub mod File
 pub mod Space
 pub mod Machine
@@ -11,4 +12,5 @@ pub mod After
 pub mod Settled
 pub mod Start
 pub mod Projection
+pub mod Rows
 pub mod Laws
