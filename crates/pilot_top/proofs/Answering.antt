@@ -59,7 +59,7 @@ attributes_answers a b c id (Err e) call_is same is = tt
 attributes_answers a b c id (Ok r) call_is same is =
     subst (λ (x : Call). Answers (StandsFor a) (StandsFor b) (Some x) r) (sym call_is)
     (answers_unchanged a b (call.Attributes id) refl (λ m. same_both (is_none (refusal m (call.Attributes id))) m) same r
-      (λ d told. subst (λ (s : Reply). Allows (start d) (call.Attributes id) s) (sym (is d told)) (attributes_allowed d id)))
+    (λ d told. subst (λ (s : Reply). Allows (start d) (call.Attributes id) s) (sym (is d told)) (attributes_allowed d id)))
 
 -- the reply with the next file answers a call for it
 pub next_answers : (a b : DiskState) (c : Call) (id : ℕ) (result : Result Reply DiskError) → c ≡ call.Next id → b.contents ≡ a.contents

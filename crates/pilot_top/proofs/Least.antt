@@ -160,18 +160,18 @@ in_files all (f ∷ fs) id r rise each least = either (cases_lt id f.id) (in_fil
         let fails : nat_lt id f.id && is_some (file_at all f.id) ≡ false = and_left (nat_lt id f.id) (is_some (file_at all f.id)) (le-ltb id f.id le) in
         rw fails (more (λ j g is. each j g (later j g is))
         (least_by (Has (f ∷ fs)) (Has fs) id r
-          (λ j lt has. (has.0, sym (at_tail f fs j (λ same. omega (arith, same, lt, le))) ∙ has.1))
-          (λ j lt has. (j, lt, omega arith, (has.0, later j has.0 has.1)))
-          least))
+        (λ j lt has. (has.0, sym (at_tail f fs j (λ same. omega (arith, same, lt, le))) ∙ has.1))
+        (λ j lt has. (j, lt, omega arith, (has.0, later j has.0 has.1)))
+        least))
 
 -- the least leader above is the next file's
 pub next_is : (d : List Sector) (id : ℕ) → fold (lower id) None (data_sectors d) ≡ next_file (start d) id
 next_is d id =
     sym (in_files (files_on d) (files_on d) id (fold (lower id) None (data_sectors d)) (files_on_rise false 0 0 d) (λ j f is. ap is_some is)
-      (least_by (λ j. (None ≡ Some j) ⊎ Led j (data_sectors d)) (Has (files_on d)) id _
-        (λ j lt p. elim p [ inl e ↦ absurd (none-some j e) | inr led ↦ by_leader j (find_led j (data_sectors d) led) ])
-        (λ j lt has. (j, lt, omega arith, inr (by_file j has)))
-        (by_sectors id (data_sectors d) None (λ n e. absurd (none-some n e)))))
+    (least_by (λ j. (None ≡ Some j) ⊎ Led j (data_sectors d)) (Has (files_on d)) id _
+    (λ j lt p. elim p [ inl e ↦ absurd (none-some j e) | inr led ↦ by_leader j (find_led j (data_sectors d) led) ])
+    (λ j lt has. (j, lt, omega arith, inr (by_file j has)))
+    (by_sectors id (data_sectors d) None (λ n e. absurd (none-some n e)))))
   where
     by_leader : (j : ℕ) → (s : Sector) × (find (leads_file false j) (data_sectors d) ≡ Some s) → (f : File) × (file_at (files_on d) j ≡ Some f)
     by_leader j found =

@@ -29,9 +29,11 @@ impl<D: Disk> Engine<D> {
 
     /// Carries out a call. One that is not built yet is refused as such.
     pub fn step(&mut self, call: &Call) -> Result<Reply, DiskError>
-        ensures answer { IfOk result (Answers (StandsFor (D.state self.old.disk)) (StandsFor (D.state self.new.disk)) (Some call.now)) }
+        ensures answer { IfOk result (Answers (StandsFor (D.state self.old.disk))
+            (StandsFor (D.state self.new.disk)) (Some call.now)) }
         ensures only_reads { OnlyReads (D.state self.old.disk) (D.state self.new.disk) }
-        ensures cause { OnErr result (Rose (D.state self.old.disk).faults (D.state self.new.disk).faults) }
+        ensures cause { OnErr result
+            (Rose (D.state self.old.disk).faults (D.state self.new.disk).faults) }
     {
         match call {
             Call::Attributes { id } => self.attributes(*id),
@@ -42,10 +44,12 @@ impl<D: Disk> Engine<D> {
     }
 
     fn attributes(&mut self, id: FileId) -> Result<Reply, DiskError>
-        ensures answer { IfOk result (λ reply. (d : List Sector) → (D.state self.old.disk).contents ≡ Some d
+        ensures answer { IfOk result (λ reply. (d : List Sector)
+            → (D.state self.old.disk).contents ≡ Some d
             → reply ≡ told_of (disk_file false d id)) }
         ensures only_reads { OnlyReads (D.state self.old.disk) (D.state self.new.disk) }
-        ensures cause { OnErr result (Rose (D.state self.old.disk).faults (D.state self.new.disk).faults) }
+        ensures cause { OnErr result
+            (Rose (D.state self.old.disk).faults (D.state self.new.disk).faults) }
     {
         let Some(found) = find_attributes(&mut self.disk, id)? else {
             return Ok(Reply::Refused(Refusal::File));
@@ -65,10 +69,12 @@ impl<D: Disk> Engine<D> {
     }
 
     fn next(&mut self, id: FileId) -> Result<Reply, DiskError>
-        ensures answer { IfOk result (λ reply. (d : List Sector) → (D.state self.old.disk).contents ≡ Some d
+        ensures answer { IfOk result (λ reply. (d : List Sector)
+            → (D.state self.old.disk).contents ≡ Some d
             → reply ≡ plain_reply (start d) (Call.Next id)) }
         ensures only_reads { OnlyReads (D.state self.old.disk) (D.state self.new.disk) }
-        ensures cause { OnErr result (Rose (D.state self.old.disk).faults (D.state self.new.disk).faults) }
+        ensures cause { OnErr result
+            (Rose (D.state self.old.disk).faults (D.state self.new.disk).faults) }
     {
         Ok(match find_next(&mut self.disk, id)? {
             Some(found) => Reply::File(found),

@@ -29,7 +29,8 @@ fn count_line(sectors: u32) -> ArrayVec<u8, 32>
 
 /// Writes the last line. A sink that fails here changes nothing else.
 pub(crate) fn put_last<K: Sink>(sink: &mut K, cause: Cause)
-    ensures put { Puts (Rose (K.faults sink.old) (K.faults sink.new)) (K.took sink.old) (K.took sink.new) (last_line cause) }
+    ensures put { Puts (Rose (K.faults sink.old) (K.faults sink.new)) (K.took sink.old)
+        (K.took sink.new) (last_line cause) }
     ensures later { K.faults sink.old ≤ K.faults sink.new }
 {
     let _ = match cause {

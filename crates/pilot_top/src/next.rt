@@ -24,7 +24,8 @@ fn lower(id: FileId, least: Option<FileId>, label: &Label) -> Option<FileId>
 
 /// The least identifier of a permanent file above this one, if there is one.
 pub(crate) fn find_next<D: Disk>(disk: &mut D, id: FileId) -> Result<Option<FileId>, DiskError>
-    ensures answer { IfOk result (λ found. (d : List Sector) → (D.state disk.old).contents ≡ Some d → found ≡ next_file (start d) id) }
+    ensures answer { IfOk result (λ found. (d : List Sector) → (D.state disk.old).contents ≡ Some d
+        → found ≡ next_file (start d) id) }
     ensures only_reads { OnlyReads (D.state disk.old) (D.state disk.new) }
     ensures cause { OnErr result (Rose (D.state disk.old).faults (D.state disk.new).faults) }
 {

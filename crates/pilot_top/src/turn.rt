@@ -38,9 +38,11 @@ pub(crate) fn take_turn<D: Disk, S: Source>(
         (StandsFor (D.state engine.old.disk)) (StandsFor (D.state engine.new.disk)) }
     ensures bound { lines.new.taken ≤ lines.new.limit }
     ensures only_reads { OnlyReads (D.state engine.old.disk) (D.state engine.new.disk) }
-    ensures disk_cause { result ≡ Turn.DiskFault → Rose (D.state engine.old.disk).faults (D.state engine.new.disk).faults }
+    ensures disk_cause { result ≡ Turn.DiskFault
+        → Rose (D.state engine.old.disk).faults (D.state engine.new.disk).faults }
     ensures source_later { S.faults source.old ≤ S.faults source.new }
-    ensures source_cause { result ≡ Turn.ReadFault → Rose (S.faults source.old) (S.faults source.new) }
+    ensures source_cause { result ≡ Turn.ReadFault
+        → Rose (S.faults source.old) (S.faults source.new) }
 {
     match lines.next(source) {
         Line::Call(call) => match engine.step(&call) {
