@@ -1,0 +1,12 @@
+//! A pool of page frames: a bounded map from the pages of files to their bytes.
+#![tactic(auto)]
+
+mod chain;
+mod home;
+mod order;
+mod pool;
+mod sweep;
+mod table;
+
+pub use home::Home;
+

@@ -1,0 +1,182 @@
+//! The pool's one piece of memory: for each slot its frame, and a share of the index and of the order of the slots.
+ghost use Rattle.std.specs.Prelude.{◌≡◌, ◌<◌, ◌≤◌, ◌+◌, ◌^◌, ◌↔◌, length, true, false, IfOk, IfSome, IsTrue, IsSome, Some, None, slice_index_or, slice_set, option_map};
+ghost use Rattle.frame_pool.specs.Frames.{frame_at, new_frame, clean, changed, overwritten, shown};
+ghost use Rattle.frame_pool.specs.Lists.{Lists};
+
+use crate::home::Home;
+use labelled_disk::{FileId, NoMemory, Page};
+use std::alloc::Allocator;
+use std::marker::Model;
+
+/// The frame of a slot. The fields lie so that a slot takes 560 bytes.
+#[derive(Clone, Copy)]
+pub(crate) struct Kept {
+    pub(crate) id: FileId,
+    pub(crate) sector: u32,
+    pub(crate) page: u32,
+    pub(crate) dirty: bool,
+    pub(crate) bytes: Page,
+}
+
+impl Kept {
+    fn overwrite(&mut self, at: usize, bytes: &[u8])
+        requires { at + length bytes.now ≤ 512 }
+        ensures { self.new ≡ record self.old { dirty = true; bytes = overwritten self.old.bytes at bytes.now } }
+    {
+        self.bytes[at..at + bytes.len()].copy_from_slice(bytes);
+        self.dirty = true;
+    }
+}
+
+/// What the table has for one number: the slot's frame and its links, the head of the bucket with this number, and
+/// the slot at this place of the order.
+#[derive(Clone, Copy)]
+pub(crate) struct Slot {
+    kept: Option<Kept>,
+    head: Option<u16>,
+    next: Option<u16>,
+    order: u16,
+    position: u16,
+    referenced: bool,
+}
+
+#[derive(Drop)]
+pub(crate) struct Table<A: Allocator> {
+    slots: Vec<Slot, A>,
+}
+
+impl<A: Allocator> Model for Table<A> {
+    ghost use Rattle.frame_pool.specs.Lists.{Lists};
+
+    ghost Value = { Lists };
+
+    ghost use Rattle.frame_pool.specs.Table.{lists_of};
+
+    ghost view = { λ t. lists_of t.slots.items };
+}
+
+impl<A: Allocator> Table<A> {
+    pub(crate) fn len(&self) -> usize
+        ensures { result ≡ length self.now.frames }
+    {
+        self.slots.len()
+    }
+
+    pub(crate) fn head(&self, bucket: u16) -> Option<u16>
+        requires { bucket < length self.now.frames }
+        ensures { result ≡ slice_index_or self.now.heads bucket None }
+    {
+        self.slots[bucket as usize].head
+    }
+
+    pub(crate) fn next(&self, slot: u16) -> Option<u16>
+        requires { slot < length self.now.frames }
+        ensures { result ≡ slice_index_or self.now.nexts slot None }
+    {
+        self.slots[slot as usize].next
+    }
+
+    pub(crate) fn order(&self, place: u16) -> u16
+        requires { place < length self.now.frames }
+        ensures { result ≡ slice_index_or self.now.orders place 0 }
+    {
+        self.slots[place as usize].order
+    }
+
+    pub(crate) fn position(&self, slot: u16) -> u16
+        requires { slot < length self.now.frames }
+        ensures { result ≡ slice_index_or self.now.positions slot 0 }
+    {
+        self.slots[slot as usize].position
+    }
+
+    pub(crate) fn set_head(&mut self, bucket: u16, head: Option<u16>)
+        requires { bucket < length self.old.frames }
+        ensures { self.new ≡ record self.old { heads = slice_set self.old.heads bucket head } }
+    {
+        self.slots[bucket as usize].head = head;
+    }
+
+    pub(crate) fn set_next(&mut self, slot: u16, next: Option<u16>)
+        requires { slot < length self.old.frames }
+        ensures { self.new ≡ record self.old { nexts = slice_set self.old.nexts slot next } }
+    {
+        self.slots[slot as usize].next = next;
+    }
+
+    pub(crate) fn set_order(&mut self, place: u16, slot: u16)
+        requires { place < length self.old.frames }
+        ensures { self.new ≡ record self.old { orders = slice_set self.old.orders place slot } }
+    {
+        self.slots[place as usize].order = slot;
+    }
+
+    pub(crate) fn set_position(&mut self, slot: u16, place: u16)
+        requires { slot < length self.old.frames }
+        ensures { self.new ≡ record self.old { positions = slice_set self.old.positions slot place } }
+    {
+        self.slots[slot as usize].position = place;
+    }
+
+    /// Where the slot's page stands, and whether it is dirty.
+    pub(crate) fn held(&self, slot: u16) -> Option<(Home, bool)>
+        requires { slot < length self.now.frames }
+        ensures { result ≡ option_map shown (frame_at self.now.frames slot) }
+    {
+        match &self.slots[slot as usize].kept {
+            Some(kept) => {
+                let Kept { id, sector, page, dirty, .. } = *kept;
+                Some((Home { sector, id, page }, dirty))
+            }
+            None => None,
+        }
+    }
+
+    pub(crate) fn bytes(&self, slot: u16) -> &Page
+        requires below { slot < length self.now.frames }
+        requires filled { IsSome (frame_at self.now.frames slot) }
+        ensures { IfSome (frame_at self.now.frames slot) (λ f. result.now ≡ f.bytes) }
+    {
+        match &self.slots[slot as usize].kept {
+            Some(kept) => &kept.bytes,
+            None => unreachable!(),
+        }
+    }
+
+    pub(crate) fn fill(&mut self, slot: u16, home: Home, bytes: &Page)
+        requires { slot < length self.old.frames }
+        ensures { self.new ≡ record self.old { frames = slice_set self.old.frames slot (Some (new_frame home bytes.now)) } }
+    {
+        let Home { sector, id, page } = home;
+        self.slots[slot as usize].kept = Some(Kept { id, sector, page, dirty: false, bytes: *bytes });
+    }
+
+    pub(crate) fn empty(&mut self, slot: u16)
+        requires { slot < length self.old.frames }
+        ensures { self.new ≡ record self.old { frames = slice_set self.old.frames slot None } }
+    {
+        self.slots[slot as usize].kept = None;
+    }
+
+    /// Writes bytes over those from `at` on, and marks the frame dirty.
+    pub(crate) fn overwrite(&mut self, slot: u16, at: usize, bytes: &[u8])
+        requires below { slot < length self.old.frames }
+        requires inside { at + length bytes.now ≤ 512 }
+        ensures { self.new ≡ record self.old { frames = slice_set self.old.frames slot (option_map (λ f. changed f at bytes.now) (frame_at self.old.frames slot)) } }
+    {
+        match &mut self.slots[slot as usize].kept {
+            Some(kept) => kept.overwrite(at, bytes),
+            None => {}
+        }
+    }
+
+    pub(crate) fn clean(&mut self, slot: u16)
+        requires { slot < length self.old.frames }
+        ensures { self.new ≡ record self.old { frames = slice_set self.old.frames slot (option_map clean (frame_at self.old.frames slot)) } }
+    {
+        match &mut self.slots[slot as usize].kept {
+            Some(kept) => kept.dirty = false,
+            None => {}
+        }
+    }
+}
