@@ -1,3 +1,4 @@
 pub mod Frames
 pub mod Lists
+pub mod Slot
 pub mod Table

@@ -1,11 +1,13 @@
 //! The pool's one piece of memory: for each slot its frame, and a share of the index and of the order of the slots.
-ghost use Rattle.std.specs.Prelude.{◌≡◌, ◌<◌, ◌≤◌, ◌+◌, ◌^◌, ◌↔◌, length, true, false, IfOk, IfSome, IsTrue, IsSome, Some, None, slice_index_or, slice_set, option_map};
+ghost use Rattle.std.specs.Prelude.{◌≡◌, ◌<◌, ◌≤◌, ◌+◌, ◌^◌, ◌↔◌, length, true, false, IfOk, IfSome, IsTrue, IsSome, Some, None, slice_index_or, slice_set, option_map, map};
+ghost use Rattle.std.specs.List.{range_with_len};
+ghost use Rattle.frame_pool.specs.Slot.{empty_slot};
 ghost use Rattle.frame_pool.specs.Frames.{frame_at, new_frame, clean, changed, overwritten, shown};
-ghost use Rattle.frame_pool.specs.Lists.{Lists};
+ghost use Rattle.frame_pool.specs.Lists.{Lists, IsFresh};
 
 use crate::home::Home;
-use labelled_disk::{FileId, NoMemory, Page};
-use std::alloc::Allocator;
+use labelled_disk::{FileId, Page};
+use std::alloc::{AllocError, Allocator};
 use std::marker::Model;
 
 /// The frame of a slot. The fields lie so that a slot takes 560 bytes.
@@ -55,7 +57,32 @@ impl<A: Allocator> Model for Table<A> {
     ghost view = { λ t. lists_of t.slots.items };
 }
 
+/// Empty slots: the memory of a table.
+fn empty_slots<A: Allocator>(alloc: A, slots: u16) -> Result<Vec<Slot, A>, AllocError>
+    ensures { IfOk result (λ s. s.items ≡ map empty_slot (range_with_len 0 slots)) }
+{
+    let mut all = Vec::with_capacity(alloc, slots as usize)?;
+    for number in 0..slots {
+        all.push(Slot {
+            kept: None,
+            head: None,
+            next: None,
+            order: number,
+            position: number,
+            referenced: false,
+        })?;
+    }
+    Ok(all)
+}
+
 impl<A: Allocator> Table<A> {
+    pub(crate) fn with_slots(alloc: A, slots: u16) -> Result<Table<A>, AllocError>
+        ensures { IfOk result (λ t. IsFresh t slots) }
+    {
+        let slots = empty_slots(alloc, slots)?;
+        Ok(Table { slots })
+    }
+
     pub(crate) fn len(&self) -> usize
         ensures { result ≡ length self.now.frames }
     {
