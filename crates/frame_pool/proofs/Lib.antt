@@ -1,2 +1,4 @@
 pub mod FreshLemmas
+pub mod IndexLemmas
+pub mod LinkLemmas
 pub mod TableLemmas

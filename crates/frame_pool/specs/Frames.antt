@@ -1,5 +1,5 @@
 -- The slots of a pool: each is empty or has a frame.
-use Rattle.std.specs.Prelude.{◌≡◌, ◌≢◌, ◌<◌, ◌≤◌, ◌+◌, ◌++◌, ℕ, Bool, true, false, List, length, take, drop, Option, Some, None, slice_get, slice_index_or, slice_set}
+use Rattle.std.specs.Prelude.{◌≡◌, ◌≢◌, ◌<◌, ◌≤◌, ◌+◌, ◌++◌, ◌==◌, ◌&&◌, ℕ, Bool, true, false, List, length, take, drop, Option, Some, None, slice_get, slice_index_or, slice_set}
 use Rattle.frame_pool.specs.declared.home.Home.{Home}
 
 -- a page of a file, its home, and whether the home may have other bytes
@@ -46,6 +46,11 @@ IsEmpty slots slot = slice_get slots slot ≡ Some None
 -- the frame is that of this page of this file
 abbrev pub IsOf : Frame → ℕ → ℕ → Type 0
 IsOf frame id page = (frame.home.id ≡ id) × (frame.home.page ≡ page)
+
+-- whether the slot has the frame of this page of this file
+abbrev pub is_of : ℕ → ℕ → Option Frame → Bool
+is_of id page None = false
+is_of id page (Some frame) = (frame.home.id == id) && (frame.home.page == page)
 
 -- the slot has the frame of the page
 abbrev pub HasPage : Slots → ℕ → ℕ → ℕ → Type 0

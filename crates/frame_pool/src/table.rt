@@ -2,7 +2,7 @@
 ghost use Rattle.std.specs.Prelude.{◌≡◌, ◌<◌, ◌≤◌, ◌+◌, ◌^◌, ◌↔◌, length, true, false, IfOk, IfSome, IsTrue, IsSome, Some, None, slice_index_or, slice_set, option_map, map};
 ghost use Rattle.std.specs.List.{range_with_len};
 ghost use Rattle.frame_pool.specs.Slot.{empty_slot};
-ghost use Rattle.frame_pool.specs.Frames.{frame_at, new_frame, clean, changed, overwritten, shown};
+ghost use Rattle.frame_pool.specs.Frames.{frame_at, new_frame, clean, changed, overwritten, shown, is_of};
 ghost use Rattle.frame_pool.specs.Lists.{Lists, IsFresh};
 
 use crate::home::Home;
@@ -143,6 +143,17 @@ impl<A: Allocator> Table<A> {
         ensures { self.new ≡ record self.old { positions = slice_set self.old.positions slot place } }
     {
         self.slots[slot as usize].position = place;
+    }
+
+    /// Whether the slot has the page.
+    pub(crate) fn has(&self, slot: u16, id: FileId, page: u32) -> bool
+        requires { slot < length self.now.frames }
+        ensures { result ≡ is_of id page (frame_at self.now.frames slot) }
+    {
+        match &self.slots[slot as usize].kept {
+            Some(kept) => kept.id == id && kept.page == page,
+            None => false,
+        }
     }
 
     /// Where the slot's page stands, and whether it is dirty.
