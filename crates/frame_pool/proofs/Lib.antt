@@ -1,4 +1,6 @@
 pub mod FreshLemmas
 pub mod IndexLemmas
 pub mod LinkLemmas
+pub mod OrderLemmas
+pub mod PoolLemmas
 pub mod TableLemmas

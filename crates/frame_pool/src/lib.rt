@@ -2,6 +2,7 @@
 #![tactic(auto)]
 
 mod chain;
+mod fill;
 mod home;
 mod order;
 mod pool;
