@@ -1,8 +1,10 @@
 -- A slot of a pool is filled or emptied.
-use Rattle.std.proofs.Common.{◌≡◌, ◌≢◌, ◌<◌, ◌≤◌, ◌+◌, ◌-◌, ◌∙◌, ℕ, List, Option, Some, None, refl, ap, sym, length, get_or, set, arith, inl, inr, get_or-set_same, get_or-set_other, length-set}
+use Rattle.std.proofs.Common.{◌≡◌, ◌≢◌, ◌<◌, ◌≤◌, ◌+◌, ◌-◌, ◌∙◌, ℕ, List, Option, Some, None, refl, ap, sym, length, get_or, set, arith, inl, inr, Bool, get_or-set_same, get_or-set_other, length-set}
+use Rattle.std.specs.Prelude.{option_map}
+use Rattle.frame_pool.specs.declared.home.Home.{Home}
 use Rattle.std.proofs.lemmas.Bool.{cases_eq, cases_lt}
 use Rattle.std.proofs.lemmas.Option.{same_Some, none-some}
-use Rattle.frame_pool.specs.Frames.{Frame, Slots, frame_at, IsNowhere, HasDistinct}
+use Rattle.frame_pool.specs.Frames.{Frame, Slots, frame_at, shown, IsNowhere, HasDistinct}
 use Rattle.frame_pool.specs.FrameLaws.{distinct_put, distinct_cleared}
 use Rattle.frame_pool.specs.Lists.{Lists, IsSized}
 use Rattle.frame_pool.specs.Index.{bucket_of, bucket_in, bucket_at, IsIndex, Puts, KeepsButChains}
@@ -202,3 +204,8 @@ cleared_pool l0 l1 l2 slot place f pool below some chains unlinked orders order 
       first_empties = cleared_empties l0 l1 l2 slot place f below chains orders moved pool.order pool.first_empties some;
       distinct = distinct_cleared l0.frames slot below pool.distinct;
     }
+
+-- what is held is of a frame
+pub held_frame : (x : Option Frame) (h : Home) (d : Bool) → Some (h, d) ≡ option_map shown x → (f : Frame) × (x ≡ Some f) × (f.home ≡ h)
+held_frame None h d is = absurd (none-some (h, d) (sym is))
+held_frame (Some f) h d is = (f, refl, ap (λ (p : Home × Bool). p.0) (sym (same_Some (h, d) (shown f) is)))
