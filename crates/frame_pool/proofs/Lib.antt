@@ -3,4 +3,5 @@ pub mod IndexLemmas
 pub mod LinkLemmas
 pub mod OrderLemmas
 pub mod PoolLemmas
+pub mod SweepLemmas
 pub mod TableLemmas

@@ -1,5 +1,5 @@
 -- The slots of a pool: each is empty or has a frame.
-use Rattle.std.specs.Prelude.{◌≡◌, ◌≢◌, ◌<◌, ◌≤◌, ◌+◌, ◌++◌, ◌==◌, ◌&&◌, ℕ, Bool, true, false, List, length, take, drop, Option, Some, None, slice_get, slice_index_or, slice_set}
+use Rattle.std.specs.Prelude.{◌≡◌, ◌≢◌, ◌<◌, ◌≤◌, ◌+◌, ◌-◌, nat_le, nat_lt, ◌++◌, ◌==◌, ◌&&◌, ℕ, Bool, true, false, List, length, take, drop, Option, Some, None, slice_get, slice_index_or, slice_set}
 use Rattle.frame_pool.specs.declared.home.Home.{Home}
 
 -- a page of a file, its home, and whether the home may have other bytes
@@ -68,6 +68,11 @@ HasDistinct slots =
 -- the home is that of one of so many pages of the file, from the first one on
 abbrev pub IsWithin : ℕ → ℕ → ℕ → Home → Type 0
 IsWithin id first pages home = (home.id ≡ id) × (first ≤ home.page) × (home.page < first + pages)
+
+-- whether the slot has one of so many pages of the file, from the first one on
+abbrev pub is_kept : ℕ → ℕ → ℕ → Option Frame → Bool
+is_kept id first pages None = false
+is_kept id first pages (Some frame) = (frame.home.id == id) && nat_le first frame.home.page && nat_lt (frame.home.page - first) pages
 
 -- the slot has no page of the run
 abbrev pub IsOutside : Slots → ℕ → ℕ → ℕ → ℕ → Type 0

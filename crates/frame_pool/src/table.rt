@@ -2,7 +2,7 @@
 ghost use Rattle.std.specs.Prelude.{◌≡◌, ◌<◌, ◌≤◌, ◌+◌, ◌^◌, ◌↔◌, length, true, false, IfOk, IfSome, IsTrue, IsSome, Some, None, slice_index_or, slice_set, option_map, map};
 ghost use Rattle.std.specs.List.{range_with_len};
 ghost use Rattle.frame_pool.specs.Slot.{empty_slot};
-ghost use Rattle.frame_pool.specs.Frames.{frame_at, new_frame, clean, changed, overwritten, shown, is_of};
+ghost use Rattle.frame_pool.specs.Frames.{frame_at, new_frame, clean, changed, overwritten, shown, is_of, is_kept};
 ghost use Rattle.frame_pool.specs.Lists.{Lists, IsFresh};
 
 use crate::home::Home;
@@ -28,6 +28,13 @@ impl Kept {
         self.bytes[at..at + bytes.len()].copy_from_slice(bytes);
         self.dirty = true;
     }
+}
+
+/// So many pages of a file, from the first one on.
+pub(crate) struct Run {
+    pub(crate) id: FileId,
+    pub(crate) first: u32,
+    pub(crate) pages: u32,
 }
 
 /// What the table has for one number: the slot's frame and its links, the head of the bucket with this number, and
@@ -154,6 +161,36 @@ impl<A: Allocator> Table<A> {
             Some(kept) => kept.id == id && kept.page == page,
             None => false,
         }
+    }
+
+    /// Whether the slot has one of the pages of the run.
+    pub(crate) fn is_kept(&self, slot: u16, run: &Run) -> bool
+        requires { slot < length self.now.frames }
+        ensures { result ≡ is_kept run.now.id run.now.first run.now.pages (frame_at self.now.frames slot) }
+    {
+        match &self.slots[slot as usize].kept {
+            Some(kept) => kept.id == run.id && kept.page >= run.first && kept.page - run.first < run.pages,
+            None => false,
+        }
+    }
+
+    /// Gives the slot its second chance.
+    pub(crate) fn mark(&mut self, slot: u16)
+        requires { slot < length self.old.frames }
+        ensures { self.new ≡ self.old }
+    {
+        self.slots[slot as usize].referenced = true;
+    }
+
+    /// Takes the slot's second chance, and tells whether it had one.
+    pub(crate) fn take_mark(&mut self, slot: u16) -> bool
+        requires { slot < length self.old.frames }
+        ensures { self.new ≡ self.old }
+    {
+        let slot = &mut self.slots[slot as usize];
+        let had = slot.referenced;
+        slot.referenced = false;
+        had
     }
 
     /// Where the slot's page stands, and whether it is dirty.
