@@ -1,5 +1,5 @@
 -- The slots of a pool: each is empty or has a frame.
-use Rattle.std.specs.Prelude.{◌≡◌, ◌≢◌, ◌<◌, ◌≤◌, ◌+◌, ◌-◌, nat_le, nat_lt, ◌++◌, ◌==◌, ◌&&◌, ℕ, Bool, true, false, List, length, take, drop, Option, Some, None, slice_get, slice_index_or, slice_set}
+use Rattle.std.specs.Prelude.{◌≡◌, ◌≢◌, ◌<◌, ◌≤◌, ◌+◌, ◌-◌, nat_le, nat_lt, ◌++◌, ◌==◌, ◌&&◌, ℕ, Bool, true, false, List, length, take, drop, Option, Some, None, slice_get, slice_index_or, slice_set, option_map}
 use Rattle.frame_pool.specs.declared.home.Home.{Home}
 
 -- a page of a file, its home, and whether the home may have other bytes
@@ -38,6 +38,14 @@ changed frame at bytes = record frame { dirty = true; bytes = overwritten frame.
 -- the frame, whose home has the same bytes
 abbrev pub clean : Frame → Frame
 clean frame = record frame { dirty = false }
+
+-- the slots with these bytes over those of one slot's frame from `at` on
+abbrev pub changed_at : Slots → ℕ → ℕ → List ℕ → Slots
+changed_at slots slot at bytes = slice_set slots slot (option_map (λ frame. changed frame at bytes) (frame_at slots slot))
+
+-- the slots with one slot's frame clean
+abbrev pub cleaned_at : Slots → ℕ → Slots
+cleaned_at slots slot = slice_set slots slot (option_map clean (frame_at slots slot))
 
 -- the slot is there and has no frame
 abbrev pub IsEmpty : Slots → ℕ → Type 0

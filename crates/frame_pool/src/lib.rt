@@ -10,4 +10,4 @@ mod sweep;
 mod table;
 
 pub use home::Home;
-
+pub use pool::FramePool;

@@ -31,6 +31,7 @@ impl Kept {
 }
 
 /// So many pages of a file, from the first one on.
+#[derive(Clone, Copy)]
 pub(crate) struct Run {
     pub(crate) id: FileId,
     pub(crate) first: u32,
