@@ -1,5 +1,7 @@
 pub mod FreshLemmas
+pub mod FreshPool
 pub mod IndexLemmas
+pub mod KeptLemmas
 pub mod LinkLemmas
 pub mod OrderLemmas
 pub mod PoolLemmas

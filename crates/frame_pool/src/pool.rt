@@ -107,9 +107,8 @@ impl<A: Allocator> FramePool<A> {
         requires nowhere { IsNowhere self.old home.id home.page }
         ensures { self.new ≡ slice_set self.old slot (Some (new_frame home bytes.now)) }
     {
-        let slot = slot as u16;
-        self.empties = fill::fill(&mut self.table, self.empties, slot, home, bytes);
-        self.table.mark(slot);
+        self.empties = fill::fill(&mut self.table, self.empties, slot as u16, home, bytes);
+        self.table.mark(slot as u16);
     }
 
     /// Writes bytes over those of a filled slot from `at` on, and marks it dirty.
@@ -119,9 +118,8 @@ impl<A: Allocator> FramePool<A> {
         requires inside { at + length bytes.now ≤ 512 }
         ensures { self.new ≡ changed_at self.old slot at bytes.now }
     {
-        let slot = slot as u16;
-        self.table.overwrite(slot, at as usize, bytes);
-        self.table.mark(slot);
+        self.table.overwrite(slot as u16, at as usize, bytes);
+        self.table.mark(slot as u16);
     }
 
     /// The home of a filled slot has the same bytes again.

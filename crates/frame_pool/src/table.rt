@@ -50,6 +50,9 @@ pub(crate) struct Slot {
     referenced: bool,
 }
 
+/// 24 slots take 13,440 bytes.
+const _: () = prove!(size_of::<Slot>() == 560);
+
 #[derive(Drop)]
 pub(crate) struct Table<A: Allocator> {
     slots: Vec<Slot, A>,
