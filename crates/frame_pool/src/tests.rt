@@ -39,7 +39,7 @@ fn sector_of<A: Allocator>(pool: &FramePool<A>, number: u32) -> Option<u32> {
 fn four_thousand_pages_are_found_and_given_up_and_brought_in_another_order(rt: HostRuntime) -> Result<(), Fail> {
     let mut pool = FramePool::with_frames(rt.alloc(), FRAMES)?;
     for number in 0..FRAMES {
-        assert!(rt; bring(&mut pool, home(number), &[number as u8; 512]).is_some());
+        assert!(rt; bring(&mut pool, home(number), &[0; 512]).is_some());
     }
     for number in 0..FRAMES {
         assert_eq!(rt; sector_of(&pool, number), Some(300 + number));
@@ -58,5 +58,19 @@ fn four_thousand_pages_are_found_and_given_up_and_brought_in_another_order(rt: H
     for number in 0..FRAMES {
         assert_eq!(rt; sector_of(&pool, number), Some(300 + number));
     }
+    Ok(())
+}
+
+#[test]
+fn twenty_four_frames_take_13440_bytes_and_no_more(rt: HostRuntime) -> Result<(), Fail> {
+    let heap = LocalHeap::new(rt.alloc(), 13_440)?;
+    let mut pool = FramePool::with_frames(&heap, 24)?;
+    for number in 0..30 {
+        assert!(rt; bring(&mut pool, home(number), &[7; 512]).is_some());
+    }
+    assert_eq!(rt; heap.used(), 13_440);
+    // The heap counts in units of 16 bytes.
+    let small = LocalHeap::new(rt.alloc(), 13_424)?;
+    assert!(rt; matches!(FramePool::with_frames(&small, 24), Err(NoMemory)));
     Ok(())
 }
