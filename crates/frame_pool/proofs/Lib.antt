@@ -1,0 +1,9 @@
+pub mod FreshLemmas
+pub mod FreshPool
+pub mod IndexLemmas
+pub mod KeptLemmas
+pub mod LinkLemmas
+pub mod OrderLemmas
+pub mod PoolLemmas
+pub mod SweepLemmas
+pub mod TableLemmas

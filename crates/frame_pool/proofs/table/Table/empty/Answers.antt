@@ -1,0 +1,8 @@
+use Rattle.std.proofs.Common.{None}
+use Rattle.frame_pool.proofs.TableLemmas.{set_kept_lists}
+use Rattle.frame_pool.proofs.table.Table.empty.Goals as goal
+
+pub returns : goal.returns
+returns g c =
+    rw (← c.self.view_is)
+    (set_kept_lists c.self.inside.slots.items c.args.slot c.index_mut.result.now None c.index_mut.ensures.value)

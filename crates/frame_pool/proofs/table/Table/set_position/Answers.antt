@@ -1,0 +1,7 @@
+use Rattle.frame_pool.proofs.TableLemmas.{set_position_lists}
+use Rattle.frame_pool.proofs.table.Table.set_position.Goals as goal
+
+pub returns : goal.returns
+returns g c =
+    rw (← c.self.view_is)
+    (set_position_lists c.self.inside.slots.items c.args.slot c.index_mut.result.now c.args.place c.index_mut.ensures.value)

@@ -1,0 +1,141 @@
+//! The pool of frames: a bounded map from the pages of files to their bytes, homes and dirty marks.
+ghost use Rattle.std.specs.Prelude.{◌≡◌, ◌<◌, ◌≤◌, ◌+◌, ◌↔◌, ℕ, length, IfOk, IfSome, IsSome, Some, None, slice_set, option_map, replicate};
+ghost use Rattle.frame_pool.specs.Frames.{Frame, Has, HasDistinct, HasPage, IsEmpty, IsNowhere, IsOutside, changed_at, cleaned_at, frame_at, new_frame, shown};
+
+use crate::chain;
+use crate::fill;
+use crate::home::Home;
+use crate::sweep::sweep;
+use crate::table::{Run, Table};
+use labelled_disk::{FileId, NoMemory, Page};
+use std::alloc::Allocator;
+use std::marker::Model;
+
+/// Frames in numbered slots, each for one page of a file. No page is in two slots.
+#[derive(Drop)]
+pub struct FramePool<A: Allocator> {
+    table: Table<A>,
+    /// How many slots are empty: they are the first ones of the table's order.
+    empties: u16,
+    /// Where the next sweep for a victim begins.
+    hand: u16,
+}
+
+impl<A: Allocator> Model for FramePool<A> {
+    ghost use Rattle.frame_pool.specs.Frames.{Slots};
+    ghost use Rattle.frame_pool.specs.Pool.{IsPool};
+
+    ghost Value = { Slots };
+
+    ghost view = { λ p. p.table.frames };
+
+    ghost invariant = { λ p. IsPool p.table p.empties };
+}
+
+impl<A: Allocator> FramePool<A> {
+    /// So many empty slots, 24 to 4,096. This takes all the memory that the pool ever has.
+    pub fn with_frames(alloc: A, frames: u32) -> Result<FramePool<A>, NoMemory>
+        requires least { 24 ≤ frames }
+        requires most { frames ≤ 4096 }
+        ensures empty { IfOk result (λ pool. pool ≡ replicate frames None) }
+    {
+        let table = Table::with_slots(alloc, frames as u16)?;
+        Ok(FramePool { table, empties: frames as u16, hand: 0 })
+    }
+
+    /// How many slots there are.
+    pub fn frames(&self) -> u32
+        ensures count { result ≡ length self.now }
+        ensures least { 24 ≤ result }
+        ensures most { result ≤ 4096 }
+        ensures distinct { HasDistinct self.now }
+    {
+        self.table.len() as u32
+    }
+
+    /// The slot that has the page, in constant time on average.
+    pub fn find(&self, id: FileId, page: u32) -> Option<u32>
+        ensures found { IfSome result (λ slot. HasPage self.now slot id page) }
+        ensures below { IfSome result (λ slot. slot < length self.now) }
+        ensures nowhere { result ≡ None ↔ IsNowhere self.now id page }
+        ensures distinct { HasDistinct self.now }
+    {
+        match chain::find(&self.table, id, page) {
+            Some(slot) => Some(u32::from(slot)),
+            None => None,
+        }
+    }
+
+    /// The home of the slot's page, and whether the frame is dirty.
+    pub fn held(&self, slot: u32) -> Option<(Home, bool)>
+        requires { slot < length self.now }
+        ensures { result ≡ option_map shown (frame_at self.now slot) }
+    {
+        self.table.held(slot as u16)
+    }
+
+    /// The bytes of a filled slot.
+    pub fn bytes(&self, slot: u32) -> &Page
+        requires below { slot < length self.now }
+        requires filled { IsSome (frame_at self.now slot) }
+        ensures { IfSome (frame_at self.now slot) (λ frame. result.now ≡ frame.bytes) }
+    {
+        self.table.bytes(slot as u16)
+    }
+
+    /// A slot for another page, outside the run that is to stay: an empty one, else one chosen by second chance.
+    pub fn victim(&mut self, keep_id: FileId, keep_first: u32, keep_pages: u32) -> u32
+        requires { keep_pages < length self.old }
+        ensures below { result < length self.new }
+        ensures outside { IsOutside self.new result keep_id keep_first keep_pages }
+        ensures empty_first { (frame : Frame) → Has self.new result frame → (other : ℕ) → IsEmpty self.new other → ⊥ }
+        ensures same { self.new ≡ self.old }
+    {
+        if self.empties > 0 {
+            return u32::from(self.table.order(self.empties - 1));
+        }
+        let run = Run { id: keep_id, first: keep_first, pages: keep_pages };
+        let slot = sweep(&mut self.table, &run, self.hand);
+        self.hand = slot + 1;
+        u32::from(slot)
+    }
+
+    /// Puts a page that was just read into an empty slot.
+    pub fn put(&mut self, slot: u32, home: Home, bytes: &Page)
+        requires below { slot < length self.old }
+        requires empty { frame_at self.old slot ≡ None }
+        requires nowhere { IsNowhere self.old home.id home.page }
+        ensures { self.new ≡ slice_set self.old slot (Some (new_frame home bytes.now)) }
+    {
+        self.empties = fill::fill(&mut self.table, self.empties, slot as u16, home, bytes);
+        self.table.mark(slot as u16);
+    }
+
+    /// Writes bytes over those of a filled slot from `at` on, and marks it dirty.
+    pub fn change(&mut self, slot: u32, at: u32, bytes: &[u8])
+        requires below { slot < length self.old }
+        requires filled { IsSome (frame_at self.old slot) }
+        requires inside { at + length bytes.now ≤ 512 }
+        ensures { self.new ≡ changed_at self.old slot at bytes.now }
+    {
+        self.table.overwrite(slot as u16, at as usize, bytes);
+        self.table.mark(slot as u16);
+    }
+
+    /// The home of a filled slot has the same bytes again.
+    pub fn mark_clean(&mut self, slot: u32)
+        requires below { slot < length self.old }
+        requires filled { IsSome (frame_at self.old slot) }
+        ensures { self.new ≡ cleaned_at self.old slot }
+    {
+        self.table.clean(slot as u16);
+    }
+
+    /// Empties a slot. What was dirty in it is lost.
+    pub fn clear(&mut self, slot: u32)
+        requires { slot < length self.old }
+        ensures { self.new ≡ slice_set self.old slot None }
+    {
+        self.empties = fill::clear(&mut self.table, self.empties, slot as u16);
+    }
+}
