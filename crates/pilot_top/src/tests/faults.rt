@@ -1,0 +1,89 @@
+//! A trace of six lines, in which each call of the source, the sink and the disk fails in turn.
+
+use super::{LEADER, command, page};
+use crate::Status;
+use labelled_disk::{Disk, MemoryDisk};
+use std::alloc::Global;
+use std::test::Fail;
+
+// The lines end behind 7, 11, 33, 55, 56 and 62 bytes.
+const TRACE: &[u8] = b"volume\nfoo\nattr 0000000700000001\nnext 0000000000000000\n\nclose\n";
+
+// What is written where so many lines are answered.
+const REPLIES: [&str; 7] = [
+    "",
+    "error later\n",
+    "error later\nerror syntax\n",
+    "error later\nerror syntax\nattr 2 9 perm mutable\n",
+    "error later\nerror syntax\nattr 2 9 perm mutable\nfile 0000000700000001\n",
+    "error later\nerror syntax\nattr 2 9 perm mutable\nfile 0000000700000001\nerror syntax\n",
+    "error later\nerror syntax\nattr 2 9 perm mutable\nfile 0000000700000001\nerror syntax\nok\n",
+];
+
+// A disk of 256 sectors with a file of two pages. Three transfers made it.
+fn two_pages(alloc: Global, fails: &[u64]) -> Result<MemoryDisk<Global>, Fail> {
+    let mut disk = MemoryDisk::failing(alloc, 256, fails, 3)?;
+    for (sector, label) in [(40, LEADER), (41, page(0)), (36, page(1))] {
+        disk.write_label(sector, &label)?;
+    }
+    Ok(disk)
+}
+
+// How many lines are whole before the source's call of this number.
+fn lines_before(call: u64) -> usize {
+    match call {
+        0..=7 => 0,
+        8..=11 => 1,
+        12..=33 => 2,
+        34..=55 => 3,
+        56 => 4,
+        57..=62 => 5,
+        _ => 6,
+    }
+}
+
+#[test]
+fn each_call_of_the_source_fails_in_turn(rt: HostRuntime) -> Result<(), Fail> {
+    for call in 1u64..64 {
+        let mut disk = two_pages(rt.alloc(), &[])?;
+        let outcome = command(rt.alloc(), &["run"], &mut disk, TRACE, &[call], &[])?;
+        let expected = if call <= 62 { Status::StreamFault } else { Status::Done };
+        assert_eq!(rt; outcome.status, expected, "call {call}");
+        assert_eq!(rt; outcome.out.as_slice(), REPLIES[lines_before(call)].as_bytes(), "call {call}");
+    }
+    Ok(())
+}
+
+#[test]
+fn each_piece_of_the_sink_fails_in_turn(rt: HostRuntime) -> Result<(), Fail> {
+    for (written, replies) in REPLIES.iter().enumerate() {
+        let mut disk = two_pages(rt.alloc(), &[])?;
+        let piece = written as u64 + 1;
+        let outcome = command(rt.alloc(), &["run"], &mut disk, TRACE, &[], &[piece])?;
+        let expected = if written < 6 { Status::StreamFault } else { Status::Done };
+        assert_eq!(rt; outcome.status, expected, "piece {piece}");
+        assert_eq!(rt; outcome.out.as_slice(), replies.as_bytes(), "piece {piece}");
+    }
+    Ok(())
+}
+
+// The leader is found at the 5th transfer, page 0 at the 6th after it, page 1 at the next, and page 2 in none of the 220
+// data sectors; `next` looks at each of these once more.
+#[test]
+fn each_transfer_fails_in_turn(rt: HostRuntime) -> Result<(), Fail> {
+    for transfer in 1u64..454 {
+        let mut disk = two_pages(rt.alloc(), &[transfer + 3])?;
+        let outcome = command(rt.alloc(), &["run"], &mut disk, TRACE, &[], &[])?;
+        let (status, lines, last) = if transfer <= 232 {
+            (Status::DiskFault, 2, "stopped disk\n")
+        } else if transfer <= 452 {
+            (Status::DiskFault, 3, "stopped disk\n")
+        } else {
+            (Status::Done, 6, "")
+        };
+        assert_eq!(rt; outcome.status, status, "transfer {transfer}");
+        let expected = format!(in rt.alloc(); "{}{last}", REPLIES[lines])?;
+        assert_eq!(rt; outcome.out.as_slice(), expected.as_bytes(), "transfer {transfer}");
+    }
+    Ok(())
+}
