@@ -25,6 +25,7 @@ pub fn copy_page<D: Disk>(disk: &mut D, from: u32, to: u32, wanted: Wanted) -> R
         ⊎ TellsCopy from to wanted (D.state disk.old) (D.state disk.new)) }
     ensures cause { OnFailed result (Rose (D.state disk.old).faults (D.state disk.new).faults) }
 
+    ensures later { (D.state disk.old).faults ≤ (D.state disk.new).faults }
     ensures sectors { (D.state disk.new).sectors ≡ (D.state disk.old).sectors }
     ensures lent { (D.state disk.new).lent ≡ (D.state disk.old).lent }
     ensures cost { (D.state disk.new).transfers ≤ (D.state disk.old).transfers + 2 }

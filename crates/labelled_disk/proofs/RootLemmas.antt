@@ -8,7 +8,7 @@ use Rattle.labelled_disk.specs.declared.label.Label.{Label}
 use Rattle.labelled_disk.specs.declared.label.Wanted.{Wanted}
 use Rattle.labelled_disk.specs.declared.disk.DiskWrite.TheVariants.{Whole, LabelOnly, Page}
 use Rattle.labelled_disk.specs.Label.{is_file, is_free, names, leader_page}
-use Rattle.labelled_disk.specs.Sectors.{Sector}
+use Rattle.labelled_disk.specs.Sectors.{Sector, free_label}
 use Rattle.labelled_disk.specs.Moment.{written}
 use Rattle.labelled_disk.specs.Layout.{data_sectors, first_data, vam}
 use Rattle.labelled_disk.specs.FilesOn.{disk_file, file_among, files_among, is_of}
@@ -153,8 +153,8 @@ module _ (temps : Bool) where
       )
     where
       new : (s : Sector) (label : Label)
-          → (is_free label ≡ true) ⊎ ((s.0.page ≡ leader_page) × ((label ≡ record s.0 { flags = bit_or s.0.flags 1 }) ⊎ (label ≡ record s.0 { flags = bit_or s.0.flags 2 }))) → IsOnlyOf s.0.id (label, s.1)
-      new s label (inl free) = laws.only_none temps 0 0 s.0.id (label, s.1) (free_none label free)
+          → (label ≡ free_label) ⊎ ((s.0.page ≡ leader_page) × ((label ≡ record s.0 { flags = bit_or s.0.flags 1 }) ⊎ (label ≡ record s.0 { flags = bit_or s.0.flags 2 }))) → IsOnlyOf s.0.id (label, s.1)
+      new s label (inl free) = laws.only_none temps 0 0 s.0.id (label, s.1) (free_none label (ap is_free free))
       new s label (inr marked) = elim marked.1 [
         | inl e ↦ only_self (label, s.1) s.0.id (ap (λ (l : Label). l.id) e)
         | inr e ↦ only_self (label, s.1) s.0.id (ap (λ (l : Label). l.id) e)

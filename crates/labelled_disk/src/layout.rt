@@ -19,7 +19,7 @@ pub struct Layout {
     pub capacity: u32,
 }
 
-/// The first thing in which a sector 0 differs from the root of a volume.
+/// The first thing in which a sector 0 differs from the root of a volume. The texts are those of the last lines.
 #[derive(Clone, Copy, Debug, PartialEq, Eq, Error)]
 pub enum Difference {
     #[error("label")]
@@ -27,17 +27,17 @@ pub enum Difference {
     #[error("magic")]
     Magic,
     /// The root's count of sectors is not the disk's.
-    #[error("count {0}")]
+    #[error("count")]
     Count(u32),
     #[error("serial")]
     Serial,
     #[error("counter")]
     Counter,
     /// The clean flag is neither 0 nor 1.
-    #[error("flag {0}")]
+    #[error("flag")]
     Flag(u16),
     /// This byte, the first such behind the fields, is not 0.
-    #[error("byte {0}")]
+    #[error("rest")]
     Rest(u16),
 }
 

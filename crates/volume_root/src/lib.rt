@@ -1,4 +1,4 @@
-//! The root of a volume: read, judged and written.
+//! The root of a volume, as it is read and judged.
 #![tactic(auto)]
 
 mod laws;

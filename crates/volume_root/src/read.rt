@@ -9,7 +9,7 @@ use crate::page::{first_rest, has_magic, number_at, short_at};
 use crate::{Difference, Layout, Root, RootFault};
 use labelled_disk::{Disk, Label, Wanted};
 
-/// The version of the volumes that are read and written.
+/// The version of the volumes that are read.
 pub(crate) const VERSION: u16 = 3;
 
 const ROOT: Wanted = Wanted { id: 4, page: 0 };
@@ -131,6 +131,7 @@ fn judge(clean_only: bool, sectors: u32, label: &Label, page: &[u8]) -> Result<R
 /// the answer.
 pub fn read_root<D: Disk>(disk: &mut D, clean_only: bool) -> Result<Root, RootFault>
     ensures count { ¬ IsCount (D.state disk.old).sectors → result ≡ Err (RootFault.BadCount (D.state disk.old).sectors) }
+    ensures bad_count { (n : ℕ) → result ≡ Err (RootFault.BadCount n) → ¬ IsCount (D.state disk.old).sectors × (n ≡ (D.state disk.old).sectors) }
     ensures judged { IsCount (D.state disk.old).sectors → (d : List Sector) → (D.state disk.old).contents ≡ Some d
         → (s : Sector) → slice_get d 0 ≡ Some s → IsUnlessFault result (judged clean_only (length d) s) }
     ensures cause { result ≡ Err RootFault.Disk → Rose (D.state disk.old).faults (D.state disk.new).faults }
