@@ -9,3 +9,4 @@ pub mod Scan
 pub mod Course
 pub mod Form
 pub mod Adapters
+pub mod Trace
