@@ -1,4 +1,4 @@
-// The lines of replies.
+//! The lines of replies.
 ghost use Rattle.std.specs.Prelude.{◌≡◌, ◌≤◌, ◌+◌, [], ◌++◌, List, ℕ, length, OnOk, OnErr, decimal, codes};
 ghost use Rattle.std.specs.Io.KnownBytes.{Appends};
 ghost use Rattle.hex.specs.Hex.{encode_lower};
@@ -139,7 +139,7 @@ fn refusal_text(why: Refusal) -> Text
     }
 }
 
-/// Writes the line of a reply, or at an error a front of it.
+/// Writes the line of a reply in one piece, or at an error a front of it.
 #[tactic(auto, unfolding(flat_machine::specs::Text::text))]
 pub fn write_reply<K: Sink>(sink: &mut K, reply: &Reply) -> Result<(), SinkFault>
     ensures ok { OnOk result (Appends (K.took sink.old) (K.took sink.new) (text reply.now)) }
