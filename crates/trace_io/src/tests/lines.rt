@@ -80,7 +80,12 @@ fn a_trace_is_read_up_to_its_last_call(rt: HostRuntime) -> Result<(), Fail> {
     let mut source = source(rt.alloc(), b"volume\nno\nhalt\nvolume\n")?;
     let (items, why) = read_trace(rt.alloc(), &mut source, 1 << 32)?;
     assert_eq!(rt; why, Stop::End);
-    assert!(rt; matches!(items.as_slice(), [Some(Call::Volume), None, Some(Call::Halt)]));
+    assert!(rt;
+        matches!(
+            items.as_slice(),
+            [Some(Call::Volume), None, Some(Call::Halt)]
+        )
+    );
     assert_eq!(rt; source.next(), Ok(Some(b'v')));
     Ok(())
 }

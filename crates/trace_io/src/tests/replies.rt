@@ -97,7 +97,10 @@ fn each_refusal_has_its_word(rt: HostRuntime) -> Result<(), Fail> {
         (Refusal::Ids, "error ids\n"),
     ];
     for (why, line) in table {
-        assert_eq!(rt; text(rt.alloc(), &Reply::Refused(why))?.as_slice(), line.as_bytes());
+        assert_eq!(rt;
+            text(rt.alloc(), &Reply::Refused(why))?.as_slice(),
+            line.as_bytes()
+        );
     }
     Ok(())
 }
