@@ -10,3 +10,4 @@ pub mod Course
 pub mod Form
 pub mod Adapters
 pub mod Trace
+pub mod CallText
