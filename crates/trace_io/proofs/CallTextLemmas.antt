@@ -1,7 +1,7 @@
 -- The line of a call is read back as that call.
-use Rattle.std.proofs.Common.{◌≡◌, ◌≢◌, inl, inr, ℕ, zero, suc, ◌-◌, ◌<◌, ◌≤◌, true, eqb, List, [], ◌∷◌, ◌++◌, length, get_or, Option, Some, None, length-append, refl, ap, ◌∙◌, arith, nat_lt}
+use Rattle.std.proofs.Common.{◌≡◌, ◌≢◌, inl, inr, ℕ, zero, suc, ◌-◌, ◌<◌, ◌≤◌, true, eqb, List, [], ◌∷◌, ◌++◌, length, get_or, Option, Some, None, length-append, append_assoc, map, cond, refl, ap, ◌∙◌, arith, nat_lt}
 use Rattle.std.specs.Prelude.{codes}
-use Rattle.std.specs.List.{slice_split, join_with_byte}
+use Rattle.std.specs.List.{slice_split, join_with_byte, AllByRecursion}
 use Rattle.std.specs.Fmt.{decimal}
 use Rattle.std.proofs.lemmas.Bool.{cases_lt}
 use Rattle.std.proofs.lemmas.List.{get_or_append_left}
@@ -13,7 +13,9 @@ use Rattle.flat_machine.specs.Form.{IsInForm}
 use Rattle.flat_machine.specs.Text.{id_text}
 use Rattle.trace_io.specs.Stream.{Lacks}
 use Rattle.trace_io.specs.Grammar.{number_of, id_of, type_of, count_of, bytes_of, mode_of, only_id, only_number, number_and_type, id_and_number, two_numbers, number_and_mode, number_and_count, number_and_bytes, place, window, nothing, verb_of, with_fields, words_of, call_of_words, call_of}
-use Rattle.trace_io.specs.CallText.{mode_text, call_words, call_text, HasFields}
+use Rattle.trace_io.specs.CallText.{mode_text, call_words, call_text, HasFields, IsWritable, trace_text}
+use Rattle.trace_io.specs.Reading.{reading, is_last, through_last}
+use Rattle.trace_io.proofs.ReadingLemmas.{reading-nil, reading-line}
 use Rattle.trace_io.proofs.Cuts.{split_first, split_none}
 use Rattle.trace_io.proofs.LongLines.{call_of-long}
 use Rattle.trace_io.proofs.WordTexts.{IsWord, word_of, decimal-word, id-word, mode-word, hex-word, number_of-decimal, type_of-decimal, count_of-decimal, id_of-text, bytes_of-text, mode_of-text}
@@ -118,3 +120,14 @@ text-short c form fits = elim (cases_lt 255 (length (call_text c))) [
   | inl long ↦ let none = call_of-long (call_text c) long ∙ call_of-text c form fits in absurd (cc)
   | inr short ↦ short
 ]
+
+-- the lines of calls are read back up to the first that ends the trace
+pub trace-read : (calls : List Call) → AllByRecursion IsWritable calls → reading (trace_text calls) ≡ through_last (map Some calls)
+trace-read [] are = reading-nil
+trace-read (c ∷ calls) are =
+    let line = call_text c in
+    let is = call_of-text c are.0.0 are.0.1 in
+    ap reading (append_assoc line (10 ∷ []) (trace_text calls))
+    ∙ reading-line line (trace_text calls) (text-lacks c are.0.1)
+    ∙ ap (λ item. item ∷ cond (is_last item) [] (reading (trace_text calls))) is
+    ∙ ap (λ rest. Some c ∷ cond (is_last (Some c)) [] rest) (trace-read calls are.1)

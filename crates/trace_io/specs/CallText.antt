@@ -1,8 +1,9 @@
 -- The line of a call.
 use Rattle.std.specs.Prelude.{◌<◌, ◌^◌, ℕ, Bool, List, [], ◌∷◌, ◌++◌, codes, if◌then◌else◌, Some, None, IfSome}
-use Rattle.std.specs.List.{join_with_byte}
+use Rattle.std.specs.List.{join_with_byte, flat_map}
 use Rattle.std.specs.Fmt.{decimal}
 use Rattle.hex.specs.Hex.{encode_lower, IsBytes}
+use Rattle.flat_machine.specs.Form.{IsInForm}
 use Rattle.flat_machine.specs.Text.{id_text}
 use Rattle.flat_machine.specs.declared.call.Call.{Call}
 use Rattle.flat_machine.specs.declared.call.Call.TheVariants as call
@@ -71,3 +72,11 @@ HasFields (call.Deactivate space) = space < 2 ^ 32
 HasFields (call.Kill space) = space < 2 ^ 32
 HasFields (call.ForceOut space) = space < 2 ^ 32
 HasFields c = Unit {0}
+
+-- a load or a store has 1 to 64 bytes, and each field is one of its type
+abbrev pub IsWritable : Call → Type 0
+IsWritable c = IsInForm c × HasFields c
+
+-- the lines of some calls
+abbrev pub trace_text : List Call → List ℕ
+trace_text calls = flat_map call_line calls
