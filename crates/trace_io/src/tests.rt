@@ -1,3 +1,4 @@
+mod grammar;
 mod lines;
 mod replies;
 mod streams;
