@@ -1,9 +1,8 @@
 //! The lines of replies.
-ghost use Rattle.std.specs.Prelude.{◌≡◌, ◌≤◌, ◌+◌, [], ◌++◌, List, ℕ, length, OnOk, OnErr, decimal, codes};
+ghost use Rattle.std.specs.Prelude.{◌≡◌, ◌≤◌, ◌++◌, length, OnOk, OnErr, codes};
 ghost use Rattle.std.specs.Io.KnownBytes.{Appends};
-ghost use Rattle.hex.specs.Hex.{encode_lower};
-ghost use Rattle.trace_io.specs.Stream.{HasCause, IsFrontOf};
-ghost use Rattle.flat_machine.specs.Text.{id_text, reply_text, refusal_text, text};
+ghost use Rattle.trace_io.specs.Stream.{HasCause, AppendsFront};
+ghost use Rattle.flat_machine.specs.Text.{reply_text, refusal_text, text};
 
 use crate::text::Text;
 use crate::{Sink, SinkFault};
@@ -86,7 +85,7 @@ fn refusal_text(why: Refusal) -> Text
 #[tactic(auto, unfolding(flat_machine::specs::Text::text))]
 pub fn write_reply<K: Sink>(sink: &mut K, reply: &Reply) -> Result<(), SinkFault>
     ensures ok { OnOk result (Appends (K.took sink.old) (K.took sink.new) (text reply.now)) }
-    ensures err { OnErr result ((front : List ℕ) × IsFrontOf front (text reply.now) × Appends (K.took sink.old) (K.took sink.new) front) }
+    ensures err { OnErr result (AppendsFront (K.took sink.old) (K.took sink.new) (text reply.now)) }
     ensures cause { HasCause (K.faults sink.old) (K.faults sink.new) result }
 {
     let line = reply_text(reply).with(b"\n");

@@ -32,15 +32,16 @@ fn take_item<S: Source>(lines: &mut Lines, source: &mut S) -> Result<Option<Call
     }
 }
 
-/// Reads a trace line by line up to its end, or to the line `close` or `halt`, and takes at most that many bytes. Each
-/// item is the call of a line, or None where the line is no call. Where the source fails or more bytes are needed,
-/// the items are those of the lines before.
+/// Reads a trace line by line up to its end, or to the line `close` or `halt`, and takes at most
+/// that many bytes. Each item is the call of a line, or None where the line is no call. Where the
+/// source fails or more bytes are needed, the items are those of the lines before.
 pub fn read_trace<S: Source, A: Allocator>(
     alloc: A,
     source: &mut S,
     limit: u64,
 ) -> Result<(Vec<Option<Call>, A>, Stop), NoMemory>
-    ensures reads { IfOk result (λ r. IfSome (S.left source.old) (λ b. Reads r.1 limit b (S.left source.new) r.0.items)) }
+    ensures reads { IfOk result (λ r. IfSome (S.left source.old) (λ b.
+        Reads r.1 limit b (S.left source.new) r.0.items)) }
     ensures fault { IfOk result (λ r. r.1 ≡ Stop.ReadFault → Rose (S.faults source.old) (S.faults source.new)) }
     ensures faults { S.faults source.old ≤ S.faults source.new }
 {

@@ -190,7 +190,10 @@ fn text(alloc: Global, line: &Line) -> Result<String, Fail> {
 #[test]
 fn each_line_is_the_call_that_its_row_says(rt: HostRuntime) -> Result<(), Fail> {
     for row in ROWS.split(|b| *b == b'\n') {
-        let bar = row.iter().position(|b| *b == b'|').unwrap_or(0);
+        let Some(bar) = row.iter().position(|b| *b == b'|') else {
+            assert!(rt; row.is_empty(), "a row has no bar");
+            continue;
+        };
         let mut trace = row[..bar].to_vec(rt.alloc())?;
         trace.push(b'\n')?;
         let mut source = MemorySource::new(rt.alloc(), &trace, &[])?;
@@ -202,10 +205,18 @@ fn each_line_is_the_call_that_its_row_says(rt: HostRuntime) -> Result<(), Fail> 
 
 #[test]
 fn a_last_line_needs_no_line_feed(rt: HostRuntime) -> Result<(), Fail> {
-    for (trace, wanted) in [("halt", "halt"), ("volume ", "bad"), ("close\r", "bad"), ("where 7", "where 7")] {
+    for (trace, wanted) in [
+        ("halt", "halt"),
+        ("volume ", "bad"),
+        ("close\r", "bad"),
+        ("where 7", "where 7"),
+    ] {
         let mut source = MemorySource::new(rt.alloc(), trace.as_bytes(), &[])?;
         let mut lines = Lines::with_limit(1 << 32);
-        assert_eq!(rt; text(rt.alloc(), &lines.next(&mut source))?.as_str(), wanted);
+        assert_eq!(rt;
+            text(rt.alloc(), &lines.next(&mut source))?.as_str(),
+            wanted
+        );
         assert_eq!(rt; text(rt.alloc(), &lines.next(&mut source))?.as_str(), "end");
     }
     Ok(())
