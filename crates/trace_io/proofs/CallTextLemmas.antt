@@ -1,19 +1,16 @@
 -- The line of a call is read back as that call.
-use Rattle.std.proofs.Common.{◌≡◌, ◌≢◌, inl, inr, ℕ, zero, suc, ◌-◌, ◌<◌, ◌≤◌, true, eqb, List, [], ◌∷◌, ◌++◌, length, get_or, Option, Some, None, length-append, append_assoc, map, cond, refl, ap, ◌∙◌, arith, nat_lt}
+use Rattle.std.proofs.Common.{◌≡◌, ◌≢◌, inl, inr, ℕ, zero, suc, ◌-◌, ◌≤◌, true, eqb, List, [], ◌∷◌, ◌++◌, length, get_or, Some, None, length-append, append_assoc, map, cond, refl, ap, ◌∙◌, arith, nat_lt}
 use Rattle.std.specs.Prelude.{codes}
 use Rattle.std.specs.List.{slice_split, join_with_byte, AllByRecursion}
-use Rattle.std.specs.Fmt.{decimal}
 use Rattle.std.proofs.lemmas.Bool.{cases_lt}
 use Rattle.std.proofs.lemmas.List.{get_or_append_left}
 use Rattle.std.proofs.Math.Seq.{get_or-append_right}
-use Rattle.hex.specs.Hex.{encode_lower}
 use Rattle.flat_machine.specs.declared.call.Call.{Call}
 use Rattle.flat_machine.specs.declared.call.Call.TheVariants as call
 use Rattle.flat_machine.specs.Form.{IsInForm}
-use Rattle.flat_machine.specs.Text.{id_text}
 use Rattle.trace_io.specs.Stream.{Lacks}
-use Rattle.trace_io.specs.Grammar.{number_of, id_of, type_of, count_of, bytes_of, mode_of, only_id, only_number, number_and_type, id_and_number, two_numbers, number_and_mode, number_and_count, number_and_bytes, place, window, nothing, verb_of, with_fields, words_of, call_of_words, call_of}
-use Rattle.trace_io.specs.CallText.{mode_text, call_words, call_text, HasFields, IsWritable, trace_text}
+use Rattle.trace_io.specs.Grammar.{only_id, only_number, number_and_type, id_and_number, two_numbers, number_and_mode, number_and_count, number_and_bytes, place, window, nothing, verb_of, with_fields, call_of_words, call_of}
+use Rattle.trace_io.specs.CallText.{call_words, call_text, HasFields, IsWritable, trace_text}
 use Rattle.trace_io.specs.Reading.{reading, is_last, through_last}
 use Rattle.trace_io.proofs.ReadingLemmas.{reading-nil, reading-line}
 use Rattle.trace_io.proofs.Cuts.{split_first, split_none}

@@ -1,10 +1,9 @@
 -- A whole trace that was read line by line.
-use Rattle.std.proofs.Common.{◌≡◌, ℕ, ◌<◌, ◌≤◌, true, inl, inr, Ok, Err, List, [], ◌∷◌, ◌++◌, length, Option, Some, None, refl, sym, ap, ◌∙◌, arith, IfSome}
-use Rattle.std.specs.Io.KnownBytes.{Consumes, IsAtEnd}
+use Rattle.std.proofs.Common.{◌≡◌, ℕ, true, inl, inr, Ok, Err, List, [], ◌∷◌, ◌++◌, length, Option, Some, None, refl, sym, ◌∙◌, arith, IfSome}
+use Rattle.std.specs.Io.KnownBytes.{IsAtEnd}
 use Rattle.flat_machine.specs.declared.call.Call.{Call}
-use Rattle.trace_io.specs.Reading.{is_last, IsShort}
+use Rattle.trace_io.specs.Reading.{is_last}
 use Rattle.trace_io.specs.Progress.{Progress}
-use Rattle.trace_io.specs.Lines.{TakesPart}
 use Rattle.trace_io.specs.Course.{HasRead, HasReadAll, HasReadWhole}
 use Rattle.trace_io.specs.Trace.{TakesFront, Reads, TakesItem}
 use Rattle.trace_io.specs.declared.progress.Stop.{Stop}

@@ -1,5 +1,5 @@
-use Rattle.std.proofs.Common.{◌≡◌, ◌++◌, ◌∷◌, [], inl, inr, refl, sym, ap, ◌∙◌, rules, arith}
-use Rattle.trace_io.proofs.CourseLemmas.{HasRead-none, HasRead-line}
+use Rattle.std.proofs.Common.{◌≡◌, ◌++◌, ◌∷◌, [], inl, inr, sym, ◌∙◌, rules, arith}
+use Rattle.trace_io.proofs.CourseLemmas.{HasRead-line}
 use Rattle.trace_io.proofs.TraceLemmas.{Reads-stop, Reads-last}
 use Rattle.trace_io.proofs.trace.read_trace.Goals as goal
 
