@@ -1,7 +1,7 @@
 -- A piece that is written part by part.
-use Rattle.std.proofs.Common.{◌≡◌, ◌∙◌, ◌++◌, ℕ, ◌+◌, List, Option, Some, None, Result, Ok, Err, [], take, drop, ap, sym, subst}
+use Rattle.std.proofs.Common.{◌≡◌, ℕ, ◌+◌, List, Option, Result, Ok, Err, [], take, drop, sym}
 use Rattle.std.proofs.Math.Seq.{take-add}
-use Rattle.std.proofs.lemmas.List.{append_assoc, take-append-drop}
+use Rattle.std.proofs.lemmas.List.{take-append-drop}
 use Rattle.std.specs.Io.KnownBytes.{Appends, WriteAppends, prepend_known}
 use Rattle.std.proofs.KnownBytes.{Appends-trans, Appends-kept, prepend_known-nil}
 use Rattle.trace_io.specs.Stream.{IsFrontOf}

@@ -9,3 +9,5 @@ pub mod Scan
 pub mod Course
 pub mod Form
 pub mod Adapters
+pub mod Trace
+pub mod CallText

@@ -1,4 +1,4 @@
-// The lines of a trace, one after another.
+//! The lines of a trace, one after another.
 ghost use Rattle.std.specs.Prelude.{◌≡◌, ◌≤◌, ◌<◌, ℕ, List, length, slice_index, Some, None, IfSome};
 ghost use Rattle.trace_io.specs.Stream.{Rose};
 ghost use Rattle.trace_io.specs.Grammar.{call_of};
@@ -14,7 +14,8 @@ use std::marker::Model;
 
 const LINE: usize = 255;
 
-/// Reads a trace line by line, up to a limit of bytes.
+/// Reads a trace line by line, and takes at most as many bytes as its limit. Lines end with a line
+/// feed; what stands behind the last line feed is a line too, where it has a byte.
 #[derive(Drop)]
 pub struct Lines {
     buffer: [u8; LINE],
@@ -34,7 +35,8 @@ impl Model for Lines {
     ghost invariant = { λ l. l.taken ≤ l.limit };
 }
 
-// How a line ended: at its line feed, at the source's end, by a fault, or where there was no more room.
+// How a line ended: at its line feed, at the source's end, by a fault, or where there was no more
+// room.
 #[derive(Clone, Copy)]
 pub(crate) enum Ending {
     Feed,
@@ -49,7 +51,8 @@ pub(crate) struct Scan {
     end: Ending,
 }
 
-// Takes bytes to the next line feed, but no more than there is room for, and keeps the front of them.
+// Takes bytes to the next line feed, but no more than there is room for, and keeps the front of
+// them.
 fn take_line<S: Source>(source: &mut S, buffer: &mut [u8; LINE], room: u64) -> Scan
     ensures scan { Scans (S.left source.old) (S.left source.new) buffer.new room result }
     ensures faults { S.faults source.old ≤ S.faults source.new }
@@ -109,7 +112,7 @@ fn line_of(item: Option<Call>) -> Line
 }
 
 impl Lines {
-    /// No line yet of a trace of which at most that many bytes are taken.
+    /// No line is read yet, and at most that many bytes will be taken.
     pub fn with_limit(limit: u64) -> Lines
         ensures { result ≡ record { taken = 0; limit = limit; stopped = None } }
     {
@@ -128,15 +131,23 @@ impl Lines {
         self.taken
     }
 
-    /// The next line. After `End`, `ReadFault` and `Long` it is the same again, and nothing is taken.
+    /// Takes the bytes of the next line and its line feed, or those up to the source's end, and
+    /// gives the call that the line says. The bytes of a line that is no call are taken too,
+    /// however long it is. After `End`, `ReadFault` and `Long` the answer is the same again, and
+    /// nothing is taken. A line that ends the session is a call like any other: what follows it
+    /// stays, unless this is called again.
     pub fn next<S: Source>(&mut self, source: &mut S) -> Line
-        ensures next { self.old.stopped ≡ None → TakesNext result (S.left source.old) (S.left source.new) self.old self.new }
-        ensures again { IfSome self.old.stopped (λ why. (result ≡ answer_of why) × (self.new ≡ self.old) × (source.new ≡ source.old)) }
-        // A call that it gives is in form.
+        // Which line it is, or why none comes, and what was taken.
+        ensures next { self.old.stopped ≡ None
+            → TakesNext result (S.left source.old) (S.left source.new) self.old self.new }
+        ensures again { IfSome self.old.stopped (λ why. (result ≡ answer_of why)
+            × (self.new ≡ self.old) × (source.new ≡ source.old)) }
+        // Each call that it gives is in form.
         ensures form { self.old.stopped ≡ None → GivesForm result }
         ensures bound { self.new.taken ≤ self.new.limit }
         ensures faults { S.faults source.old ≤ S.faults source.new }
-        ensures fault { self.old.stopped ≡ None → result ≡ Line.ReadFault → Rose (S.faults source.old) (S.faults source.new) }
+        ensures fault { self.old.stopped ≡ None → result ≡ Line.ReadFault
+            → Rose (S.faults source.old) (S.faults source.new) }
     {
         match self.stopped {
             Some(Stop::End) => return Line::End,

@@ -1,70 +1,12 @@
-// The lines of replies.
-ghost use Rattle.std.specs.Prelude.{◌≡◌, ◌≤◌, ◌+◌, [], ◌++◌, List, ℕ, length, OnOk, OnErr, decimal, codes};
+//! The lines of replies.
+ghost use Rattle.std.specs.Prelude.{◌≡◌, ◌≤◌, ◌++◌, length, OnOk, OnErr, codes};
 ghost use Rattle.std.specs.Io.KnownBytes.{Appends};
-ghost use Rattle.hex.specs.Hex.{encode_lower};
-ghost use Rattle.trace_io.specs.Stream.{HasCause, IsFrontOf};
-ghost use Rattle.flat_machine.specs.Text.{id_text, reply_text, refusal_text, text};
+ghost use Rattle.trace_io.specs.Stream.{HasCause, AppendsFront};
+ghost use Rattle.flat_machine.specs.Text.{reply_text, refusal_text, text};
 
+use crate::text::Text;
 use crate::{Sink, SinkFault};
-use arrayvec::ArrayVec;
 use flat_machine::{Refusal, Reply};
-use itoa::Buffer;
-use std::marker::Model;
-
-/// A line that is being put together.
-#[derive(Drop)]
-struct Text {
-    bytes: ArrayVec<u8, 192>,
-}
-
-impl Model for Text {
-    ghost use Rattle.std.specs.Prelude.{List, ℕ};
-
-    ghost Value = { List ℕ };
-
-    ghost view = { λ t. t.bytes.items };
-}
-
-impl Text {
-    fn of(piece: &[u8]) -> Text
-        requires { length piece.now ≤ 192 }
-        ensures text { result ≡ piece.now }
-        ensures size { length result ≡ length piece.now }
-    {
-        let mut bytes = ArrayVec::new();
-        let _ = bytes.try_extend_from_slice(piece);
-        Text { bytes }
-    }
-
-    fn with(mut self, piece: &[u8]) -> Text
-        requires { length self + length piece.now ≤ 192 }
-        ensures text { result ≡ self ++ piece.now }
-        ensures size { length result ≡ length self + length piece.now }
-    {
-        let _ = self.bytes.try_extend_from_slice(piece);
-        self
-    }
-
-    fn with_number(self, n: u32) -> Text
-        requires { length self + 10 ≤ 192 }
-        ensures text { result ≡ self ++ decimal n }
-        ensures size { length result ≤ length self + 10 }
-    {
-        self.with(Buffer::new().format(n).as_bytes())
-    }
-
-    fn with_hex(self, bytes: &[u8]) -> Text
-        requires room { length self + 128 ≤ 192 }
-        requires short { length bytes.now ≤ 64 }
-        ensures text { result ≡ self ++ encode_lower bytes.now }
-        ensures size { length result ≤ length self + 128 }
-    {
-        let mut digits = [0u8; 128];
-        let digits = &mut digits[..2 * bytes.len()];
-        let _ = hex::encode_to_slice(bytes, digits);
-        self.with(digits)
-    }
-}
 
 fn reply_text(reply: &Reply) -> Text
     ensures text { result ≡ reply_text reply.now }
@@ -139,13 +81,13 @@ fn refusal_text(why: Refusal) -> Text
     }
 }
 
-/// Writes the line of a reply, or at an error a front of it.
+/// Writes the line of a reply in one piece, or at an error a front of it.
 #[tactic(auto, unfolding(flat_machine::specs::Text::text))]
 pub fn write_reply<K: Sink>(sink: &mut K, reply: &Reply) -> Result<(), SinkFault>
     ensures ok { OnOk result (Appends (K.took sink.old) (K.took sink.new) (text reply.now)) }
-    ensures err { OnErr result ((front : List ℕ) × IsFrontOf front (text reply.now) × Appends (K.took sink.old) (K.took sink.new) front) }
+    ensures err { OnErr result (AppendsFront (K.took sink.old) (K.took sink.new) (text reply.now)) }
     ensures cause { HasCause (K.faults sink.old) (K.faults sink.new) result }
 {
     let line = reply_text(reply).with(b"\n");
-    sink.put(&line.bytes)
+    sink.put(line.as_slice())
 }

@@ -1,4 +1,4 @@
-use Rattle.std.proofs.Common.{rules, ◌+◌, take, drop, arith}
+use Rattle.std.proofs.Common.{rules}
 use Rattle.std.proofs.lemmas.List.{take_rest}
 use Rattle.trace_io.proofs.Pieces.{appends_part, written_front}
 use Rattle.trace_io.proofs.adapters.WriterSinkSink.put.Goals as goal

@@ -1,0 +1,32 @@
+-- What is read of a whole trace.
+use Rattle.std.specs.Prelude.{◌≡◌, ◌⊎◌, ◌<◌, ℕ, List, [], ◌++◌, length, Option, Some, None, Result, Ok, Err}
+use Rattle.std.specs.Io.KnownBytes.{Consumes, IsAtEnd}
+use Rattle.flat_machine.specs.declared.call.Call.{Call}
+use Rattle.trace_io.specs.Reading.{reading, whole_reading, rest_of, IsShort}
+use Rattle.trace_io.specs.Progress.{Progress}
+use Rattle.trace_io.specs.Lines.{TakesLine, TakesPart}
+use Rattle.trace_io.specs.declared.progress.Stop.{Stop}
+use Rattle.trace_io.specs.declared.progress.Stop.TheVariants as stop
+
+-- Of a source with the bytes b these were taken, the others are left, and the items are the lines that are whole in them.
+pub record TakesFront (b : List ℕ) (left : Option (List ℕ)) (items : List (Option Call)) : Type 0 where
+  pub bytes : List ℕ
+  pub rest : List ℕ
+  pub all : b ≡ bytes ++ rest
+  pub left_is : left ≡ Some rest
+  pub items_are : items ≡ whole_reading bytes
+
+-- what was read of a source with the bytes b, and what it has left, by why no more was read
+abbrev pub Reads : Stop → ℕ → List ℕ → Option (List ℕ) → List (Option Call) → Type 0
+-- all lines, and what is left stands behind the last of them
+Reads stop.End limit b left items = (items ≡ reading b) × (left ≡ Some (rest_of b)) × IsShort limit b
+Reads stop.ReadFault limit b left items = (front : TakesFront b left items) × (length front.bytes < limit)
+Reads stop.Long limit b left items = (front : TakesFront b left items) × (length front.bytes ≡ limit) × (IsShort limit b → ⊥)
+
+-- a line was taken, or no more lines come
+abbrev pub TakesItem : Result (Option Call) Stop → Option (List ℕ) → Option (List ℕ) → Progress → Progress → Type 0
+TakesItem (Ok item) left_old left_new old new = (old.stopped ≡ None) × TakesLine item left_old left_new old new
+TakesItem (Err stop.End) left_old left_new old new =
+    ((old.stopped ≡ None) × Consumes left_old left_new [] × IsAtEnd left_new × (old.taken < old.limit)) ⊎ ((old.stopped ≡ Some stop.End) × (left_new ≡ left_old))
+TakesItem (Err stop.ReadFault) left_old left_new old new = (old.stopped ≡ None) × TakesPart stop.ReadFault left_old left_new old new × (new.taken < new.limit)
+TakesItem (Err stop.Long) left_old left_new old new = (old.stopped ≡ None) × TakesPart stop.Long left_old left_new old new × (new.taken ≡ new.limit)

@@ -1,0 +1,4 @@
+mod grammar;
+mod lines;
+mod replies;
+mod streams;
