@@ -24,3 +24,4 @@ pub mod StartMachine
 pub mod UnitLemmas
 pub mod PathLemmas
 pub mod MoreLaws
+pub mod SettledLemmas

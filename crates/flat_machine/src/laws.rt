@@ -5,7 +5,7 @@ ghost use Rattle.flat_machine.specs.Form.{IsTyped};
 ghost use Rattle.flat_machine.specs.Rows.{WorkedRows};
 ghost use Rattle.flat_machine.specs.Laws.{OpenedIsMachine, StartAgrees, ProjectionIsUnique, LowestGapIsLeast, LowestUnusedIsLeast};
 ghost use Rattle.flat_machine.specs.Laws.{NextKeepsMachine, AfterIsMachine, StartIsMachine, UnitHoldsItsPage, ProjectionCovers};
-ghost use Rattle.flat_machine.specs.Laws.{ProjectionExists, SharingIsOnePath, ReferenceTouches, ShownIsThere, ForcedIsSettled};
+ghost use Rattle.flat_machine.specs.Laws.{ProjectionExists, SharingIsOnePath, ReferenceTouches, ShownIsThere, ForcedIsSettled, StandingFilesAgree};
 
 use crate::Call;
 
@@ -85,9 +85,11 @@ pub fn shown_is_there()
     ensures { ShownIsThere }
 {}
 
-/// After forcing everything, the settled files are the permanent ones.
-pub fn forced_is_settled()
-    ensures { ForcedIsSettled }
+/// After forcing everything, the settled files are the permanent ones; and files that stand for
+/// the machine's agree with the settled ones.
+pub fn settled_files()
+    ensures forced { ForcedIsSettled }
+    ensures standing { StandingFilesAgree }
 {}
 
 /// The numbers of every call fit their types.
