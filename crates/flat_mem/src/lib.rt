@@ -13,3 +13,5 @@ pub use memory::FlatMem;
 pub use part::Part;
 pub use vec_mem::{Never, NoPages, VecMem};
 
+#[cfg(test)]
+mod tests;
