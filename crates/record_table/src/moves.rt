@@ -95,3 +95,65 @@ fn pull_page<M: FlatMem, const E: usize>(
     pull(&mut page, (at % per_page) as usize, carried);
     write_page(mem, index, &page)
 }
+
+/// Puts an entry at the index `at` of a table, and moves those from there on one place up.
+pub fn put_at<M: FlatMem, const E: usize>(
+    mem: &mut M,
+    at: u32,
+    count: u32,
+    new: &[u8; E],
+) -> Result<(), M::Error>
+    requires some { 1 ≤ E }
+    requires most { E ≤ 64 }
+    requires small { M.size mem.old ≤ 2 ^ 31 }
+    requires order { at ≤ count }
+    requires inside { count < capacity_of E (M.size mem.old) }
+    ensures put {
+        (b : List ℕ) → M.tells mem.old b
+            → OnOk result (TellsEntries E (M.tells mem.new) (count + 1) (insert (entries E b count) at new.now))
+    }
+    ensures kept { M.beside mem.old mem.new }
+    ensures cause { IfErr result (λ e. M.accounted mem.old mem.new e) }
+    // one read and one write a page
+    ensures cost { M.spent mem.new ≤ M.spent mem.old + 2 * pages_of E (count + 1) * M.cost }
+{
+    let per_page = (512 / E) as u32;
+    let mut carried = *new;
+    let mut place = at;
+    'moving: while place <= count {
+        push_page(mem, place, &mut carried)?;
+        place = place - place % per_page + per_page;
+    }
+    Ok(())
+}
+
+/// Takes the entry at the index `at` out of a table, and moves those behind it one place down.
+pub fn take_out<M: FlatMem, const E: usize>(
+    mem: &mut M,
+    at: u32,
+    count: u32,
+) -> Result<(), M::Error>
+    requires some { 1 ≤ E }
+    requires most { E ≤ 64 }
+    requires order { at < count }
+    requires inside { count ≤ capacity_of E (M.size mem.old) }
+    ensures taken {
+        (b : List ℕ) → M.tells mem.old b
+            → OnOk result (TellsEntries E (M.tells mem.new) (count - 1) (remove (entries E b count) at))
+    }
+    ensures kept { M.beside mem.old mem.new }
+    ensures cause { IfErr result (λ e. M.accounted mem.old mem.new e) }
+    // one read and one write a page
+    ensures cost { M.spent mem.new ≤ M.spent mem.old + 2 * pages_of E count * M.cost }
+{
+    let per_page = (512 / E) as u32;
+    let mut carried = [0; E];
+    let mut end = count;
+    'moving: while end > at {
+        let last = end - 1;
+        let from = at.max(last - last % per_page);
+        pull_page(mem, from, &mut carried)?;
+        end = from;
+    }
+    Ok(())
+}
