@@ -58,7 +58,7 @@ module _ (e : ℕ) (some : 1 ≤ e) (most : e ≤ 64) where
     before = omega (arith, from_is, last_is, more);
     at_least = omega (arith, from_is);
     reaches = rw row (omega (arith, split, inside, last_is, more));
-    even = λ less. elim ends more [
+    even = λ less. elim (ends more) [
       | inl whole ↦ absurd (omega (arith, whole, less))
       | inr (s, is) ↦
           let above : last / p < s = below_from_product (last / p) s p (omega (arith, split, is, last_is, more)) in
@@ -145,3 +145,33 @@ module _ (e : ℕ) (b : List ℕ) (at n : ℕ) (within : at < n) where
           | inr past ↦ sym (was.done k (omega (arith, past, is)) (omega (arith, less)))
         ]));
   }
+
+-- ---- what is left to pay for
+
+module _ (e : ℕ) (some : 1 ≤ e) (most : e ≤ 64) where
+  pages_even : (q : ℕ) → pages_of e (q * per_page e) ≡ q
+  pages_even q =
+      let times = div_ceil_times (q * per_page e) (per_page e) (per_page_some e some most) in
+      let above : q < pages_of e (q * per_page e) + 1 = below_from_product q (pages_of e (q * per_page e) + 1) (per_page e) (omega (arith, times.0, per_page_some e some most)) in
+      let below : pages_of e (q * per_page e) < q + 1 = below_from_product (pages_of e (q * per_page e)) (q + 1) (per_page e) (omega (arith, times.1)) in
+      omega (arith, above, below)
+
+  -- behind the place of the one that is taken out, whole pages are left
+  pub even_end : (at n end from : ℕ) → IsRow e at n end from → IsEnd e at n from
+  even_end at n end from row more = elim row.row [
+    | inl is ↦ absurd (omega (arith, is, more))
+    | inr even ↦ inr (from / per_page e, even)
+  ]
+
+  pub left_after : (at n end from cost spent after start : ℕ) → IsRow e at n end from → after ≤ spent + 2 * cost → spent + 2 * pages_of e end * cost ≤ start + 2 * pages_of e n * cost
+      → at < from → after + 2 * pages_of e from * cost ≤ start + 2 * pages_of e n * cost
+  left_after at n end from cost spent after start row paid had more = elim row.row [
+    | inl is ↦ absurd (omega (arith, is, more))
+    | inr even ↦
+        let pages : pages_of e from ≡ from / per_page e = ap (pages_of e) even ∙ pages_even (from / per_page e) in
+        rw pages (one_less (from / per_page e) (pages_of e n) cost spent after start paid (rw row.pages at had))
+  ]
+
+-- what was paid for is within the bound
+pub within_left : (m r cost after start : ℕ) → after + m * cost ≤ start + r * cost → after ≤ start + r * cost
+within_left m r cost after start had = omega (arith, had)
