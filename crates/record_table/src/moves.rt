@@ -108,10 +108,8 @@ pub fn put_at<M: FlatMem, const E: usize>(
     requires small { M.size mem.old ≤ 2 ^ 31 }
     requires order { at ≤ count }
     requires inside { count < capacity_of E (M.size mem.old) }
-    ensures put {
-        (b : List ℕ) → M.tells mem.old b
-            → OnOk result (TellsEntries E (M.tells mem.new) (count + 1) (insert (entries E b count) at new.now))
-    }
+    ensures put { (b : List ℕ) → M.tells mem.old b
+        → OnOk result (TellsEntries E (M.tells mem.new) (count + 1) (insert (entries E b count) at new.now)) }
     ensures kept { M.beside mem.old mem.new }
     ensures cause { IfErr result (λ e. M.accounted mem.old mem.new e) }
     // one read and one write a page
@@ -137,10 +135,8 @@ pub fn take_out<M: FlatMem, const E: usize>(
     requires most { E ≤ 64 }
     requires order { at < count }
     requires inside { count ≤ capacity_of E (M.size mem.old) }
-    ensures taken {
-        (b : List ℕ) → M.tells mem.old b
-            → OnOk result (TellsEntries E (M.tells mem.new) (count - 1) (remove (entries E b count) at))
-    }
+    ensures taken { (b : List ℕ) → M.tells mem.old b
+        → OnOk result (TellsEntries E (M.tells mem.new) (count - 1) (remove (entries E b count) at)) }
     ensures kept { M.beside mem.old mem.new }
     ensures cause { IfErr result (λ e. M.accounted mem.old mem.new e) }
     // one read and one write a page
