@@ -1,0 +1,10 @@
+pub mod Memory
+pub mod Parts
+pub mod Part
+pub mod PartLaws
+pub mod Order
+pub mod OrderLaws
+pub mod Vec
+pub mod Rises
+pub mod Flaky
+pub mod FlakyLaws

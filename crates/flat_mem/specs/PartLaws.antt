@@ -1,0 +1,67 @@
+-- Laws of a part of a memory.
+use Rattle.std.specs.Prelude.{◌≡◌, ℕ, ◌*◌, ◌+◌, ◌<◌, ◌≤◌, Bool, List, length, if◌then◌else◌}
+use Rattle.std.proofs.Common.{inl, inr, refl, sym, ◌∙◌, ap, arith}
+use Rattle.std.proofs.lemmas.Bool.{le-leb}
+use Rattle.std.proofs.lemmas.Bool.Decides.{leb_tells}
+use Rattle.flat_mem.specs.Memory.{part, overwritten}
+use Rattle.flat_mem.specs.Parts.{length-part, take-overwritten, drop-overwritten}
+use Rattle.flat_mem.specs.Part.{IsSameBeside, part_size, TellsPart, IsKept}
+use Rattle.flat_mem.specs.declared.part.Part.{Part}
+
+pub same_beside_through : (f m g n : ℕ) (w v u : List ℕ) → f ≡ g → m ≡ n → IsSameBeside f m w v → IsSameBeside g n v u → IsSameBeside f m w u
+same_beside_through f m g n w v u e d h k = record {
+  front = rw e (k.front ∙ (rw e at h.front));
+  back = rw (e, d) (k.back ∙ (rw (e, d) at h.back));
+}
+
+-- a piece that lies within the pages
+pub same_beside_written : (first pages at : ℕ) (w piece : List ℕ) → at + length piece ≤ 512 * pages → 512 * first + 512 * pages ≤ length w → IsSameBeside first pages w (overwritten w (512 * first + at) piece)
+same_beside_written first pages at w piece inside fits = record {
+  front = take-overwritten w piece (512 * first + at) (512 * first) (omega arith) (omega (arith, inside));
+  back = drop-overwritten w piece (512 * first + at) (512 * first + 512 * pages) (omega (arith, inside)) (omega (arith, inside));
+}
+
+pub part_size_is : (whole first pages : ℕ) → 512 * first + 512 * pages ≤ whole → part_size whole first pages ≡ 512 * pages
+part_size_is whole first pages fits = ap (λ (t : Bool). if t then 512 * pages else 0) (le-leb (512 * first + 512 * pages) whole fits)
+
+-- where some byte lies within the pages, they lie within the whole
+pub part_inside : (whole first pages n : ℕ) → 0 < n → n ≤ part_size whole first pages → (512 * first + 512 * pages ≤ whole) × (n ≤ 512 * pages)
+part_inside whole first pages n some below = elim (leb_tells (512 * first + 512 * pages) whole) [
+  | inl (test, fits) ↦ (fits, rw (part_size_is whole first pages fits) at below)
+  | inr (test, _) ↦
+      let none : part_size whole first pages ≡ 0 = ap (λ (t : Bool). if t then 512 * pages else 0) test in
+      absurd (omega (arith, some, below, none))
+]
+
+module _ {M X : Type 0} (tells : M → List ℕ → Type 0) where
+  pub told_part_once : ((m : M) (w v : List ℕ) → tells m w → tells m v → w ≡ v) → (p : Part M X) (b c : List ℕ) → TellsPart tells p b → TellsPart tells p c → b ≡ c
+  told_part_once once p b c h k = h.is ∙ ap (λ (x : List ℕ). part x (512 * p.first) (512 * p.pages)) (once p.mem h.whole k.whole h.told k.told) ∙ sym k.is
+
+  pub part_length : (size : M → ℕ) → ((m : M) (w : List ℕ) → tells m w → length w ≡ size m) → (p : Part M X) (b : List ℕ) → TellsPart tells p b → length b ≡ part_size (size p.mem) p.first p.pages
+  part_length size long p b h =
+      let fits : 512 * p.first + 512 * p.pages ≤ size p.mem = omega (arith, long p.mem h.whole h.told, h.inside) in
+      ap length h.is ∙ length-part h.whole (512 * p.first) (512 * p.pages) h.inside ∙ sym (part_size_is (size p.mem) p.first p.pages fits)
+
+  module _ (beside : M → M → Type 0) where
+    pub same_part_size : (size : M → ℕ) (a b : Part M X) → size a.mem ≡ size b.mem → IsKept tells beside a b → part_size (size a.mem) a.first a.pages ≡ part_size (size b.mem) b.first b.pages
+    same_part_size size a b same h = rw (same, h.first, h.pages) refl
+
+    pub kept_itself : (p : Part M X) → beside p.mem p.mem → IsKept tells beside p p
+    kept_itself p same = record { mem = same; first = refl; pages = refl; others = λ w told. (w, told, record { front = refl; back = refl }) }
+
+    pub kept_through : (a b c : Part M X) → beside a.mem c.mem → IsKept tells beside a b → IsKept tells beside b c → IsKept tells beside a c
+    kept_through a b c through h k = record {
+      mem = through;
+      first = h.first ∙ k.first;
+      pages = h.pages ∙ k.pages;
+      others = λ w told.
+          let mid = h.others w told in
+          let end = k.others mid.0 mid.1 in
+          (end.0, end.1, same_beside_through a.first a.pages b.first b.pages w mid.0 end.0 h.first h.pages mid.2 end.2);
+    }
+
+    -- what the memory tells afterwards has the other pages of what it told before
+    pub others_kept : ((m : M) (w v : List ℕ) → tells m w → tells m v → w ≡ v) → (a b : Part M X) (w v : List ℕ) → IsKept tells beside a b → tells a.mem w → tells b.mem v → IsSameBeside a.first a.pages w v
+    others_kept once a b w v kept before after =
+        let told = kept.others w before in
+        rw (once b.mem v told.0 after told.1) told.2

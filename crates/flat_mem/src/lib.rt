@@ -1,0 +1,17 @@
+//! A flat list of bytes that is read and written a piece at a time, each piece within one page.
+#![tactic(auto)]
+
+mod error;
+mod flaky;
+mod memory;
+mod part;
+mod vec_mem;
+
+pub use error::TableError;
+pub use flaky::{Failed, FlakyMem};
+pub use memory::FlatMem;
+pub use part::Part;
+pub use vec_mem::{Never, NoPages, VecMem};
+
+#[cfg(test)]
+mod tests;

@@ -1,0 +1,111 @@
+//! The trait, and the memory that a `&mut` lends.
+ghost use Rattle.std.specs.Prelude.{◌≡◌, ℕ, ◌+◌, ◌≤◌, List, length, IfErr, OnOk, OnErr};
+ghost use Rattle.flat_mem.specs.Memory.{InOnePage, overwritten, part};
+
+/// A flat list of bytes. Each access lies within one page of 512 bytes and spends at most `COST` transfers.
+///
+/// Other things may stand beside the bytes, such as the rest of a disk. No access changes them.
+pub trait FlatMem {
+    /// What an access that failed answers.
+    type Error;
+
+    /// The most transfers that one access spends.
+    const COST: u64;
+
+    /// The same number, for clauses.
+    ghost cost: { ℕ };
+
+    /// How many bytes it has.
+    ghost size: { Self → ℕ };
+
+    /// It tells that its bytes are these.
+    ghost tells: { Self → List ℕ → Type 0 };
+
+    /// The transfers that were spent so far.
+    ghost spent: { Self → ℕ };
+
+    /// What stands beside the bytes was kept from the first state to the second.
+    ghost beside: { Self → Self → Type 0 };
+
+    /// The error is accounted for by what happened between the two states.
+    ghost accounted: { Self → Self → Self.Error → Type 0 };
+
+    /// How many bytes it has.
+    fn len(&self) -> u64
+        ensures { result ≡ size self.now };
+
+    /// Reads the bytes from `at` on into `into`. Where it fails, what `into` holds is open.
+    fn read(&mut self, at: u64, into: &mut [u8]) -> Result<(), Self::Error>
+        requires inside { at + length into.old ≤ size self.old }
+        requires in_one_page { InOnePage at (length into.old) }
+        ensures read { (b : List ℕ) → tells self.old b → OnOk result (into.new ≡ part b at (length into.old)) }
+        ensures unchanged { (b : List ℕ) → tells self.old b → tells self.new b }
+        ensures kept { beside self.old self.new }
+        ensures cause { IfErr result (λ e. accounted self.old self.new e) }
+        ensures cost { spent self.new ≤ spent self.old + cost };
+
+    /// Writes the bytes from `at` on, and no others. Where it fails, none of them is written.
+    fn write(&mut self, at: u64, bytes: &[u8]) -> Result<(), Self::Error>
+        requires inside { at + length bytes.now ≤ size self.old }
+        requires in_one_page { InOnePage at (length bytes.now) }
+        ensures written { (b : List ℕ) → tells self.old b → OnOk result (tells self.new (overwritten b at bytes.now)) }
+        ensures unchanged { (b : List ℕ) → tells self.old b → OnErr result (tells self.new b) }
+        ensures kept { beside self.old self.new }
+        ensures cause { IfErr result (λ e. accounted self.old self.new e) }
+        ensures cost { spent self.new ≤ spent self.old + cost };
+
+    /// It tells one list at most.
+    ghost told_once: { (m : Self) (b c : List ℕ) → tells m b → tells m c → b ≡ c };
+
+    ghost told_length: { (m : Self) (b : List ℕ) → tells m b → length b ≡ size m };
+
+    ghost same_size: { (a b : Self) → beside a b → size a ≡ size b };
+
+    ghost beside_itself: { (m : Self) → beside m m };
+
+    ghost beside_through: { (a b c : Self) → beside a b → beside b c → beside a c };
+
+    ghost accounted_wider: { (a b c d : Self) (e : Self.Error) → beside a b → beside b c → beside c d → accounted b c e → accounted a d e };
+}
+
+impl<'m, M: FlatMem> FlatMem for &'m mut M {
+    type Error = M::Error;
+
+    const COST: u64 = M::COST;
+
+    ghost cost = { M.cost };
+
+    ghost size = { λ m. M.size m.now };
+
+    ghost tells = { λ m b. M.tells m.now b };
+
+    ghost spent = { λ m. M.spent m.now };
+
+    ghost beside = { λ a b. (a.ghost_name ≡ b.ghost_name) × M.beside a.now b.now };
+
+    ghost accounted = { λ a b e. M.accounted a.now b.now e };
+
+    ghost told_once = { λ m b c h k. M.told_once m.now b c h k };
+
+    ghost told_length = { λ m b h. M.told_length m.now b h };
+
+    ghost same_size = { λ a b h. M.same_size a.now b.now h.1 };
+
+    ghost beside_itself = { λ m. (Prim.cc, M.beside_itself m.now) };
+
+    ghost beside_through = { λ a b c h k. (Prim.cc, M.beside_through a.now b.now c.now h.1 k.1) };
+
+    ghost accounted_wider = { λ a b c d e h k l x. M.accounted_wider a.now b.now c.now d.now e h.1 k.1 l.1 x };
+
+    fn len(&self) -> u64 {
+        (**self).len()
+    }
+
+    fn read(&mut self, at: u64, into: &mut [u8]) -> Result<(), M::Error> {
+        (**self).read(at, into)
+    }
+
+    fn write(&mut self, at: u64, bytes: &[u8]) -> Result<(), M::Error> {
+        (**self).write(at, bytes)
+    }
+}

@@ -1,0 +1,82 @@
+//! A run of pages of a memory.
+ghost use Rattle.std.specs.Prelude.{◌≡◌, ℕ, ◌*◌, ◌+◌, ◌≤◌, List, length};
+
+use crate::FlatMem;
+
+/// Some pages of a memory, as a memory. The other pages stand beside it and stay.
+///
+/// It keeps no fact about the memory that it holds, so that a memory that is lent to it is known again afterwards.
+#[derive(Drop)]
+pub struct Part<M: FlatMem> {
+    mem: M,
+    first: u32,
+    pages: u32,
+}
+
+impl<M: FlatMem> Part<M> {
+    ghost use Rattle.flat_mem.specs.Part.{IsPart};
+
+    /// The `pages` pages from page `first` on.
+    pub fn of(mem: M, first: u32, pages: u32) -> Part<M>
+        requires { 512 * first + 512 * pages ≤ M.size mem }
+        ensures { IsPart mem first pages result }
+    {
+        Part { mem, first, pages }
+    }
+}
+
+impl<M: FlatMem> FlatMem for Part<M> {
+    ghost use Rattle.flat_mem.specs.Part.{part_size, IsKept, TellsPart};
+    ghost use Rattle.flat_mem.specs.PartLaws.{told_part_once, part_length, same_part_size, kept_itself, kept_through};
+
+    type Error = M::Error;
+
+    const COST: u64 = M::COST;
+
+    ghost cost = { M.cost };
+
+    ghost size = { λ p. part_size (M.size p.mem) p.first p.pages };
+
+    ghost tells = { λ p b. TellsPart M.tells p b };
+
+    ghost spent = { λ p. M.spent p.mem };
+
+    ghost beside = { λ a b. IsKept M.tells M.beside a b };
+
+    ghost accounted = { λ a b e. M.accounted a.mem b.mem e };
+
+    ghost told_once = { λ p b c h k. told_part_once M.tells M.told_once p b c h k };
+
+    ghost told_length = { λ p b h. part_length M.tells M.size M.told_length p b h };
+
+    ghost same_size = { λ a b h. same_part_size M.tells M.beside M.size a b (M.same_size a.mem b.mem h.mem) h };
+
+    ghost beside_itself = { λ p. kept_itself M.tells M.beside p (M.beside_itself p.mem) };
+
+    ghost beside_through = { λ a b c h k. kept_through M.tells M.beside a b c (M.beside_through a.mem b.mem c.mem h.mem k.mem) h k };
+
+    ghost accounted_wider = { λ a b c d e h k l x. M.accounted_wider a.mem b.mem c.mem d.mem e h.mem k.mem l.mem x };
+
+    fn len(&self) -> u64 {
+        let bytes = 512 * self.pages as u64;
+        if 512 * self.first as u64 + bytes <= self.mem.len() {
+            bytes
+        } else {
+            0
+        }
+    }
+
+    fn read(&mut self, at: u64, into: &mut [u8]) -> Result<(), M::Error> {
+        if into.is_empty() {
+            return Ok(());
+        }
+        self.mem.read(512 * self.first as u64 + at, into)
+    }
+
+    fn write(&mut self, at: u64, bytes: &[u8]) -> Result<(), M::Error> {
+        if bytes.is_empty() {
+            return Ok(());
+        }
+        self.mem.write(512 * self.first as u64 + at, bytes)
+    }
+}
