@@ -1,7 +1,7 @@
 ghost use Rattle.std.specs.Prelude.{◌≡◌, IfOk};
 ghost use Rattle.labelled_disk.specs.Memory.{memory_state};
 
-use crate::copy_page;
+use crate::{copy_page, through_memory};
 use labelled_disk::{Disk, DiskError, Label, MemoryDisk, Wanted};
 use std::alloc::Global;
 use std::test::Fail;
@@ -78,4 +78,10 @@ fn another_label_is_not_written_over(rt: HostRuntime) -> Result<(), Fail> {
     assert_eq!(rt; page, [7; 512]);
     assert_eq!(rt; disk.faults(), 0);
     Ok(())
+}
+
+#[test]
+fn a_sector_comes_back_from_a_disk_in_memory(rt: HostRuntime) {
+    let back = through_memory(rt.alloc(), TARGET, &[7; 512]);
+    assert_eq!(rt; back, Ok((TARGET, [7; 512])));
 }

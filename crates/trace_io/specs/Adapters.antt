@@ -12,3 +12,11 @@ reader_bytes remaining s = prepend_known (drop s.at (take s.end s.buffer)) (rema
 -- what the writer has taken
 abbrev pub writer_bytes : {W : Type 0} → (W → Option (List ℕ)) → WriterSink W → Option (List ℕ)
 writer_bytes contents s = contents s.writer
+
+-- how often the reader failed
+abbrev pub reader_faults : {R : Type 0} {ghosts : Ghosts R} → ReaderSource R ghosts → ℕ
+reader_faults s = s.faults
+
+-- how often the writer failed
+abbrev pub writer_faults : {W : Type 0} → WriterSink W → ℕ
+writer_faults s = s.faults

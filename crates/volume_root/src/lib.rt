@@ -5,6 +5,8 @@ mod laws;
 mod page;
 mod read;
 mod root;
+#[cfg(test)]
+mod tests;
 
 pub use labelled_disk::{Difference, Layout, RootFault};
 pub use laws::valid_roots_pass;
