@@ -33,6 +33,7 @@ pub(crate) fn find<A: Allocator>(table: &Table<A>, id: FileId, page: u32) -> Opt
     let mut cursor = table.head(bucket_of(id, page, table.len() as u16));
     while let Some(slot) = cursor {
         if table.has(slot, id, page) {
+            table.mark(slot);
             return Some(slot);
         }
         cursor = table.next(slot);

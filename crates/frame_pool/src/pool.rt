@@ -95,7 +95,7 @@ impl<A: Allocator> FramePool<A> {
             return u32::from(self.table.order(self.empties - 1));
         }
         let run = Run { id: keep_id, first: keep_first, pages: keep_pages };
-        let slot = sweep(&mut self.table, &run, self.hand);
+        let slot = sweep(&self.table, &run, self.hand);
         self.hand = slot + 1;
         u32::from(slot)
     }
