@@ -1,10 +1,9 @@
 -- One more empty slot.
-use Rattle.std.proofs.Common.{◌≡◌, ◌+◌, ◌∙◌, ◌++◌, ◌∷◌, [], ℕ, List, Option, None, refl, ap, zero, suc, map, arith}
+use Rattle.std.proofs.Common.{◌≡◌, ◌+◌, ◌∙◌, ◌++◌, ◌∷◌, [], ℕ, List, None, ap, zero, suc, map, arith}
 use Rattle.std.specs.Prelude.{option_map}
 use Rattle.std.specs.List.{range_with_len}
 use Rattle.std.proofs.lemmas.List.{map-append, replicate_more}
 use Rattle.frame_pool.specs.declared.table.Slot.{Slot}
-use Rattle.frame_pool.specs.Frames.{Frame}
 use Rattle.frame_pool.specs.Lists.{Lists, fresh_lists}
 use Rattle.frame_pool.specs.Table.{frame_of, lists_of}
 use Rattle.frame_pool.proofs.TableLemmas.{same_lists}

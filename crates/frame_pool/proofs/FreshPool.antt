@@ -5,11 +5,10 @@ use Rattle.std.specs.List.{range_with_len}
 use Rattle.std.proofs.lemmas.List.{length-replicate, get_or-replicate}
 use Rattle.std.proofs.lemmas.List.FromFn.{get_or-range_with_len, length-range_with_len}
 use Rattle.std.proofs.lemmas.Option.{none-some}
-use Rattle.frame_pool.specs.Frames.{Frame, Slots, Has, frame_at, HasDistinct}
+use Rattle.frame_pool.specs.Frames.{Slots, frame_at}
 use Rattle.frame_pool.specs.FrameLaws.{frame_of_has}
-use Rattle.frame_pool.specs.Lists.{Lists, fresh_lists}
-use Rattle.frame_pool.specs.Index.{bucket_in, bucket_at, IsLast, IsIndex}
-use Rattle.frame_pool.specs.Order.{slot_at, place_of, IsOrder, HasEmpties}
+use Rattle.frame_pool.specs.Lists.{fresh_lists}
+use Rattle.frame_pool.specs.Index.{bucket_in, bucket_at, IsLast}
 use Rattle.frame_pool.specs.Pool.{IsPool}
 
 abbrev empty_slots : ℕ → Slots
@@ -47,18 +46,18 @@ fresh_pool n least most =
       };
       order = record {
         slots = λ place below.
-          let low : place < n = rw (sym size) below in
-          rw (in_order n place low) (below, in_order n place low);
+            let low : place < n = rw (sym size) below in
+            rw (in_order n place low) (below, in_order n place low);
         places = λ slot below.
-          let low : slot < n = rw (sym size) below in
-          rw (in_order n slot low) (below, in_order n slot low);
+            let low : slot < n = rw (sym size) below in
+            rw (in_order n slot low) (below, in_order n slot low);
       };
       first_empties = record {
         few = rw size (omega arith);
         empty = λ slot below low. none_there n slot;
         placed = λ slot below is.
-          let low : slot < n = rw (sym size) below in
-          rw (in_order n slot low) low;
+            let low : slot < n = rw (sym size) below in
+            rw (in_order n slot low) low;
       };
       distinct = λ i j f g has has2 ids pages. absurd (none-some f (sym (none_there n i) ∙ frame_of_has (empty_slots n) i f has));
     }

@@ -173,7 +173,9 @@ impl<A: Allocator> Table<A> {
         ensures { result ≡ is_kept run.now.id run.now.first run.now.pages (frame_at self.now.frames slot) }
     {
         match &self.slots[slot as usize].kept {
-            Some(kept) => kept.id == run.id && kept.page >= run.first && kept.page - run.first < run.pages,
+            Some(kept) => kept.id == run.id
+                && kept.page >= run.first
+                && kept.page - run.first < run.pages,
             None => false,
         }
     }
@@ -199,7 +201,13 @@ impl<A: Allocator> Table<A> {
     {
         match &self.slots[slot as usize].kept {
             Some(kept) => {
-                let Kept { id, sector, page, dirty, .. } = *kept;
+                let Kept {
+                    id,
+                    sector,
+                    page,
+                    dirty,
+                    ..
+                } = *kept;
                 Some((Home { sector, id, page }, dirty))
             }
             None => None,
@@ -222,7 +230,13 @@ impl<A: Allocator> Table<A> {
         ensures { self.new ≡ record self.old { frames = slice_set self.old.frames slot (Some (new_frame home bytes.now)) } }
     {
         let Home { sector, id, page } = home;
-        self.slots[slot as usize].kept = Some(Kept { id, sector, page, dirty: false, bytes: *bytes });
+        self.slots[slot as usize].kept = Some(Kept {
+            id,
+            sector,
+            page,
+            dirty: false,
+            bytes: *bytes,
+        });
     }
 
     pub(crate) fn empty(&mut self, slot: u16)

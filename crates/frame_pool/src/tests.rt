@@ -26,7 +26,11 @@ fn bring<A: Allocator>(pool: &mut FramePool<A>, home: Home, bytes: &Page) -> Opt
 fn home(number: u32) -> Home
     requires { number < 4096 }
 {
-    Home { sector: 300 + number, id: 0x7_0000_0001 + u64::from(number / 64), page: number % 64 }
+    Home {
+        sector: 300 + number,
+        id: 0x7_0000_0001 + u64::from(number / 64),
+        page: number % 64,
+    }
 }
 
 /// The sector of the page that the pool has at the number's home.
@@ -40,7 +44,9 @@ fn sector_of<A: Allocator>(pool: &FramePool<A>, number: u32) -> Option<u32>
 }
 
 #[test]
-fn four_thousand_pages_are_found_and_given_up_and_brought_in_another_order(rt: HostRuntime) -> Result<(), Fail> {
+fn four_thousand_pages_are_found_and_given_up_and_brought_in_another_order(
+    rt: HostRuntime,
+) -> Result<(), Fail> {
     let mut pool = FramePool::with_frames(rt.alloc(), FRAMES)?;
     for number in 0..FRAMES {
         assert!(rt; bring(&mut pool, home(number), &[0; 512]).is_some());

@@ -1,4 +1,4 @@
-use Rattle.std.proofs.Common.{refl, ◌∙◌}
+use Rattle.std.proofs.Common.{refl}
 use Rattle.frame_pool.specs.Frames.{changed}
 use Rattle.frame_pool.proofs.KeptLemmas.{kept_pool}
 use Rattle.frame_pool.proofs.pool.FramePool.change.Goals as goal
