@@ -1,50 +1,29 @@
--- The lists of a new table.
-use Rattle.std.proofs.Common.{◌≡◌, ◌<◌, ◌+◌, ◌∙◌, ℕ, List, Option, Some, None, refl, ap, sym, zero, suc, map, get_or, length, arith, ◌∷◌}
-use Rattle.std.specs.Prelude.{replicate, option_map}
+-- One more empty slot.
+use Rattle.std.proofs.Common.{◌≡◌, ◌+◌, ◌∙◌, ◌++◌, ◌∷◌, [], ℕ, List, None, ap, zero, suc, map, arith}
+use Rattle.std.specs.Prelude.{option_map}
 use Rattle.std.specs.List.{range_with_len}
-use Rattle.std.proofs.lemmas.List.{length-map, get_or-map, length-replicate}
-use Rattle.std.proofs.lemmas.List.FromFn.{get_or-range_with_len, length-range_with_len}
+use Rattle.std.proofs.lemmas.List.{map-append, replicate_more}
 use Rattle.frame_pool.specs.declared.table.Slot.{Slot}
-use Rattle.frame_pool.specs.Frames.{Frame}
-use Rattle.frame_pool.specs.Lists.{Lists, IsSized, IsFresh}
-use Rattle.frame_pool.specs.Slot.{empty_slot}
+use Rattle.frame_pool.specs.Lists.{Lists, fresh_lists}
 use Rattle.frame_pool.specs.Table.{frame_of, lists_of}
+use Rattle.frame_pool.proofs.TableLemmas.{same_lists}
 
-no_frames : (a n : ℕ) → map (λ (s : Slot). option_map frame_of s.kept) (map empty_slot (range_with_len a n)) ≡ replicate n None
-no_frames a zero = refl
-no_frames a (suc n) = ap (λ l. None ∷ l) (no_frames (a + 1) n)
+range_more : (a n j : ℕ) → a + n ≡ j → range_with_len a n ++ j ∷ [] ≡ range_with_len a (suc n)
+range_more a zero j is = let e : j ≡ a = omega (arith, is) in ap (λ k. k ∷ []) e
+range_more a (suc n) j is = ap (λ l. a ∷ l) (range_more (a + 1) n j (omega (arith, is)))
 
-number_at : (n i : ℕ) (d : Slot) → i < n → get_or (map empty_slot (range_with_len 0 n)) i d ≡ empty_slot i
-number_at n i d below =
-    let own : 0 + i ≡ i = omega arith in
-    get_or-map empty_slot (range_with_len 0 n) i 0 d (rw (length-range_with_len 0 n) below)
-    ∙ ap empty_slot (get_or-range_with_len 0 n i 0 below ∙ own)
+-- a field that was told for each slot is told for one more
+field_more : {X : Type 0} (f : Slot → X) (slots : List Slot) (s : Slot) (xs ys : List X) → map f slots ≡ xs → xs ++ f s ∷ [] ≡ ys → map f (slots ++ s ∷ []) ≡ ys
+field_more f slots s xs ys is more = map-append f slots (s ∷ []) ∙ ap (λ l. l ++ f s ∷ []) is ∙ more
 
-size_of : (n : ℕ) → length (map empty_slot (range_with_len 0 n)) ≡ n
-size_of n = length-map (range_with_len 0 n) empty_slot ∙ length-range_with_len 0 n
-
--- what a field of each slot is
-field_at : {X : Type 0} (f : Slot → X) (n i : ℕ) (x : X) → i < n → get_or (map f (map empty_slot (range_with_len 0 n))) i x ≡ f (empty_slot i)
-field_at f n i x below =
-    get_or-map f (map empty_slot (range_with_len 0 n)) i (empty_slot 0) x (rw (size_of n) below)
-    ∙ ap f (number_at n i (empty_slot 0) below)
-
-same_size : {X Y : Type 0} (f : Slot → X) (h : Slot → Y) (slots : List Slot) → length (map f slots) ≡ length (map h slots)
-same_size f h slots = length-map slots f ∙ sym (length-map slots h)
-
-pub sized : (slots : List Slot) → IsSized (lists_of slots)
-sized slots = record {
-  heads = same_size _ _ slots;
-  nexts = same_size _ _ slots;
-  orders = same_size _ _ slots;
-  positions = same_size _ _ slots;
-}
-
-pub fresh : (n : ℕ) → IsFresh (lists_of (map empty_slot (range_with_len 0 n))) n
-fresh n = record {
-  frames = no_frames 0 n;
-  sized = sized (map empty_slot (range_with_len 0 n));
-  heads = λ b below. field_at (λ (s : Slot). s.head) n b None below;
-  orders = λ k below. field_at (λ (s : Slot). s.order) n k 0 below;
-  positions = λ i below. field_at (λ (s : Slot). s.position) n i 0 below;
-}
+pub fresh_more : (slots : List Slot) (s : Slot) (n : ℕ) → lists_of slots ≡ fresh_lists n → s.kept ≡ None → s.head ≡ None → s.next ≡ None → s.order ≡ n → s.position ≡ n
+    → lists_of (slots ++ s ∷ []) ≡ fresh_lists (n + 1)
+fresh_more slots s n is kept head next order position =
+    let own : 0 + n ≡ n = omega arith in
+    let one_more : suc n ≡ n + 1 = omega arith in
+    same_lists _ _ _ _ _ _ _ _ _ _
+    (field_more (λ (t : Slot). option_map frame_of t.kept) slots s _ _ (ap (λ (l : Lists). l.frames) is) (rw kept (replicate_more n None)))
+    (field_more (λ (t : Slot). t.head) slots s _ _ (ap (λ (l : Lists). l.heads) is) (rw head (replicate_more n None)))
+    (field_more (λ (t : Slot). t.next) slots s _ _ (ap (λ (l : Lists). l.nexts) is) (rw next (replicate_more n None)))
+    (field_more (λ (t : Slot). t.order) slots s _ _ (ap (λ (l : Lists). l.orders) is) (rw order (range_more 0 n n own ∙ ap (range_with_len 0) one_more)))
+    (field_more (λ (t : Slot). t.position) slots s _ _ (ap (λ (l : Lists). l.positions) is) (rw position (range_more 0 n n own ∙ ap (range_with_len 0) one_more)))

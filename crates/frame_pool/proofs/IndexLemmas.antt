@@ -1,10 +1,10 @@
 -- Walking a chain.
-use Rattle.std.proofs.Common.{◌≡◌, ◌≢◌, ◌<◌, ◌≤◌, ◌+◌, ◌∙◌, ◌==◌, ◌&&◌, ℕ, List, Option, Some, None, [], ◌∷◌, true, false, refl, ap, sym, zero, suc, length, get_or, arith, rules, inl, inr, IfSome, ◌⊎◌}
-use Rattle.std.proofs.lemmas.Bool.{cases_eq, cases_lt}
-use Rattle.std.proofs.lemmas.Option.{same_Some, none-some}
+use Rattle.std.proofs.Common.{◌≡◌, ◌≢◌, ◌<◌, ◌≤◌, ◌+◌, ℕ, Option, Some, None, [], ◌∷◌, true, false, refl, zero, suc, length, get_or, arith, inl, inr, IfSome, ◌⊎◌}
+use Rattle.std.proofs.lemmas.Bool.{cases_lt}
+use Rattle.std.proofs.lemmas.Option.{none-some}
 use Rattle.frame_pool.specs.Frames.{Frame, Slots, frame_at, is_of}
-use Rattle.frame_pool.specs.Lists.{Lists, IsSized}
-use Rattle.frame_pool.specs.Index.{bucket_of, bucket_in, bucket_at, IsAtMost, IsAtLeast, IsLast, IsFirstAbove, IsIndex, Puts, KeepsButChains, steps_left}
+use Rattle.frame_pool.specs.Lists.{Lists}
+use Rattle.frame_pool.specs.Index.{bucket_of, bucket_in, bucket_at, IsAtMost, IsAtLeast, IsFirstAbove, IsIndex, steps_left}
 
 -- a slot with a page is one of the slots
 pub filled_below : (slots : Slots) (slot : ℕ) (f : Frame) → frame_at slots slot ≡ Some f → slot < length slots
@@ -69,4 +69,4 @@ pub above_or_below : (at : ℕ → Option ℕ) (lists : Lists) (bucket slot : �
 above_or_below at lists bucket slot index here other is = elim (cases_lt other slot) [
   | inl below ↦ inr ((index.links slot bucket here).covers other below is)
   | inr least ↦ inl least
-  ]
+]

@@ -1,15 +1,14 @@
 -- A frame changes, and its home stays.
-use Rattle.std.proofs.Common.{◌≡◌, ◌≢◌, ◌<◌, ◌∙◌, ℕ, List, Option, Some, None, IfSome, false, refl, ap, sym, length, get_or, set, arith, inl, inr, get_or-set_same, get_or-set_other, length-set}
+use Rattle.std.proofs.Common.{◌≡◌, ◌≢◌, ◌<◌, ◌∙◌, ℕ, Option, Some, None, IfSome, false, refl, ap, sym, length, set, arith, inl, inr, get_or-set_same, get_or-set_other, length-set}
 use Rattle.std.specs.Prelude.{option_map}
 use Rattle.std.proofs.lemmas.Bool.{cases_eq}
 use Rattle.std.proofs.lemmas.List.{set-get_or}
-use Rattle.std.proofs.lemmas.Option.{same_Some, none-some}
+use Rattle.std.proofs.lemmas.Option.{none-some}
 use Rattle.frame_pool.specs.declared.home.Home.{Home}
-use Rattle.frame_pool.specs.Frames.{Frame, Slots, Has, frame_at, is_of, IsNowhere, HasDistinct}
+use Rattle.frame_pool.specs.Frames.{Frame, Slots, frame_at, is_of, IsNowhere}
 use Rattle.frame_pool.specs.FrameLaws.{distinct_same, has_of_frame, frame_of_has}
-use Rattle.frame_pool.specs.Lists.{Lists, IsSized}
+use Rattle.frame_pool.specs.Lists.{Lists}
 use Rattle.frame_pool.specs.Index.{bucket_of, bucket_in, bucket_at, IsLast, IsIndex}
-use Rattle.frame_pool.specs.Order.{place_of, IsOrder, HasEmpties}
 use Rattle.frame_pool.specs.Pool.{IsPool}
 use Rattle.frame_pool.proofs.PoolLemmas.{order_kept}
 

@@ -1,10 +1,9 @@
 -- A slot that is put into a chain, or taken out of one.
-use Rattle.std.proofs.Common.{◌≡◌, ◌≢◌, ◌<◌, ◌≤◌, ◌∙◌, ℕ, List, Option, Some, None, refl, ap, sym, length, get_or, set, arith, inl, inr, IfSome, get_or-set_same, get_or-set_other, length-set}
+use Rattle.std.proofs.Common.{◌≡◌, ◌≢◌, ◌<◌, ◌≤◌, ◌∙◌, ℕ, List, Option, Some, None, ap, sym, length, get_or, set, arith, inl, inr, IfSome, get_or-set_same, get_or-set_other, length-set}
 use Rattle.std.proofs.lemmas.Bool.{cases_eq, cases_lt}
 use Rattle.std.proofs.lemmas.Option.{same_Some, none-some}
-use Rattle.frame_pool.specs.Frames.{Frame}
 use Rattle.frame_pool.specs.Lists.{Lists, IsSized}
-use Rattle.frame_pool.specs.Index.{IsAtMost, IsAtLeast, IsLast, IsFirstAbove, IsIndex, Puts}
+use Rattle.frame_pool.specs.Index.{IsAtMost, IsLast, IsFirstAbove, IsIndex, Puts}
 
 -- no slot of the bucket lies between the two
 abbrev Gap : (ℕ → Option ℕ) → ℕ → ℕ → ℕ → Type 0
@@ -71,9 +70,9 @@ last_below : (before at : ℕ → Option ℕ) (slot bucket limit : ℕ) (r : Opt
 last_below before at slot bucket limit r puts empty low gap last = record {
   within = within_below before at slot bucket limit r puts empty gap last.within;
   covers = λ other below is.
-    let apart : other ≢ slot = omega (arith, below) in
-    let inside : other < limit = omega (arith, below, low) in
-    last.covers other inside (sym (puts.others other apart) ∙ is);
+      let apart : other ≢ slot = omega (arith, below) in
+      let inside : other < limit = omega (arith, below, low) in
+      last.covers other inside (sym (puts.others other apart) ∙ is);
 }
 
 -- the lists of a table with these chains
@@ -97,8 +96,8 @@ linked_above lists before at slot bucket above sized ranges inside index empty f
     let above_fits : above < length first_set = rw (length-set lists.nexts slot (get_or lists.nexts above None)) (omega (arith, nexts_long, top)) in
     record {
       heads = λ c below.
-        let last = index.heads c below in
-        last_put before at slot bucket c n _ puts empty (λ own _.
+          let last = index.heads c below in
+          last_put before at slot bucket c n _ puts empty (λ own _.
           let low : slot ≤ above = omega (arith, up) in
           at_most_more slot above _ low (last.covers above top (rw own there))) last;
       links = λ i c is. elim (cases_eq i above) [
@@ -106,22 +105,22 @@ linked_above lists before at slot bucket above sized ranges inside index empty f
             let own : c ≡ bucket = same_Some c bucket (sym is ∙ ap at same ∙ puts.others above apart ∙ there) in
             rw (same, own, get_or-set_same first_set above (Some slot) None above_fits) (last_new before at slot bucket above puts up gap)
         | inr other ↦ elim (cases_eq i slot) [
-            | inl same ↦
-                let own : c ≡ bucket = same_Some c bucket (sym is ∙ ap at same ∙ puts.here) in
-                let back : slot ≢ above = omega (arith, up) in
-                rw (same, own, get_or-set_other first_set above slot (Some slot) None back, get_or-set_same lists.nexts slot (get_or lists.nexts above None) None slot_fits)
-                (last_below before at slot bucket above _ puts empty up gap (index.links above bucket there))
-            | inr neither ↦
-                let was : before i ≡ Some c = sym (puts.others i neither) ∙ is in
-                let last = index.links i c was in
-                rw (get_or-set_other first_set above i (Some slot) None other, get_or-set_other lists.nexts slot i (get_or lists.nexts above None) None neither)
-                (last_put before at slot bucket c i _ puts empty (λ own low.
-                  let below : i < n = ranges i c was in
-                  let least : above ≤ i = first.covers i low below (rw (sym own) was) in
-                  let upper : above < i = omega (arith, least, other) in
-                  let low : slot ≤ above = omega (arith, up) in
-                  at_most_more slot above _ low (last.covers above upper (rw own there))) last)
-          ]
+          | inl same ↦
+              let own : c ≡ bucket = same_Some c bucket (sym is ∙ ap at same ∙ puts.here) in
+              let back : slot ≢ above = omega (arith, up) in
+              rw (same, own, get_or-set_other first_set above slot (Some slot) None back, get_or-set_same lists.nexts slot (get_or lists.nexts above None) None slot_fits)
+              (last_below before at slot bucket above _ puts empty up gap (index.links above bucket there))
+          | inr neither ↦
+              let was : before i ≡ Some c = sym (puts.others i neither) ∙ is in
+              let last = index.links i c was in
+              rw (get_or-set_other first_set above i (Some slot) None other, get_or-set_other lists.nexts slot i (get_or lists.nexts above None) None neither)
+              (last_put before at slot bucket c i _ puts empty (λ own low.
+              let below : i < n = ranges i c was in
+              let least : above ≤ i = first.covers i low below (rw (sym own) was) in
+              let upper : above < i = omega (arith, least, other) in
+              let low : slot ≤ above = omega (arith, up) in
+              at_most_more slot above _ low (last.covers above upper (rw own there))) last)
+        ]
       ];
     }
 
@@ -185,12 +184,12 @@ last_next : (before at : ℕ → Option ℕ) (slot bucket limit : ℕ) (r : Opti
 last_next before at slot bucket limit r puts low gap last = record {
   within = within_next before at slot bucket limit r puts low last.within;
   covers = λ other below is.
-    let apart : other ≢ slot = left before at slot bucket other puts is in
-    let was : before other ≡ Some bucket = sym (puts.others other apart) ∙ is in
-    elim (cases_lt slot other) [
-      | inl more ↦ absurd (gap other more below was)
-      | inr most ↦ last.covers other (omega (arith, most, apart)) was
-    ];
+      let apart : other ≢ slot = left before at slot bucket other puts is in
+      let was : before other ≡ Some bucket = sym (puts.others other apart) ∙ is in
+      elim (cases_lt slot other) [
+        | inl more ↦ absurd (gap other more below was)
+        | inr most ↦ last.covers other (omega (arith, most, apart)) was
+      ];
 }
 
 -- the last slot of a bucket below a limit is not this one, where a higher one of the bucket is below the limit
@@ -223,29 +222,29 @@ unlinked_above lists before at slot bucket above sized ranges index here first p
     let above_fits : above < length lists.nexts = omega (arith, nexts_long, top) in
     record {
       heads = λ c below.
-        let last = index.heads c below in
-        last_left before at slot c n _ puts (λ is. elim (cases_eq c bucket) [
-          | inl own ↦ not_last before c slot above n _ last up top (rw own there) is
-          | inr other ↦ not_other before bucket c slot n _ last here other is
-        ]) last;
+          let last = index.heads c below in
+          last_left before at slot c n _ puts (λ is. elim (cases_eq c bucket) [
+            | inl own ↦ not_last before c slot above n _ last up top (rw own there) is
+            | inr other ↦ not_other before bucket c slot n _ last here other is
+          ]) last;
       links = λ i c is.
-        let apart : i ≢ slot = left before at slot c i puts is in
-        let was : before i ≡ Some c = sym (puts.others i apart) ∙ is in
-        elim (cases_eq i above) [
-          | inl same ↦
-              let own : c ≡ bucket = same_Some c bucket (sym was ∙ ap before same ∙ there) in
-              rw (same, own, get_or-set_same lists.nexts above (get_or lists.nexts slot None) None above_fits) (last_next before at slot bucket above _ puts up gap (index.links slot bucket here))
-          | inr other ↦
-              let last = index.links i c was in
-              rw (get_or-set_other lists.nexts above i (get_or lists.nexts slot None) None other)
-              (last_left before at slot c i _ puts (λ eq. elim (cases_eq c bucket) [
-                | inl own ↦
-                    let low : slot < i = is_below before c slot i _ last eq in
-                    let least : above ≤ i = first.covers i low (ranges i c was) (rw (sym own) was) in
-                    not_last before c slot above i _ last up (omega (arith, least, other)) (rw own there) eq
-                | inr differs ↦ not_other before bucket c slot i _ last here differs eq
-              ]) last)
-        ];
+          let apart : i ≢ slot = left before at slot c i puts is in
+          let was : before i ≡ Some c = sym (puts.others i apart) ∙ is in
+          elim (cases_eq i above) [
+            | inl same ↦
+                let own : c ≡ bucket = same_Some c bucket (sym was ∙ ap before same ∙ there) in
+                rw (same, own, get_or-set_same lists.nexts above (get_or lists.nexts slot None) None above_fits) (last_next before at slot bucket above _ puts up gap (index.links slot bucket here))
+            | inr other ↦
+                let last = index.links i c was in
+                rw (get_or-set_other lists.nexts above i (get_or lists.nexts slot None) None other)
+                (last_left before at slot c i _ puts (λ eq. elim (cases_eq c bucket) [
+                  | inl own ↦
+                      let low : slot < i = is_below before c slot i _ last eq in
+                      let least : above ≤ i = first.covers i low (ranges i c was) (rw (sym own) was) in
+                      not_last before c slot above i _ last up (omega (arith, least, other)) (rw own there) eq
+                  | inr differs ↦ not_other before bucket c slot i _ last here differs eq
+                ]) last)
+          ];
     }
 
 pub unlinked_first : (lists : Lists) (before at : ℕ → Option ℕ) (slot bucket : ℕ) → IsSized lists → ((i c : ℕ) → before i ≡ Some c → i < length lists.frames) → bucket < length lists.frames → slot < length lists.frames → IsIndex before lists
@@ -264,11 +263,11 @@ unlinked_first lists before at slot bucket sized ranges bucket_inside inside ind
             rw (get_or-set_other lists.heads bucket c (get_or lists.nexts slot None) None other) (last_left before at slot c n _ puts (not_other before bucket c slot n _ last here other) last)
       ];
       links = λ i c is.
-        let apart : i ≢ slot = left before at slot c i puts is in
-        let was : before i ≡ Some c = sym (puts.others i apart) ∙ is in
-        let last = index.links i c was in
-        last_left before at slot c i _ puts (λ eq. elim (cases_eq c bucket) [
-          | inl own ↦ gap i (is_below before c slot i _ last eq) (ranges i c was) (rw (sym own) was)
-          | inr differs ↦ not_other before bucket c slot i _ last here differs eq
-        ]) last;
+          let apart : i ≢ slot = left before at slot c i puts is in
+          let was : before i ≡ Some c = sym (puts.others i apart) ∙ is in
+          let last = index.links i c was in
+          last_left before at slot c i _ puts (λ eq. elim (cases_eq c bucket) [
+            | inl own ↦ gap i (is_below before c slot i _ last eq) (ranges i c was) (rw (sym own) was)
+            | inr differs ↦ not_other before bucket c slot i _ last here differs eq
+          ]) last;
     }

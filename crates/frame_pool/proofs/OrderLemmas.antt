@@ -1,8 +1,8 @@
 -- Two slots that change places in the order.
-use Rattle.std.proofs.Common.{◌≡◌, ◌≢◌, ◌<◌, ◌∙◌, ℕ, List, refl, ap, sym, length, get_or, set, arith, inl, inr, get_or-set_same, get_or-set_other, length-set}
+use Rattle.std.proofs.Common.{◌≡◌, ◌≢◌, ◌<◌, ◌∙◌, ℕ, ap, sym, length, set, inl, inr, get_or-set_same, get_or-set_other, length-set}
 use Rattle.std.proofs.lemmas.Bool.{cases_eq}
 use Rattle.frame_pool.specs.Lists.{Lists, IsSized}
-use Rattle.frame_pool.specs.Order.{slot_at, place_of, IsOrder, Exchanges, HasEmpties, KeepsButOrder}
+use Rattle.frame_pool.specs.Order.{slot_at, place_of, IsOrder, Exchanges}
 
 module _ (lists : Lists) (slot place : ℕ) (sized : IsSized lists) (order : IsOrder lists) (slot_in : slot < length lists.frames) (place_in : place < length lists.frames) where
   abbrev from : ℕ
@@ -56,28 +56,28 @@ module _ (lists : Lists) (slot place : ℕ) (sized : IsSized lists) (order : IsO
     slots = λ k below. elim (cases_eq k place) [
       | inl same ↦ rw (same, slot_here) (slot_in, place_here)
       | inr a ↦ elim (cases_eq k from) [
-          | inl same ↦
-              let moved : from ≢ place = λ e. a (same ∙ e) in
-              let apart : other ≢ slot = λ e. moved (ap (place_of lists) (sym e) ∙ other_place) in
-              rw (same, slot_there moved) (other_in, place_there apart)
-          | inr b ↦
-              let apart : slot_at lists k ≢ slot = λ e. b (sym (order.slots k below).1 ∙ ap (place_of lists) e) in
-              let apart2 : slot_at lists k ≢ other = λ e. a (sym (order.slots k below).1 ∙ ap (place_of lists) e ∙ other_place) in
-              rw (slot_elsewhere k a b) ((order.slots k below).0, place_elsewhere (slot_at lists k) apart apart2 ∙ (order.slots k below).1)
-        ]
+        | inl same ↦
+            let moved : from ≢ place = λ e. a (same ∙ e) in
+            let apart : other ≢ slot = λ e. moved (ap (place_of lists) (sym e) ∙ other_place) in
+            rw (same, slot_there moved) (other_in, place_there apart)
+        | inr b ↦
+            let apart : slot_at lists k ≢ slot = λ e. b (sym (order.slots k below).1 ∙ ap (place_of lists) e) in
+            let apart2 : slot_at lists k ≢ other = λ e. a (sym (order.slots k below).1 ∙ ap (place_of lists) e ∙ other_place) in
+            rw (slot_elsewhere k a b) ((order.slots k below).0, place_elsewhere (slot_at lists k) apart apart2 ∙ (order.slots k below).1)
+      ]
     ];
     places = λ i below. elim (cases_eq i slot) [
       | inl same ↦ rw (same, place_here) (place_in, slot_here)
       | inr a ↦ elim (cases_eq i other) [
-          | inl same ↦
-              let apart : other ≢ slot = λ e. a (same ∙ e) in
-              let moved : from ≢ place = λ e. apart (ap (slot_at lists) (sym e) ∙ from_slot) in
-              rw (same, place_there apart) (from_in, slot_there moved)
-          | inr b ↦
-              let apart : place_of lists i ≢ place = λ e. b (sym (order.places i below).1 ∙ ap (slot_at lists) e) in
-              let apart2 : place_of lists i ≢ from = λ e. a (sym (order.places i below).1 ∙ ap (slot_at lists) e ∙ from_slot) in
-              rw (place_elsewhere i a b) ((order.places i below).0, slot_elsewhere (place_of lists i) apart apart2 ∙ (order.places i below).1)
-        ]
+        | inl same ↦
+            let apart : other ≢ slot = λ e. a (same ∙ e) in
+            let moved : from ≢ place = λ e. apart (ap (slot_at lists) (sym e) ∙ from_slot) in
+            rw (same, place_there apart) (from_in, slot_there moved)
+        | inr b ↦
+            let apart : place_of lists i ≢ place = λ e. b (sym (order.places i below).1 ∙ ap (slot_at lists) e) in
+            let apart2 : place_of lists i ≢ from = λ e. a (sym (order.places i below).1 ∙ ap (slot_at lists) e ∙ from_slot) in
+            rw (place_elsewhere i a b) ((order.places i below).0, slot_elsewhere (place_of lists i) apart apart2 ∙ (order.places i below).1)
+      ]
     ];
   }
 
@@ -85,7 +85,7 @@ module _ (lists : Lists) (slot place : ℕ) (sized : IsSized lists) (order : IsO
   exchanged_places = record {
     here = place_here;
     displaced = λ i below a at.
-      let it : i ≡ other = sym (order.places i below).1 ∙ ap (slot_at lists) at in
-      rw it (place_there (λ e. a (it ∙ e)));
+        let it : i ≡ other = sym (order.places i below).1 ∙ ap (slot_at lists) at in
+        rw it (place_there (λ e. a (it ∙ e)));
     others = λ i below a apart. place_elsewhere i a (λ e. apart (ap (place_of lists) e ∙ other_place));
   }

@@ -1,10 +1,10 @@
 -- A slot of a pool is filled or emptied.
-use Rattle.std.proofs.Common.{◌≡◌, ◌≢◌, ◌<◌, ◌≤◌, ◌+◌, ◌-◌, ◌∙◌, ℕ, List, Option, Some, None, refl, ap, sym, length, get_or, set, arith, inl, inr, Bool, get_or-set_same, get_or-set_other, length-set}
+use Rattle.std.proofs.Common.{◌≡◌, ◌≢◌, ◌<◌, ◌≤◌, ◌+◌, ◌∙◌, ℕ, List, Option, Some, None, refl, ap, sym, length, get_or, set, arith, inl, inr, Bool, get_or-set_same, get_or-set_other, length-set}
 use Rattle.std.specs.Prelude.{option_map}
 use Rattle.frame_pool.specs.declared.home.Home.{Home}
 use Rattle.std.proofs.lemmas.Bool.{cases_eq, cases_lt}
 use Rattle.std.proofs.lemmas.Option.{same_Some, none-some}
-use Rattle.frame_pool.specs.Frames.{Frame, Slots, frame_at, shown, IsNowhere, HasDistinct}
+use Rattle.frame_pool.specs.Frames.{Frame, Slots, frame_at, shown, IsNowhere}
 use Rattle.frame_pool.specs.FrameLaws.{distinct_put, distinct_cleared}
 use Rattle.frame_pool.specs.Lists.{Lists, IsSized}
 use Rattle.frame_pool.specs.Index.{bucket_of, bucket_in, bucket_at, IsIndex, Puts, KeepsButChains}
@@ -103,35 +103,35 @@ filled_empties l0 l1 l2 slot place f below chains orders moved order empties non
     record {
       few = let few = empties.few in omega (arith, long, few);
       empty = λ i inside low.
-        let within : i < length l0.frames = omega (arith, long, inside) in
-        elim (cases_eq i slot) [
-          | inl same ↦
-              let at : place_of l2 i ≡ place = rw same (moved_here l0 l1 l2 slot place (Some f) below chains orders moved) in
-              absurd (omega (arith, at, low))
-          | inr apart ↦ frame_there l0 l1 l2 slot place (Some f) below chains orders i apart ∙ elim (cases_eq (place_of l0 i) place) [
+          let within : i < length l0.frames = omega (arith, long, inside) in
+          elim (cases_eq i slot) [
+            | inl same ↦
+                let at : place_of l2 i ≡ place = rw same (moved_here l0 l1 l2 slot place (Some f) below chains orders moved) in
+                absurd (omega (arith, at, low))
+            | inr apart ↦ frame_there l0 l1 l2 slot place (Some f) below chains orders i apart ∙ elim (cases_eq (place_of l0 i) place) [
               | inl at ↦ empties.empty i within (omega (arith, at))
               | inr off ↦
                   let stays = moved_others l0 l1 l2 slot place (Some f) below chains orders moved i within apart off in
                   empties.empty i within (omega (arith, stays, low))
             ]
-        ];
+          ];
       placed = λ i inside is.
-        let within : i < length l0.frames = omega (arith, long, inside) in
-        elim (cases_eq i slot) [
-          | inl same ↦ absurd (none-some f (sym is ∙ ap (frame_at (set l0.frames slot (Some f))) same ∙ frame_here l0 l1 l2 slot place (Some f) below chains orders))
-          | inr apart ↦
-              let old : place_of l0 i < place + 1 = empties.placed i within (sym (frame_there l0 l1 l2 slot place (Some f) below chains orders i apart) ∙ is) in
-              elim (cases_eq (place_of l0 i) place) [
-                | inl at ↦
-                    let goes = moved_displaced l0 l1 l2 slot place (Some f) below chains orders moved i within apart at in
-                    let own : place_of l0 slot < place + 1 = empties.placed slot below none in
-                    let differs : place_of l0 slot ≢ place = λ e. apart (one_place l0 l1 l2 slot place (Some f) below chains orders order i within (at ∙ sym e)) in
-                    omega (arith, goes, own, differs)
-                | inr off ↦
-                    let stays = moved_others l0 l1 l2 slot place (Some f) below chains orders moved i within apart off in
-                    omega (arith, stays, old, off)
-              ]
-        ];
+          let within : i < length l0.frames = omega (arith, long, inside) in
+          elim (cases_eq i slot) [
+            | inl same ↦ absurd (none-some f (sym is ∙ ap (frame_at (set l0.frames slot (Some f))) same ∙ frame_here l0 l1 l2 slot place (Some f) below chains orders))
+            | inr apart ↦
+                let old : place_of l0 i < place + 1 = empties.placed i within (sym (frame_there l0 l1 l2 slot place (Some f) below chains orders i apart) ∙ is) in
+                elim (cases_eq (place_of l0 i) place) [
+                  | inl at ↦
+                      let goes = moved_displaced l0 l1 l2 slot place (Some f) below chains orders moved i within apart at in
+                      let own : place_of l0 slot < place + 1 = empties.placed slot below none in
+                      let differs : place_of l0 slot ≢ place = λ e. apart (one_place l0 l1 l2 slot place (Some f) below chains orders order i within (at ∙ sym e)) in
+                      omega (arith, goes, own, differs)
+                  | inr off ↦
+                      let stays = moved_others l0 l1 l2 slot place (Some f) below chains orders moved i within apart off in
+                      omega (arith, stays, old, off)
+                ]
+          ];
     }
 
 cleared_empties : (l0 l1 l2 : Lists) (slot place : ℕ) (f : Frame) → slot < length l0.frames → KeepsButChains l0 l1 → KeepsButOrder l1 l2 → Exchanges l1 l2 slot place → IsOrder l0 → HasEmpties l0 place → frame_at l0.frames slot ≡ Some f
@@ -146,10 +146,10 @@ cleared_empties l0 l1 l2 slot place f below chains orders moved order empties so
     record {
       few = omega (arith, long, high, inside_place);
       empty = λ i inside low.
-        let within : i < length l0.frames = omega (arith, long, inside) in
-        elim (cases_eq i slot) [
-          | inl same ↦ ap (frame_at (set l0.frames slot None)) same ∙ frame_here l0 l1 l2 slot place None below chains orders
-          | inr apart ↦ frame_there l0 l1 l2 slot place None below chains orders i apart ∙ elim (cases_eq (place_of l0 i) place) [
+          let within : i < length l0.frames = omega (arith, long, inside) in
+          elim (cases_eq i slot) [
+            | inl same ↦ ap (frame_at (set l0.frames slot None)) same ∙ frame_here l0 l1 l2 slot place None below chains orders
+            | inr apart ↦ frame_there l0 l1 l2 slot place None below chains orders i apart ∙ elim (cases_eq (place_of l0 i) place) [
               | inl at ↦
                   let goes = moved_displaced l0 l1 l2 slot place None below chains orders moved i within apart at in
                   let same : place_of l0 slot ≡ place = omega (arith, goes, low, high) in
@@ -158,19 +158,19 @@ cleared_empties l0 l1 l2 slot place f below chains orders moved order empties so
                   let stays = moved_others l0 l1 l2 slot place None below chains orders moved i within apart off in
                   empties.empty i within (omega (arith, stays, low, off))
             ]
-        ];
+          ];
       placed = λ i inside is.
-        let within : i < length l0.frames = omega (arith, long, inside) in
-        elim (cases_eq i slot) [
-          | inl same ↦
-              let at : place_of l2 i ≡ place = rw same (moved_here l0 l1 l2 slot place None below chains orders moved) in
-              omega (arith, at)
-          | inr apart ↦
-              let old : place_of l0 i < place = empties.placed i within (sym (frame_there l0 l1 l2 slot place None below chains orders i apart) ∙ is) in
-              let off : place_of l0 i ≢ place = omega (arith, old) in
-              let stays = moved_others l0 l1 l2 slot place None below chains orders moved i within apart off in
-              omega (arith, stays, old)
-        ];
+          let within : i < length l0.frames = omega (arith, long, inside) in
+          elim (cases_eq i slot) [
+            | inl same ↦
+                let at : place_of l2 i ≡ place = rw same (moved_here l0 l1 l2 slot place None below chains orders moved) in
+                omega (arith, at)
+            | inr apart ↦
+                let old : place_of l0 i < place = empties.placed i within (sym (frame_there l0 l1 l2 slot place None below chains orders i apart) ∙ is) in
+                let off : place_of l0 i ≢ place = omega (arith, old) in
+                let stays = moved_others l0 l1 l2 slot place None below chains orders moved i within apart off in
+                omega (arith, stays, old)
+          ];
     }
 
 pub filled_pool : (l0 l1 l2 : Lists) (slot place : ℕ) (f : Frame) → IsPool l0 (place + 1) → slot < length l0.frames → frame_at l0.frames slot ≡ None → IsNowhere l0.frames f.home.id f.home.page

@@ -1,9 +1,7 @@
 -- A run of fewer pages than there are slots leaves a slot out.
-use Rattle.std.proofs.Common.{◌≡◌, ◌≢◌, ◌<◌, ◌≤◌, ◌+◌, ◌-◌, ◌∙◌, ℕ, Option, Some, None, true, false, refl, ap, sym, zero, suc, length, arith, inl, inr, ◌⊎◌, rules}
-use Rattle.std.proofs.lemmas.Bool.{cases_eq, cases_lt}
-use Rattle.std.proofs.lemmas.Option.{same_Some, none-some}
-use Rattle.frame_pool.specs.declared.home.Home.{Home}
-use Rattle.frame_pool.specs.Frames.{Frame, Slots, Has, frame_at, is_kept, IsWithin, IsOutside, HasDistinct}
+use Rattle.std.proofs.Common.{◌≡◌, ◌≢◌, ◌<◌, ◌≤◌, ◌+◌, ◌-◌, ◌∙◌, ℕ, Option, Some, None, true, false, refl, ap, sym, zero, suc, length, arith, inl, inr, ◌⊎◌}
+use Rattle.std.proofs.lemmas.Bool.{cases_eq}
+use Rattle.frame_pool.specs.Frames.{Frame, Slots, frame_at, is_kept, IsWithin, IsOutside, HasDistinct}
 use Rattle.frame_pool.specs.FrameLaws.{frame_of_has, has_of_frame}
 
 -- x, or y in its place where x is m
@@ -29,12 +27,12 @@ pigeonhole (suc n) (suc m) f below apart =
     let last : n < suc n = omega arith in
     let differs : (i : ℕ) → i < n → f i ≢ f n = λ i low same. let e = apart i n (omega (arith, low)) last same in omega (arith, e, low) in
     let less = pigeonhole n m (λ i. pick (f i) (f n) m (cases_eq (f i) m))
-      (λ i low.
-        let bound = below i (omega (arith, low)) in
-        let bound_last = below n last in
-        let other = differs i low in
-        pick_below (f i) (f n) m (cases_eq (f i) m) (omega (arith, bound)) (omega (arith, bound_last)) (λ e e2. other (e ∙ sym e2)))
-      (λ i j low low2 same. apart i j (omega (arith, low)) (omega (arith, low2)) (pick_same (f i) (f j) (f n) m (cases_eq (f i) m) (cases_eq (f j) m) (differs i low) (differs j low2) same)) in
+    (λ i low.
+    let bound = below i (omega (arith, low)) in
+    let bound_last = below n last in
+    let other = differs i low in
+    pick_below (f i) (f n) m (cases_eq (f i) m) (omega (arith, bound)) (omega (arith, bound_last)) (λ e e2. other (e ∙ sym e2)))
+    (λ i j low low2 same. apart i j (omega (arith, low)) (omega (arith, low2)) (pick_same (f i) (f j) (f n) m (cases_eq (f i) m) (cases_eq (f j) m) (differs i low) (differs j low2) same)) in
     omega (arith, less)
 
 -- how far the page of a slot is from the first one
@@ -59,14 +57,14 @@ offset_below id first pages x kept = rw kept.is (let l = kept.least in let m = k
 pub all_kept : (slots : Slots) (id first pages : ℕ) → HasDistinct slots → ((i : ℕ) → i < length slots → is_kept id first pages (frame_at slots i) ≡ true) → length slots ≤ pages
 all_kept slots id first pages distinct all =
     pigeonhole (length slots) pages (λ i. offset_in first (frame_at slots i))
-      (λ i below. offset_below id first pages (frame_at slots i) (kept_frame id first pages (frame_at slots i) (all i below)))
-      (λ i j below below2 same.
-        let a : Kept id first pages (frame_at slots i) = kept_frame id first pages (frame_at slots i) (all i below) in
-        let b : Kept id first pages (frame_at slots j) = kept_frame id first pages (frame_at slots j) (all j below2) in
-        let offsets : a.frame.home.page - first ≡ b.frame.home.page - first = ap (offset_in first) (sym a.is) ∙ same ∙ ap (offset_in first) b.is in
-        let la = a.least in
-        let lb = b.least in
-        distinct i j a.frame b.frame (has_of_frame slots i a.frame below a.is) (has_of_frame slots j b.frame below2 b.is) (a.same_id ∙ sym b.same_id) (omega (arith, offsets, la, lb)))
+    (λ i below. offset_below id first pages (frame_at slots i) (kept_frame id first pages (frame_at slots i) (all i below)))
+    (λ i j below below2 same.
+    let a : Kept id first pages (frame_at slots i) = kept_frame id first pages (frame_at slots i) (all i below) in
+    let b : Kept id first pages (frame_at slots j) = kept_frame id first pages (frame_at slots j) (all j below2) in
+    let offsets : a.frame.home.page - first ≡ b.frame.home.page - first = ap (offset_in first) (sym a.is) ∙ same ∙ ap (offset_in first) b.is in
+    let la = a.least in
+    let lb = b.least in
+    distinct i j a.frame b.frame (has_of_frame slots i a.frame below a.is) (has_of_frame slots j b.frame below2 b.is) (a.same_id ∙ sym b.same_id) (omega (arith, offsets, la, lb)))
 
 kept_of_within : (id first pages : ℕ) (f : Frame) → IsWithin id first pages f.home → is_kept id first pages (Some f) ≡ true
 kept_of_within id first pages f within = grind (arith, within)

@@ -12,11 +12,11 @@ use Rattle.frame_pool.specs.Table.{frame_of, lists_of}
 abbrev frame_in : Slot → Option Frame
 frame_in s = option_map frame_of s.kept
 
-abbrev lists_with : List (Option Frame) → List (Option ℕ) → List (Option ℕ) → List ℕ → List ℕ → Lists
+abbrev pub lists_with : List (Option Frame) → List (Option ℕ) → List (Option ℕ) → List ℕ → List ℕ → Lists
 lists_with f h n o p = record { frames = f; heads = h; nexts = n; orders = o; positions = p }
 
 -- lists that are equal one by one are the same
-same_lists : (f f2 : List (Option Frame)) (h h2 n n2 : List (Option ℕ)) (o o2 p p2 : List ℕ) → f ≡ f2 → h ≡ h2 → n ≡ n2 → o ≡ o2 → p ≡ p2
+pub same_lists : (f f2 : List (Option Frame)) (h h2 n n2 : List (Option ℕ)) (o o2 p p2 : List ℕ) → f ≡ f2 → h ≡ h2 → n ≡ n2 → o ≡ o2 → p ≡ p2
     → lists_with f h n o p ≡ lists_with f2 h2 n2 o2 p2
 same_lists f f2 h h2 n n2 o o2 p p2 ef eh en eo ep = cc
 

@@ -1,5 +1,5 @@
 -- The index: for each bucket a chain of the slots whose pages are in it, by falling numbers.
-use Rattle.std.specs.Prelude.{◌≡◌, ◌≢◌, ◌<◌, ◌≤◌, ◌+◌, ◌*◌, ◌/◌, ◌%◌, ◌^◌, ℕ, List, length, Option, Some, None, IfSome, slice_index_or}
+use Rattle.std.specs.Prelude.{◌≡◌, ◌≢◌, ◌<◌, ◌≤◌, ◌+◌, ◌*◌, ◌/◌, ◌%◌, ◌^◌, ℕ, length, Option, Some, None, IfSome, slice_index_or}
 use Rattle.frame_pool.specs.Frames.{Frame, Slots, frame_at}
 use Rattle.frame_pool.specs.Lists.{Lists}
 

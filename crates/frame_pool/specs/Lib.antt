@@ -5,5 +5,4 @@ pub mod ListLaws
 pub mod Lists
 pub mod Order
 pub mod Pool
-pub mod Slot
 pub mod Table

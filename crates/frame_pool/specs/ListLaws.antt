@@ -1,5 +1,5 @@
 -- A list of which one place was replaced.
-use Rattle.std.specs.Prelude.{◌≡◌, ◌≢◌, ℕ, ◌<◌, List, [], ◌∷◌, length, Option, Some, slice_get, slice_set}
+use Rattle.std.specs.Prelude.{◌≡◌, ◌≢◌, ℕ, ◌<◌, List, [], ◌∷◌, length, Some, slice_get, slice_set}
 use Rattle.std.proofs.Common.{zero, suc, refl, sym, ap, arith}
 use Rattle.std.proofs.lemmas.Option.{same_Some}
 

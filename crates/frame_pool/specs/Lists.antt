@@ -1,5 +1,6 @@
 -- What the table of a pool has, as lists.
-use Rattle.std.specs.Prelude.{◌≡◌, ◌<◌, ℕ, List, length, Option, None, slice_index_or, replicate}
+use Rattle.std.specs.Prelude.{◌≡◌, ℕ, List, length, Option, None, replicate}
+use Rattle.std.specs.List.{range_with_len}
 use Rattle.frame_pool.specs.Frames.{Frame}
 
 -- the frame of each slot, the first slot of each bucket's chain, the slot after each slot on its chain, the slots in
@@ -19,9 +20,11 @@ pub record IsSized (lists : Lists) : Type 0 where
   pub positions : length lists.positions ≡ length lists.frames
 
 -- so many empty slots: no bucket has a chain, and the order is that of the numbers
-pub record IsFresh (lists : Lists) (slots : ℕ) : Type 0 where
-  pub frames : lists.frames ≡ replicate slots None
-  pub sized : IsSized lists
-  pub heads : (bucket : ℕ) → bucket < slots → slice_index_or lists.heads bucket None ≡ None
-  pub orders : (place : ℕ) → place < slots → slice_index_or lists.orders place 0 ≡ place
-  pub positions : (slot : ℕ) → slot < slots → slice_index_or lists.positions slot 0 ≡ slot
+abbrev pub fresh_lists : ℕ → Lists
+fresh_lists slots = record {
+  frames = replicate slots None;
+  heads = replicate slots None;
+  nexts = replicate slots None;
+  orders = range_with_len 0 slots;
+  positions = range_with_len 0 slots;
+}

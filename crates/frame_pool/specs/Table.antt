@@ -1,5 +1,5 @@
 -- The lists that the slots of a table are.
-use Rattle.std.specs.Prelude.{ℕ, List, Option, option_map, map}
+use Rattle.std.specs.Prelude.{List, option_map, map}
 use Rattle.frame_pool.specs.declared.table.Slot.{Slot}
 use Rattle.frame_pool.specs.declared.table.Kept.{Kept}
 use Rattle.frame_pool.specs.Frames.{Frame}

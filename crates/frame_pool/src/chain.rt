@@ -18,7 +18,10 @@ pub(crate) fn bucket_of(id: FileId, page: u32, buckets: u16) -> u16
     ensures value { result ≡ bucket_of buckets id page }
     ensures below { result < buckets }
 {
-    let mixed = id.wrapping_mul(SPREAD).wrapping_add(u64::from(page)).wrapping_mul(SPREAD);
+    let mixed = id
+        .wrapping_mul(SPREAD)
+        .wrapping_add(u64::from(page))
+        .wrapping_mul(SPREAD);
     (mixed / 0x1_0000_0000 % u64::from(buckets)) as u16
 }
 
@@ -33,6 +36,7 @@ pub(crate) fn find<A: Allocator>(table: &Table<A>, id: FileId, page: u32) -> Opt
     let mut cursor = table.head(bucket_of(id, page, table.len() as u16));
     while let Some(slot) = cursor {
         if table.has(slot, id, page) {
+            table.mark(slot);
             return Some(slot);
         }
         cursor = table.next(slot);

@@ -11,7 +11,13 @@ use labelled_disk::Page;
 use std::alloc::Allocator;
 
 /// Puts a clean frame into an empty slot, and gives the number of empty slots that are left.
-pub(crate) fn fill<A: Allocator>(table: &mut Table<A>, empties: u16, slot: u16, home: Home, bytes: &Page) -> u16
+pub(crate) fn fill<A: Allocator>(
+    table: &mut Table<A>,
+    empties: u16,
+    slot: u16,
+    home: Home,
+    bytes: &Page,
+) -> u16
     requires pool { IsPool table.old empties }
     requires slot { slot < length table.old.frames }
     requires empty { frame_at table.old.frames slot ≡ None }

@@ -2,11 +2,10 @@
 ghost use Rattle.std.specs.Prelude.{◌≡◌, ◌<◌, ◌≤◌, ◌+◌, ◌↔◌, ℕ, length, IfOk, IfSome, IsSome, Some, None, slice_set, option_map, replicate};
 ghost use Rattle.frame_pool.specs.Frames.{Frame, Has, HasDistinct, HasPage, IsEmpty, IsNowhere, IsOutside, changed_at, cleaned_at, frame_at, new_frame, shown};
 
-use crate::chain;
-use crate::fill;
 use crate::home::Home;
 use crate::sweep::sweep;
 use crate::table::{Run, Table};
+use crate::{chain, fill};
 use labelled_disk::{FileId, NoMemory, Page};
 use std::alloc::Allocator;
 use std::marker::Model;
@@ -40,7 +39,11 @@ impl<A: Allocator> FramePool<A> {
         ensures empty { IfOk result (λ pool. pool ≡ replicate frames None) }
     {
         let table = Table::with_slots(alloc, frames as u16)?;
-        Ok(FramePool { table, empties: frames as u16, hand: 0 })
+        Ok(FramePool {
+            table,
+            empties: frames as u16,
+            hand: 0,
+        })
     }
 
     /// How many slots there are.
@@ -94,8 +97,12 @@ impl<A: Allocator> FramePool<A> {
         if self.empties > 0 {
             return u32::from(self.table.order(self.empties - 1));
         }
-        let run = Run { id: keep_id, first: keep_first, pages: keep_pages };
-        let slot = sweep(&mut self.table, &run, self.hand);
+        let run = Run {
+            id: keep_id,
+            first: keep_first,
+            pages: keep_pages,
+        };
+        let slot = sweep(&self.table, &run, self.hand);
         self.hand = slot + 1;
         u32::from(slot)
     }

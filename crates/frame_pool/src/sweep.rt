@@ -6,10 +6,9 @@ use crate::table::{Run, Table};
 use std::alloc::Allocator;
 
 /// The first of these slots that has no page of the run and no second chance. Those before it lose theirs.
-fn first_unmarked<A: Allocator>(table: &mut Table<A>, run: &Run, from: u16, to: u16) -> Option<u16>
-    requires { to ≤ length table.old.frames }
-    ensures found { IfSome result (λ s. (s < to) × (is_kept run.now.id run.now.first run.now.pages (frame_at table.old.frames s) ≡ false)) }
-    ensures same { table.new ≡ table.old }
+fn first_unmarked<A: Allocator>(table: &Table<A>, run: &Run, from: u16, to: u16) -> Option<u16>
+    requires { to ≤ length table.now.frames }
+    ensures { IfSome result (λ s. (s < to) × (is_kept run.now.id run.now.first run.now.pages (frame_at table.now.frames s) ≡ false)) }
 {
     for slot in from..to {
         if !table.is_kept(slot, run) && !table.take_mark(slot) {
@@ -34,13 +33,12 @@ fn first_outside<A: Allocator>(table: &Table<A>, run: &Run, from: u16, to: u16) 
 }
 
 /// A slot that has no page of the run: the next one from the hand on, round and round, that has no second chance.
-pub(crate) fn sweep<A: Allocator>(table: &mut Table<A>, run: &Run, hand: u16) -> u16
-    requires few { length table.old.frames < 2 ^ 16 }
-    requires distinct { HasDistinct table.old.frames }
-    requires room { run.now.pages < length table.old.frames }
-    ensures below { result < length table.old.frames }
-    ensures outside { is_kept run.now.id run.now.first run.now.pages (frame_at table.old.frames result) ≡ false }
-    ensures same { table.new ≡ table.old }
+pub(crate) fn sweep<A: Allocator>(table: &Table<A>, run: &Run, hand: u16) -> u16
+    requires few { length table.now.frames < 2 ^ 16 }
+    requires distinct { HasDistinct table.now.frames }
+    requires room { run.now.pages < length table.now.frames }
+    ensures below { result < length table.now.frames }
+    ensures outside { is_kept run.now.id run.now.first run.now.pages (frame_at table.now.frames result) ≡ false }
 {
     let slots = table.len() as u16;
     let hand = hand.min(slots);

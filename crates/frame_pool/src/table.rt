@@ -1,13 +1,13 @@
 //! The pool's one piece of memory: for each slot its frame, and a share of the index and of the order of the slots.
-ghost use Rattle.std.specs.Prelude.{◌≡◌, ◌<◌, ◌≤◌, ◌+◌, ◌^◌, ◌↔◌, length, true, false, IfOk, IfSome, IsTrue, IsSome, Some, None, slice_index_or, slice_set, option_map, map};
-ghost use Rattle.std.specs.List.{range_with_len};
-ghost use Rattle.frame_pool.specs.Slot.{empty_slot};
+ghost use Rattle.std.specs.Prelude.{◌≡◌, ◌<◌, ◌≤◌, ◌+◌, ◌^◌, ◌↔◌, length, true, false, IfOk, IfSome, IsTrue, IsSome, Some, None, slice_index_or, slice_set, option_map};
+ghost use Rattle.frame_pool.specs.Table.{lists_of};
 ghost use Rattle.frame_pool.specs.Frames.{frame_at, new_frame, clean, changed, overwritten, shown, is_of, is_kept};
-ghost use Rattle.frame_pool.specs.Lists.{Lists, IsFresh};
+ghost use Rattle.frame_pool.specs.Lists.{Lists, fresh_lists};
 
 use crate::home::Home;
 use labelled_disk::{FileId, Page};
 use std::alloc::{AllocError, Allocator};
+use std::cell::Cell;
 use std::marker::Model;
 
 /// The frame of a slot. The fields lie so that a slot takes 560 bytes.
@@ -40,14 +40,14 @@ pub(crate) struct Run {
 
 /// What the table has for one number: the slot's frame and its links, the head of the bucket with this number, and
 /// the slot at this place of the order.
-#[derive(Clone, Copy)]
+#[derive(Drop)]
 pub(crate) struct Slot {
     kept: Option<Kept>,
     head: Option<u16>,
     next: Option<u16>,
     order: u16,
     position: u16,
-    referenced: bool,
+    referenced: Cell<bool>,
 }
 
 /// 24 slots take 13,440 bytes.
@@ -70,7 +70,7 @@ impl<A: Allocator> Model for Table<A> {
 
 /// Empty slots: the memory of a table.
 fn empty_slots<A: Allocator>(alloc: A, slots: u16) -> Result<Vec<Slot, A>, AllocError>
-    ensures { IfOk result (λ s. s.items ≡ map empty_slot (range_with_len 0 slots)) }
+    ensures { IfOk result (λ s. lists_of s.items ≡ fresh_lists slots) }
 {
     let mut all = Vec::with_capacity(alloc, slots as usize)?;
     for number in 0..slots {
@@ -80,7 +80,7 @@ fn empty_slots<A: Allocator>(alloc: A, slots: u16) -> Result<Vec<Slot, A>, Alloc
             next: None,
             order: number,
             position: number,
-            referenced: false,
+            referenced: Cell::new(false),
         })?;
     }
     Ok(all)
@@ -88,7 +88,7 @@ fn empty_slots<A: Allocator>(alloc: A, slots: u16) -> Result<Vec<Slot, A>, Alloc
 
 impl<A: Allocator> Table<A> {
     pub(crate) fn with_slots(alloc: A, slots: u16) -> Result<Table<A>, AllocError>
-        ensures { IfOk result (λ t. IsFresh t slots) }
+        ensures { IfOk result (λ t. t ≡ fresh_lists slots) }
     {
         let slots = empty_slots(alloc, slots)?;
         Ok(Table { slots })
@@ -173,28 +173,25 @@ impl<A: Allocator> Table<A> {
         ensures { result ≡ is_kept run.now.id run.now.first run.now.pages (frame_at self.now.frames slot) }
     {
         match &self.slots[slot as usize].kept {
-            Some(kept) => kept.id == run.id && kept.page >= run.first && kept.page - run.first < run.pages,
+            Some(kept) => kept.id == run.id
+                && kept.page >= run.first
+                && kept.page - run.first < run.pages,
             None => false,
         }
     }
 
     /// Gives the slot its second chance.
-    pub(crate) fn mark(&mut self, slot: u16)
-        requires { slot < length self.old.frames }
-        ensures { self.new ≡ self.old }
+    pub(crate) fn mark(&self, slot: u16)
+        requires { slot < length self.now.frames }
     {
-        self.slots[slot as usize].referenced = true;
+        self.slots[slot as usize].referenced.set(true);
     }
 
     /// Takes the slot's second chance, and tells whether it had one.
-    pub(crate) fn take_mark(&mut self, slot: u16) -> bool
-        requires { slot < length self.old.frames }
-        ensures { self.new ≡ self.old }
+    pub(crate) fn take_mark(&self, slot: u16) -> bool
+        requires { slot < length self.now.frames }
     {
-        let slot = &mut self.slots[slot as usize];
-        let had = slot.referenced;
-        slot.referenced = false;
-        had
+        self.slots[slot as usize].referenced.replace(false)
     }
 
     /// Where the slot's page stands, and whether it is dirty.
@@ -204,7 +201,13 @@ impl<A: Allocator> Table<A> {
     {
         match &self.slots[slot as usize].kept {
             Some(kept) => {
-                let Kept { id, sector, page, dirty, .. } = *kept;
+                let Kept {
+                    id,
+                    sector,
+                    page,
+                    dirty,
+                    ..
+                } = *kept;
                 Some((Home { sector, id, page }, dirty))
             }
             None => None,
@@ -227,7 +230,13 @@ impl<A: Allocator> Table<A> {
         ensures { self.new ≡ record self.old { frames = slice_set self.old.frames slot (Some (new_frame home bytes.now)) } }
     {
         let Home { sector, id, page } = home;
-        self.slots[slot as usize].kept = Some(Kept { id, sector, page, dirty: false, bytes: *bytes });
+        self.slots[slot as usize].kept = Some(Kept {
+            id,
+            sector,
+            page,
+            dirty: false,
+            bytes: *bytes,
+        });
     }
 
     pub(crate) fn empty(&mut self, slot: u16)

@@ -1,5 +1,5 @@
 //! A pool at its largest, and the memory of one at its least.
-ghost use Rattle.std.specs.Prelude.{◌≤◌, length};
+ghost use Rattle.std.specs.Prelude.{◌<◌, ◌≤◌, length};
 
 use crate::{FramePool, Home};
 use labelled_disk::{NoMemory, Page};
@@ -23,12 +23,20 @@ fn bring<A: Allocator>(pool: &mut FramePool<A>, home: Home, bytes: &Page) -> Opt
 }
 
 /// The home of a number: 64 pages of each of 64 files.
-fn home(number: u32) -> Home {
-    Home { sector: 300 + number, id: 0x7_0000_0001 + u64::from(number / 64), page: number % 64 }
+fn home(number: u32) -> Home
+    requires { number < 4096 }
+{
+    Home {
+        sector: 300 + number,
+        id: 0x7_0000_0001 + u64::from(number / 64),
+        page: number % 64,
+    }
 }
 
 /// The sector of the page that the pool has at the number's home.
-fn sector_of<A: Allocator>(pool: &FramePool<A>, number: u32) -> Option<u32> {
+fn sector_of<A: Allocator>(pool: &FramePool<A>, number: u32) -> Option<u32>
+    requires { number < 4096 }
+{
     let Home { id, page, .. } = home(number);
     let slot = pool.find(id, page)?;
     let (home, _dirty) = pool.held(slot)?;
@@ -36,7 +44,9 @@ fn sector_of<A: Allocator>(pool: &FramePool<A>, number: u32) -> Option<u32> {
 }
 
 #[test]
-fn four_thousand_pages_are_found_and_given_up_and_brought_in_another_order(rt: HostRuntime) -> Result<(), Fail> {
+fn four_thousand_pages_are_found_and_given_up_and_brought_in_another_order(
+    rt: HostRuntime,
+) -> Result<(), Fail> {
     let mut pool = FramePool::with_frames(rt.alloc(), FRAMES)?;
     for number in 0..FRAMES {
         assert!(rt; bring(&mut pool, home(number), &[0; 512]).is_some());

@@ -1,6 +1,4 @@
-use Rattle.std.proofs.Common.{◌≡◌, ◌<◌, ℕ, true, Some, None, IfSome, length, get_or, ap, arith, sym, ◌∙◌}
-use Rattle.frame_pool.specs.Frames.{frame_at, is_of}
-use Rattle.frame_pool.specs.Index.{bucket_of, bucket_at, IsAtMost, steps_left}
+use Rattle.std.proofs.Common.{arith, sym, ◌∙◌}
 use Rattle.frame_pool.proofs.IndexLemmas.{widened, nearer, step_covers, at_most}
 use Rattle.frame_pool.proofs.chain.find.Goals as goal
 
@@ -15,5 +13,5 @@ loop-cursor-preserved g c =
     rw c.next-cursor.ensures (record {
       within = widened _ _ c.in-Some.slot _ _ (let h = here.0 in omega (arith, h)) (c.requires.indexed.links c.in-Some.slot _ here.1).within;
       covers = λ other is. step_covers c.args.table.now.frames c.args.table.now c.args.id c.args.page c.in-Some.slot c.requires.indexed here.1 (sym c.has.ensures ∙ c.if-has.false) other is
-        (at_most other c.in-Some.slot _ c.in-Some.is (c.loop-cursor.invariant.covers other is));
+          (at_most other c.in-Some.slot _ c.in-Some.is (c.loop-cursor.invariant.covers other is));
     })

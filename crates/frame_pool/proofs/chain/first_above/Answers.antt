@@ -1,7 +1,5 @@
-use Rattle.std.proofs.Common.{◌≡◌, ◌<◌, ℕ, true, Some, None, IfSome, length, get_or, ap, arith, sym, ◌∙◌, inl, inr, rules}
+use Rattle.std.proofs.Common.{arith, sym, ◌∙◌, inr}
 use Rattle.std.proofs.lemmas.Option.{same_Some}
-use Rattle.frame_pool.specs.Frames.{frame_at, is_of}
-use Rattle.frame_pool.specs.Index.{bucket_of, bucket_at, IsAtMost, IsAtLeast, steps_left}
 use Rattle.frame_pool.proofs.IndexLemmas.{widened, nearer, first_above_is, above_or_below}
 use Rattle.frame_pool.proofs.chain.first_above.Goals as goal
 

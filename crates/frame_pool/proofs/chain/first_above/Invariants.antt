@@ -1,4 +1,4 @@
-use Rattle.std.proofs.Common.{◌≡◌, ◌<◌, ◌⊎◌, ℕ, true, Some, IfSome, length}
+use Rattle.std.proofs.Common.{◌≡◌, ◌<◌, ◌⊎◌, ℕ, Some, IfSome, length}
 use Rattle.frame_pool.specs.Index.{bucket_at, IsAtMost, IsAtLeast, steps_left}
 use Rattle.frame_pool.proofs.chain.first_above.Given as goal
 

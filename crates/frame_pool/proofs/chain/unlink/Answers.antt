@@ -1,5 +1,3 @@
-use Rattle.std.proofs.Common.{◌≡◌, ◌<◌, ℕ, Some, None, length, get_or, set}
-use Rattle.frame_pool.specs.Index.{bucket_at, IsIndex, Puts}
 use Rattle.frame_pool.proofs.IndexLemmas.{bucket_below}
 use Rattle.frame_pool.proofs.LinkLemmas.{unlinked_above, unlinked_first}
 use Rattle.frame_pool.proofs.chain.unlink.Goals as goal

@@ -1,6 +1,5 @@
-use Rattle.std.proofs.Common.{◌≡◌, ◌<◌, ◌+◌, ◌-◌, ◌∙◌, ℕ, Some, None, length, get_or, set, arith, sym, ap, refl, false}
+use Rattle.std.proofs.Common.{◌≡◌, ◌+◌, ◌-◌, arith}
 use Rattle.frame_pool.specs.Frames.{new_frame}
-use Rattle.frame_pool.specs.Index.{bucket_of, bucket_at, IsIndex, Puts}
 use Rattle.frame_pool.specs.Pool.{IsPool}
 use Rattle.frame_pool.proofs.PoolLemmas.{filled_pool}
 use Rattle.frame_pool.proofs.fill.fill.Goals as goal
@@ -14,5 +13,5 @@ returns-clause-pool g c =
     let pool : IsPool l0 (place + 1) = rw one_less c.requires.pool in
     rw (c.fill.ensures, c.exchange.ensures.kept.frames, c.link.ensures.kept.frames)
     (filled_pool l0 c.link.new.table c.exchange.new.table c.args.slot place (new_frame c.args.home c.args.bytes.now) pool c.requires.slot c.requires.empty c.requires.nowhere c.link.ensures.kept
-      (λ at puts. c.link.ensures.linked at (rw (c.bucket_of-bucket.ensures.value, c.len.ensures) puts))
-      c.exchange.ensures.kept c.exchange.ensures.order c.exchange.ensures.moved)
+    (λ at puts. c.link.ensures.linked at (rw (c.bucket_of-bucket.ensures.value, c.len.ensures) puts))
+    c.exchange.ensures.kept c.exchange.ensures.order c.exchange.ensures.moved)

@@ -1,6 +1,4 @@
-use Rattle.std.proofs.Common.{◌≡◌, ◌<◌, ℕ, length, get_or, set}
-use Rattle.frame_pool.specs.Lists.{Lists}
-use Rattle.frame_pool.proofs.OrderLemmas.{exchanged, exchanged_order, exchanged_places}
+use Rattle.frame_pool.proofs.OrderLemmas.{exchanged_order, exchanged_places}
 use Rattle.frame_pool.proofs.order.exchange.Goals as goal
 
 pub returns-clause-order : goal.returns-clause-order

@@ -1,5 +1,4 @@
-use Rattle.std.proofs.Common.{refl, ◌<◌}
-use Rattle.frame_pool.specs.Frames.{HasDistinct}
+use Rattle.std.proofs.Common.{refl}
 use Rattle.frame_pool.proofs.KeptLemmas.{nowhere_of}
 use Rattle.frame_pool.proofs.pool.FramePool.find.Goals as goal
 

@@ -1,4 +1,3 @@
-use Rattle.std.proofs.Common.{Some, false}
 use Rattle.frame_pool.proofs.TableLemmas.{set_kept_lists}
 use Rattle.frame_pool.proofs.table.Table.fill.Goals as goal
 

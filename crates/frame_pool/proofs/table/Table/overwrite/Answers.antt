@@ -1,5 +1,5 @@
-use Rattle.std.proofs.Common.{Some, None, true, false, ◌<◌, length, refl, ap}
-use Rattle.frame_pool.specs.Frames.{clean, changed}
+use Rattle.std.proofs.Common.{ap}
+use Rattle.frame_pool.specs.Frames.{changed}
 use Rattle.frame_pool.specs.Table.{frame_of}
 use Rattle.frame_pool.proofs.TableLemmas.{set_frame_lists, unset_frame_lists, below_slots}
 use Rattle.frame_pool.proofs.table.Table.overwrite.Goals as goal
