@@ -116,3 +116,45 @@ valid n s count root is = record {
     some : (k : ℕ) → eqb k 0 ≡ false → 1 ≤ k
     some zero e = absurd (true≢false e)
     some (suc k) e = omega arith
+
+-- No test of a sector refuses the count of the disk.
+
+abbrev IsNoCount : Test → Type 0
+IsNoCount None = Unit {0}
+IsNoCount (Some (fault.NotVolume why)) = Unit {0}
+IsNoCount (Some fault.Unclean) = Unit {0}
+IsNoCount (Some (fault.Version v)) = Unit {0}
+IsNoCount (Some (fault.BadCount n)) = ⊥
+IsNoCount (Some fault.Disk) = Unit {0}
+
+none_counts : (b : Bool) (why : RootFault) → IsNoCount (Some why) → IsNoCount (then_some b why)
+none_counts true why h = h
+none_counts false why h = tt
+
+rest_no_count : (o : Option ℕ) → IsNoCount (option_map (λ i. fault.NotVolume (difference.Rest i)) o)
+rest_no_count None = tt
+rest_no_count (Some i) = tt
+
+-- the first of two tests
+first_of_two : (test : Test) (tests : List Test) → IsNoCount test → IsNoCount (first_of tests) → IsNoCount (first_of (test ∷ tests))
+first_of_two None tests h more = more
+first_of_two (Some why) tests h more = h
+
+no_count : (clean_only : Bool) (n : ℕ) (label : Label) (page : List ℕ) → IsNoCount (first_of (tests clean_only n label page))
+no_count clean_only n label page =
+    first_of_two (is_labelled label) _ (none_counts _ _ tt)
+    (first_of_two (is_magic page) _ (none_counts _ _ tt)
+    (first_of_two (is_version page) _ (none_counts _ _ tt)
+    (first_of_two (is_counted n page) _ (none_counts _ _ tt)
+    (first_of_two (has_serial page) _ (none_counts _ _ tt)
+    (first_of_two (has_counter page) _ (none_counts _ _ tt)
+    (first_of_two (is_flagged page) _ (none_counts _ _ tt)
+    (first_of_two (is_rest page) _ (rest_no_count (first_rest page))
+    (first_of_two (is_closed clean_only page) [] (none_counts _ _ tt) tt))))))))
+
+pub judged_no_count : (clean_only : Bool) (n : ℕ) (s : Sector) (k : ℕ) → judged clean_only n s ≡ Err (fault.BadCount k) → ⊥
+judged_no_count clean_only n s k is = either (first_of (tests clean_only n s.0 s.1)) (no_count clean_only n s.0 s.1) is
+  where
+    either : (o : Test) → IsNoCount o → option_map_or (λ (why : RootFault). Err why) o (Ok (root_in s.1)) ≡ Err (fault.BadCount k) → ⊥
+    either None h e = absurd (cc e)
+    either (Some why) h e = let same : why ≡ fault.BadCount k = cc e in subst (λ (w : RootFault). IsNoCount (Some w)) same h

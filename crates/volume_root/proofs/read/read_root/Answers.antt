@@ -5,6 +5,7 @@ use Rattle.labelled_disk.specs.declared.layout.RootFault.{RootFault}
 use Rattle.labelled_disk.specs.declared.layout.RootFault.TheVariants as fault
 use Rattle.volume_root.specs.declared.root.Root.{Root}
 use Rattle.volume_root.specs.RootPage.{judged, IsUnlessFault}
+use Rattle.volume_root.proofs.RootLemmas.{judged_no_count}
 use Rattle.volume_root.proofs.read.read_root.Goals as goal
 
 as_judged : (result right : Result Root RootFault) → result ≡ right → IsUnlessFault result right
@@ -21,3 +22,7 @@ returns-clause-judged g c count d told s here =
     let same : (c.in-Ok.label, c.read.new.page) ≡ s = same_Some (c.in-Ok.label, c.read.new.page) s (sym (c.in-Ok.ensures.found d told) ∙ here) in
     as_judged c.judge.result (judged c.args.clean_only (length d) s)
     (c.judge.ensures ∙ ap (λ (n : ℕ). judged c.args.clean_only n (c.in-Ok.label, c.read.new.page)) size ∙ ap (λ (t : Sector). judged c.args.clean_only (length d) t) same)
+
+pub returns-clause-bad_count : goal.returns-clause-bad_count
+returns-clause-bad_count g c n is =
+    absurd (judged_no_count c.args.clean_only c.sectors-sectors.result (c.in-Ok.label, c.read.new.page) n (sym c.judge.ensures ∙ is))
