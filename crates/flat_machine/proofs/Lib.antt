@@ -2,3 +2,10 @@ pub mod ReplyLemmas
 pub mod AfterLemmas
 pub mod StartLemmas
 pub mod ProjectionLemmas
+pub mod PlaceLemmas
+pub mod LeastLemmas
+pub mod SpaceLemmas
+pub mod GapLemmas
+pub mod EditLemmas
+pub mod RoomLemmas
+pub mod LoadLemmas

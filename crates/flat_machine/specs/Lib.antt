@@ -12,3 +12,4 @@ pub mod Settled
 pub mod Start
 pub mod Projection
 pub mod Laws
+pub mod Slow
