@@ -33,4 +33,6 @@ still_from f n (suc i) (x ∷ xs) d h = still_from f (n + 1) i xs d (omega arith
 pub each_place_step : {X : Type 0} (f : ℕ → X → X) (xs ys : List X) (i : ℕ) (d : X) → i < length xs
     → ys ≡ map (λ e. f e.0 e.1) (enumerate_from 0 (take i xs)) ++ drop i xs
     → set ys i (f i (get_or ys i d)) ≡ map (λ e. f e.0 e.1) (enumerate_from 0 (take (i + 1) xs)) ++ drop (i + 1) xs
-each_place_step f xs ys i d h e = rw (e, still_from f 0 i xs d h, add-one) (over_from f 0 i xs d h)
+each_place_step f xs ys i d h e =
+    let z : 0 + i ≡ i = omega arith in
+    rw (e, still_from f 0 i xs d h, add-one) (rw z at (over_from f 0 i xs d h))

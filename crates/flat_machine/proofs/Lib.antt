@@ -9,3 +9,5 @@ pub mod GapLemmas
 pub mod EditLemmas
 pub mod RoomLemmas
 pub mod LoadLemmas
+pub mod TestLemmas
+pub mod FileLemmas

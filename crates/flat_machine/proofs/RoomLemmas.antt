@@ -9,12 +9,12 @@ use Rattle.flat_machine.specs.At.{Spot, spot_at}
 use Rattle.flat_machine.specs.Next.{change_file, with_byte, store_byte, store_bytes}
 
 -- the sectors of the files, counted from a on
-abbrev room_from : ℕ → List File → ℕ
+abbrev pub room_from : ℕ → List File → ℕ
 room_from a fs = fold (λ n f. n + room_of f) a fs
 
-from_more : (fs : List File) (a b : ℕ) → room_from (a + b) fs ≡ room_from a fs + b
-from_more [] a b = refl
-from_more (f ∷ fs) a b =
+pub from_more : (fs : List File) (a b : ℕ) → room_from (a + b) fs ≡ room_from a fs + b
+pub from_more [] a b = refl
+pub from_more (f ∷ fs) a b =
     let e : a + b + room_of f ≡ a + room_of f + b = omega arith in
     ap (λ n. room_from n fs) e ∙ from_more fs (a + room_of f) b
 
@@ -105,8 +105,8 @@ found_from (f ∷ fs) id a = either (f.id == id) (found_from fs id (a + room_of 
         weaken None k = tt
         weaken (Some g) k = omega arith
 
-found_size : (fs : List File) (id : ℕ) (f : File) → file_at fs id ≡ Some f → size f ≤ total_room fs
-found_size fs id f e = let P : Option File → Type 0 = λ o. IfSome o (λ g. size g + 0 ≤ total_room fs) in
+pub found_size : (fs : List File) (id : ℕ) (f : File) → file_at fs id ≡ Some f → size f ≤ total_room fs
+pub found_size fs id f e = let P : Option File → Type 0 = λ o. IfSome o (λ g. size g + 0 ≤ total_room fs) in
     let h : size f + 0 ≤ total_room fs = subst P e (found_from fs id 0) in omega arith
 
 -- what a look-up lends is no larger than all files together

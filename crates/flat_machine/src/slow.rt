@@ -33,6 +33,7 @@ pub struct SlowMachine<A: Allocator> {
 
 impl<A: Allocator> Model for SlowMachine<A> {
     ghost use Rattle.std.specs.Prelude.{◌≤◌};
+    ghost use Rattle.labelled_disk.specs.Rising.{AreRising};
     ghost use Rattle.flat_machine.specs.File.{total_room};
     ghost use Rattle.flat_machine.specs.Slow.{AreSpaces};
     ghost use Rattle.flat_machine.specs.Machine.{Machine};
@@ -41,7 +42,7 @@ impl<A: Allocator> Model for SlowMachine<A> {
 
     ghost view = { λ a. record { files = a.files.items; spaces = a.spaces.items; serial = a.serial; counter = a.counter; capacity = a.capacity; unforced = a.unforced.items } };
 
-    ghost invariant = { λ a. (total_room a.files.items ≤ a.capacity) × AreSpaces a.spaces.items };
+    ghost invariant = { λ a. (total_room a.files.items ≤ a.capacity) × AreRising a.files.items × AreSpaces a.spaces.items };
 }
 
 impl<A: Allocator + Clone> SlowMachine<A> {

@@ -1,6 +1,7 @@
 //! Changes of the list of files.
 
-ghost use Rattle.std.specs.Prelude.{◌≡◌, ◌≤◌, ◌<◌, ◌^◌, OnOk, OnErr, IfOk, nat_le, position, length, map, filter, true};
+ghost use Rattle.std.specs.Prelude.{◌≡◌, ◌≤◌, ◌<◌, ◌^◌, OnOk, OnErr, IfOk, nat_le, position, length, map, filter, true, false, slice_get, IsTrue, ◌==◌};
+ghost use Rattle.std.specs.Option.{option_map_or};
 ghost use Rattle.std.specs.List.{position_or_len};
 ghost use Rattle.flat_machine.specs.Next as after;
 ghost use Rattle.flat_machine.specs.File as of_file;
@@ -30,6 +31,17 @@ fn place_of<A: Allocator>(files: &[StoredFile<A>], id: FileId) -> usize
     }
 }
 
+/// Whether the file at that place has the identifier.
+fn names<A: Allocator>(files: &[StoredFile<A>], place: usize, id: FileId) -> bool
+    ensures is { result ≡ option_map_or (λ f. f.id == id) (slice_get files.now place) false }
+    ensures bound { IsTrue result → place < length files.now }
+{
+    match files.get(place) {
+        Some(file) => file.id() == id,
+        None => false,
+    }
+}
+
 /// Puts a file in its place among the rising identifiers, or in that of one with its identifier.
 pub fn put<A: Allocator>(
     files: &mut Vec<StoredFile<A>, A>,
@@ -38,8 +50,9 @@ pub fn put<A: Allocator>(
     ensures ok { OnOk result (files.new.items ≡ of_file.put_file file files.old.items) }
     ensures err { OnErr result (files.new.items ≡ files.old.items) }
 {
-    let place = place_of(files, file.id());
-    if place < files.len() && files[place].id() == file.id() {
+    let id = file.id();
+    let place = place_of(files, id);
+    if names(files, place, id) {
         files[place] = file;
         return Ok(());
     }

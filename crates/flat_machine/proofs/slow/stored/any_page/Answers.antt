@@ -1,4 +1,4 @@
-use Rattle.flat_machine.specs.File.{any_page}
+use Rattle.labelled_disk.specs.File.{any_page}
 use Rattle.std.proofs.Common.{refl, rules}
 use Rattle.flat_machine.proofs.slow.stored.any_page.Goals as goal
 
