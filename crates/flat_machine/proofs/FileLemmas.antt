@@ -9,11 +9,11 @@ use Rattle.labelled_disk.specs.Rising.{AreRising}
 use Rattle.flat_machine.specs.declared.call.Call.TheVariants.{SetSize}
 use Rattle.flat_machine.specs.declared.call.Refusal.TheVariants as why
 use Rattle.flat_machine.specs.File.{File, Page, size, room_of, total_room, file_at, zero_page}
-use Rattle.flat_machine.specs.Space.{Space}
+use Rattle.flat_machine.specs.Space.{Space, Window}
 use Rattle.flat_machine.specs.At.{Spot, spot_at}
 use Rattle.flat_machine.specs.Machine.{Machine, is_anonymous}
 use Rattle.flat_machine.specs.Refusal.{Test, first_of, refusal, no_file, is_immutable, cut_while_mapped, no_room_as}
-use Rattle.flat_machine.specs.Next.{change_file, resized, with_byte, store_byte, store_bytes}
+use Rattle.flat_machine.specs.Next.{change_file, without_file, resized, with_byte, store_byte, store_bytes, killed_file, without_anonymous}
 use Rattle.flat_machine.proofs.RoomLemmas.{room_from, from_more, replicated, found_size}
 
 -- Rising order.
@@ -47,6 +47,20 @@ rising_filter p (f ∷ fs) h = kept (p f) (rising_filter p fs h.1)
     kept : (b : Bool) → AreRising (filter p fs) → AreRising (cond b (f ∷ filter p fs) (filter p fs))
     kept true t = (above_filter p f.id fs h.0, t)
     kept false t = t
+
+pub rising_changed : (id : ℕ) (g : File → File) → ((f : File) → (g f).id ≡ f.id) → (fs : List File) → AreRising fs → AreRising (change_file id g fs)
+rising_changed id g k fs h = rising_map (λ f. if f.id == id then g f else f) (one_id id g k) fs h
+
+pub rising_killed : (ss : List Space) (range : Space) (fs : List File) → AreRising fs → AreRising (map (killed_file ss range) fs)
+rising_killed ss range fs h = rising_map (killed_file ss range) (λ f. refl) fs h
+
+pub rising_without : (o : Option Window) (fs : List File) → AreRising fs → AreRising (option_map_or (λ w. without_anonymous w fs) o fs)
+rising_without None fs h = h
+rising_without (Some w) fs h = either w.anonymous
+  where
+    either : (b : Bool) → AreRising (cond b (without_file w.file fs) fs)
+    either true = rising_filter _ fs h
+    either false = h
 
 byte_rising : (o : Option Spot) (b : ℕ) (fs : List File) → AreRising fs → AreRising (option_map_or (λ spot. change_file spot.file (with_byte spot b) fs) o fs)
 byte_rising None b fs h = h
@@ -101,17 +115,17 @@ fits_none n capacity e = either (nat_lt capacity n) refl e
     either true t g = absurd (cc)
     either false t g = grind (arith, nat_tests)
 
-named : (b : Bool) (o : Option File) (P : File → Type 0) → then_some (is_none (if b then None else o)) why.File ≡ None → (o ≡ None → ⊥)
-named true None P e n = cc
-named true (Some f) P e n = cc
-named false None P e n = cc
-named false (Some f) P e n = cc
+named : (b : Bool) (o : Option File) → then_some (is_none (if b then None else o)) why.File ≡ None → (o ≡ None → ⊥)
+named true None e n = cc
+named true (Some f) e n = cc
+named false None e n = cc
+named false (Some f) e n = cc
 
 pub room_resized : (m : Machine) (id pages : ℕ) → AreRising m.files → refusal m (SetSize id pages) ≡ None
     → total_room (change_file id (resized pages) m.files) ≤ m.capacity
 room_resized m id pages r e =
     let p = four_none (no_file m id) (is_immutable m id) (cut_while_mapped m id pages) (no_room_as m id pages) e in
-    found (file_at m.files id) refl (named (is_anonymous m.spaces id) (file_at m.files id) (λ f. Unit {0}) p.0) p.3 (resized_from id pages m.files 0 r)
+    found (file_at m.files id) refl (named (is_anonymous m.spaces id) (file_at m.files id) p.0) p.3 (resized_from id pages m.files 0 r)
   where
     found : (o : Option File) → file_at m.files id ≡ o → (o ≡ None → ⊥)
         → option_and_then (λ f. then_some (nat_lt m.capacity (total_room m.files + pages - size f)) why.Full) o ≡ None

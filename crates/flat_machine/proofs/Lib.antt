@@ -11,3 +11,4 @@ pub mod RoomLemmas
 pub mod LoadLemmas
 pub mod TestLemmas
 pub mod FileLemmas
+pub mod StepLemmas

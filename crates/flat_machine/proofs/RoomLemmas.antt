@@ -3,18 +3,19 @@ use Rattle.std.proofs.Common.{◌≡◌, ℕ, zero, suc, ◌+◌, ◌<◌, ◌�
 use Rattle.std.proofs.lemmas.Bool.Decides.{nat_tests}
 use Rattle.std.specs.Prelude.{nat_lt, fold, IfSome, ◌==◌, if◌then◌else◌, option_copied}
 use Rattle.std.specs.Option.{option_map_or}
-use Rattle.flat_machine.specs.File.{File, size, room_of, total_room, file_at, put_file, zero_page}
-use Rattle.flat_machine.specs.Space.{Space}
+use Rattle.flat_machine.specs.File.{File, Page, size, room_of, total_room, file_at, put_file, any_page}
+use Rattle.flat_machine.specs.Space.{Space, Window}
 use Rattle.flat_machine.specs.At.{Spot, spot_at}
-use Rattle.flat_machine.specs.Next.{change_file, with_byte, store_byte, store_bytes}
+use Rattle.flat_machine.specs.Next.{change_file, without_file, with_byte, store_byte, store_bytes, killed_file, without_anonymous}
+use Rattle.std.specs.List.{enumerate_from}
 
 -- the sectors of the files, counted from a on
 abbrev pub room_from : ℕ → List File → ℕ
 room_from a fs = fold (λ n f. n + room_of f) a fs
 
 pub from_more : (fs : List File) (a b : ℕ) → room_from (a + b) fs ≡ room_from a fs + b
-pub from_more [] a b = refl
-pub from_more (f ∷ fs) a b =
+from_more [] a b = refl
+from_more (f ∷ fs) a b =
     let e : a + b + room_of f ≡ a + room_of f + b = omega arith in
     ap (λ n. room_from n fs) e ∙ from_more fs (a + room_of f) b
 
@@ -82,9 +83,34 @@ byte_room : (o : Option Spot) (b : ℕ) (fs : List File) → total_room (option_
 byte_room None b fs = refl
 byte_room (Some spot) b fs = room_map _ (one_changed spot.file (with_byte spot b) (byte_size spot b)) fs
 
-pub room_stored : (spaces : List Space) (address : ℕ) (bytes : List ℕ) (fs : List File) → total_room (store_bytes spaces address bytes fs) ≡ total_room fs
-room_stored spaces address [] fs = refl
-room_stored spaces address (b ∷ bs) fs = room_stored spaces (address + 1) bs (store_byte spaces address b fs) ∙ byte_room (spot_at spaces address) b fs
+stored : (spaces : List Space) (address : ℕ) (bytes : List ℕ) (fs : List File) → total_room (store_bytes spaces address bytes fs) ≡ total_room fs
+stored spaces address [] fs = refl
+stored spaces address (b ∷ bs) fs = stored spaces (address + 1) bs (store_byte spaces address b fs) ∙ byte_room (spot_at spaces address) b fs
+
+pub room_stored : (spaces : List Space) (address : ℕ) (bytes : List ℕ) (fs : List File) (capacity : ℕ) → total_room fs ≤ capacity
+    → total_room (store_bytes spaces address bytes fs) ≤ capacity
+room_stored spaces address bytes fs capacity h = omega (arith, stored spaces address bytes fs, h)
+
+pub room_changed : (id : ℕ) (g : File → File) → ((f : File) → size (g f) ≡ size f) → (fs : List File) (capacity : ℕ) → total_room fs ≤ capacity
+    → total_room (change_file id g fs) ≤ capacity
+room_changed id g k fs capacity h = omega (arith, room_map (λ f. if f.id == id then g f else f) (one_changed id g k) fs, h)
+
+same_length : (test : ℕ → Bool) (n : ℕ) (ps : List Page) → length (map (λ e. if test e.0 then any_page else e.1) (enumerate_from n ps)) ≡ length ps
+same_length test n [] = refl
+same_length test n (p ∷ ps) = ap suc (same_length test (n + 1) ps)
+
+pub room_killed : (ss : List Space) (range : Space) (fs : List File) (capacity : ℕ) → total_room fs ≤ capacity
+    → total_room (map (killed_file ss range) fs) ≤ capacity
+room_killed ss range fs capacity h = omega (arith, room_map (killed_file ss range) (λ f. same_length _ 0 f.pages) fs, h)
+
+pub room_without : (o : Option Window) (fs : List File) (capacity : ℕ) → total_room fs ≤ capacity
+    → total_room (option_map_or (λ w. without_anonymous w fs) o fs) ≤ capacity
+room_without None fs capacity h = h
+room_without (Some w) fs capacity h = either w.anonymous
+  where
+    either : (b : Bool) → total_room (cond b (without_file w.file fs) fs) ≤ capacity
+    either true = room_filter _ fs capacity h
+    either false = h
 
 -- A file that is found.
 
@@ -106,7 +132,7 @@ found_from (f ∷ fs) id a = either (f.id == id) (found_from fs id (a + room_of 
         weaken (Some g) k = omega arith
 
 pub found_size : (fs : List File) (id : ℕ) (f : File) → file_at fs id ≡ Some f → size f ≤ total_room fs
-pub found_size fs id f e = let P : Option File → Type 0 = λ o. IfSome o (λ g. size g + 0 ≤ total_room fs) in
+found_size fs id f e = let P : Option File → Type 0 = λ o. IfSome o (λ g. size g + 0 ≤ total_room fs) in
     let h : size f + 0 ≤ total_room fs = subst P e (found_from fs id 0) in omega arith
 
 -- what a look-up lends is no larger than all files together

@@ -1,11 +1,11 @@
 -- Spaces in rising handles: the lowest unused handle, and what changes of the list keep.
 use Rattle.std.proofs.Common.{◌≡◌, ◌≢◌, ℕ, zero, suc, ◌+◌, ◌<◌, ◌≤◌, Bool, true, false, not, ◌||◌, cond, List, [], ◌∷◌, map, filter, drop, get_or, length, refl, sym, ◌∙◌, ap, arith}
 use Rattle.std.proofs.lemmas.Bool.Decides.{nat_tests}
-use Rattle.std.specs.Prelude.{insert, nat_lt, ◌==◌, if◌then◌else◌}
+use Rattle.std.specs.Prelude.{insert, nat_lt, Option, option_map, ◌==◌, if◌then◌else◌}
 use Rattle.std.specs.List.{position_or_len, list_any, AllByRecursion}
-use Rattle.flat_machine.specs.Space.{Space, root, end, root_pages}
+use Rattle.flat_machine.specs.Space.{Space, Window, root, end, root_pages}
 use Rattle.flat_machine.specs.Machine.{IsRising}
-use Rattle.flat_machine.specs.Next.{is_unused, lowest_unused, put_space, change_space, without_space}
+use Rattle.flat_machine.specs.Next.{is_unused, lowest_unused, put_space, change_space, set_window, set_mode, with_mode, without_space}
 use Rattle.flat_machine.specs.Slow.{AreSpaces}
 use Rattle.flat_machine.proofs.LeastLemmas.{lowest_unused_is_least}
 
@@ -228,7 +228,7 @@ same_ends : (h : ℕ) (g : Space → Space) → ((s : Space) → end (g s) ≡ e
 same_ends h g k [] a = tt
 same_ends h g k (s ∷ ss) a = (omega (arith, changed end g k s (s.handle == h), a.0), same_ends h g k ss a.1)
 
-pub change_spaces : (h : ℕ) (g : Space → Space) → ((s : Space) → (g s).handle ≡ s.handle) → ((s : Space) → end (g s) ≡ end s) → (ss : List Space)
+change_spaces : (h : ℕ) (g : Space → Space) → ((s : Space) → (g s).handle ≡ s.handle) → ((s : Space) → end (g s) ≡ end s) → (ss : List Space)
     → AreSpaces ss → AreSpaces (change_space h g ss)
 change_spaces h g k e ss a = record {
   rise = rw (same_handles h g k ss) a.rise;
@@ -236,6 +236,15 @@ change_spaces h g k e ss a = record {
   few = omega (arith, same_count h g ss, a.few);
   ends = same_ends h g e ss a.ends;
 }
+
+pub window_spaces : (h : ℕ) (w : Option Window) (ss : List Space) → AreSpaces ss → AreSpaces (set_window h w ss)
+window_spaces h w ss a = change_spaces h (λ s. record s { window = w }) (λ s. refl) (λ s. refl) ss a
+
+pub unit_spaces : (h u : ℕ) (ss : List Space) → AreSpaces ss → AreSpaces (change_space h (λ s. record s { unit = u }) ss)
+unit_spaces h u ss a = change_spaces h (λ s. record s { unit = u }) (λ s. refl) (λ s. refl) ss a
+
+pub mode_spaces : (h : ℕ) (writable : Bool) (ss : List Space) → AreSpaces ss → AreSpaces (set_mode h writable ss)
+mode_spaces h writable ss a = change_spaces h (λ s. record s { window = option_map (with_mode writable) s.window }) (λ s. refl) (λ s. refl) ss a
 
 -- One space goes.
 

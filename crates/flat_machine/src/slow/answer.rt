@@ -7,7 +7,7 @@ use labelled_disk::FileId;
 use std::alloc::Allocator;
 
 impl<A: Allocator + Clone> SlowMachine<A> {
-    ghost use Rattle.std.specs.Prelude.{◌≡◌, ◌≤◌, ◌<◌, ◌^◌, option_copied, IfSome, nat_lt, ◌&&◌, is_some, find};
+    ghost use Rattle.std.specs.Prelude.{◌≡◌, ◌≤◌, ◌<◌, ◌^◌, option_copied, IfSome};
     ghost use Rattle.flat_machine.specs.declared.call.Call.TheVariants as call_of;
     ghost use Rattle.flat_machine.specs.At.{cell_at};
     ghost use Rattle.flat_machine.specs.File.{size};
@@ -52,12 +52,8 @@ impl<A: Allocator + Clone> SlowMachine<A> {
     pub(crate) fn next_file(&self, id: FileId) -> Reply
         ensures { result ≡ plain_reply self.now (call_of.Next id) }
     {
-        let above = self
-            .files
-            .iter()
-            .find(|f| id < f.id() && self.nameable(f.id()).is_some());
-        match above {
-            Some(file) => Reply::File(file.id()),
+        match look::nameable_above(&self.files, &self.spaces, id) {
+            Some(next) => Reply::File(next),
             None => Reply::Nothing,
         }
     }

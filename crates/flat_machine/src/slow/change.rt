@@ -48,7 +48,8 @@ impl<A: Allocator + Clone> SlowMachine<A> {
         ensures ok { OnOk result (self.new ≡ change self.old (call_of.SetSize id pages)) }
         ensures err { OnErr result (self.new ≡ self.old) }
     {
-        self.files = files::resized(&self.alloc, &self.files, id, pages)?;
+        let resized = files::resized(&self.alloc, &self.files, id, pages)?;
+        self.files = resized;
         Ok(())
     }
 
@@ -153,11 +154,7 @@ impl<A: Allocator + Clone> SlowMachine<A> {
         let Some(found) = look::space_at(&self.spaces, space) else {
             return;
         };
-        if let Some(window) = found.window {
-            if window.anonymous {
-                files::remove(&mut self.files, window.file);
-            }
-        }
+        files::remove_anonymous(&mut self.files, found.window);
         unforced::settle_window(&found, &mut self.unforced);
         spaces::set_window(&mut self.spaces, found.handle, None);
     }
@@ -168,9 +165,7 @@ impl<A: Allocator + Clone> SlowMachine<A> {
         let Some(found) = look::space_at(&self.spaces, space) else {
             return;
         };
-        if !writable {
-            unforced::settle_window(&found, &mut self.unforced);
-        }
+        unforced::settle_unless(writable, &found, &mut self.unforced);
         spaces::set_mode(&mut self.spaces, found.handle, writable);
     }
 

@@ -8,7 +8,7 @@ ghost use Rattle.flat_machine.specs.File as of_file;
 
 use crate::slow::look;
 use crate::slow::stored::StoredFile;
-use crate::Space;
+use crate::{Space, Window};
 use labelled_disk::FileId;
 use std::alloc::{AllocError, Allocator};
 
@@ -66,13 +66,24 @@ pub fn remove<A: Allocator>(files: &mut Vec<StoredFile<A>, A>, id: FileId)
     files.retain(|f| f.id() != id);
 }
 
+/// Removes the file of an anonymous window.
+pub fn remove_anonymous<A: Allocator>(files: &mut Vec<StoredFile<A>, A>, window: Option<Window>)
+    ensures { files.new.items ≡ option_map_or (λ w. after.without_anonymous w files.old.items) window files.old.items }
+{
+    if let Some(w) = window {
+        if w.anonymous {
+            remove(files, w.file);
+        }
+    }
+}
+
 pub fn keep_permanent<A: Allocator>(files: &mut Vec<StoredFile<A>, A>)
     ensures { files.new.items ≡ filter (λ f. f.permanent) files.old.items }
 {
     files.retain(|f| f.is_permanent());
 }
 
-pub fn make_permanent<A: Allocator>(files: &mut [StoredFile<A>], id: FileId)
+fn mark_permanent<A: Allocator>(files: &mut [StoredFile<A>], id: FileId)
     ensures { files.new ≡ after.change_file id (λ f. record f { permanent = true }) files.old }
 {
     for f in files.iter_mut() {
@@ -80,12 +91,24 @@ pub fn make_permanent<A: Allocator>(files: &mut [StoredFile<A>], id: FileId)
     }
 }
 
-pub fn make_immutable<A: Allocator>(files: &mut [StoredFile<A>], id: FileId)
+pub fn make_permanent<A: Allocator>(files: &mut Vec<StoredFile<A>, A>, id: FileId)
+    ensures { files.new.items ≡ after.change_file id (λ f. record f { permanent = true }) files.old.items }
+{
+    mark_permanent(files, id);
+}
+
+fn mark_immutable<A: Allocator>(files: &mut [StoredFile<A>], id: FileId)
     ensures { files.new ≡ after.change_file id (λ f. record f { immutable = true }) files.old }
 {
     for f in files.iter_mut() {
         f.make_immutable(id);
     }
+}
+
+pub fn make_immutable<A: Allocator>(files: &mut Vec<StoredFile<A>, A>, id: FileId)
+    ensures { files.new.items ≡ after.change_file id (λ f. record f { immutable = true }) files.old.items }
+{
+    mark_immutable(files, id);
 }
 
 /// A copy of the files, in which one has so many pages.
@@ -131,7 +154,7 @@ fn store_byte<A: Allocator>(spaces: &[Space], address: u64, byte: u8, files: &mu
 }
 
 /// Writes bytes from an address on.
-pub fn store_bytes<A: Allocator>(
+fn write_bytes<A: Allocator>(
     spaces: &[Space],
     address: u32,
     bytes: &[u8],
@@ -147,11 +170,29 @@ pub fn store_bytes<A: Allocator>(
     }
 }
 
+pub fn store_bytes<A: Allocator>(
+    spaces: &[Space],
+    address: u32,
+    bytes: &[u8],
+    files: &mut Vec<StoredFile<A>, A>,
+)
+    requires { length bytes.now ≤ 64 }
+    ensures { files.new.items ≡ after.store_bytes spaces.now address bytes.now files.old.items }
+{
+    write_bytes(spaces, address, bytes, files);
+}
+
 /// Kills the pages that a writable window shows in the range.
-pub fn kill<A: Allocator>(spaces: &[Space], range: &Space, files: &mut [StoredFile<A>])
+fn kill_each<A: Allocator>(spaces: &[Space], range: &Space, files: &mut [StoredFile<A>])
     ensures { files.new ≡ map (after.killed_file spaces.now range.now) files.old }
 {
     for f in files.iter_mut() {
         f.kill(spaces, range);
     }
+}
+
+pub fn kill<A: Allocator>(spaces: &[Space], range: &Space, files: &mut Vec<StoredFile<A>, A>)
+    ensures { files.new.items ≡ map (after.killed_file spaces.now range.now) files.old.items }
+{
+    kill_each(spaces, range, files);
 }

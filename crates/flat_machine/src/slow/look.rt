@@ -1,6 +1,6 @@
 //! Look-ups in the lists of a machine.
 
-ghost use Rattle.std.specs.Prelude.{◌≡◌, ◌^◌, ◌<◌, option_copied, is_some, is_none, find, true, not, ◌&&◌, ◌==◌};
+ghost use Rattle.std.specs.Prelude.{◌≡◌, ◌^◌, ◌<◌, option_copied, is_some, is_none, find, true, not, nat_lt, None, option_map, if◌then◌else◌, ◌&&◌, ◌==◌};
 ghost use Rattle.std.specs.List.{list_any};
 ghost use Rattle.flat_machine.specs.File as of_file;
 ghost use Rattle.flat_machine.specs.Space as of_space;
@@ -118,6 +118,42 @@ pub fn file_at<A: Allocator>(files: &[StoredFile<A>], id: FileId) -> Option<&Sto
     ensures { option_copied result ≡ of_file.file_at files.now id }
 {
     files.iter().find(|f| f.id() == id)
+}
+
+/// Whether a call may name a file of that identifier.
+fn is_nameable<A: Allocator>(files: &[StoredFile<A>], spaces: &[Space], id: FileId) -> bool
+    ensures { result ≡ is_some (if of_machine.is_anonymous spaces.now id then None else of_file.file_at files.now id) }
+{
+    if is_anonymous(spaces, id) {
+        return false;
+    }
+    file_at(files, id).is_some()
+}
+
+/// Whether the file has an identifier above that one, which a call may name.
+fn is_above<A: Allocator>(
+    files: &[StoredFile<A>],
+    spaces: &[Space],
+    id: FileId,
+    file: &StoredFile<A>,
+) -> bool
+    ensures { result ≡ (nat_lt id file.now.id && is_some (if of_machine.is_anonymous spaces.now file.now.id then None else of_file.file_at files.now file.now.id)) }
+{
+    id < file.id() && is_nameable(files, spaces, file.id())
+}
+
+/// The least identifier above that one which a call may name.
+pub fn nameable_above<A: Allocator>(
+    files: &[StoredFile<A>],
+    spaces: &[Space],
+    id: FileId,
+) -> Option<FileId>
+    ensures { result ≡ option_map (λ f. f.id) (find (λ f. nat_lt id f.id && is_some (if of_machine.is_anonymous spaces.now f.id then None else of_file.file_at files.now f.id)) files.now) }
+{
+    files
+        .iter()
+        .find(|f| is_above(files, spaces, id, f))
+        .map(|f| f.id())
 }
 
 /// The lowest handle of a window on the file.

@@ -67,12 +67,18 @@ fn with_unit(space: Space, handle: u32, unit: u8) -> Space
     space
 }
 
-pub fn set_unit(spaces: &mut [Space], handle: u32, unit: u8)
+fn write_unit(spaces: &mut [Space], handle: u32, unit: u8)
     ensures { spaces.new ≡ after.change_space handle (λ s. record s { unit = unit }) spaces.old }
 {
     for s in spaces.iter_mut() {
         *s = with_unit(*s, handle, unit);
     }
+}
+
+pub fn set_unit<A: Allocator>(spaces: &mut Vec<Space, A>, handle: u32, unit: u8)
+    ensures { spaces.new.items ≡ after.change_space handle (λ s. record s { unit = unit }) spaces.old.items }
+{
+    write_unit(spaces, handle, unit);
 }
 
 /// The space, with that window or none where it has the handle.
@@ -85,12 +91,18 @@ fn with_window(space: Space, handle: u32, window: Option<Window>) -> Space
     space
 }
 
-pub fn set_window(spaces: &mut [Space], handle: u32, window: Option<Window>)
+fn write_window(spaces: &mut [Space], handle: u32, window: Option<Window>)
     ensures { spaces.new ≡ after.set_window handle window spaces.old }
 {
     for s in spaces.iter_mut() {
         *s = with_window(*s, handle, window);
     }
+}
+
+pub fn set_window<A: Allocator>(spaces: &mut Vec<Space, A>, handle: u32, window: Option<Window>)
+    ensures { spaces.new.items ≡ after.set_window handle window spaces.old.items }
+{
+    write_window(spaces, handle, window);
 }
 
 /// The space, with its window in that mode where it has the handle.
@@ -106,12 +118,18 @@ fn with_mode(space: Space, handle: u32, writable: bool) -> Space
     space
 }
 
-pub fn set_mode(spaces: &mut [Space], handle: u32, writable: bool)
+fn write_mode(spaces: &mut [Space], handle: u32, writable: bool)
     ensures { spaces.new ≡ after.set_mode handle writable spaces.old }
 {
     for s in spaces.iter_mut() {
         *s = with_mode(*s, handle, writable);
     }
+}
+
+pub fn set_mode<A: Allocator>(spaces: &mut Vec<Space, A>, handle: u32, writable: bool)
+    ensures { spaces.new.items ≡ after.set_mode handle writable spaces.old.items }
+{
+    write_mode(spaces, handle, writable);
 }
 
 /// All spaces go but the root.

@@ -1,6 +1,6 @@
 //! The file pages that were stored to and not forced since.
 
-ghost use Rattle.std.specs.Prelude.{◌≡◌, OnOk, OnErr, fold};
+ghost use Rattle.std.specs.Prelude.{◌≡◌, OnOk, OnErr, fold, if◌then◌else◌};
 ghost use Rattle.std.specs.List.{list_any};
 ghost use Rattle.flat_machine.specs.At.{one_or_two};
 ghost use Rattle.flat_machine.specs.Next as after;
@@ -72,6 +72,19 @@ pub fn settle_window<A: Allocator>(space: &Space, unforced: &mut Vec<FilePage, A
     ensures { unforced.new.items ≡ after.without_window_of space.now unforced.old.items }
 {
     unforced.retain(|u| !window::shows(space, u));
+}
+
+/// Takes the pages away that the window of the space shows, where it is no longer writable.
+pub fn settle_unless<A: Allocator>(
+    writable: bool,
+    space: &Space,
+    unforced: &mut Vec<FilePage, A>,
+)
+    ensures { unforced.new.items ≡ (if writable then unforced.old.items else after.without_window_of space.now unforced.old.items) }
+{
+    if !writable {
+        settle_window(space, unforced);
+    }
 }
 
 /// Takes the pages away that some window shows in the range.

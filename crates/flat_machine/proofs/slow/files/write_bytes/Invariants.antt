@@ -1,6 +1,6 @@
 use Rattle.std.proofs.Common.{◌≡◌, ◌+◌, drop}
 use Rattle.flat_machine.specs.Next.{store_bytes}
-use Rattle.flat_machine.proofs.slow.files.store_bytes.Given as goal
+use Rattle.flat_machine.proofs.slow.files.write_bytes.Given as goal
 
 abbrev pub invariant-loop-byte : goal.invariant-loop-byte
 invariant-loop-byte g l = record {

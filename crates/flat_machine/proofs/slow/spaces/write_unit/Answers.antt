@@ -1,7 +1,7 @@
 use Rattle.std.specs.Prelude.{if◌then◌else◌, ◌==◌, option_map, true}
 use Rattle.flat_machine.specs.Space.{Space}
 use Rattle.flat_machine.proofs.EditLemmas.{each_step}
-use Rattle.flat_machine.proofs.slow.spaces.set_unit.Goals as goal
+use Rattle.flat_machine.proofs.slow.spaces.write_unit.Goals as goal
 
 pub loop-s-preserved : goal.loop-s-preserved
 loop-s-preserved c =
