@@ -133,3 +133,22 @@ room_resized m id pages r e =
         → total_room (change_file id (resized pages) m.files) ≤ m.capacity
     found None q n f h = absurd (n refl)
     found (Some f) q n k h = omega (arith, fits_none _ _ k, h)
+
+-- The same of a list that is the changed one.
+
+pub rising_stored_by : (gs : List File) (spaces : List Space) (address : ℕ) (bytes : List ℕ) (fs : List File)
+    → gs ≡ store_bytes spaces address bytes fs → AreRising fs → AreRising gs
+rising_stored_by gs spaces address bytes fs e h = subst (λ (l : List File). AreRising l) (sym e) (rising_stored spaces address bytes fs h)
+
+pub rising_killed_by : (gs : List File) (ss : List Space) (range : Space) (fs : List File)
+    → gs ≡ map (killed_file ss range) fs → AreRising fs → AreRising gs
+rising_killed_by gs ss range fs e h = subst (λ (l : List File). AreRising l) (sym e) (rising_killed ss range fs h)
+
+pub rising_resized_by : (gs : List File) (id pages : ℕ) (fs : List File) → gs ≡ change_file id (resized pages) fs → AreRising fs → AreRising gs
+rising_resized_by gs id pages fs e h = subst (λ (l : List File). AreRising l) (sym e) (rising_changed id (resized pages) (λ f. refl) fs h)
+
+pub room_resized_by : (n m : Machine) (gs : List File) (id pages : ℕ) → n ≡ m → gs ≡ change_file id (resized pages) n.files → AreRising n.files
+    → refusal m (SetSize id pages) ≡ None → total_room gs ≤ n.capacity
+room_resized_by n m gs id pages v e h r =
+    let k : refusal n (SetSize id pages) ≡ None = subst (λ (l : Machine). refusal l (SetSize id pages) ≡ None) (sym v) r in
+    subst (λ (l : List File). total_room l ≤ n.capacity) (sym e) (room_resized n id pages h k)

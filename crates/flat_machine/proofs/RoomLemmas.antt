@@ -139,3 +139,13 @@ found_size fs id f e = let P : Option File → Type 0 = λ o. IfSome o (λ g. si
 pub small_if : (r : Option (Bor File)) (fs : List File) (id limit : ℕ) → option_copied r ≡ file_at fs id → total_room fs < limit → IfSome r (λ f. size f.now < limit)
 small_if None fs id limit e h = tt
 small_if (Some f) fs id limit e h = omega (arith, found_size fs id f.now (sym e))
+
+-- The same of a list that is the changed one.
+
+pub room_stored_by : (gs : List File) (spaces : List Space) (address : ℕ) (bytes : List ℕ) (fs : List File) (capacity : ℕ)
+    → gs ≡ store_bytes spaces address bytes fs → total_room fs ≤ capacity → total_room gs ≤ capacity
+room_stored_by gs spaces address bytes fs capacity e h = subst (λ (l : List File). total_room l ≤ capacity) (sym e) (room_stored spaces address bytes fs capacity h)
+
+pub room_killed_by : (gs : List File) (ss : List Space) (range : Space) (fs : List File) (capacity : ℕ)
+    → gs ≡ map (killed_file ss range) fs → total_room fs ≤ capacity → total_room gs ≤ capacity
+room_killed_by gs ss range fs capacity e h = subst (λ (l : List File). total_room l ≤ capacity) (sym e) (room_killed ss range fs capacity h)
