@@ -1,154 +1,158 @@
--- Files stay in rising identifiers, and within the capacity.
-use Rattle.std.proofs.Common.{◌≡◌, ℕ, zero, suc, ◌+◌, ◌-◌, ◌<◌, ◌≤◌, Bool, true, false, not, cond, List, [], ◌∷◌, ◌++◌, map, filter, length, take, replicate, Option, Some, None, refl, sym, ◌∙◌, ap, subst, arith}
-use Rattle.std.proofs.lemmas.Bool.Decides.{nat_tests}
-use Rattle.std.specs.Prelude.{nat_lt, fold, IfSome, is_none, option_and_then, ◌==◌, if◌then◌else◌}
-use Rattle.std.specs.List.{AllByRecursion, list_any}
-use Rattle.std.specs.Bool.{then_some}
+-- What holds of a machine's files, and edits that keep it.
+use Rattle.std.proofs.Common.{◌≡◌, ◌≢◌, ◌⊎◌, inl, inr, ℕ, zero, suc, ◌+◌, ◌-◌, ◌*◌, ◌/◌, ◌%◌, ◌^◌, ◌<◌, ◌≤◌, Bool, true, false, not, ◌&&◌, cond, List, [], ◌∷◌, map, filter, length, replicate, Option, Some, None, refl, sym, ◌∙◌, ap, subst, arith, eqb}
+use Rattle.std.specs.Prelude.{IfSome, IsSomeAnd, IsTrue, IsFalse, find, sum_by, option_map, nat_lt, ◌==◌, if◌then◌else◌}
+use Rattle.std.specs.List.{AllByRecursion}
 use Rattle.std.specs.Option.{option_map_or}
+use Rattle.std.proofs.lemmas.Option.{same_Some, none-some}
+use Rattle.std.proofs.lemmas.Bool.{eqb-true, eqb-false, eq-eqb, ne_eqb, true≢false, not-true}
+use Rattle.std.proofs.lemmas.List.Sums.{sum_by-cons}
 use Rattle.labelled_disk.specs.Rising.{AreRising}
-use Rattle.flat_machine.specs.declared.call.Call.TheVariants.{SetSize}
-use Rattle.flat_machine.specs.declared.call.Refusal.TheVariants as why
-use Rattle.flat_machine.specs.File.{File, Page, size, room_of, total_room, file_at, zero_page}
-use Rattle.flat_machine.specs.Space.{Space, Window}
-use Rattle.flat_machine.specs.At.{Spot, spot_at}
-use Rattle.flat_machine.specs.Machine.{Machine, is_anonymous}
-use Rattle.flat_machine.specs.Refusal.{Test, first_of, refusal, no_file, is_immutable, cut_while_mapped, no_room_as}
-use Rattle.flat_machine.specs.Next.{change_file, without_file, resized, with_byte, store_byte, store_bytes, killed_file, without_anonymous}
-use Rattle.flat_machine.proofs.RoomLemmas.{room_from, from_more, replicated, found_size}
+use Rattle.labelled_disk.proofs.RisingLemmas.{at_put, rising_put}
+use Rattle.labelled_disk.proofs.WriteLemmas.{room_changed}
+use Rattle.flat_machine.specs.File.{File, size, file_at, room_of, total_room, put_file}
+use Rattle.flat_machine.specs.Space.{Window}
+use Rattle.flat_machine.specs.Machine.{IsFile, IsFileId, IsWindow}
+use Rattle.flat_machine.specs.Next.{change_file}
+use Rattle.flat_machine.proofs.Lists.{In, all_in, in_all, in_filter, filter_in, in_map, map_in, one_key, looked_up, look_up, look_up_none, rising_filter, rising_map}
 
--- Rising order.
+-- what holds of every machine, of its files alone
+pub record AreFiles (serial counter capacity : ℕ) (fs : List File) : Type 0 where
+  pub rise : AreRising fs
+  pub given : AllByRecursion (λ f. IsFileId serial counter f.id) fs
+  pub whole : AllByRecursion IsFile fs
+  pub room : total_room fs ≤ capacity
 
-same_ids : (g : File → File) → ((f : File) → (g f).id ≡ f.id) → (fs : List File) → map (λ f. f.id) (map g fs) ≡ map (λ f. f.id) fs
-same_ids g k [] = refl
-same_ids g k (f ∷ fs) = λ t. k f t ∷ same_ids g k fs t
+-- some files are taken out
 
-pub rising_map : (g : File → File) → ((f : File) → (g f).id ≡ f.id) → (fs : List File) → AreRising fs → AreRising (map g fs)
-rising_map g k fs h = rw (same_ids g k fs) h
-
-pub one_id : (id : ℕ) (g : File → File) → ((f : File) → (g f).id ≡ f.id) → (f : File) → (if f.id == id then g f else f).id ≡ f.id
-one_id id g k f = either (f.id == id)
+room_filter : (p : File → Bool) (fs : List File) → total_room (filter p fs) ≤ total_room fs
+room_filter p [] = omega arith
+room_filter p (f ∷ fs) = either (p f) (room_filter p fs)
   where
-    either : (b : Bool) → (cond b (g f) f).id ≡ f.id
-    either true = k f
+    either : (b : Bool) → total_room (filter p fs) ≤ total_room fs → total_room (cond b (f ∷ filter p fs) (filter p fs)) ≤ total_room (f ∷ fs)
+    either true h = omega (arith, h, sum_by-cons room_of f (filter p fs), sum_by-cons room_of f fs)
+    either false h = omega (arith, h, sum_by-cons room_of f fs)
+
+module _ (serial counter capacity : ℕ) where
+  pub fewer_files : (p : File → Bool) (fs : List File) → AreFiles serial counter capacity fs → AreFiles serial counter capacity (filter p fs)
+  fewer_files p fs h = record {
+    rise = rising_filter (λ f. f.id) p fs h.rise;
+    given = in_all _ (filter p fs) (λ f i. all_in _ fs h.given f (in_filter p fs f i).0);
+    whole = in_all _ (filter p fs) (λ f i. all_in _ fs h.whole f (in_filter p fs f i).0);
+    room = omega (arith, room_filter p fs, h.room);
+  }
+
+  -- each file is changed, and keeps its identifier
+  pub changed_files : (g : File → File) → ((f : File) → (g f).id ≡ f.id) → (fs : List File) → ((f : File) → In f fs → IsFile f → IsFile (g f))
+      → total_room (map g fs) ≤ capacity → AreFiles serial counter capacity fs → AreFiles serial counter capacity (map g fs)
+  changed_files g ids fs kept room h = record {
+    rise = rising_map (λ f. f.id) g ids fs h.rise;
+    given = in_all _ (map g fs) (λ y i. let r = in_map g fs y i in
+        subst (λ (f : File). IsFileId serial counter f.id) r.2 (subst (λ (n : ℕ). IsFileId serial counter n) (sym (ids r.0)) (all_in _ fs h.given r.0 r.1)));
+    whole = in_all _ (map g fs) (λ y i. let r = in_map g fs y i in subst IsFile r.2 (kept r.0 r.1 (all_in _ fs h.whole r.0 r.1)));
+    room = room;
+  }
+
+-- what is looked up among changed files
+pub look_up_changed : (g : File → File) → ((f : File) → (g f).id ≡ f.id) → (fs : List File) (id : ℕ) → file_at (map g fs) id ≡ option_map g (file_at fs id)
+look_up_changed g ids [] id = refl
+look_up_changed g ids (f ∷ fs) id = ap (λ (n : ℕ). cond (n == id) (Some (g f)) (file_at (map g fs) id)) (ids f) ∙ found (f.id == id) (look_up_changed g ids fs id)
+  where
+    found : (b : Bool) → file_at (map g fs) id ≡ option_map g (file_at fs id)
+        → cond b (Some (g f)) (file_at (map g fs) id) ≡ option_map g (cond b (Some f) (file_at fs id))
+    found true e = refl
+    found false e = e
+
+pub found_changed : (g : File → File) → ((f : File) → (g f).id ≡ f.id) → (fs : List File) (id : ℕ) (f : File) → file_at fs id ≡ Some f → file_at (map g fs) id ≡ Some (g f)
+found_changed g ids fs id f e = look_up_changed g ids fs id ∙ ap (λ (o : Option File). option_map g o) e
+
+-- a change that keeps each size keeps the room
+pub same_room : (g : File → File) → ((f : File) → size (g f) ≡ size f) → (fs : List File) → total_room (map g fs) ≡ total_room fs
+same_room g k [] = refl
+same_room g k (f ∷ fs) = omega (arith, same_room g k fs, k f, sum_by-cons room_of f fs, sum_by-cons room_of (g f) (map g fs))
+
+-- one file is changed
+
+pub one_id : (id : ℕ) (c : File → File) → ((f : File) → (c f).id ≡ f.id) → (f : File) → (if f.id == id then c f else f).id ≡ f.id
+one_id id c ids f = either (f.id == id)
+  where
+    either : (b : Bool) → (if b then c f else f).id ≡ f.id
+    either true = ids f
     either false = refl
 
-above_filter : (p : File → Bool) (low : ℕ) (fs : List File) → AllByRecursion (λ y. low < y) (map (λ f. f.id) fs) → AllByRecursion (λ y. low < y) (map (λ f. f.id) (filter p fs))
-above_filter p low [] h = tt
-above_filter p low (f ∷ fs) h = kept (p f) (above_filter p low fs h.1)
+pub changed_here : (id : ℕ) (c : File → File) (f : File) → f.id ≡ id → (if f.id == id then c f else f) ≡ c f
+changed_here id c f e = let t : eqb f.id id ≡ true = eq-eqb f.id id e in ap (λ (b : Bool). if b then c f else f) t
+
+pub unchanged : (id : ℕ) (c : File → File) (f : File) → f.id ≢ id → (if f.id == id then c f else f) ≡ f
+unchanged id c f n = let t : eqb f.id id ≡ false = ne_eqb f.id id n in ap (λ (b : Bool). if b then c f else f) t
+
+-- the room is that of before, but for the one file
+pub room_of_one : (id : ℕ) (c : File → File) → ((f : File) → (c f).id ≡ f.id) → (fs : List File) (f : File) → AreRising fs → file_at fs id ≡ Some f
+    → total_room (change_file id c fs) + size f ≡ total_room fs + size (c f)
+room_of_one id c ids fs f rise is =
+    let g : File → File = λ x. if x.id == id then c x else x in
+    let found = look_up_changed g (one_id id c ids) fs in
+    let same = room_changed false 0 0 fs (map g fs) id rise (rising_map (λ x. x.id) g (one_id id c ids) fs rise) (λ j n. found j ∙ stays j n (file_at fs j) refl) in
+    let old : option_map_or room_of (file_at fs id) 0 ≡ room_of f = ap (λ (o : Option File). option_map_or room_of o 0) is in
+    let now : option_map_or room_of (file_at (map g fs) id) 0 ≡ room_of (c f) =
+        ap (λ (o : Option File). option_map_or room_of o 0) (found_changed g (one_id id c ids) fs id f is)
+        ∙ ap room_of (changed_here id c f (looked_up (λ x. x.id) fs id f is).1) in
+    omega (arith, same, old, now)
   where
-    kept : (b : Bool) → AllByRecursion (λ y. low < y) (map (λ f. f.id) (filter p fs)) → AllByRecursion (λ y. low < y) (map (λ f. f.id) (cond b (f ∷ filter p fs) (filter p fs)))
-    kept true t = (h.0, t)
-    kept false t = t
+    stays : (j : ℕ) → j ≢ id → (o : Option File) → file_at fs j ≡ o → option_map (λ x. if x.id == id then c x else x) (file_at fs j) ≡ file_at fs j
+    stays j n None e = ap (λ (o : Option File). option_map (λ x. if x.id == id then c x else x) o) e ∙ sym e
+    stays j n (Some x) e =
+        let at = (looked_up (λ y. y.id) fs j x e).1 in
+        ap (λ (o : Option File). option_map (λ x. if x.id == id then c x else x) o) e
+        ∙ ap Some (unchanged id c x (λ q. n (sym at ∙ q))) ∙ sym e
 
-pub rising_filter : (p : File → Bool) (fs : List File) → AreRising fs → AreRising (filter p fs)
-rising_filter p [] h = tt
-rising_filter p (f ∷ fs) h = kept (p f) (rising_filter p fs h.1)
+-- a file is put in
+
+pub each_put : (P : File → Type 0) (f : File) (fs : List File) → P f → AllByRecursion P fs → AllByRecursion P (put_file f fs)
+each_put P f [] p h = (p, tt)
+each_put P f (g ∷ gs) p h = either (nat_lt f.id g.id) (eqb f.id g.id) (each_put P f gs p h.1)
   where
-    kept : (b : Bool) → AreRising (filter p fs) → AreRising (cond b (f ∷ filter p fs) (filter p fs))
-    kept true t = (above_filter p f.id fs h.0, t)
-    kept false t = t
+    either : (b c : Bool) → AllByRecursion P (put_file f gs) → AllByRecursion P (if b then f ∷ g ∷ gs else (if c then f ∷ gs else g ∷ put_file f gs))
+    either true c more = (p, h)
+    either false true more = (p, h.1)
+    either false false more = (h.0, more)
 
-pub rising_changed : (id : ℕ) (g : File → File) → ((f : File) → (g f).id ≡ f.id) → (fs : List File) → AreRising fs → AreRising (change_file id g fs)
-rising_changed id g k fs h = rising_map (λ f. if f.id == id then g f else f) (one_id id g k) fs h
-
-pub rising_killed : (ss : List Space) (range : Space) (fs : List File) → AreRising fs → AreRising (map (killed_file ss range) fs)
-rising_killed ss range fs h = rising_map (killed_file ss range) (λ f. refl) fs h
-
-pub rising_without : (o : Option Window) (fs : List File) → AreRising fs → AreRising (option_map_or (λ w. without_anonymous w fs) o fs)
-rising_without None fs h = h
-rising_without (Some w) fs h = either w.anonymous
+pub room_put : (f : File) (fs : List File) → AreRising fs → file_at fs f.id ≡ None → total_room (put_file f fs) ≡ total_room fs + room_of f
+room_put f fs rise none =
+    let same = room_changed false 0 0 fs (put_file f fs) f.id rise (rising_put f fs rise) (λ j n. at_put f fs j ∙ past j n) in
+    let old : option_map_or room_of (file_at fs f.id) 0 ≡ 0 = ap (λ (o : Option File). option_map_or room_of o 0) none in
+    let now : option_map_or room_of (file_at (put_file f fs) f.id) 0 ≡ room_of f = ap (λ (o : Option File). option_map_or room_of o 0) (put_here f fs) in
+    omega (arith, same, old, now)
   where
-    either : (b : Bool) → AreRising (cond b (without_file w.file fs) fs)
-    either true = rising_filter _ fs h
-    either false = h
+    past : (j : ℕ) → j ≢ f.id → cond (eqb f.id j) (Some f) (file_at fs j) ≡ file_at fs j
+    past j n = let t : eqb f.id j ≡ false = ne_eqb f.id j (λ q. n (sym q)) in ap (λ (b : Bool). cond b (Some f) (file_at fs j)) t
 
-byte_rising : (o : Option Spot) (b : ℕ) (fs : List File) → AreRising fs → AreRising (option_map_or (λ spot. change_file spot.file (with_byte spot b) fs) o fs)
-byte_rising None b fs h = h
-byte_rising (Some spot) b fs h = rising_map _ (one_id spot.file (with_byte spot b) (λ f. refl)) fs h
+    put_here : (f : File) (fs : List File) → file_at (put_file f fs) f.id ≡ Some f
+    put_here f fs = at_put f fs f.id ∙ ap (λ (b : Bool). cond b (Some f) (file_at fs f.id)) (eq-eqb f.id f.id refl)
 
-pub rising_stored : (spaces : List Space) (address : ℕ) (bytes : List ℕ) (fs : List File) → AreRising fs → AreRising (store_bytes spaces address bytes fs)
-rising_stored spaces address [] fs h = h
-rising_stored spaces address (b ∷ bs) fs h = rising_stored spaces (address + 1) bs (store_byte spaces address b fs) (byte_rising (spot_at spaces address) b fs h)
+-- Windows.
 
--- A file that gets another size.
+-- the file that a window shows has become this one, and the window is still one on it
+pub record Follows (w : Window) (f g : File) : Type 0 where
+  pub size : size f ≤ size g
+  pub immutable : IsTrue w.writable → IsFalse f.immutable → IsFalse g.immutable
+  pub permanent : IsTrue w.anonymous → IsFalse f.permanent → IsFalse g.permanent
 
-size_resized : (n : ℕ) (ps : List Page) → length (take n ps ++ replicate (n - length ps) zero_page) ≡ n
-size_resized zero [] = refl
-size_resized zero (p ∷ ps) = let e : 0 - suc (length ps) ≡ 0 = omega arith in rw e refl
-size_resized (suc n) [] = let e : suc n - 0 ≡ suc n = omega arith in rw e (replicated zero_page (suc n))
-size_resized (suc n) (p ∷ ps) = let e : suc n - suc (length ps) ≡ n - length ps = omega arith in rw e (ap suc (size_resized n ps))
-
-other_above : (id low y : ℕ) → id ≤ low → low < y → y == id ≡ false
-other_above id low y l h = grind (arith, nat_tests)
-
-none_above : (id low : ℕ) (g : File → File) (fs : List File) → id ≤ low → AllByRecursion (λ y. low < y) (map (λ f. f.id) fs) → change_file id g fs ≡ fs
-none_above id low g [] l h = refl
-none_above id low g (f ∷ fs) l h = rw (other_above id low f.id l h.0) (ap (λ r. f ∷ r) (none_above id low g fs l h.1))
-
-id_of : (a b : ℕ) → a == b ≡ true → b ≤ a
-id_of a b e = grind (arith, nat_tests)
-
-resized_from : (id pages : ℕ) (fs : List File) (a : ℕ) → AreRising fs
-    → IfSome (file_at fs id) (λ f. room_from a (change_file id (resized pages) fs) + size f ≡ room_from a fs + pages)
-resized_from id pages [] a r = tt
-resized_from id pages (f ∷ fs) a r = either (f.id == id) refl (resized_from id pages fs (a + room_of f) r.1)
+pub window_file : (fs : List File) (pages : ℕ) (w : Window) → IsWindow fs pages w → (f : File) × (file_at fs w.file ≡ Some f) × (w.first + pages ≤ size f)
+window_file fs pages w h = either (file_at fs w.file) refl
   where
-    either : (b : Bool) → f.id == id ≡ b
-        → IfSome (file_at fs id) (λ g. room_from (a + room_of f) (change_file id (resized pages) fs) + size g ≡ room_from (a + room_of f) fs + pages)
-        → IfSome (cond b (Some f) (file_at fs id)) (λ g. room_from (a + room_of (cond b (resized pages f) f)) (change_file id (resized pages) fs) + size g ≡ room_from (a + room_of f) fs + pages)
-    either true e h =
-        let rest : change_file id (resized pages) fs ≡ fs = none_above id f.id (resized pages) fs (id_of f.id id e) r.0 in
-        rw rest (omega (arith, from_more fs a (room_of (resized pages f)), from_more fs a (room_of f), size_resized pages f.pages))
-    either false e h = h
+    either : (o : Option File) → file_at fs w.file ≡ o → (f : File) × (file_at fs w.file ≡ Some f) × (w.first + pages ≤ size f)
+    either None e = absurd (subst (λ (o : Option File). IsSomeAnd o (λ f. w.first + pages ≤ size f)) e h.inside_file)
+    either (Some f) e = (f, e, subst (λ (o : Option File). IsSomeAnd o (λ f. w.first + pages ≤ size f)) e h.inside_file)
 
-four_none : (a b c d : Test) → first_of (a ∷ b ∷ c ∷ d ∷ []) ≡ None → (a ≡ None) × (b ≡ None) × (c ≡ None) × (d ≡ None)
-four_none None None None None e = (refl, refl, refl, refl)
-four_none (Some w) b c d e = absurd (cc)
-four_none None (Some w) c d e = absurd (cc)
-four_none None None (Some w) d e = absurd (cc)
-four_none None None None (Some w) e = absurd (cc)
-
-pub fits_none : (n capacity : ℕ) → then_some (nat_lt capacity n) why.Full ≡ None → n ≤ capacity
-fits_none n capacity e = either (nat_lt capacity n) refl e
-  where
-    either : (b : Bool) → nat_lt capacity n ≡ b → then_some b why.Full ≡ None → n ≤ capacity
-    either true t g = absurd (cc)
-    either false t g = grind (arith, nat_tests)
-
-named : (b : Bool) (o : Option File) → then_some (is_none (if b then None else o)) why.File ≡ None → (o ≡ None → ⊥)
-named true None e n = cc
-named true (Some f) e n = cc
-named false None e n = cc
-named false (Some f) e n = cc
-
-pub room_resized : (m : Machine) (id pages : ℕ) → AreRising m.files → refusal m (SetSize id pages) ≡ None
-    → total_room (change_file id (resized pages) m.files) ≤ m.capacity
-room_resized m id pages r e =
-    let p = four_none (no_file m id) (is_immutable m id) (cut_while_mapped m id pages) (no_room_as m id pages) e in
-    found (file_at m.files id) refl (named (is_anonymous m.spaces id) (file_at m.files id) p.0) p.3 (resized_from id pages m.files 0 r)
-  where
-    found : (o : Option File) → file_at m.files id ≡ o → (o ≡ None → ⊥)
-        → option_and_then (λ f. then_some (nat_lt m.capacity (total_room m.files + pages - size f)) why.Full) o ≡ None
-        → IfSome o (λ f. total_room (change_file id (resized pages) m.files) + size f ≡ total_room m.files + pages)
-        → total_room (change_file id (resized pages) m.files) ≤ m.capacity
-    found None q n f h = absurd (n refl)
-    found (Some f) q n k h = omega (arith, fits_none _ _ k, h)
-
--- The same of a list that is the changed one.
-
-pub rising_stored_by : (gs : List File) (spaces : List Space) (address : ℕ) (bytes : List ℕ) (fs : List File)
-    → gs ≡ store_bytes spaces address bytes fs → AreRising fs → AreRising gs
-rising_stored_by gs spaces address bytes fs e h = subst (λ (l : List File). AreRising l) (sym e) (rising_stored spaces address bytes fs h)
-
-pub rising_killed_by : (gs : List File) (ss : List Space) (range : Space) (fs : List File)
-    → gs ≡ map (killed_file ss range) fs → AreRising fs → AreRising gs
-rising_killed_by gs ss range fs e h = subst (λ (l : List File). AreRising l) (sym e) (rising_killed ss range fs h)
-
-pub rising_resized_by : (gs : List File) (id pages : ℕ) (fs : List File) → gs ≡ change_file id (resized pages) fs → AreRising fs → AreRising gs
-rising_resized_by gs id pages fs e h = subst (λ (l : List File). AreRising l) (sym e) (rising_changed id (resized pages) (λ f. refl) fs h)
-
-pub room_resized_by : (n m : Machine) (gs : List File) (id pages : ℕ) → n ≡ m → gs ≡ change_file id (resized pages) n.files → AreRising n.files
-    → refusal m (SetSize id pages) ≡ None → total_room gs ≤ n.capacity
-room_resized_by n m gs id pages v e h r =
-    let k : refusal n (SetSize id pages) ≡ None = subst (λ (l : Machine). refusal l (SetSize id pages) ≡ None) (sym v) r in
-    subst (λ (l : List File). total_room l ≤ n.capacity) (sym e) (room_resized n id pages h k)
+pub window_kept : (fs gs : List File) (pages : ℕ) (w : Window) → IsWindow fs pages w
+    → ((f : File) → file_at fs w.file ≡ Some f → (g : File) × (file_at gs w.file ≡ Some g) × Follows w f g) → IsWindow gs pages w
+window_kept fs gs pages w h follow =
+    let at = window_file fs pages w h in
+    let to = follow at.0 at.1 in
+    let mutable = λ (t : IsTrue w.writable). subst (λ (o : Option File). IfSome o (λ f. IsFalse f.immutable)) at.1 (h.writable_mutable t) in
+    let temporary = λ (t : IsTrue w.anonymous). subst (λ (o : Option File). IfSome o (λ f. IsFalse f.permanent)) at.1 (h.anonymous_temporary t) in
+    record {
+      inside_file = subst (λ (o : Option File). IsSomeAnd o (λ f. w.first + pages ≤ size f)) (sym to.1) (omega (arith, at.2, to.2.size));
+      writable_mutable = λ t. subst (λ (o : Option File). IfSome o (λ f. IsFalse f.immutable)) (sym to.1) (to.2.immutable t (mutable t));
+      anonymous_temporary = λ t. subst (λ (o : Option File). IfSome o (λ f. IsFalse f.permanent)) (sym to.1) (to.2.permanent t (temporary t));
+    }

@@ -10,6 +10,7 @@ use Rattle.labelled_disk.specs.FilesOn.{leads, file_by, files_by, files_on, put_
 use Rattle.flat_machine.specs.File.{File, Page, any_page, Cell}
 use Rattle.flat_machine.specs.Settled.{settled, settled_file, Agrees, PageAgrees, CellAgrees}
 use Rattle.flat_machine.specs.Start.{start, opened}
+use Rattle.flat_machine.proofs.FileLemmas.{each_put}
 use Rattle.flat_machine.specs.Laws.{OpenedIsMachine, StartAgrees}
 
 pub opened_is_machine : OpenedIsMachine
@@ -31,15 +32,6 @@ opened_is_machine serial counter capacity a b c d = record {
 }
 
 -- what holds of the file of each leader holds of all files
-each_put : (P : File → Type 0) (f : File) (fs : List File) → P f → AllByRecursion P fs → AllByRecursion P (put_file f fs)
-each_put P f [] p h = (p, tt)
-each_put P f (g ∷ gs) p h = either (nat_lt f.id g.id) (eqb f.id g.id) (each_put P f gs p h.1)
-  where
-    either : (b c : Bool) → AllByRecursion P (put_file f gs) → AllByRecursion P (if b then f ∷ g ∷ gs else (if c then f ∷ gs else g ∷ put_file f gs))
-    either true c more = (p, h)
-    either false true more = (p, h.1)
-    either false false more = (h.0, more)
-
 pub each_by_leaders : (P : File → Type 0) (temps : Bool) (all ss : List Sector) → ((s : Sector) → leads temps s ≡ true → P (file_by all s.0))
     → AllByRecursion P (files_by temps all ss)
 each_by_leaders P temps all [] each = tt

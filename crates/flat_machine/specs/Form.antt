@@ -1,5 +1,6 @@
 -- Calls in form.
-use Rattle.std.specs.Prelude.{◌≤◌, length}
+use Rattle.std.specs.Prelude.{◌≤◌, ◌<◌, length}
+use Rattle.std.specs.List.{AllByRecursion}
 use Rattle.flat_machine.specs.declared.call.Call.{Call}
 use Rattle.flat_machine.specs.declared.call.Call.TheVariants as call
 
@@ -8,3 +9,9 @@ abbrev pub IsInForm : Call → Type 0
 IsInForm (call.Load address count) = (1 ≤ count) × (count ≤ 64)
 IsInForm (call.Store address bytes) = (1 ≤ length bytes) × (length bytes ≤ 64)
 IsInForm c = Unit {0}
+
+-- the type of a new file has 16 bits, and the bytes of a store are bytes
+abbrev pub IsTyped : Call → Type 0
+IsTyped (call.Create pages kind) = kind < 65536
+IsTyped (call.Store address bytes) = AllByRecursion (λ b. b < 256) bytes
+IsTyped c = Unit {0}

@@ -1,20 +1,25 @@
 -- What the definitions say.
-use Rattle.std.specs.Prelude.{◌≡◌, ℕ, suc, ◌≤◌, Bool, List, [], ◌++◌, Some, slice_get}
-use Rattle.labelled_disk.specs.Sectors.{Sector}
+use Rattle.std.specs.Prelude.{◌≡◌, ◌⊎◌, ◌↔◌, ℕ, suc, ◌+◌, ◌/◌, ◌<◌, ◌≤◌, Bool, false, IsTrue, IsSomeAnd, IfSome, List, [], ◌∷◌, ◌++◌, length, filter, Some, slice_get}
+use Rattle.std.specs.List.{AllByRecursion}
+use Rattle.labelled_disk.specs.Sectors.{Sector, AreSectors}
+use Rattle.labelled_disk.specs.Root.{LabelsRight}
 use Rattle.labelled_disk.specs.FilesOn.{files_on}
 use Rattle.flat_machine.specs.declared.call.Call.{Call}
 use Rattle.flat_machine.specs.declared.call.Reply.{Reply}
 use Rattle.flat_machine.specs.declared.call.Refusal.{Refusal}
 use Rattle.flat_machine.specs.Text.{text}
-use Rattle.flat_machine.specs.Space.{Space}
-use Rattle.flat_machine.specs.Machine.{Machine, IsMachine}
-use Rattle.flat_machine.specs.Refusal.{refusal}
-use Rattle.flat_machine.specs.Next.{next}
+use Rattle.flat_machine.specs.Form.{IsTyped}
+use Rattle.flat_machine.specs.File.{size, file_at}
+use Rattle.flat_machine.specs.Space.{Space, FilePage, overlap, root_pages, space_at}
+use Rattle.flat_machine.specs.Machine.{Machine, IsMachine, IsRising, ancestor}
+use Rattle.flat_machine.specs.At.{shown_at, pages_of}
+use Rattle.flat_machine.specs.Refusal.{refusal, fits, lowest_gap}
+use Rattle.flat_machine.specs.Next.{next, is_unused, lowest_unused}
 use Rattle.flat_machine.specs.Allows.{Allows, reply_of}
 use Rattle.flat_machine.specs.After.{TraceLine, AllowsLine, next_line, after, Transcript}
 use Rattle.flat_machine.specs.Settled.{settled, Agrees}
 use Rattle.flat_machine.specs.Start.{opened, start}
-use Rattle.flat_machine.specs.Projection.{Interval, IsProjection}
+use Rattle.flat_machine.specs.Projection.{Interval, IsProjection, end_of, unit}
 
 -- some reply is allowed, whatever the machine and the call
 abbrev pub SomeReplyIsAllowed : Type 0
@@ -48,6 +53,83 @@ OpenedIsMachine = (serial counter capacity : ℕ) → 1 ≤ serial → serial �
 abbrev pub StartAgrees : Type 0
 StartAgrees = (d : List Sector) → (settled (start d) ≡ files_on d) × Agrees (files_on d) (settled (start d))
 
+-- a disk with right labels starts a machine
+abbrev pub StartIsMachine : Type 0
+StartIsMachine = (d : List Sector) → AreSectors d → LabelsRight d → IsMachine (start d)
+
 -- the spaces have one projection at most
 abbrev pub ProjectionIsUnique : Type 0
 ProjectionIsUnique = (spaces : List Space) (is js : List Interval) → IsProjection spaces is → IsProjection spaces js → is ≡ js
+
+-- where so many pages fit, they fit at the lowest gap, and it is no higher
+abbrev pub LowestGapIsLeast : Type 0
+LowestGapIsLeast = (spaces : List Space) (parent : Space) (pages first : ℕ) → IsTrue (fits spaces parent pages first)
+    → IsSomeAnd (lowest_gap spaces parent pages) (λ gap. gap ≤ first × IsTrue (fits spaces parent pages gap))
+
+-- where a handle is unused, the lowest unused one is no higher, and it is unused and not the root's
+abbrev pub LowestUnusedIsLeast : Type 0
+LowestUnusedIsLeast = (spaces : List Space) (handle : ℕ) → is_unused spaces 0 ≡ false → IsTrue (is_unused spaces handle)
+    → (lowest_unused spaces ≤ handle) × IsTrue (is_unused spaces (lowest_unused spaces)) × (1 ≤ lowest_unused spaces)
+
+-- what holds of every machine holds of the machine after a call
+abbrev pub NextKeepsMachine : Type 0
+NextKeepsMachine = (m : Machine) (call : Call) → IsTyped call → IsMachine m → IsMachine (next m call)
+
+-- the unit of a page: it lies in the interval, holds the page, and has no more pages than the space's unit size
+pub record IsUnitOf (space : Space) (i : Interval) (page : ℕ) : Type 0 where
+  pub lies_in_interval : i.first ≤ (unit space i page).0
+  pub ends_in_interval : (unit space i page).0 + (unit space i page).1 ≤ end_of i
+  pub begins_before : (unit space i page).0 ≤ page
+  pub ends_behind : page < (unit space i page).0 + (unit space i page).1
+  pub short : (unit space i page).1 ≤ space.unit
+
+-- it is so for each page of an interval that lies in the space
+abbrev pub UnitHoldsItsPage : Type 0
+UnitHoldsItsPage = (space : Space) (i : Interval) (page : ℕ) → space.first ≤ page → 1 ≤ space.unit → i.first ≤ page → page < end_of i → IsUnitOf space i page
+
+-- each page of the root is in one of the intervals
+abbrev pub ProjectionCovers : Type 0
+ProjectionCovers = (spaces : List Space) (is : List Interval) → IsProjection spaces is → (page : ℕ) → page < root_pages
+    → (k : ℕ) × (i : Interval) × (slice_get is k ≡ Some i) × (i.first ≤ page) × (page < end_of i)
+
+-- the spaces have a projection
+abbrev pub ProjectionExists : Type 0
+ProjectionExists = (spaces : List Space) → (is : List Interval) × IsProjection spaces is
+
+-- some number of steps up from the second leads to the first
+abbrev pub IsAtOrAbove : List Space → Space → Space → Type 0
+IsAtOrAbove spaces s t = (steps : ℕ) × (ancestor spaces steps t.handle ≡ s.handle)
+
+-- two spaces of a machine share a page exactly where one is the other or above it
+abbrev pub SharingIsOnePath : Type 0
+SharingIsOnePath = (m : Machine) → IsMachine m → (s t : Space) → space_at m.spaces s.handle ≡ Some s → space_at m.spaces t.handle ≡ Some t
+    → IsTrue (overlap s t) ↔ (IsAtOrAbove m.spaces s t ⊎ IsAtOrAbove m.spaces t s)
+
+-- one of these pages
+abbrev pub IsOneOf : List ℕ → ℕ → Type 0
+IsOneOf [] page = ⊥
+IsOneOf (p ∷ ps) page = (p ≡ page) ⊎ IsOneOf ps page
+
+-- these are the pages of so many addresses in a row: two at most
+pub record IsTouched (address count : ℕ) (pages : List ℕ) : Type 0 where
+  pub two_at_most : length pages ≤ 2
+  pub rising : IsRising pages
+  pub no_other : AllByRecursion (λ page. (k : ℕ) × (k < count) × ((address + k) / 512 ≡ page)) pages
+  pub each : (k : ℕ) → k < count → IsOneOf pages ((address + k) / 512)
+
+-- a reference of 1 to 512 bytes touches the pages of its addresses
+abbrev pub ReferenceTouches : Type 0
+ReferenceTouches = (address count : ℕ) → 1 ≤ count → count ≤ 512 → IsTouched address count (pages_of address count)
+
+-- a page that is shown is one of its file
+abbrev pub ShownIsThere : Type 0
+ShownIsThere = (m : Machine) → IsMachine m → (page : ℕ) (u : FilePage) → shown_at m.spaces page ≡ Some u → IsSomeAnd (file_at m.files u.file) (λ f. u.page < size f)
+
+-- where nothing is unforced, the settled files are the permanent ones
+abbrev pub ForcedIsSettled : Type 0
+ForcedIsSettled = (m : Machine) → m.unforced ≡ [] → settled m ≡ filter (λ f. f.permanent) m.files
+
+-- the machine after some lines is a machine
+abbrev pub AfterIsMachine : Type 0
+AfterIsMachine = (built : Call → Bool) (m : Machine) (lines : List TraceLine) (k : ℕ) → AllByRecursion (λ line. IfSome line IsTyped) lines
+    → IsMachine m → IsMachine (after built m lines k)

@@ -11,5 +11,6 @@ pub mod After
 pub mod Settled
 pub mod Start
 pub mod Projection
+pub mod Rows
 pub mod Laws
 pub mod Slow

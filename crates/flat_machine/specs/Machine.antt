@@ -2,6 +2,7 @@
 use Rattle.std.specs.Prelude.{ℕ, zero, suc, Bool, ◌&&◌, ◌≡◌, ◌≢◌, ◌+◌, ◌/◌, ◌%◌, ◌^◌, ◌<◌, ◌≤◌, ◌==◌, if◌then◌else◌, List, [], ◌∷◌, Option, Some, None, length, map, IsTrue, IsFalse, IfSome, IsSomeAnd}
 use Rattle.std.specs.List.{list_any, AllByRecursion}
 use Rattle.std.specs.Option.{option_map_or}
+pub use Rattle.labelled_disk.specs.Rising.{IsRising, AreRising}
 use Rattle.flat_machine.specs.File.{File, Cell, size, file_at, total_room}
 use Rattle.flat_machine.specs.Space.{Space, Window, FilePage, root, end, overlap, space_at, is_child_of, is_mapped, is_writable, has_window, shows}
 
@@ -28,11 +29,6 @@ abbrev pub nameable : Machine → ℕ → Option File
 nameable m id = if is_anonymous m.spaces id then None else file_at m.files id
 
 -- What holds of every machine.
-
--- each number is below all after it
-abbrev pub IsRising : List ℕ → Type 0
-IsRising [] = Unit {0}
-IsRising (x ∷ xs) = AllByRecursion (λ y. x < y) xs × IsRising xs
 
 -- the identifiers that a file may have: one with the volume's own serial has a counter that was given out
 pub record IsFileId (serial counter id : ℕ) : Type 0 where
@@ -89,7 +85,7 @@ is_shown_writable spaces u = list_any (λ s. is_writable s && shows u.file u.pag
 pub record IsMachine (m : Machine) : Type 0 where
   pub serial_fits : (1 ≤ m.serial) × (m.serial ≤ 4294967295)
   pub counter_fits : (1 ≤ m.counter) × (m.counter ≤ 4294967295)
-  pub ids_rise : IsRising (map (λ f. f.id) m.files)
+  pub ids_rise : AreRising m.files
   pub ids_given : AllByRecursion (λ f. IsFileId m.serial m.counter f.id) m.files
   pub whole_files : AllByRecursion IsFile m.files
   pub room : used m ≤ m.capacity

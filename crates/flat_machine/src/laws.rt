@@ -1,7 +1,10 @@
 //! What the definitions of the machine say, shown on functions that do nothing.
 
 ghost use Rattle.flat_machine.specs.Laws.{SomeReplyIsAllowed, RefusedChangesNothing, TranscriptBegins, TranscriptGrows, AfterGrows};
-ghost use Rattle.flat_machine.specs.Laws.{OpenedIsMachine, StartAgrees, ProjectionIsUnique};
+ghost use Rattle.flat_machine.specs.Rows.{WorkedRows};
+ghost use Rattle.flat_machine.specs.Laws.{OpenedIsMachine, StartAgrees, ProjectionIsUnique, LowestGapIsLeast, LowestUnusedIsLeast};
+ghost use Rattle.flat_machine.specs.Laws.{NextKeepsMachine, AfterIsMachine, StartIsMachine, UnitHoldsItsPage, ProjectionCovers};
+ghost use Rattle.flat_machine.specs.Laws.{ProjectionExists, SharingIsOnePath, ReferenceTouches, ShownIsThere, ForcedIsSettled};
 
 /// Every call has an allowed reply.
 pub fn some_reply_is_allowed()
@@ -30,7 +33,56 @@ pub fn start_agrees()
     ensures { StartAgrees }
 {}
 
-/// Spaces have one projection at most.
-pub fn projection_is_unique()
-    ensures { ProjectionIsUnique }
+/// Spaces have exactly one projection, and it covers the root.
+pub fn projection_is_one()
+    ensures exists { ProjectionExists }
+    ensures unique { ProjectionIsUnique }
+    ensures covers { ProjectionCovers }
+{}
+
+/// The worked rows come out as they are written.
+pub fn worked_rows()
+    ensures { WorkedRows }
+{}
+
+/// A new space stands as low as it can, and has the least handle.
+pub fn lowest_is_least()
+    ensures gap { LowestGapIsLeast }
+    ensures handle { LowestUnusedIsLeast }
+{}
+
+/// What holds of every machine holds after every call.
+pub fn next_keeps_machine()
+    ensures next { NextKeepsMachine }
+    ensures after { AfterIsMachine }
+{}
+
+/// A disk with right labels starts a machine.
+pub fn start_is_machine()
+    ensures { StartIsMachine }
+{}
+
+/// A swap unit lies in its interval, and holds its page.
+pub fn unit_holds_its_page()
+    ensures { UnitHoldsItsPage }
+{}
+
+/// To share a page is to lie on one path from the root.
+pub fn sharing_is_one_path()
+    ensures { SharingIsOnePath }
+{}
+
+/// A reference touches two pages at most.
+pub fn reference_touches()
+    ensures { ReferenceTouches }
+{}
+
+/// A page that is shown is one of its file.
+pub fn shown_is_there()
+    ensures { ShownIsThere }
+{}
+
+/// After forcing everything, the settled files are the permanent ones.
+pub fn forced_is_settled()
+    ensures { ForcedIsSettled }
 {}

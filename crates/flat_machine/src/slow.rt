@@ -124,7 +124,7 @@ impl<A: Allocator + Clone> SlowMachine<A> {
 
     /// The reply to a call, with 0 for bytes that may be any. After want of memory the machine is
     /// as before.
-    #[tactic(auto, using(crate::proofs::StepLemmas::refused_step, crate::proofs::StepLemmas::unrefused_step))]
+    #[tactic(auto, using(crate::proofs::SlowStepLemmas::refused_step, crate::proofs::SlowStepLemmas::unrefused_step))]
     pub fn step(&mut self, call: &Call) -> Result<Reply, NoMemory>
         requires { IsInForm call.now }
         ensures ok { IfOk result (λ r. (r ≡ reply_of self.old call.now) × (self.new ≡ next self.old call.now)) }

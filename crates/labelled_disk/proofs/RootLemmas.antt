@@ -41,7 +41,7 @@ maps_kept d e labels maps = record {
         either (Some s) (Some t) same h = subst (λ (l : Label). IsTrue (names l w)) (sym (same_Some t.0 s.0 same)) h
 
 -- another disk with the same root, and the same labels of the maps
-right_still : (temps : Bool) (d e : List Sector) → length e ≡ length d → slice_get e 0 ≡ slice_get d 0
+pub right_still : (temps : Bool) (d e : List Sector) → length e ≡ length d → slice_get e 0 ≡ slice_get d 0
     → ((i : ℕ) → 1 ≤ i → i < first_data (length d) → label_in (slice_get e i) ≡ label_in (slice_get d i))
     → FilesRight temps (serial_of d) (counter_of d) e → RightFor temps d → RightFor temps e
 right_still temps d e long root labels files right = record {
@@ -50,7 +50,7 @@ right_still temps d e long root labels files right = record {
   files = subst (λ (o : Option Sector). FilesRight temps (number_at (page_in o) 16) (number_at (page_in o) 20) e) (sym root) files;
 }
 
-only_self : (s : Sector) (id : ℕ) → s.0.id ≡ id → IsOnlyOf id s
+pub only_self : (s : Sector) (id : ℕ) → s.0.id ≡ id → IsOnlyOf id s
 only_self s id same other apart = right (is_file s.0) (ne_eqb s.0.id other (λ q. apart (sym q ∙ same)))
   where
     right : (a : Bool) → eqb s.0.id other ≡ false → (a && eqb s.0.id other) ≡ false

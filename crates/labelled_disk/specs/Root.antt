@@ -1,6 +1,6 @@
 -- The root of a volume, and labels that are right.
-use Rattle.std.specs.Prelude.{◌≡◌, ℕ, ◌+◌, ◌≤◌, Bool, true, false, IsTrue, IsSomeAnd, Some, Option, List, [], ◌∷◌, length, slice_get, slice_range, drop, codes, All, ◌<◌}
-use Rattle.std.specs.Int.{w16, w32, from_be_bytes}
+use Rattle.std.specs.Prelude.{◌≡◌, ℕ, ◌+◌, ◌≤◌, Bool, false, IsTrue, IsSomeAnd, Some, Option, List, [], length, slice_get, slice_range, drop, codes, All, ◌<◌}
+use Rattle.byteorder.specs.Endian.{big_number}
 use Rattle.std.specs.Option.{option_map_or}
 use Rattle.labelled_disk.specs.Label.{names}
 use Rattle.labelled_disk.specs.Sectors.{Sector}
@@ -15,12 +15,13 @@ page_in sector = option_map_or (λ s. s.1) sector []
 abbrev pub root_page : List Sector → List ℕ
 root_page d = page_in (slice_get d 0)
 
--- the numbers of 2 and of 4 bytes from byte i on, big-endian
+-- the big-endian number of 2 bytes from byte i on
 abbrev pub short_at : List ℕ → ℕ → ℕ
-short_at page i = from_be_bytes w16 (slice_range page i (i + 2))
+short_at page i = big_number 2 (drop i page)
 
+-- the big-endian number of 4 bytes from byte i on
 abbrev pub number_at : List ℕ → ℕ → ℕ
-number_at page i = from_be_bytes w32 (slice_range page i (i + 4))
+number_at page i = big_number 4 (drop i page)
 
 -- the high half of the identifiers that the volume gives out
 abbrev pub serial_of : List Sector → ℕ

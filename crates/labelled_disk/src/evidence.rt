@@ -17,10 +17,16 @@ pub enum Evidence {
     /// A page of a window breaks its form: of the allocation map (1), the file map (2), or the
     /// space tables (3).
     #[error("page {page} of window {window} breaks its form")]
-    Malformed { window: u8, page: u32 },
+    Malformed {
+        window: u8,
+        page: u32,
+    },
     /// The file map has no record of a page that must be there.
     #[error("page {page} of file {id} is missing")]
-    Missing { id: FileId, page: u32 },
+    Missing {
+        id: FileId,
+        page: u32,
+    },
 }
 
 /// Why a session stops for good.

@@ -2,7 +2,10 @@
 
 ghost use Rattle.std.specs.Prelude.{ℕ, Bool, List};
 ghost use Rattle.labelled_disk.specs.Sectors.{Sector};
+ghost use Rattle.labelled_disk.specs.Example.{ExampleFiles};
+ghost use Rattle.labelled_disk.specs.Lowest.{FilesAreAsTold, NeededLaws};
 ghost use Rattle.labelled_disk.specs.RootLaws.{RootLaws};
+ghost use Rattle.labelled_disk.specs.Runs.{DataRuns, RunLaws, SectorsStay};
 ghost use Rattle.labelled_disk.specs.WriteLaws.{WriteLaws, FilesAreThose};
 
 /// The list of files has what each identifier has, in rising order.
@@ -18,4 +21,26 @@ pub fn write_changes_files()
 /// What one write makes of a volume's labels and files.
 pub fn write_keeps_volume()
     ensures { (temps : Bool) → RootLaws temps }
+{}
+
+/// The files of a disk are those that the words tell: of two sectors that may be a page, the lowest counts.
+pub fn files_are_as_told()
+    ensures { (temps : Bool) (d : List Sector) → FilesAreAsTold temps d }
+{}
+
+/// Which sectors the files of a disk need, whatever labels it has.
+pub fn unneeded_sectors_are_free()
+    ensures { (temps : Bool) → NeededLaws temps }
+{}
+
+/// The files at each moment of a creation, a growth, a shrinking and a deletion.
+pub fn runs_go_one_way()
+    ensures files { (temps : Bool) (serial counter : ℕ) → RunLaws temps serial counter }
+    ensures volume { (temps : Bool) → DataRuns temps }
+    ensures sectors { SectorsStay }
+{}
+
+/// The files of a disk that is written out sector by sector.
+pub fn example_files()
+    ensures { ExampleFiles }
 {}

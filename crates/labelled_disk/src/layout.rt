@@ -58,10 +58,12 @@ pub enum RootFault {
 }
 
 impl Layout {
-    /// The layout of a volume on a disk of so many sectors.
+    /// The layout of a volume on a disk of so many sectors, from 256 to 1,048,576. Sector 0 is the
+    /// root; 96 data sectors are kept for the space tables of a session.
     pub fn of(sectors: u32) -> Result<Layout, RootFault>
         ensures layout { IfOk result (λ layout. IsCount sectors × (layout ≡ layout_of sectors)) }
-        ensures refused { IfErr result (λ fault. ¬ IsCount sectors × (fault ≡ RootFault.BadCount sectors)) }
+        ensures refused { IfErr result (λ fault. ¬ IsCount sectors
+            × (fault ≡ RootFault.BadCount sectors)) }
     {
         if sectors < 256 || sectors > 1_048_576 {
             return Err(RootFault::BadCount(sectors));

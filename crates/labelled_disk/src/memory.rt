@@ -1,11 +1,15 @@
-// A disk in memory. It can be made to fail at given calls, and to keep the list of its writes.
-ghost use Rattle.std.specs.Prelude.{◌≡◌, ℕ, ◌<◌, ◌≤◌, ◌^◌, List, [], length, slice_get, Some, None, IfOk, IfErr, OnOk, OnErr, IsErr, IsTrue, is_ok, true, unwrap_or, vec_capacity, replicate, Contains, ◌⊎◌, ◌↔◌, ◌+◌, ◌-◌, ◌++◌, ◌∷◌, min, option_map, refl, if◌then◌else◌};
-ghost use Rattle.labelled_disk.specs.Sectors.{zero_sector};
-ghost use Rattle.labelled_disk.specs.Calls.{Rose, TellsSame, Moves, FailsWith, Reads, Writes, Settles};
+//! A disk in memory, for tests. It can be made to fail at given calls, and to keep its writes.
+ghost use Rattle.std.specs.Prelude.{◌≡◌, ℕ, ◌<◌, ◌≤◌, ◌^◌, ◌⊎◌, ◌↔◌, ◌+◌, ◌-◌, min, refl, true, false, IsTrue, if◌then◌else◌};
+ghost use Rattle.std.specs.Prelude.{List, [], ◌++◌, ◌∷◌, length, replicate, slice_get, slice_set, Contains, vec_capacity};
+ghost use Rattle.std.specs.Prelude.{Some, None, IfOk, IfErr, OnOk, OnErr, IsErr, is_ok, unwrap_or, option_map};
+ghost use Rattle.labelled_disk.specs.Sectors.{zero_sector, AreSectors};
+ghost use Rattle.labelled_disk.specs.Calls.{Rose, TellsSame, Moves, FailsWith, Reads, Writes, WritesData, Settles};
 
 use crate::{Disk, DiskError, DiskWrite, Label, NoMemory, Page, Wanted};
 use std::alloc::{AllocError, Allocator};
 
+/// A disk that holds its sectors in memory and tells them. It is settled by `settle` alone, which
+/// never fails.
 #[derive(Drop)]
 pub struct MemoryDisk<A: Allocator> {
     cells: Vec<(Label, Page), A>,
@@ -18,17 +22,21 @@ pub struct MemoryDisk<A: Allocator> {
     synced: bool,
     ghost few: { length cells.items < 2 ^ 32 },
     ghost room_kept: { recording ≡ true → room ≤ vec_capacity writes },
+    ghost in_form: { AreSectors cells.items },
 }
 
 impl<A: Allocator + Clone> MemoryDisk<A> {
     ghost use Rattle.labelled_disk.specs.Memory.{memory_state, memory_plan};
 
-    /// Zero sectors, all free. The disk never fails, and doesn't tell its writes.
+    /// A disk of zero sectors, all free, which never fails and doesn't tell its writes. The memory
+    /// for all sectors, 528 bytes each, is taken here, and none later.
     pub fn new(alloc: A, sectors: u32) -> Result<MemoryDisk<A>, NoMemory>
-        ensures contents { IfOk result (λ d. (memory_state d).contents ≡ Some (replicate sectors zero_sector)) }
+        ensures contents { IfOk result (λ d. (memory_state d).contents
+            ≡ Some (replicate sectors zero_sector)) }
         ensures writes { IfOk result (λ d. (memory_state d).writes ≡ None) }
         ensures plan { IfOk result (λ d. memory_plan d ≡ record { calls = []; room = None }) }
-        ensures counts { IfOk result (λ d. memory_state d ≡ record (memory_state d) { transfers = 0; faults = 0; synced = true }) }
+        ensures counts { IfOk result (λ d. memory_state d
+            ≡ record (memory_state d) { transfers = 0; faults = 0; synced = true }) }
     {
         Ok(MemoryDisk {
             cells: zero_sectors(alloc.clone()?, sectors)?,
@@ -42,13 +50,21 @@ impl<A: Allocator + Clone> MemoryDisk<A> {
         })
     }
 
-    /// Such a disk that fails at the calls with these numbers, counted from 1 over the calls that move a sector.
-    /// It tells its writes. A write beyond the room fails too.
-    pub fn failing(alloc: A, sectors: u32, calls: &[u64], room: u32) -> Result<MemoryDisk<A>, NoMemory>
-        ensures contents { IfOk result (λ d. (memory_state d).contents ≡ Some (replicate sectors zero_sector)) }
+    /// Such a disk that fails at the calls with these numbers, counted from 1 over the calls that
+    /// move a sector, those that failed among them. It tells its writes, and has room for so many;
+    /// a write beyond them fails. All memory is taken here.
+    pub fn failing(
+        alloc: A,
+        sectors: u32,
+        calls: &[u64],
+        room: u32,
+    ) -> Result<MemoryDisk<A>, NoMemory>
+        ensures contents { IfOk result (λ d. (memory_state d).contents
+            ≡ Some (replicate sectors zero_sector)) }
         ensures writes { IfOk result (λ d. (memory_state d).writes ≡ Some []) }
         ensures plan { IfOk result (λ d. memory_plan d ≡ record { calls = calls.now; room = Some room }) }
-        ensures counts { IfOk result (λ d. memory_state d ≡ record (memory_state d) { transfers = 0; faults = 0; synced = true }) }
+        ensures counts { IfOk result (λ d. memory_state d
+            ≡ record (memory_state d) { transfers = 0; faults = 0; synced = true }) }
     {
         let mut failing = Vec::new(alloc.clone()?);
         failing.extend_from_slice(calls)?;
@@ -76,9 +92,9 @@ fn zero_sectors<A: Allocator>(alloc: A, sectors: u32) -> Result<Vec<(Label, Page
 }
 
 impl<A: Allocator> MemoryDisk<A> {
-    ghost use Rattle.labelled_disk.specs.Memory.{memory_state, memory_plan, next_call, is_full};
+    ghost use Rattle.labelled_disk.specs.Memory.{memory_state, memory_plan, IsFull, FailsNext, Counts, CountsFault};
 
-    /// The writes that were made, in their order.
+    /// The writes that were made, in their order; none of a disk made by `new`.
     pub fn written(&self) -> &[DiskWrite]
         ensures { result.now ≡ unwrap_or (memory_state self.now).writes [] }
     {
@@ -91,8 +107,8 @@ impl<A: Allocator> MemoryDisk<A> {
         ensures same { TellsSame (memory_state self.old) (memory_state self.new) }
         ensures moves { Moves (memory_state self.old) (memory_state self.new) }
         ensures fails { FailsWith result (memory_state self.old) (memory_state self.new) }
-        ensures exact { IsErr result ↔ Contains (memory_plan self.old).calls (next_call self.old) }
-        ensures plan { memory_plan self.new ≡ memory_plan self.old }
+        ensures exact { IsErr result ↔ FailsNext self.old }
+        ensures counts { Counts result self.old self.new }
         ensures synced { self.new.synced ≡ self.old.synced }
     {
         if self.transfers < u64::MAX {
@@ -107,15 +123,17 @@ impl<A: Allocator> MemoryDisk<A> {
     // Keeps a write in the list, where there is one.
     fn record(&mut self, write: DiskWrite) -> Result<(), DiskError>
         ensures cells { self.new.cells.items ≡ self.old.cells.items }
-        ensures recorded { OnOk result ((memory_state self.new).writes ≡ option_map (λ writes. writes ++ write ∷ []) (memory_state self.old).writes) }
+        ensures recorded { OnOk result ((memory_state self.new).writes
+            ≡ option_map (λ writes. writes ++ write ∷ []) (memory_state self.old).writes) }
         ensures same { OnErr result (TellsSame (memory_state self.old) (memory_state self.new)) }
         ensures fails { FailsWith result (memory_state self.old) (memory_state self.new) }
-        ensures exact { IsErr result ↔ IsTrue (is_full self.old) }
+        ensures exact { IsErr result ↔ IsFull self.old }
         ensures plan { memory_plan self.new ≡ memory_plan self.old }
-        ensures faults { self.old.faults ≤ self.new.faults }
+        ensures never_falls { self.old.faults ≤ self.new.faults }
+        ensures faults { CountsFault result self.old.faults self.new.faults }
         ensures transfers { self.new.transfers ≡ self.old.transfers }
+        ensures synced { self.new.synced ≡ self.old.synced }
     {
-        self.synced = false;
         if self.recording {
             if self.writes.len() >= self.room as usize {
                 return Err(self.fault());
@@ -127,10 +145,25 @@ impl<A: Allocator> MemoryDisk<A> {
         Ok(())
     }
 
+    // Puts a label and a page in a sector.
+    fn put(&mut self, sector: u32, label: Label, page: &Page)
+        requires { sector < length self.old.cells.items }
+        ensures cells { self.new.cells.items ≡ slice_set self.old.cells.items sector (label, page.now) }
+        ensures writes { (memory_state self.new).writes ≡ (memory_state self.old).writes }
+        ensures plan { memory_plan self.new ≡ memory_plan self.old }
+        ensures faults { self.new.faults ≡ self.old.faults }
+        ensures transfers { self.new.transfers ≡ self.old.transfers }
+        ensures synced { self.new.synced ≡ false }
+    {
+        self.cells[sector as usize] = (label, *page);
+        self.synced = false;
+    }
+
     fn fault(&mut self) -> DiskError
         ensures result { result ≡ DiskError.Failed }
         ensures cause { Rose self.old.faults self.new.faults }
-        ensures faults { self.old.faults ≤ self.new.faults }
+        ensures never_falls { self.old.faults ≤ self.new.faults }
+        ensures faults { self.new.faults ≡ min (self.old.faults + 1) (2 ^ 64 - 1) }
         ensures cells { self.new.cells.items ≡ self.old.cells.items }
         ensures same { TellsSame (memory_state self.old) (memory_state self.new) }
         ensures plan { memory_plan self.new ≡ memory_plan self.old }
@@ -145,11 +178,13 @@ impl<A: Allocator> MemoryDisk<A> {
 }
 
 impl<A: Allocator> Disk for MemoryDisk<A> {
-    ghost use Rattle.labelled_disk.specs.Memory.{memory_state, memory_plan, next_call, is_full, same_some};
+    ghost use Rattle.labelled_disk.specs.Memory.{memory_state, memory_plan, names_at, IsFull, FailsNext, Counts, IsFailed, StaysSyncedIfErr, same_some};
 
     ghost state = { memory_state };
 
     ghost whole = { λ d all is. same_some is (λ l. length l ≡ length d.cells.items) refl };
+
+    ghost in_form = { λ d all is. same_some is AreSectors d.in_form };
 
     ghost few = { λ d. d.few };
 
@@ -160,8 +195,9 @@ impl<A: Allocator> Disk for MemoryDisk<A> {
     fn read(&mut self, sector: u32, page: &mut Page) -> Result<Label, DiskError>
         requires { sector < (memory_state self.old).sectors }
         ensures reads { Reads (memory_state self.old) sector page.new result (memory_state self.new) }
-        ensures fails { IsErr result ↔ Contains (memory_plan self.old).calls (next_call self.old) }
-        ensures plan { memory_plan self.new ≡ memory_plan self.old }
+        ensures fails { IsErr result ↔ FailsNext self.old }
+        ensures counts { Counts result self.old self.new }
+        ensures synced { (memory_state self.new).synced ≡ (memory_state self.old).synced }
     {
         self.moves()?;
         let (label, found) = self.cells[sector as usize];
@@ -171,9 +207,11 @@ impl<A: Allocator> Disk for MemoryDisk<A> {
 
     fn write(&mut self, sector: u32, label: &Label, page: &Page) -> Result<(), DiskError>
         requires { sector < (memory_state self.old).sectors }
-        ensures writes { Writes (DiskWrite.Whole sector label.now page.now) (memory_state self.old) result (memory_state self.new) }
-        ensures fails { IsErr result → Contains (memory_plan self.old).calls (next_call self.old) ⊎ IsTrue (is_full self.old) }
-        ensures plan { memory_plan self.new ≡ memory_plan self.old }
+        ensures writes { Writes (DiskWrite.Whole sector label.now page.now) (memory_state self.old)
+            result (memory_state self.new) }
+        ensures fails { IsErr result ↔ (FailsNext self.old ⊎ IsFull self.old) }
+        ensures counts { Counts result self.old self.new }
+        ensures synced { StaysSyncedIfErr result (memory_state self.old) (memory_state self.new) }
     {
         self.moves()?;
         self.record(DiskWrite::Whole {
@@ -181,21 +219,37 @@ impl<A: Allocator> Disk for MemoryDisk<A> {
             label: *label,
             page: *page,
         })?;
-        self.cells[sector as usize] = (*label, *page);
+        self.put(sector, *label, page);
         Ok(())
     }
 
-    fn write_label(&mut self, sector: u32, label: &Label) -> Result<(), DiskError> {
+    fn write_label(&mut self, sector: u32, label: &Label) -> Result<(), DiskError>
+        requires { sector < (memory_state self.old).sectors }
+        ensures writes { Writes (DiskWrite.LabelOnly sector label.now) (memory_state self.old)
+            result (memory_state self.new) }
+        ensures fails { IsErr result ↔ (FailsNext self.old ⊎ IsFull self.old) }
+        ensures counts { Counts result self.old self.new }
+        ensures synced { StaysSyncedIfErr result (memory_state self.old) (memory_state self.new) }
+    {
         self.moves()?;
         self.record(DiskWrite::LabelOnly {
             sector,
             label: *label,
         })?;
-        self.cells[sector as usize].0 = *label;
+        let (_, page) = self.cells[sector as usize];
+        self.put(sector, *label, &page);
         Ok(())
     }
 
-    fn write_data(&mut self, sector: u32, wanted: Wanted, page: &Page) -> Result<(), DiskError> {
+    fn write_data(&mut self, sector: u32, wanted: Wanted, page: &Page) -> Result<(), DiskError>
+        requires { sector < (memory_state self.old).sectors }
+        ensures writes { WritesData sector wanted page.now (memory_state self.old) result
+            (memory_state self.new) }
+        ensures fails { IsFailed result ↔ (FailsNext self.old
+            ⊎ (IsTrue (names_at self.old sector wanted) × IsFull self.old)) }
+        ensures counts { Counts result self.old self.new }
+        ensures synced { StaysSyncedIfErr result (memory_state self.old) (memory_state self.new) }
+    {
         self.moves()?;
         let (found, _) = self.cells[sector as usize];
         if !found.names(wanted) {
@@ -206,13 +260,14 @@ impl<A: Allocator> Disk for MemoryDisk<A> {
             wanted,
             page: *page,
         })?;
-        self.cells[sector as usize] = (found, *page);
+        self.put(sector, found, page);
         Ok(())
     }
 
     fn settle(&mut self) -> Result<(), DiskError>
         ensures settles { Settles (memory_state self.old) result (memory_state self.new) }
         ensures never_fails { result ≡ Ok tt }
+        ensures faults { (memory_state self.new).faults ≡ (memory_state self.old).faults }
         ensures plan { memory_plan self.new ≡ memory_plan self.old }
     {
         self.synced = true;

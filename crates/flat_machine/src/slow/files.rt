@@ -20,7 +20,7 @@ fn first_from<A: Allocator>(files: &[StoredFile<A>], id: FileId) -> Option<usize
 }
 
 /// Where a file of that identifier stands among the rising identifiers.
-#[tactic(auto, using(crate::proofs::PlaceLemmas::some_place))]
+#[tactic(auto, using(crate::proofs::SlowPlaceLemmas::some_place))]
 fn place_of<A: Allocator>(files: &[StoredFile<A>], id: FileId) -> usize
     ensures is { result ≡ position_or_len (λ f. nat_le id f.id) files.now }
     ensures bound { result ≤ length files.now }

@@ -30,7 +30,7 @@ fn first_above(spaces: &[Space], handle: u32) -> Option<usize>
 }
 
 /// Where a space of that handle stands among the rising handles.
-#[tactic(auto, using(crate::proofs::PlaceLemmas::some_place))]
+#[tactic(auto, using(crate::proofs::SlowPlaceLemmas::some_place))]
 fn place_of(spaces: &[Space], handle: u32) -> usize
     ensures is { result ≡ position_or_len (λ s. nat_lt handle s.handle) spaces.now }
     ensures bound { result ≤ length spaces.now }

@@ -1,6 +1,6 @@
 use Rattle.std.proofs.Common.{◌∷◌, [], ◌++◌, ◌∙◌, ap}
 use Rattle.std.proofs.lemmas.List.{replicate_more}
-use Rattle.labelled_disk.specs.Sectors.{Sector, zero_sector}
+use Rattle.labelled_disk.specs.Sectors.{zero_sector}
 use Rattle.labelled_disk.proofs.memory.zero_sectors.Goals as goal
 
 pub loop-sector-preserved : goal.loop-sector-preserved

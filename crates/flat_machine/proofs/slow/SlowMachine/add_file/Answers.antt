@@ -1,7 +1,7 @@
 use Rattle.std.proofs.Common.{ap, ◌∙◌}
 use Rattle.labelled_disk.proofs.RisingLemmas.{rising_put}
 use Rattle.flat_machine.specs.File.{size, zero_page}
-use Rattle.flat_machine.proofs.RoomLemmas.{room_put, replicated}
+use Rattle.flat_machine.proofs.SlowRoomLemmas.{room_put, replicated}
 use Rattle.flat_machine.proofs.slow.SlowMachine.add_file.Goals as goal
 
 pub invariant_of-self-2 : goal.invariant_of-self-2

@@ -1,6 +1,6 @@
 use Rattle.std.proofs.Common.{ap, sym, ◌∙◌, ◌+◌, ◌++◌, [], ◌∷◌, arith, length-append, ℕ}
 use Rattle.std.specs.Prelude.{unwrap_or}
-use Rattle.flat_machine.proofs.LoadLemmas.{plain_more}
+use Rattle.flat_machine.proofs.SlowLoadLemmas.{plain_more}
 use Rattle.flat_machine.proofs.slow.SlowMachine.bytes_at.Goals as goal
 
 pub loop-k-preserved : goal.loop-k-preserved

@@ -1,6 +1,6 @@
-use Rattle.flat_machine.proofs.RoomLemmas.{room_filter}
-use Rattle.flat_machine.proofs.FileLemmas.{rising_filter}
-use Rattle.flat_machine.proofs.SpaceLemmas.{root_alone}
+use Rattle.flat_machine.proofs.SlowRoomLemmas.{room_filter}
+use Rattle.flat_machine.proofs.SlowFileLemmas.{rising_filter}
+use Rattle.flat_machine.proofs.SlowSpaceLemmas.{root_alone}
 use Rattle.flat_machine.proofs.slow.SlowMachine.close.Goals as goal
 
 pub invariant_of-self : goal.invariant_of-self

@@ -1,5 +1,5 @@
-use Rattle.flat_machine.proofs.RoomLemmas.{room_filter}
-use Rattle.flat_machine.proofs.FileLemmas.{rising_filter}
+use Rattle.flat_machine.proofs.SlowRoomLemmas.{room_filter}
+use Rattle.flat_machine.proofs.SlowFileLemmas.{rising_filter}
 use Rattle.flat_machine.proofs.slow.SlowMachine.delete.Goals as goal
 
 pub invariant_of-self : goal.invariant_of-self

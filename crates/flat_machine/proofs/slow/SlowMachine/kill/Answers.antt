@@ -1,5 +1,5 @@
-use Rattle.flat_machine.proofs.RoomLemmas.{room_killed_by}
-use Rattle.flat_machine.proofs.FileLemmas.{rising_killed_by}
+use Rattle.flat_machine.proofs.SlowRoomLemmas.{room_killed_by}
+use Rattle.flat_machine.proofs.SlowFileLemmas.{rising_killed_by}
 use Rattle.flat_machine.proofs.slow.SlowMachine.kill.Goals as goal
 
 pub invariant_of-self : goal.invariant_of-self

@@ -1,6 +1,6 @@
 use Rattle.std.proofs.Common.{refl, true}
-use Rattle.flat_machine.proofs.RoomLemmas.{room_changed}
-use Rattle.flat_machine.proofs.FileLemmas.{rising_changed}
+use Rattle.flat_machine.proofs.SlowRoomLemmas.{room_changed}
+use Rattle.flat_machine.proofs.SlowFileLemmas.{rising_changed}
 use Rattle.flat_machine.proofs.slow.SlowMachine.make_immutable.Goals as goal
 
 pub invariant_of-self : goal.invariant_of-self

@@ -3,8 +3,8 @@ use Rattle.flat_machine.specs.Space.{root_pages}
 use Rattle.flat_machine.specs.Machine.{Machine}
 use Rattle.flat_machine.specs.Next.{is_unused, first_page_for}
 use Rattle.flat_machine.specs.Slow.{AreSpaces}
-use Rattle.flat_machine.proofs.SpaceLemmas.{put_spaces, lowest_is_unused}
-use Rattle.flat_machine.proofs.GapLemmas.{made_few, made_inside}
+use Rattle.flat_machine.proofs.SlowSpaceLemmas.{put_spaces, lowest_is_unused}
+use Rattle.flat_machine.proofs.SlowGapLemmas.{made_few, made_inside}
 use Rattle.flat_machine.proofs.slow.SlowMachine.make_space.Goals as goal
 
 pub invariant_of-self-2 : goal.invariant_of-self-2

@@ -1,4 +1,4 @@
-use Rattle.flat_machine.proofs.SpaceLemmas.{window_spaces}
+use Rattle.flat_machine.proofs.SlowSpaceLemmas.{window_spaces}
 use Rattle.flat_machine.proofs.slow.SlowMachine.map.Goals as goal
 
 pub invariant_of-self : goal.invariant_of-self

@@ -1,6 +1,6 @@
 use Rattle.std.proofs.Common.{arith, ◌∙◌, ap}
 use Rattle.flat_machine.specs.File.{file_at}
-use Rattle.flat_machine.proofs.RoomLemmas.{small_if}
+use Rattle.flat_machine.proofs.SlowRoomLemmas.{small_if}
 use Rattle.flat_machine.proofs.slow.SlowMachine.nameable.Goals as goal
 
 pub returns-clause-bound : goal.returns-clause-bound

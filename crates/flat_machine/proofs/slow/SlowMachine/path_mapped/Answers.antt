@@ -2,7 +2,7 @@ use Rattle.std.proofs.Common.{ap, ◌∙◌}
 use Rattle.std.specs.Prelude.{◌&&◌}
 use Rattle.flat_machine.specs.Space.{space_at, is_mapped, overlap}
 use Rattle.flat_machine.specs.Refusal.{lowest_handle}
-use Rattle.flat_machine.proofs.TestLemmas.{path_found}
+use Rattle.flat_machine.proofs.SlowTestLemmas.{path_found}
 use Rattle.flat_machine.proofs.slow.SlowMachine.path_mapped.Goals as goal
 
 pub returns : goal.returns

@@ -1,4 +1,4 @@
-use Rattle.flat_machine.proofs.SpaceLemmas.{mode_spaces}
+use Rattle.flat_machine.proofs.SlowSpaceLemmas.{mode_spaces}
 use Rattle.flat_machine.proofs.slow.SlowMachine.protect.Goals as goal
 
 pub invariant_of-self : goal.invariant_of-self

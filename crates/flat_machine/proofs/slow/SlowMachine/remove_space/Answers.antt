@@ -1,4 +1,4 @@
-use Rattle.flat_machine.proofs.SpaceLemmas.{fewer_spaces}
+use Rattle.flat_machine.proofs.SlowSpaceLemmas.{fewer_spaces}
 use Rattle.flat_machine.proofs.slow.SlowMachine.remove_space.Goals as goal
 
 pub invariant_of-self : goal.invariant_of-self

@@ -1,6 +1,6 @@
 use Rattle.std.proofs.Common.{ap, ◌∙◌}
 use Rattle.flat_machine.specs.Next.{change_file, resized}
-use Rattle.flat_machine.proofs.FileLemmas.{room_resized_by, rising_resized_by}
+use Rattle.flat_machine.proofs.SlowFileLemmas.{room_resized_by, rising_resized_by}
 use Rattle.flat_machine.proofs.slow.SlowMachine.set_size.Goals as goal
 
 pub invariant_of-self : goal.invariant_of-self

@@ -1,4 +1,4 @@
-use Rattle.flat_machine.proofs.SpaceLemmas.{unit_spaces}
+use Rattle.flat_machine.proofs.SlowSpaceLemmas.{unit_spaces}
 use Rattle.flat_machine.proofs.slow.SlowMachine.set_unit.Goals as goal
 
 pub invariant_of-self : goal.invariant_of-self

@@ -1,5 +1,5 @@
-use Rattle.flat_machine.proofs.RoomLemmas.{room_stored_by}
-use Rattle.flat_machine.proofs.FileLemmas.{rising_stored_by}
+use Rattle.flat_machine.proofs.SlowRoomLemmas.{room_stored_by}
+use Rattle.flat_machine.proofs.SlowFileLemmas.{rising_stored_by}
 use Rattle.flat_machine.proofs.slow.SlowMachine.store.Goals as goal
 
 pub invariant_of-self-2 : goal.invariant_of-self-2

@@ -1,6 +1,6 @@
-use Rattle.flat_machine.proofs.RoomLemmas.{room_without}
-use Rattle.flat_machine.proofs.FileLemmas.{rising_without}
-use Rattle.flat_machine.proofs.SpaceLemmas.{window_spaces}
+use Rattle.flat_machine.proofs.SlowRoomLemmas.{room_without}
+use Rattle.flat_machine.proofs.SlowFileLemmas.{rising_without}
+use Rattle.flat_machine.proofs.SlowSpaceLemmas.{window_spaces}
 use Rattle.flat_machine.proofs.slow.SlowMachine.unmap.Goals as goal
 
 pub invariant_of-self : goal.invariant_of-self

@@ -2,7 +2,7 @@ use Rattle.std.proofs.Common.{sym, ◌∙◌, ap, false}
 use Rattle.std.specs.Prelude.{nat_le, slice_get, ◌==◌}
 use Rattle.std.specs.List.{position_or_len}
 use Rattle.std.specs.Option.{option_map_or}
-use Rattle.flat_machine.proofs.PlaceLemmas.{put_over, put_between}
+use Rattle.flat_machine.proofs.SlowPlaceLemmas.{put_over, put_between}
 use Rattle.flat_machine.proofs.slow.files.put.Goals as goal
 
 pub returns-then-names-clause-ok : goal.returns-then-names-clause-ok

@@ -1,7 +1,7 @@
 use Rattle.std.specs.Prelude.{if◌then◌else◌, ◌==◌, true}
 use Rattle.flat_machine.specs.File.{File}
 use Rattle.flat_machine.specs.Next.{with_byte}
-use Rattle.flat_machine.proofs.EditLemmas.{each_step}
+use Rattle.flat_machine.proofs.SlowEditLemmas.{each_step}
 use Rattle.flat_machine.proofs.slow.files.write_at.Goals as goal
 
 pub loop-f-preserved : goal.loop-f-preserved

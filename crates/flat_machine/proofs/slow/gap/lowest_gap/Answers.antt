@@ -1,5 +1,5 @@
 use Rattle.std.proofs.Common.{sym}
-use Rattle.flat_machine.proofs.GapLemmas.{gap_taken}
+use Rattle.flat_machine.proofs.SlowGapLemmas.{gap_taken}
 use Rattle.flat_machine.proofs.slow.gap.lowest_gap.Goals as goal
 
 pub loop-s-preserved : goal.loop-s-preserved

@@ -1,5 +1,5 @@
 use Rattle.std.proofs.Common.{◌≡◌, take}
-use Rattle.flat_machine.proofs.GapLemmas.{gap_so_far}
+use Rattle.flat_machine.proofs.SlowGapLemmas.{gap_so_far}
 use Rattle.flat_machine.proofs.slow.gap.lowest_gap.Given as goal
 
 abbrev pub invariant-loop-s : goal.invariant-loop-s

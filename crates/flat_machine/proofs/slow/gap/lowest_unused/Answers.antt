@@ -1,5 +1,5 @@
 use Rattle.std.proofs.Common.{sym, ◌∙◌}
-use Rattle.flat_machine.proofs.SpaceLemmas.{walk_ends, walk_stops, lowest_is_walk}
+use Rattle.flat_machine.proofs.SlowSpaceLemmas.{walk_ends, walk_stops, lowest_is_walk}
 use Rattle.flat_machine.proofs.slow.gap.lowest_unused.Goals as goal
 
 pub returns-then-s-low : goal.returns-then-s-low

@@ -1,5 +1,5 @@
 use Rattle.std.proofs.Common.{◌≡◌, drop}
-use Rattle.flat_machine.proofs.SpaceLemmas.{walk}
+use Rattle.flat_machine.proofs.SlowSpaceLemmas.{walk}
 use Rattle.flat_machine.proofs.slow.gap.lowest_unused.Given as goal
 
 abbrev pub invariant-loop-s : goal.invariant-loop-s

@@ -1,7 +1,7 @@
 use Rattle.std.specs.Prelude.{ℕ, if◌then◌else◌}
 use Rattle.flat_machine.specs.File.{Page, any_page}
 use Rattle.flat_machine.specs.Next.{is_writable_within}
-use Rattle.flat_machine.proofs.EditLemmas.{each_place_step}
+use Rattle.flat_machine.proofs.SlowEditLemmas.{each_place_step}
 use Rattle.flat_machine.proofs.slow.kill.kill_pages.Goals as goal
 
 pub loop-index-preserved : goal.loop-index-preserved

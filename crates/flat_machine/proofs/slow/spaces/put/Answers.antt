@@ -1,4 +1,4 @@
-use Rattle.flat_machine.proofs.SpaceLemmas.{put_space_at}
+use Rattle.flat_machine.proofs.SlowSpaceLemmas.{put_space_at}
 use Rattle.flat_machine.proofs.slow.spaces.put.Goals as goal
 
 pub returns-clause-ok : goal.returns-clause-ok

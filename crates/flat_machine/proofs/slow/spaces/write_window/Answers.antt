@@ -1,6 +1,6 @@
 use Rattle.std.specs.Prelude.{if◌then◌else◌, ◌==◌, option_map, true}
 use Rattle.flat_machine.specs.Space.{Space}
-use Rattle.flat_machine.proofs.EditLemmas.{each_step}
+use Rattle.flat_machine.proofs.SlowEditLemmas.{each_step}
 use Rattle.flat_machine.proofs.slow.spaces.write_window.Goals as goal
 
 pub loop-s-preserved : goal.loop-s-preserved

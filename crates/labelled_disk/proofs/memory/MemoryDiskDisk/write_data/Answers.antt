@@ -1,27 +1,22 @@
-use Rattle.std.proofs.Common.{◌≡◌, ◌<◌, List, Option, ◌++◌, ◌∷◌, [], length, get_or, true, Some, ap, sym, ◌∙◌, arith, rules}
-use Rattle.std.specs.Prelude.{slice_set, option_map}
-use Rattle.labelled_disk.specs.declared.disk.DiskWrite.{DiskWrite}
-use Rattle.labelled_disk.specs.declared.disk.DiskWrite.TheVariants.{Page}
+use Rattle.std.proofs.Common.{◌≡◌, ◌<◌, List, length, get_or, true, Some, ap, arith, rules}
 use Rattle.labelled_disk.specs.Sectors.{Sector}
-use Rattle.labelled_disk.specs.State.{DiskState}
 use Rattle.labelled_disk.specs.Label.{names}
 use Rattle.labelled_disk.proofs.Sectors.{names_there, written-page}
 use Rattle.labelled_disk.proofs.memory.MemoryDiskDisk.write_data.Goals as goal
 
-pub returns : goal.returns
-returns g c =
+pub returns-clause-writes : goal.returns-clause-writes
+returns-clause-writes g c =
+    let cells = c.args.self.now.cells.items in
     let below : c.args.sector < length c.args.self.now.cells.items = omega (arith, c.requires) in
     let is : c.index.result.now ≡ get_or c.args.self.now.cells.items c.args.sector c.index.result.now = cc (c.index.ensures, c.moves.ensures.cells) in
     let named : names c.index.result.now.0 c.args.wanted ≡ true = cc (c.names.ensures, c.if-not-names.false) in
-    let page = written-page c.args.self.now.cells.items c.args.sector c.index.result.now c.args.wanted below is named c.args.page.now in
+    let page = written-page cells c.args.sector c.index.result.now below is c.args.wanted named c.args.page.now in
     record {
       written = record {
-        contents = ap (λ (l : List Sector). Some (slice_set l c.args.sector (c.index.result.now.0, c.args.page.now))) (c.in_ok-record.ensures.cells ∙ c.moves.ensures.cells)
-            ∙ ap (λ (l : List Sector). Some l) (sym page);
-        writes = c.in_ok-record.ensures.recorded
-            ∙ ap (λ (o : Option (List DiskWrite)). option_map (λ (writes : List DiskWrite). writes ++ Page c.args.sector c.args.wanted c.args.page.now ∷ []) o) c.moves.ensures.same.writes;
+        contents = ap (λ (l : List Sector). Some l) (cc (c.put.ensures.cells, c.in_ok-record.ensures.cells, c.moves.ensures.cells, page));
+        writes = search rules;
       };
-      named = names_there c.args.self.now.cells.items c.args.sector c.index.result.now c.args.wanted below is named;
+      named = names_there cells c.args.sector c.index.result.now below is c.args.wanted named;
       wrong = tt;
       whole_or_absent = tt;
       cause = tt;

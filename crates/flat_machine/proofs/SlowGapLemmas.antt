@@ -14,7 +14,7 @@ use Rattle.flat_machine.specs.Machine.{Machine}
 use Rattle.flat_machine.specs.Refusal.{Test, least, is_clear, fits, gap_starts, lowest_gap, refusal, first_of, no_space, no_size, no_spaces, no_place}
 use Rattle.flat_machine.specs.Next.{first_page_for}
 use Rattle.flat_machine.specs.Slow.{AreSpaces, gap_with}
-use Rattle.flat_machine.proofs.LeastLemmas.{filter_passed, and_true, least_among}
+use Rattle.flat_machine.proofs.SlowLeastLemmas.{filter_passed, and_true, least_among}
 
 -- The lowest gap, child by child.
 
