@@ -1,7 +1,7 @@
 //! What a client is told by calls that change nothing.
 
 use crate::slow::stored::StoredFile;
-use crate::slow::{look, SlowMachine};
+use crate::slow::{SlowMachine, look};
 use crate::{Piece, Reply};
 use labelled_disk::FileId;
 use std::alloc::Allocator;

@@ -1,7 +1,7 @@
 //! What unrefused calls change.
 
 use crate::slow::stored::StoredFile;
-use crate::slow::{files, gap, look, spaces, unforced, SlowMachine};
+use crate::slow::{SlowMachine, files, gap, look, spaces, unforced};
 use crate::{Piece, Reply, Space, Window};
 use labelled_disk::FileId;
 use std::alloc::{AllocError, Allocator};

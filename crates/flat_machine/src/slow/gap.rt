@@ -8,8 +8,8 @@ ghost use Rattle.flat_machine.specs.Refusal as of_call;
 ghost use Rattle.flat_machine.specs.Next as after;
 ghost use Rattle.flat_machine.specs.Slow.{gap_with};
 
-use crate::slow::look::{end, is_child_of};
 use crate::Space;
+use crate::slow::look::{end, is_child_of};
 
 /// Whether so many pages from that one on are over no child of the parent.
 fn is_clear(spaces: &[Space], parent: &Space, pages: u32, first: u32) -> bool

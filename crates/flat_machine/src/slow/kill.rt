@@ -4,7 +4,7 @@ ghost use Rattle.std.specs.Prelude.{◌≡◌, if◌then◌else◌};
 ghost use Rattle.flat_machine.specs.Next as after;
 ghost use Rattle.flat_machine.specs.File as of_file;
 
-use crate::slow::stored::{any_page, CellPage};
+use crate::slow::stored::{CellPage, any_page};
 use crate::slow::window::is_writable_within;
 use crate::{FilePage, Space};
 use labelled_disk::FileId;

@@ -3,7 +3,7 @@
 ghost use Rattle.std.specs.Prelude.{◌≡◌};
 ghost use Rattle.flat_machine.specs.Refusal as of_call;
 
-use crate::slow::{gap, look, SlowMachine};
+use crate::slow::{SlowMachine, gap, look};
 use crate::{Piece, Refusal};
 use labelled_disk::FileId;
 use std::alloc::Allocator;

@@ -1,7 +1,7 @@
 //! For each call, the first of its tests that holds.
 
-use crate::slow::refuse::{first_of, is_root, no_size, no_unit, past_root};
 use crate::slow::SlowMachine;
+use crate::slow::refuse::{first_of, is_root, no_size, no_unit, past_root};
 use crate::{Call, Refusal};
 use labelled_disk::FileId;
 use std::alloc::Allocator;

@@ -3,8 +3,8 @@
 ghost use Rattle.std.specs.Prelude.{◌≡◌, ◌+◌, ◌<◌, IfOk, replicate, true, false, slice_index_or, Some, None, [], ◌==◌, if◌then◌else◌};
 ghost use Rattle.flat_machine.specs.File.{zero_page as zeros, any_page as anything};
 
-use crate::slow::kill::kill_pages;
 use crate::Space;
+use crate::slow::kill::kill_pages;
 use labelled_disk::FileId;
 use std::alloc::{AllocError, Allocator};
 use std::marker::Model;
@@ -47,12 +47,7 @@ impl<A: Allocator> StoredFile<A> {
     ghost use Rattle.flat_machine.specs.Next.{with_byte, resized, killed_file};
 
     /// A temporary file of zero pages, which may be changed.
-    pub fn new(
-        alloc: A,
-        id: FileId,
-        kind: u16,
-        pages: u32,
-    ) -> Result<StoredFile<A>, AllocError>
+    pub fn new(alloc: A, id: FileId, kind: u16, pages: u32) -> Result<StoredFile<A>, AllocError>
         ensures { IfOk result (λ f. f ≡ record { id = id; kind = kind; permanent = false; immutable = false; pages = replicate pages zero_page }) }
     {
         let mut made = Vec::new(alloc);

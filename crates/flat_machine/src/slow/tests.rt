@@ -14,6 +14,7 @@ use std::alloc::Allocator;
 
 /// The first and the second file of a volume with serial 7.
 pub const FIRST: FileId = 0x7_0000_0001;
+
 pub const SECOND: FileId = 0x7_0000_0002;
 
 /// A piece of these bytes.

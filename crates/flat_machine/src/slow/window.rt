@@ -27,7 +27,10 @@ fn shows_within(range: &Space, shown: &FilePage, s: &Space) -> bool
 {
     match s.window {
         Some(w) if shows(s, shown) => {
-            holds(range, u64::from(s.first) + (shown.page - u64::from(w.first)))
+            holds(
+                range,
+                u64::from(s.first) + (shown.page - u64::from(w.first)),
+            )
         }
         _ => false,
     }

@@ -22,8 +22,25 @@ fn a_mapped_file_grows_and_does_not_shrink(rt: HostRuntime) -> Result<(), Fail> 
     let mut m = SlowMachine::new(rt.alloc(), 7, 1, 124)?;
     assert!(rt; makes_mapped(&mut m, 2)?);
     let mapped = Refusal::FileMapped(1);
-    assert!(rt; refuses(&mut m, &Call::SetSize { id: FIRST, pages: 1 }, mapped)?);
-    assert!(rt; does(&mut m, &Call::SetSize { id: FIRST, pages: 4 })?);
+    assert!(rt;
+        refuses(
+            &mut m,
+            &Call::SetSize {
+                id: FIRST,
+                pages: 1
+            },
+            mapped
+        )?
+    );
+    assert!(rt;
+        does(
+            &mut m,
+            &Call::SetSize {
+                id: FIRST,
+                pages: 4
+            }
+        )?
+    );
     let attributes = Reply::Attributes {
         pages: 4,
         kind: 0,
@@ -76,7 +93,16 @@ fn an_immutable_file_is_shown_read_only(rt: HostRuntime) -> Result<(), Fail> {
     let mut m = SlowMachine::new(rt.alloc(), 7, 1, 124)?;
     assert!(rt; gives(&mut m, &create(3), &Reply::File(FIRST))?);
     assert!(rt; does(&mut m, &Call::MakeImmutable { id: FIRST })?);
-    assert!(rt; refuses(&mut m, &Call::SetSize { id: FIRST, pages: 4 }, Refusal::Immutable)?);
+    assert!(rt;
+        refuses(
+            &mut m,
+            &Call::SetSize {
+                id: FIRST,
+                pages: 4
+            },
+            Refusal::Immutable
+        )?
+    );
     assert!(rt; makes_space(&mut m, 3, 1, 0)?);
     assert!(rt; refuses(&mut m, &map(1, 1, false), Refusal::Window)?);
     assert!(rt; refuses(&mut m, &map(1, 0, true), Refusal::Immutable)?);
@@ -86,7 +112,16 @@ fn an_immutable_file_is_shown_read_only(rt: HostRuntime) -> Result<(), Fail> {
         writable: true,
     };
     assert!(rt; refuses(&mut m, &writable, Refusal::Immutable)?);
-    assert!(rt; refuses(&mut m, &Call::Units { space: 1, pages: 17 }, Refusal::Size)?);
+    assert!(rt;
+        refuses(
+            &mut m,
+            &Call::Units {
+                space: 1,
+                pages: 17
+            },
+            Refusal::Size
+        )?
+    );
     assert!(rt; refuses(&mut m, &Call::Unmap { space: 9 }, Refusal::Space)?);
     Ok(())
 }
@@ -94,7 +129,13 @@ fn an_immutable_file_is_shown_read_only(rt: HostRuntime) -> Result<(), Fail> {
 #[test]
 fn an_empty_file_is_shown_once_it_has_a_page(rt: HostRuntime) -> Result<(), Fail> {
     let mut m = SlowMachine::new(rt.alloc(), 7, 1, 124)?;
-    assert!(rt; gives(&mut m, &Call::Create { pages: 0, kind: 5 }, &Reply::File(FIRST))?);
+    assert!(rt;
+        gives(
+            &mut m,
+            &Call::Create { pages: 0, kind: 5 },
+            &Reply::File(FIRST)
+        )?
+    );
     let attributes = Reply::Attributes {
         pages: 0,
         kind: 5,
@@ -104,7 +145,15 @@ fn an_empty_file_is_shown_once_it_has_a_page(rt: HostRuntime) -> Result<(), Fail
     assert!(rt; gives(&mut m, &Call::Attributes { id: FIRST }, &attributes)?);
     assert!(rt; makes_space(&mut m, 1, 1, 0)?);
     assert!(rt; refuses(&mut m, &map(1, 0, false), Refusal::Window)?);
-    assert!(rt; does(&mut m, &Call::SetSize { id: FIRST, pages: 1 })?);
+    assert!(rt;
+        does(
+            &mut m,
+            &Call::SetSize {
+                id: FIRST,
+                pages: 1
+            }
+        )?
+    );
     assert!(rt; does(&mut m, &map(1, 0, false))?);
     assert!(rt; gives(&mut m, &load(0, 1), &bytes(&[0]))?);
     let volume = Reply::Volume {

@@ -7,7 +7,16 @@ use std::test::Fail;
 fn stored_bytes_are_loaded(rt: HostRuntime) -> Result<(), Fail> {
     let mut m = SlowMachine::new(rt.alloc(), 7, 1, 124)?;
     assert!(rt; gives(&mut m, &create(1), &Reply::File(FIRST))?);
-    assert!(rt; gives(&mut m, &space(0, 1), &Reply::Space { handle: 1, first: 0 })?);
+    assert!(rt;
+        gives(
+            &mut m,
+            &space(0, 1),
+            &Reply::Space {
+                handle: 1,
+                first: 0
+            }
+        )?
+    );
     assert!(rt; does(&mut m, &map(1, 0, true))?);
     assert!(rt; does(&mut m, &store(0, b"ABC"))?);
     assert!(rt; gives(&mut m, &load(0, 3), &bytes(b"ABC"))?);
@@ -85,7 +94,15 @@ fn a_kill_leaves_what_is_shown_read_only(rt: HostRuntime) -> Result<(), Fail> {
     let mut m = SlowMachine::new(rt.alloc(), 7, 1, 124)?;
     assert!(rt; makes_mapped(&mut m, 1)?);
     assert!(rt; does(&mut m, &store(0, b"A"))?);
-    assert!(rt; does(&mut m, &Call::Protect { space: 1, writable: false })?);
+    assert!(rt;
+        does(
+            &mut m,
+            &Call::Protect {
+                space: 1,
+                writable: false
+            }
+        )?
+    );
     assert!(rt; does(&mut m, &Call::Kill { space: 1 })?);
     assert!(rt; gives(&mut m, &load(0, 1), &bytes(b"A"))?);
     assert!(rt; refuses(&mut m, &store(0, b"B"), Refusal::ReadOnly(0))?);
@@ -97,7 +114,16 @@ fn a_kill_is_bounded_by_its_space(rt: HostRuntime) -> Result<(), Fail> {
     let mut m = SlowMachine::new(rt.alloc(), 7, 1, 124)?;
     assert!(rt; gives(&mut m, &create(2), &Reply::File(FIRST))?);
     assert!(rt; makes_space(&mut m, 2, 1, 0)?);
-    assert!(rt; gives(&mut m, &space_at(1, 1, 1), &Reply::Space { handle: 2, first: 1 })?);
+    assert!(rt;
+        gives(
+            &mut m,
+            &space_at(1, 1, 1),
+            &Reply::Space {
+                handle: 2,
+                first: 1
+            }
+        )?
+    );
     assert!(rt; does(&mut m, &map(1, 0, true))?);
     assert!(rt; does(&mut m, &store(511, b"AB"))?);
     assert!(rt; does(&mut m, &Call::Kill { space: 2 })?);
@@ -117,7 +143,15 @@ fn two_windows_show_the_same_bytes(rt: HostRuntime) -> Result<(), Fail> {
     assert!(rt; gives(&mut m, &load(512, 1), &bytes(b"A"))?);
     assert!(rt; does(&mut m, &store(512, b"B"))?);
     assert!(rt; gives(&mut m, &load(0, 1), &bytes(b"B"))?);
-    assert!(rt; does(&mut m, &Call::Protect { space: 1, writable: false })?);
+    assert!(rt;
+        does(
+            &mut m,
+            &Call::Protect {
+                space: 1,
+                writable: false
+            }
+        )?
+    );
     assert!(rt; does(&mut m, &Call::Kill { space: 1 })?);
     assert!(rt; gives(&mut m, &load(0, 1), &bytes(b"B"))?);
     assert!(rt; does(&mut m, &Call::Kill { space: 2 })?);

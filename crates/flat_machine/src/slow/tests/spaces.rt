@@ -8,7 +8,16 @@ fn a_space_below_a_mapped_one_is_not_mapped(rt: HostRuntime) -> Result<(), Fail>
     let mut m = SlowMachine::new(rt.alloc(), 7, 1, 124)?;
     assert!(rt; gives(&mut m, &create(32), &Reply::File(FIRST))?);
     assert!(rt; makes_space(&mut m, 32, 1, 0)?);
-    assert!(rt; gives(&mut m, &space_at(1, 3, 3), &Reply::Space { handle: 2, first: 3 })?);
+    assert!(rt;
+        gives(
+            &mut m,
+            &space_at(1, 3, 3),
+            &Reply::Space {
+                handle: 2,
+                first: 3
+            }
+        )?
+    );
     assert!(rt; does(&mut m, &map(1, 0, true))?);
     assert!(rt; refuses(&mut m, &map(2, 0, false), Refusal::Mapped(1))?);
     assert!(rt; does(&mut m, &Call::Units { space: 1, pages: 4 })?);
