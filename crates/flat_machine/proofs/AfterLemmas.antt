@@ -1,13 +1,13 @@
 -- One line more.
-use Rattle.std.proofs.Common.{◌≡◌, ℕ, zero, suc, Bool, List, [], ◌∷◌, ◌++◌, Option, None, Some, refl, sym, ◌∙◌, ap, subst, length, take, fold}
-use Rattle.std.specs.Prelude.{slice_get, flat_map}
+use Rattle.std.proofs.Common.{◌≡◌, zero, suc, Bool, List, [], ◌∷◌, ◌++◌, Some, refl, sym, ◌∙◌, ap, subst, length}
+use Rattle.std.specs.Prelude.{slice_get}
 use Rattle.std.proofs.lemmas.Option.{same_Some, none-some}
 use Rattle.std.proofs.lemmas.List.{flat_map_more}
 use Rattle.flat_machine.specs.declared.call.Call.{Call}
 use Rattle.flat_machine.specs.declared.call.Reply.{Reply}
 use Rattle.flat_machine.specs.Text.{text}
 use Rattle.flat_machine.specs.Machine.{Machine}
-use Rattle.flat_machine.specs.After.{TraceLine, AllowsLine, AllowsAll, next_line, after, Transcript}
+use Rattle.flat_machine.specs.After.{TraceLine, AllowsLine, AllowsAll, next_line, after}
 use Rattle.flat_machine.specs.Laws.{TranscriptBegins, TranscriptGrows, AfterGrows}
 
 pub transcript_begins : TranscriptBegins

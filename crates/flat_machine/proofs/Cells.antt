@@ -1,13 +1,13 @@
 -- Files whose pages change stay files.
-use Rattle.std.proofs.Common.{◌≡◌, ℕ, zero, suc, ◌+◌, ◌-◌, ◌<◌, ◌≤◌, Bool, true, false, cond, List, [], ◌∷◌, ◌++◌, map, length, take, replicate, refl, sym, ◌∙◌, ap, subst, arith, length-set, min}
+use Rattle.std.proofs.Common.{◌≡◌, ℕ, zero, suc, ◌+◌, ◌-◌, ◌<◌, Bool, true, false, cond, List, [], ◌∷◌, ◌++◌, map, length, take, replicate, refl, ◌∙◌, ap, arith, length-set}
 use Rattle.std.specs.Prelude.{slice_set, slice_index_or, if◌then◌else◌, Some, None}
 use Rattle.std.specs.List.{AllByRecursion, enumerate_from}
 use Rattle.std.proofs.lemmas.List.{length-take, length-append, length-replicate}
-use Rattle.flat_machine.specs.File.{File, Page, Cell, size, zero_page, any_page, byte}
+use Rattle.flat_machine.specs.File.{File, Page, size, zero_page, any_page, byte}
 use Rattle.flat_machine.specs.Space.{Space}
 use Rattle.flat_machine.specs.Machine.{IsFile, IsByteOrAny}
 use Rattle.flat_machine.specs.At.{Spot}
-use Rattle.flat_machine.specs.Next.{resized, with_byte, with_any, killed_file}
+use Rattle.flat_machine.specs.Next.{resized, with_byte, killed_file}
 
 module _ {X : Type 0} (P : X → Type 0) where
   every_replicate : (x : X) → P x → (n : ℕ) → AllByRecursion P (replicate n x)

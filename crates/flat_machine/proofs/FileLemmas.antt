@@ -1,10 +1,9 @@
 -- What holds of a machine's files, and edits that keep it.
-use Rattle.std.proofs.Common.{◌≡◌, ◌≢◌, ◌⊎◌, inl, inr, ℕ, zero, suc, ◌+◌, ◌-◌, ◌*◌, ◌/◌, ◌%◌, ◌^◌, ◌<◌, ◌≤◌, Bool, true, false, not, ◌&&◌, cond, List, [], ◌∷◌, map, filter, length, replicate, Option, Some, None, refl, sym, ◌∙◌, ap, subst, arith, eqb}
-use Rattle.std.specs.Prelude.{IfSome, IsSomeAnd, IsTrue, IsFalse, find, sum_by, option_map, nat_lt, ◌==◌, if◌then◌else◌}
+use Rattle.std.proofs.Common.{◌≡◌, ◌≢◌, ℕ, ◌+◌, ◌≤◌, Bool, true, false, cond, List, [], ◌∷◌, map, filter, Option, Some, None, refl, sym, ◌∙◌, ap, subst, arith, eqb}
+use Rattle.std.specs.Prelude.{IfSome, IsSomeAnd, IsTrue, IsFalse, option_map, nat_lt, ◌==◌, if◌then◌else◌}
 use Rattle.std.specs.List.{AllByRecursion}
 use Rattle.std.specs.Option.{option_map_or}
-use Rattle.std.proofs.lemmas.Option.{same_Some, none-some}
-use Rattle.std.proofs.lemmas.Bool.{eqb-true, eqb-false, eq-eqb, ne_eqb, true≢false, not-true}
+use Rattle.std.proofs.lemmas.Bool.{eq-eqb, ne_eqb}
 use Rattle.std.proofs.lemmas.List.Sums.{sum_by-cons}
 use Rattle.labelled_disk.specs.Rising.{AreRising}
 use Rattle.labelled_disk.proofs.RisingLemmas.{at_put, rising_put}
@@ -13,7 +12,7 @@ use Rattle.flat_machine.specs.File.{File, size, file_at, room_of, total_room, pu
 use Rattle.flat_machine.specs.Space.{Window}
 use Rattle.flat_machine.specs.Machine.{IsFile, IsFileId, IsWindow}
 use Rattle.flat_machine.specs.Next.{change_file}
-use Rattle.flat_machine.proofs.Lists.{In, all_in, in_all, in_filter, filter_in, in_map, map_in, one_key, looked_up, look_up, look_up_none, rising_filter, rising_map}
+use Rattle.flat_machine.proofs.Lists.{In, all_in, in_all, in_filter, in_map, looked_up, rising_filter, rising_map}
 
 -- what holds of every machine, of its files alone
 pub record AreFiles (serial counter capacity : ℕ) (fs : List File) : Type 0 where
@@ -94,8 +93,8 @@ room_of_one id c ids fs f rise is =
     let same = room_changed false 0 0 fs (map g fs) id rise (rising_map (λ x. x.id) g (one_id id c ids) fs rise) (λ j n. found j ∙ stays j n (file_at fs j) refl) in
     let old : option_map_or room_of (file_at fs id) 0 ≡ room_of f = ap (λ (o : Option File). option_map_or room_of o 0) is in
     let now : option_map_or room_of (file_at (map g fs) id) 0 ≡ room_of (c f) =
-        ap (λ (o : Option File). option_map_or room_of o 0) (found_changed g (one_id id c ids) fs id f is)
-        ∙ ap room_of (changed_here id c f (looked_up (λ x. x.id) fs id f is).1) in
+    ap (λ (o : Option File). option_map_or room_of o 0) (found_changed g (one_id id c ids) fs id f is)
+    ∙ ap room_of (changed_here id c f (looked_up (λ x. x.id) fs id f is).1) in
     omega (arith, same, old, now)
   where
     stays : (j : ℕ) → j ≢ id → (o : Option File) → file_at fs j ≡ o → option_map (λ x. if x.id == id then c x else x) (file_at fs j) ≡ file_at fs j

@@ -1,5 +1,5 @@
 -- Handles of spaces: the lowest unused one, and a space put in its place.
-use Rattle.std.proofs.Common.{◌≡◌, ◌≢◌, ℕ, zero, suc, ◌+◌, ◌<◌, ◌≤◌, Bool, true, false, not, ◌&&◌, ◌||◌, cond, List, [], ◌∷◌, map, length, refl, sym, ◌∙◌, ap, arith}
+use Rattle.std.proofs.Common.{◌≡◌, ℕ, suc, ◌+◌, ◌<◌, ◌≤◌, Bool, true, false, not, ◌||◌, cond, List, [], ◌∷◌, map, length, refl, arith}
 use Rattle.std.proofs.lemmas.Bool.Decides.{nat_tests}
 use Rattle.std.specs.Prelude.{nat_lt, ◌==◌, if◌then◌else◌}
 use Rattle.std.specs.List.{list_any, AllByRecursion}
@@ -147,4 +147,3 @@ put_rises x (s ∷ ss) r u = either (nat_lt x.handle s.handle) refl (put_rises x
         let parts = not_or (s.handle == x.handle) (list_any (λ t. t.handle == x.handle) ss) u in
         let l : s.handle < x.handle = le_from _ _ e parts.0 in
         (above_back s.handle (put_space x ss) (every_put (λ t. s.handle < t.handle) x ss l (above_map s.handle ss r.0)), f parts.1)
-

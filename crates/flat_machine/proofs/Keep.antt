@@ -1,12 +1,12 @@
 -- A machine in parts: its files, its spaces, the windows on the files, and the unforced pages.
-use Rattle.std.proofs.Common.{◌≡◌, ◌≢◌, ℕ, ◌+◌, ◌<◌, ◌≤◌, Bool, true, false, not, ◌&&◌, cond, List, [], ◌∷◌, filter, Option, Some, None, refl, sym, ◌∙◌, ap, subst, arith}
+use Rattle.std.proofs.Common.{◌≡◌, ◌≤◌, Bool, List, filter, Option, Some, None, refl, subst}
 use Rattle.std.specs.Prelude.{IfSome, IsTrue, is_none, if◌then◌else◌}
 use Rattle.std.specs.Option.{option_map_or}
 use Rattle.std.specs.List.{AllByRecursion}
 use Rattle.flat_machine.specs.declared.call.Call.{Call}
 use Rattle.flat_machine.specs.declared.call.Refusal.{Refusal}
 use Rattle.flat_machine.specs.File.{File, file_at}
-use Rattle.flat_machine.specs.Space.{Space, Window, FilePage, space_at}
+use Rattle.flat_machine.specs.Space.{Space, Window, FilePage}
 use Rattle.flat_machine.specs.Machine.{Machine, IsMachine, IsWindow, is_shown_writable}
 use Rattle.flat_machine.specs.Refusal.{refusal}
 use Rattle.flat_machine.specs.Next.{change}

@@ -1,19 +1,18 @@
 -- Mapping an anonymous file keeps a machine.
-use Rattle.std.proofs.Common.{◌≡◌, ◌≢◌, ◌⊎◌, inl, inr, ℕ, ◌+◌, ◌<◌, ◌≤◌, Bool, true, false, ◌&&◌, cond, List, [], ◌∷◌, map, length, Option, Some, None, refl, sym, ◌∙◌, ap, subst, arith, eqb}
-use Rattle.std.specs.Prelude.{IfSome, IsSomeAnd, IsTrue, IsFalse, ◌==◌}
+use Rattle.std.proofs.Common.{◌≡◌, ◌≢◌, ℕ, ◌+◌, ◌≤◌, Bool, true, false, ◌&&◌, cond, List, map, Option, Some, None, refl, sym, ◌∙◌, ap, subst, arith, eqb}
+use Rattle.std.specs.Prelude.{IfSome, IsSomeAnd, IsFalse}
 use Rattle.std.specs.Option.{option_map_or}
 use Rattle.std.proofs.lemmas.Bool.{eq-eqb, ne_eqb}
-use Rattle.std.proofs.lemmas.Option.{same_Some}
 use Rattle.std.proofs.lemmas.List.{length-replicate}
 use Rattle.labelled_disk.proofs.RisingLemmas.{at_put}
 use Rattle.flat_machine.specs.declared.call.Call.TheVariants.{MapAnonymous}
 use Rattle.flat_machine.specs.File.{File, size, file_at, put_file, zero_page}
-use Rattle.flat_machine.specs.Space.{Space, Window, space_at, is_mapped, overlap}
+use Rattle.flat_machine.specs.Space.{Space, Window, space_at}
 use Rattle.flat_machine.specs.Machine.{Machine, IsMachine, IsWindow}
 use Rattle.flat_machine.specs.Refusal.{refusal, no_space, is_root, path_mapped, no_room, no_room_for_space, no_ids}
 use Rattle.flat_machine.specs.Next.{next, set_window, mapped_anonymous, new_id, new_file}
 use Rattle.flat_machine.proofs.Lists.{In, looked_up}
-use Rattle.flat_machine.proofs.TestLemmas.{five_none, space_there, of_space_none, path_free, not_root}
+use Rattle.flat_machine.proofs.TestLemmas.{five_none, of_space_none, path_free, not_root}
 use Rattle.flat_machine.proofs.FileLemmas.{window_file}
 use Rattle.flat_machine.proofs.KeepNew.{not_new, linked_by_new, files_with_new, next_counter}
 use Rattle.flat_machine.proofs.SpaceLemmas.{fitted}
@@ -46,7 +45,7 @@ module _ (m : Machine) (h : IsMachine m) where
   given_window pages =
       let f = new_file m pages 0 in
       let here : file_at (put_file f m.files) (new_id m) ≡ Some f =
-          at_put f m.files (new_id m) ∙ ap (λ (b : Bool). cond b (Some f) (file_at m.files (new_id m))) (eq-eqb (new_id m) (new_id m) refl) in
+      at_put f m.files (new_id m) ∙ ap (λ (b : Bool). cond b (Some f) (file_at m.files (new_id m))) (eq-eqb (new_id m) (new_id m) refl) in
       record {
         inside_file = subst (λ (o : Option File). IsSomeAnd o (λ x. 0 + pages ≤ size x)) (sym here) (omega (arith, length-replicate pages zero_page));
         writable_mutable = λ t. subst (λ (o : Option File). IfSome o (λ x. IsFalse x.immutable)) (sym here) refl;

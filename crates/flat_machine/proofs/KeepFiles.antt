@@ -1,28 +1,26 @@
 -- Calls that change files alone, or cells, keep a machine.
-use Rattle.std.proofs.Common.{◌≡◌, ◌≢◌, ◌⊎◌, inl, inr, ℕ, zero, suc, ◌+◌, ◌-◌, ◌*◌, ◌/◌, ◌%◌, ◌^◌, ◌<◌, ◌≤◌, Bool, true, false, not, ◌&&◌, cond, List, [], ◌∷◌, ◌++◌, map, filter, length, take, replicate, Option, Some, None, refl, sym, ◌∙◌, ap, subst, arith, eqb}
-use Rattle.std.specs.Prelude.{IfSome, IsTrue, IsFalse, slice_set, slice_index_or, nat_lt, ◌==◌, if◌then◌else◌, option_map}
+use Rattle.std.proofs.Common.{◌≡◌, ◌≢◌, ◌⊎◌, inl, inr, ℕ, ◌+◌, ◌-◌, ◌<◌, ◌≤◌, Bool, true, false, not, List, [], ◌∷◌, map, Option, Some, None, refl, sym, ◌∙◌, ap, subst, arith, eqb}
+use Rattle.std.specs.Prelude.{nat_lt, ◌==◌, if◌then◌else◌}
 use Rattle.std.specs.Option.{option_map_or}
-use Rattle.std.specs.List.{AllByRecursion, enumerate_from}
-use Rattle.std.proofs.lemmas.Bool.{eqb-true, eqb-false, eq-eqb, ne_eqb, true≢false, ltb-false}
+use Rattle.std.specs.List.{AllByRecursion}
+use Rattle.std.proofs.lemmas.Bool.{ne_eqb, true≢false, ltb-false}
 use Rattle.std.proofs.lemmas.Bool.{cases_eq}
-use Rattle.std.proofs.lemmas.Option.{same_Some, none-some}
-use Rattle.std.proofs.Common.{length-set}
+use Rattle.std.proofs.lemmas.Option.{same_Some}
 use Rattle.labelled_disk.specs.Rising.{AreRising}
-use Rattle.labelled_disk.proofs.RisingLemmas.{at_put, rising_put}
-use Rattle.flat_machine.specs.declared.call.Call.TheVariants.{Create, Delete, SetSize, MakePermanent, MakeImmutable, Kill}
+use Rattle.flat_machine.specs.declared.call.Call.TheVariants.{Delete, SetSize, MakePermanent, MakeImmutable, Kill}
 use Rattle.flat_machine.specs.declared.call.Refusal.TheVariants as why
-use Rattle.flat_machine.specs.File.{File, Page, Cell, size, file_at, room_of, total_room, put_file, zero_page, any_page, byte}
+use Rattle.flat_machine.specs.File.{File, size, file_at, total_room}
 use Rattle.flat_machine.specs.Space.{Space, Window, space_at}
-use Rattle.flat_machine.specs.Machine.{Machine, IsMachine, IsFile, IsFileId, IsByteOrAny, used}
+use Rattle.flat_machine.specs.Machine.{Machine, IsMachine, IsFile, used}
 use Rattle.flat_machine.specs.At.{Spot, spot_at}
-use Rattle.flat_machine.specs.Refusal.{refusal, no_room, no_ids, no_file, file_mapped, is_immutable, cut_while_mapped, no_room_as}
-use Rattle.flat_machine.specs.Next.{next, new_id, new_file, with_new_file, change_file, without_file, resized, with_byte, store_byte, store_bytes, with_any, killed_file}
-use Rattle.flat_machine.proofs.Lists.{In, all_in, in_all, in_filter, filter_in, in_map, looked_up, look_up, look_up_none, not_any, rising_filter}
-use Rattle.flat_machine.proofs.TestLemmas.{one_none, two_none, three_none, four_none, then_none, room_there, file_there, of_file_none, windows_fail, not_shown, none_anonymous}
-use Rattle.flat_machine.proofs.FileLemmas.{AreFiles, Follows, fewer_files, changed_files, found_changed, same_room, one_id, changed_here, unchanged, room_of_one, each_put, room_put}
-use Rattle.flat_machine.proofs.Cells.{resized_size, resized_file, byte_size, byte_file, killed_size, killed_is_file, zero_file}
+use Rattle.flat_machine.specs.Refusal.{refusal, no_file, file_mapped, is_immutable, cut_while_mapped, no_room_as}
+use Rattle.flat_machine.specs.Next.{next, change_file, without_file, resized, with_byte, store_byte, store_bytes, killed_file}
+use Rattle.flat_machine.proofs.Lists.{In, filter_in, looked_up, look_up, not_any, rising_filter}
+use Rattle.flat_machine.proofs.TestLemmas.{one_none, two_none, four_none, then_none, file_there, of_file_none, windows_fail, not_shown, none_anonymous}
+use Rattle.flat_machine.proofs.FileLemmas.{Follows, fewer_files, changed_files, found_changed, same_room, one_id, changed_here, unchanged, room_of_one}
+use Rattle.flat_machine.proofs.Cells.{resized_size, resized_file, byte_size, byte_file, killed_size, killed_is_file}
 use Rattle.std.specs.Bool.{then_some}
-use Rattle.flat_machine.proofs.Keep.{Linked, files_of, refused_or, at_there, relinked, with_files}
+use Rattle.flat_machine.proofs.Keep.{files_of, refused_or, at_there, relinked, with_files}
 
 pub follows_self : (w : Window) (f : File) → Follows w f f
 follows_self w f = record { size = omega arith; immutable = λ t e. e; permanent = λ t e. e }
@@ -118,7 +116,7 @@ size_keeps id pages m h = refused_or m (SetSize id pages) h kept
         let f : File = there.0 in
         let cut = of_file_none m id (λ x. if nat_lt pages (size x) then file_mapped m id (λ w. true) else None) f there.1 tests.2 in
         let room = ltb-false m.capacity (used m + pages - size f) (then_none (nat_lt m.capacity (used m + pages - size f)) why.Full
-            (of_file_none m id (λ x. then_some (nat_lt m.capacity (used m + pages - size x)) why.Full) f there.1 tests.3)) in
+        (of_file_none m id (λ x. then_some (nat_lt m.capacity (used m + pages - size x)) why.Full) f there.1 tests.3)) in
         let long : size (resized pages f) ≡ pages = resized_size pages f in
         one_file_changed m id (resized pages) f (λ x. refl) (resized_file pages) there.1 (omega (arith, room, long, h.room))
         (λ s w i is q. record { size = omega (arith, no_cut f cut s w i is q, long); immutable = λ t z. z; permanent = λ t z. z }) h
@@ -132,11 +130,15 @@ all_files_changed m g ids sizes immutable permanent whole h =
     with_files m (map g m.files)
     (changed_files m.serial m.counter m.capacity g ids m.files (λ f i w. whole f w) (omega (arith, same_room g sizes m.files, h.room)) (files_of m h))
     (relinked m.files (map g m.files) m.spaces h.whole_windows
-    (λ s w i e f found. (g f, found_changed g ids m.files w.file f found, record {
-      size = omega (arith, sizes f);
-      immutable = λ t z. immutable f ∙ z;
-      permanent = λ t z. permanent f ∙ z;
-    }))) h
+    (λ s w i e f found. (
+      g f,
+      found_changed g ids m.files w.file f found,
+      record {
+        size = omega (arith, sizes f);
+        immutable = λ t z. immutable f ∙ z;
+        permanent = λ t z. permanent f ∙ z;
+      },
+    ))) h
 
 pub kill_keeps : (space : ℕ) (m : Machine) → IsMachine m → IsMachine (next m (Kill space))
 kill_keeps space m h = refused_or m (Kill space) h (λ e. at_there m (space_at m.spaces space) (λ s. record m { files = map (killed_file m.spaces s) m.files }) h

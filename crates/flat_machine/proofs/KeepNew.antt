@@ -1,16 +1,14 @@
 -- Making a file keeps a machine.
-use Rattle.std.proofs.Common.{◌≡◌, ◌≢◌, ℕ, ◌+◌, ◌*◌, ◌/◌, ◌%◌, ◌^◌, ◌<◌, ◌≤◌, Bool, true, false, cond, List, [], ◌∷◌, length, replicate, Option, Some, None, refl, sym, ◌∙◌, ap, subst, arith, eqb}
+use Rattle.std.proofs.Common.{◌≡◌, ◌≢◌, ℕ, ◌+◌, ◌*◌, ◌/◌, ◌%◌, ◌^◌, ◌<◌, ◌≤◌, Bool, false, cond, List, Some, None, sym, ◌∙◌, ap, arith, eqb}
 use Rattle.std.specs.Prelude.{◌==◌}
-use Rattle.std.specs.List.{AllByRecursion}
 use Rattle.std.proofs.lemmas.Bool.{eqb-false, ne_eqb}
-use Rattle.std.proofs.lemmas.Option.{none-some}
 use Rattle.std.proofs.lemmas.List.{length-replicate}
 use Rattle.labelled_disk.proofs.RisingLemmas.{at_put, rising_put}
 use Rattle.flat_machine.specs.declared.call.Call.TheVariants.{Create}
 use Rattle.flat_machine.specs.declared.call.Refusal.TheVariants as why
-use Rattle.flat_machine.specs.File.{File, size, file_at, put_file, zero_page}
-use Rattle.flat_machine.specs.Space.{Space, Window}
-use Rattle.flat_machine.specs.Machine.{Machine, IsMachine, IsFileId, IsFile, used}
+use Rattle.flat_machine.specs.File.{File, file_at, put_file, zero_page}
+use Rattle.flat_machine.specs.Space.{Space}
+use Rattle.flat_machine.specs.Machine.{Machine, IsMachine, IsFileId, IsFile}
 use Rattle.flat_machine.specs.Refusal.{refusal, no_room, no_ids}
 use Rattle.flat_machine.specs.Next.{next, new_id, new_file, with_new_file}
 use Rattle.flat_machine.proofs.Lists.{In, all_in, in_all, looked_up, look_up_none}
@@ -18,7 +16,7 @@ use Rattle.flat_machine.proofs.TestLemmas.{two_none, then_none, room_there}
 use Rattle.flat_machine.proofs.FileLemmas.{AreFiles, each_put, room_put}
 use Rattle.flat_machine.proofs.Cells.{zero_file}
 use Rattle.flat_machine.proofs.KeepFiles.{follows_self}
-use Rattle.flat_machine.proofs.Keep.{Linked, files_of, spaces_of, refused_or, relinked, join}
+use Rattle.flat_machine.proofs.Keep.{Linked, spaces_of, refused_or, relinked, join}
 
 -- the halves of an identifier
 id_halves : (serial counter : ℕ) → counter < 4294967296 → ((serial * 2 ^ 32 + counter) / 2 ^ 32 ≡ serial) × ((serial * 2 ^ 32 + counter) % 2 ^ 32 ≡ counter)
@@ -31,11 +29,11 @@ module _ (m : Machine) (h : IsMachine m) where
   -- no file has the new identifier
   pub not_new : (f : File) → In f m.files → f.id ≢ new_id m
   not_new f i e =
-        let given = (all_in (λ f. IsFileId m.serial m.counter f.id) m.files h.ids_given f i).given_out in
-        let halves = id_halves m.serial m.counter fits in
-        let low : f.id % 2 ^ 32 < m.counter = given (ap (λ (n : ℕ). n / 2 ^ 32) e ∙ halves.0) in
-        let same : f.id % 2 ^ 32 ≡ m.counter = ap (λ (n : ℕ). n % 2 ^ 32) e ∙ halves.1 in
-        absurd (omega (arith, low, same))
+      let given = (all_in (λ f. IsFileId m.serial m.counter f.id) m.files h.ids_given f i).given_out in
+      let halves = id_halves m.serial m.counter fits in
+      let low : f.id % 2 ^ 32 < m.counter = given (ap (λ (n : ℕ). n / 2 ^ 32) e ∙ halves.0) in
+      let same : f.id % 2 ^ 32 ≡ m.counter = ap (λ (n : ℕ). n % 2 ^ 32) e ∙ halves.1 in
+      absurd (omega (arith, low, same))
 
   pub none_new : file_at m.files (new_id m) ≡ None
   none_new = look_up_none (λ f. f.id) m.files (new_id m) not_new

@@ -1,19 +1,18 @@
 -- Storing, forcing and closing keep a machine.
-use Rattle.std.proofs.Common.{◌≡◌, ℕ, ◌+◌, ◌-◌, ◌/◌, ◌<◌, ◌≤◌, Bool, true, false, not, ◌&&◌, cond, List, [], ◌∷◌, ◌++◌, filter, length, fold, Option, Some, None, refl, sym, ◌∙◌, ap, subst, arith, eqb, inl, inr}
-use Rattle.std.specs.Prelude.{IsTrue, is_none, find, nat_le, nat_lt, option_map, option_and_then, ◌==◌, if◌then◌else◌}
+use Rattle.std.proofs.Common.{◌≡◌, ℕ, ◌+◌, ◌-◌, ◌<◌, Bool, true, false, not, ◌&&◌, List, [], ◌∷◌, ◌++◌, filter, length, fold, Option, Some, None, refl, sym, ◌∙◌, ap, subst, arith, eqb, inl, inr}
+use Rattle.std.specs.Prelude.{IsTrue, is_none, nat_le, nat_lt, option_map, option_and_then, if◌then◌else◌}
 use Rattle.std.specs.Option.{option_map_or}
 use Rattle.std.specs.List.{AllByRecursion, list_any}
 use Rattle.std.proofs.lemmas.Bool.{eq-eqb, true≢false, false≢true, and_parts}
 use Rattle.std.proofs.lemmas.Bool.Decides.{nat_tests}
-use Rattle.std.proofs.lemmas.Option.{same_Some, none-some}
 use Rattle.flat_machine.specs.declared.call.Call.TheVariants.{Store, ForceOut, Close}
 use Rattle.flat_machine.specs.declared.call.Refusal.TheVariants as why
-use Rattle.flat_machine.specs.Space.{Space, Window, FilePage, root, holds, is_mapped, is_writable, has_window, shows, space_at, mapped_at}
+use Rattle.flat_machine.specs.Space.{Space, Window, FilePage, root, holds, is_mapped, is_writable, shows, space_at, mapped_at}
 use Rattle.flat_machine.specs.Machine.{Machine, IsMachine, is_shown_writable}
 use Rattle.flat_machine.specs.At.{page_through, shown_at, pages_of}
 use Rattle.flat_machine.specs.Refusal.{refusal, no_map, read_only, is_read_only}
 use Rattle.flat_machine.specs.Next.{next, change, is_page, mark, mark_page, store_bytes, is_shown_within, without_shown_within}
-use Rattle.flat_machine.proofs.Lists.{In, in_all, in_any, find_in, not_found}
+use Rattle.flat_machine.proofs.Lists.{In, in_any, find_in, not_found}
 use Rattle.flat_machine.proofs.TestLemmas.{two_none, map_none, is_there}
 use Rattle.flat_machine.proofs.FileLemmas.{fewer_files}
 use Rattle.flat_machine.proofs.Cells.{every_append}
@@ -54,8 +53,8 @@ marked ss us page at shown = either at.0.window refl
     either None e = absurd (false≢true (sym (ap (λ (o : Option Window). option_map_or (λ w. w.writable) o false) e) ∙ at.2))
     either (Some w) e =
         let here : shown_at ss page ≡ Some (page_through at.0 w page) =
-            ap (λ (o : Option Space). option_and_then (λ s. option_map (λ v. page_through s v page) s.window) o) at.1
-            ∙ ap (λ (o : Option Window). option_map (λ v. page_through at.0 v page) o) e in
+        ap (λ (o : Option Space). option_and_then (λ s. option_map (λ v. page_through s v page) s.window) o) at.1
+        ∙ ap (λ (o : Option Window). option_map (λ v. page_through at.0 v page) o) e in
         let mode : w.writable ≡ true = sym (ap (λ (o : Option Window). option_map_or (λ v. v.writable) o false) e) ∙ at.2 in
         let held = (and_parts (is_mapped at.0) (holds at.0 page) found).1 in
         subst (λ (o : Option FilePage). Shown ss (option_map_or (λ u. mark u us) o us)) (sym here)

@@ -1,25 +1,24 @@
 -- Calls that make, remove or divide spaces keep a machine.
-use Rattle.std.proofs.Common.{◌≡◌, ◌≢◌, ◌⊎◌, inl, inr, ℕ, zero, suc, ◌+◌, ◌<◌, ◌≤◌, Bool, true, false, not, ◌&&◌, ◌||◌, cond, List, [], ◌∷◌, map, filter, length, min, Option, Some, None, refl, sym, ◌∙◌, ap, subst, arith, eqb}
-use Rattle.std.specs.Prelude.{IfSome, IsTrue, IsFalse, nat_lt, nat_le, is_some, is_none, unwrap_or, ◌==◌, if◌then◌else◌, option_and_then}
+use Rattle.std.proofs.Common.{◌≡◌, ◌≢◌, ℕ, ◌+◌, ◌≤◌, Bool, true, false, not, ◌&&◌, List, length, Option, Some, None, refl, sym, ◌∙◌, ap, arith}
+use Rattle.std.specs.Prelude.{IfSome, nat_lt, nat_le, is_none, unwrap_or, ◌==◌}
 use Rattle.std.specs.Option.{option_map_or}
 use Rattle.std.specs.Bool.{then_some}
-use Rattle.std.specs.List.{AllByRecursion, list_any, list_all}
-use Rattle.std.proofs.lemmas.Bool.{eqb-true, eqb-false, eq-eqb, ne_eqb, true≢false, false≢true, not-true, and_parts, ltb-false, ltb-true, leb-true, cases_eq}
-use Rattle.std.proofs.lemmas.Option.{same_Some, none-some}
-use Rattle.std.proofs.lemmas.Bool.Decides.{nat_tests}
-use Rattle.flat_machine.specs.declared.call.Call.TheVariants.{MakeSpace, RemoveSpace, Units}
+use Rattle.std.specs.List.{list_any}
+use Rattle.std.proofs.lemmas.Bool.{eqb-false, ne_eqb, false≢true, and_parts, ltb-false, leb-true}
+use Rattle.std.proofs.lemmas.Option.{none-some}
+use Rattle.flat_machine.specs.declared.call.Call.TheVariants.{MakeSpace, RemoveSpace}
 use Rattle.flat_machine.specs.declared.call.Refusal.TheVariants as why
-use Rattle.flat_machine.specs.Space.{Space, Window, FilePage, root, end, overlap, space_at, is_child_of, is_mapped, is_writable, has_window, shows}
-use Rattle.flat_machine.specs.Machine.{Machine, IsMachine, IsSpace, IsWindow, EachTwo, shares_anonymous, is_shown_writable}
-use Rattle.flat_machine.specs.Refusal.{refusal, Test, no_space, no_size, no_spaces, no_place, no_gap, out_of_range, of_space, fits, is_clear, lowest_gap, gap_starts, is_root, has_children, self_mapped, no_unit}
-use Rattle.flat_machine.specs.Next.{next, new_space, first_page_for, is_unused, lowest_unused, put_space, without_space, change_space}
-use Rattle.flat_machine.proofs.Lists.{In, all_in, in_all, in_filter, filter_in, in_map, any_in, in_any, not_any, all_pass, one_key, looked_up}
-use Rattle.flat_machine.proofs.TestLemmas.{one_none, three_none, four_none, then_none, is_there, space_there, of_space_none, window_free, not_root}
+use Rattle.flat_machine.specs.Space.{Space, Window, root, end, overlap, space_at, is_child_of, is_writable, shows}
+use Rattle.flat_machine.specs.Machine.{Machine, IsMachine, IsWindow}
+use Rattle.flat_machine.specs.Refusal.{refusal, no_space, no_size, no_spaces, no_place, fits, is_clear, lowest_gap, gap_starts, is_root, has_children, self_mapped}
+use Rattle.flat_machine.specs.Next.{next, new_space, first_page_for, is_unused, put_space, without_space}
+use Rattle.flat_machine.proofs.Lists.{In, all_in, in_all, in_filter, filter_in, any_in, in_any, not_any, all_pass, one_key, looked_up}
+use Rattle.flat_machine.proofs.TestLemmas.{four_none, then_none, space_there, of_space_none, window_free, not_root}
 use Rattle.flat_machine.proofs.LowestLemmas.{least_among, filter_passed}
 use Rattle.flat_machine.proofs.HandleLemmas.{lowest_few, lowest_free, every_put}
-use Rattle.flat_machine.proofs.SpaceLemmas.{AreSpaces, IsIn, fitted, fitted_spaces, two_at, two_by}
+use Rattle.flat_machine.proofs.SpaceLemmas.{AreSpaces}
 use Rattle.flat_machine.proofs.SpaceEdits.{MayBeMade, made_spaces, removed_spaces, put_in, overlap_swap}
-use Rattle.flat_machine.proofs.Keep.{Linked, Shown, files_of, spaces_of, refused_or, with_spaces, window_at, linked_by}
+use Rattle.flat_machine.proofs.Keep.{spaces_of, refused_or, with_spaces}
 
 -- The place of a new space.
 

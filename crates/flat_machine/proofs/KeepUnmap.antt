@@ -1,18 +1,18 @@
 -- Taking a window away, and changing its mode, keep a machine.
-use Rattle.std.proofs.Common.{◌≡◌, ◌≢◌, ◌⊎◌, inl, inr, ℕ, ◌+◌, ◌<◌, ◌≤◌, Bool, true, false, not, ◌&&◌, cond, List, [], ◌∷◌, map, filter, Option, Some, None, refl, sym, ◌∙◌, ap, subst, arith, eqb}
-use Rattle.std.specs.Prelude.{IfSome, IsSomeAnd, IsTrue, IsFalse, is_some, ◌==◌, nat_le, nat_lt, option_map, option_and_then, if◌then◌else◌}
+use Rattle.std.proofs.Common.{◌≡◌, ◌≢◌, ◌⊎◌, inl, inr, ℕ, Bool, true, false, not, ◌&&◌, List, map, Option, Some, None, refl, sym, ◌∙◌, ap, subst, eqb}
+use Rattle.std.specs.Prelude.{IfSome, IsFalse, is_some, ◌==◌, option_map, option_and_then, if◌then◌else◌}
 use Rattle.std.specs.Option.{option_map_or}
 use Rattle.std.specs.Bool.{then_some}
 use Rattle.std.proofs.lemmas.Bool.{eq-eqb, ne_eqb, true≢false, false≢true, not-true, and_parts, cases_eq}
 use Rattle.std.proofs.lemmas.Option.{same_Some, none-some}
 use Rattle.flat_machine.specs.declared.call.Call.TheVariants.{Unmap, Protect}
 use Rattle.flat_machine.specs.declared.call.Refusal.TheVariants as why
-use Rattle.flat_machine.specs.File.{File, size, file_at}
-use Rattle.flat_machine.specs.Space.{Space, Window, FilePage, root, space_at, is_mapped, is_writable, overlap, shows}
-use Rattle.flat_machine.specs.Machine.{Machine, IsMachine, IsWindow, shares_anonymous}
-use Rattle.flat_machine.specs.Refusal.{refusal, Test, no_space, not_mapped, shows_immutable, is_immutable, of_file}
+use Rattle.flat_machine.specs.File.{File, file_at}
+use Rattle.flat_machine.specs.Space.{Space, Window, FilePage, root, space_at, is_mapped, is_writable, shows}
+use Rattle.flat_machine.specs.Machine.{Machine, IsMachine, IsWindow}
+use Rattle.flat_machine.specs.Refusal.{refusal, no_space, not_mapped, shows_immutable, is_immutable}
 use Rattle.flat_machine.specs.Next.{next, set_window, set_mode, with_mode, without_anonymous, without_file, without_window_of, unmapped, protected}
-use Rattle.flat_machine.proofs.Lists.{In, all_in, in_all, in_filter, any_in, one_key, looked_up}
+use Rattle.flat_machine.proofs.Lists.{In, all_in, in_filter, any_in, one_key, looked_up}
 use Rattle.flat_machine.proofs.TestLemmas.{two_none, three_none, then_none, of_file_none, of_space_none, window_there}
 use Rattle.flat_machine.proofs.FileLemmas.{AreFiles, fewer_files, window_file, window_kept}
 use Rattle.flat_machine.proofs.SpaceLemmas.{AreSpaces, fitted, fitted_spaces, two_at, two_by}
@@ -35,9 +35,9 @@ shown_elsewhere ss us k s u w h is same shown = shown_fitted u w ss (without_win
     let r = any_in _ ss (all_in _ us shown x kept.0) in
     let at = looked_up (λ t. t.handle) ss k s is in
     let other : r.0.handle ≢ k = λ q.
-        let it : r.0 ≡ s = one_key (λ t. t.handle) ss h.rise r.0 s r.1 at.0 (q ∙ sym at.1) in
-        let yes : shows x.file x.page s ≡ true = ap (λ (t : Space). shows x.file x.page t) (sym it) ∙ (and_parts (is_writable r.0) (shows x.file x.page r.0) r.2).1 in
-        true≢false (sym yes ∙ not-true (shows x.file x.page s) kept.1) in
+    let it : r.0 ≡ s = one_key (λ t. t.handle) ss h.rise r.0 s r.1 at.0 (q ∙ sym at.1) in
+    let yes : shows x.file x.page s ≡ true = ap (λ (t : Space). shows x.file x.page t) (sym it) ∙ (and_parts (is_writable r.0) (shows x.file x.page r.0) r.2).1 in
+    true≢false (sym yes ∙ not-true (shows x.file x.page s) kept.1) in
     (r.0, r.1, shown_still u w r.0 x (same r.0 other) r.2))
 
 -- unmap

@@ -1,29 +1,24 @@
 -- Calls that change units and windows keep a machine.
-use Rattle.std.proofs.Common.{◌≡◌, ◌≢◌, ◌⊎◌, inl, inr, ℕ, zero, suc, ◌+◌, ◌<◌, ◌≤◌, Bool, true, false, not, ◌&&◌, ◌||◌, cond, List, [], ◌∷◌, map, filter, length, Option, Some, None, refl, sym, ◌∙◌, ap, subst, arith, eqb}
-use Rattle.std.specs.Prelude.{IfSome, IsSomeAnd, IsTrue, IsFalse, nat_lt, nat_le, is_some, is_none, ◌==◌, if◌then◌else◌, option_and_then, option_map}
+use Rattle.std.proofs.Common.{◌≡◌, ◌≢◌, ◌⊎◌, inl, inr, ℕ, ◌+◌, ◌<◌, ◌≤◌, Bool, true, false, ◌&&◌, ◌||◌, List, [], ◌∷◌, map, Option, Some, None, refl, sym, ◌∙◌, ap, subst, arith, eqb}
+use Rattle.std.specs.Prelude.{IfSome, IsSomeAnd, IsFalse, nat_lt, is_some, ◌==◌, if◌then◌else◌}
 use Rattle.std.specs.Option.{option_map_or}
 use Rattle.std.specs.Bool.{then_some}
-use Rattle.std.specs.List.{AllByRecursion, list_any}
-use Rattle.std.proofs.lemmas.Bool.{eqb-true, eqb-false, eq-eqb, ne_eqb, true≢false, false≢true, not-true, and_parts, ltb-false, cases_eq}
+use Rattle.std.proofs.lemmas.Bool.{eq-eqb, ne_eqb, true≢false, false≢true, and_parts, ltb-false, cases_eq}
 use Rattle.std.proofs.lemmas.Bool.Decides.{nat_tests}
-use Rattle.std.proofs.lemmas.Option.{same_Some, none-some}
-use Rattle.flat_machine.specs.declared.call.Call.TheVariants.{Units, Map, MapAnonymous, Unmap, Protect, ForceOut, Close}
+use Rattle.std.proofs.lemmas.Option.{same_Some}
+use Rattle.flat_machine.specs.declared.call.Call.TheVariants.{Units, Map}
 use Rattle.flat_machine.specs.declared.call.Refusal.TheVariants as why
-use Rattle.flat_machine.specs.File.{File, size, file_at, put_file, zero_page}
-use Rattle.flat_machine.specs.Space.{Space, Window, FilePage, root, end, overlap, space_at, is_mapped, is_writable, has_window, shows}
-use Rattle.flat_machine.specs.Machine.{Machine, IsMachine, IsSpace, IsWindow, EachTwo, shares_anonymous, is_shown_writable, is_anonymous}
-use Rattle.flat_machine.specs.Refusal.{refusal, Test, no_space, is_root, no_unit, no_file, path_mapped, past_end, is_immutable, of_file, no_room, no_room_for_space, no_ids, not_mapped, shows_immutable}
-use Rattle.flat_machine.specs.Next.{next, change_space, set_window, set_mode, with_mode, without_anonymous, without_file, without_window_of, without_shown_within, is_shown_within, unmapped, mapped_anonymous, protected, new_id, new_file, with_new_file}
-use Rattle.flat_machine.proofs.Lists.{In, all_in, in_all, in_filter, in_map, map_in, any_in, in_any, not_any, one_key, looked_up}
-use Rattle.flat_machine.proofs.TestLemmas.{one_none, two_none, three_none, five_none, six_none, then_none, file_there, of_file_none, space_there, of_space_none, path_free, not_root, window_there, none_anonymous}
-use Rattle.flat_machine.proofs.FileLemmas.{AreFiles, fewer_files, window_file, window_kept}
+use Rattle.flat_machine.specs.File.{File, size, file_at}
+use Rattle.flat_machine.specs.Space.{Space, Window, FilePage, root, end, overlap, space_at, is_mapped, is_writable, shows}
+use Rattle.flat_machine.specs.Machine.{Machine, IsMachine, IsSpace, IsWindow}
+use Rattle.flat_machine.specs.Refusal.{refusal, no_space, is_root, no_unit, no_file, path_mapped, past_end, is_immutable, of_file}
+use Rattle.flat_machine.specs.Next.{next, change_space, set_window}
+use Rattle.flat_machine.proofs.Lists.{In, all_in, in_all, in_map, map_in, any_in, in_any, not_any, one_key, looked_up}
+use Rattle.flat_machine.proofs.TestLemmas.{three_none, six_none, then_none, file_there, of_file_none, space_there, of_space_none, path_free, not_root, none_anonymous}
 use Rattle.flat_machine.proofs.SpaceLemmas.{AreSpaces, fitted, fitted_spaces, two_at, two_by}
 use Rattle.flat_machine.proofs.SpaceEdits.{overlap_swap}
-use Rattle.flat_machine.proofs.KeepFiles.{follows_self, left_at}
-use Rattle.flat_machine.proofs.KeepNew.{not_new, linked_by_new, files_with_new, next_counter}
 use Rattle.flat_machine.proofs.KeepSpaces.{mapped_of}
-use Rattle.flat_machine.proofs.StartLemmas.{opened_is_machine}
-use Rattle.flat_machine.proofs.Keep.{Linked, Shown, join, files_of, spaces_of, refused_or, at_there, with_spaces, with_unforced, shown_filter, window_at, if_window}
+use Rattle.flat_machine.proofs.Keep.{Linked, Shown, spaces_of, refused_or, with_spaces, window_at, if_window}
 
 pub map_same : {X Y : Type 0} (f g : X → Y) → ((x : X) → f x ≡ g x) → (xs : List X) → map f xs ≡ map g xs
 map_same f g k [] = refl
@@ -226,8 +221,8 @@ map_keeps space id page writable m h = refused_or m (Map space id page writable)
         let spaces = spaces_of m h in
         let none = none_anonymous m.spaces id (not_any _ m.spaces found.2) in
         let fit = ltb-false (size f) (page + s.pages) (then_none (nat_lt (size f) (page + s.pages)) why.Window
-            (of_file_none m id (λ x. then_some (nat_lt (size x) (page + s.pages)) why.Window) f found.1
-            (of_space_none m space (λ t. of_file m id (λ x. then_some (nat_lt (size x) (page + t.pages)) why.Window)) s there.1 tests.4))) in
+        (of_file_none m id (λ x. then_some (nat_lt (size x) (page + s.pages)) why.Window) f found.1
+        (of_space_none m space (λ t. of_file m id (λ x. then_some (nat_lt (size x) (page + t.pages)) why.Window)) s there.1 tests.4))) in
         let good : IsWindow m.files s.pages (asked id page writable) = record {
           inside_file = subst (λ (o : Option File). IsSomeAnd o (λ x. page + s.pages ≤ size x)) (sym found.1) (omega (arith, fit));
           writable_mutable = λ t. subst (λ (o : Option File). IfSome o (λ x. IsFalse x.immutable)) (sym found.1) (mutable f found.1 writable tests.5 t);

@@ -34,3 +34,4 @@ pub mod SlowLoadLemmas
 pub mod SlowTestLemmas
 pub mod SlowFileLemmas
 pub mod SlowStepLemmas
+pub mod SettledLemmas

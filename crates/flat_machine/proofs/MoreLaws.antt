@@ -1,18 +1,17 @@
 -- What a machine shows, forces and reads.
-use Rattle.std.proofs.Common.{◌≡◌, ◌≢◌, ℕ, zero, suc, ◌+◌, ◌-◌, ◌<◌, ◌≤◌, Bool, true, false, ◌&&◌, cond, List, [], ◌∷◌, map, filter, take, fold, Option, Some, None, refl, sym, ◌∙◌, ap, subst, arith}
-use Rattle.std.specs.Prelude.{IsSomeAnd, IfSome, IsTrue, nat_le, nat_lt, option_map, option_and_then, if◌then◌else◌}
-use Rattle.std.specs.List.{AllByRecursion, enumerate_from}
+use Rattle.std.proofs.Common.{◌≡◌, ℕ, zero, suc, ◌+◌, ◌-◌, ◌<◌, Bool, true, false, ◌&&◌, List, [], ◌∷◌, map, filter, Option, Some, None, refl, sym, ◌∙◌, ap, subst, arith}
+use Rattle.std.specs.Prelude.{IsSomeAnd, IfSome, nat_le, nat_lt, option_map, option_and_then, if◌then◌else◌}
+use Rattle.std.specs.List.{enumerate_from}
 use Rattle.std.proofs.lemmas.Bool.{and_parts, leb-true, ltb-true}
 use Rattle.std.proofs.lemmas.Option.{same_Some, none-some}
-use Rattle.flat_machine.specs.declared.call.Call.{Call}
 use Rattle.flat_machine.specs.Form.{IsTyped}
 use Rattle.flat_machine.specs.File.{File, Page, size, file_at, any_page}
 use Rattle.flat_machine.specs.Space.{Space, Window, FilePage, end, holds, is_mapped, mapped_at}
-use Rattle.flat_machine.specs.Machine.{Machine, IsMachine}
-use Rattle.flat_machine.specs.At.{shown_at, page_through}
+use Rattle.flat_machine.specs.Machine.{IsMachine}
+use Rattle.flat_machine.specs.At.{page_through}
 use Rattle.flat_machine.specs.Next.{next}
-use Rattle.flat_machine.specs.After.{TraceLine, next_line, after}
-use Rattle.flat_machine.specs.Settled.{settled, settled_file}
+use Rattle.flat_machine.specs.After.{TraceLine, next_line}
+use Rattle.flat_machine.specs.Settled.{settled_file}
 use Rattle.flat_machine.specs.Laws.{ShownIsThere, ForcedIsSettled, AfterIsMachine}
 use Rattle.flat_machine.proofs.Lists.{find_in}
 use Rattle.flat_machine.proofs.FileLemmas.{window_file}

@@ -1,12 +1,11 @@
 -- Two spaces share a page exactly where one is the other or above it.
-use Rattle.std.proofs.Common.{◌≡◌, ◌≢◌, ◌⊎◌, inl, inr, ℕ, zero, suc, ◌+◌, ◌<◌, ◌≤◌, Bool, true, false, ◌&&◌, cond, List, [], ◌∷◌, map, Option, Some, None, refl, sym, ◌∙◌, ap, subst, arith, eqb}
-use Rattle.std.specs.Prelude.{IsTrue, nat_lt, ◌==◌}
+use Rattle.std.proofs.Common.{◌≡◌, ◌≢◌, ◌⊎◌, inl, inr, ℕ, zero, suc, ◌<◌, ◌≤◌, Bool, true, ◌&&◌, List, Option, refl, sym, ◌∙◌, ap, subst, arith}
+use Rattle.std.specs.Prelude.{nat_lt}
 use Rattle.std.specs.Option.{option_map_or}
-use Rattle.std.proofs.lemmas.Bool.{true≢false, and_parts, ltb-true, cases_eq, eqb-true, eq-eqb, ne_eqb}
+use Rattle.std.proofs.lemmas.Bool.{true≢false, and_parts, ltb-true, cases_eq}
 use Rattle.std.proofs.lemmas.Bool.Decides.{nat_tests}
-use Rattle.std.proofs.lemmas.Option.{same_Some, none-some}
-use Rattle.flat_machine.specs.Space.{Space, root, end, overlap, space_at, is_child_of}
-use Rattle.flat_machine.specs.Machine.{Machine, IsMachine, IsSpace, ancestor, are_siblings}
+use Rattle.flat_machine.specs.Space.{Space, root, end, overlap, is_child_of}
+use Rattle.flat_machine.specs.Machine.{IsSpace, ancestor, are_siblings}
 use Rattle.flat_machine.specs.Laws.{IsAtOrAbove, SharingIsOnePath}
 use Rattle.flat_machine.proofs.Lists.{In, all_in, looked_up, look_up, one_key}
 use Rattle.flat_machine.proofs.SpaceLemmas.{AreSpaces, two_at, parent_at}
@@ -77,8 +76,13 @@ module _ (ss : List Space) (h : AreSpaces ss) where
           let q_root : q ≡ root = same q root l r.0 (e ∙ ap (λ (s : Space). s.parent) t_root) in
           inl (t_root ∙ sym q_root ∙ is)
       step q l e (inr n) (inl is) = inr (record { child = t; there = j; not_root = n; parent = sym e ∙ ap (λ (s : Space). s.handle) is; above = (0, refl) })
-      step q l e z (inr c) = inr (record { child = c.child; there = c.there; not_root = c.not_root; parent = c.parent;
-        above = (suc c.above.0, up c.above.0 t j ∙ ap (λ (n : ℕ). ancestor ss c.above.0 n) (sym e) ∙ c.above.1) })
+      step q l e z (inr c) = inr (record {
+        child = c.child;
+        there = c.there;
+        not_root = c.not_root;
+        parent = c.parent;
+        above = (suc c.above.0, up c.above.0 t j ∙ ap (λ (n : ℕ). ancestor ss c.above.0 n) (sym e) ∙ c.above.1);
+      })
 
   one_path : (a b : ℕ) (s t : Space) → In s ss → In t ss → ancestor ss a s.handle ≡ 0 → ancestor ss b t.handle ≡ 0 → overlap s t ≡ true
       → IsAtOrAbove ss s t ⊎ IsAtOrAbove ss t s

@@ -83,28 +83,38 @@ module _ (spaces : List Space) where
   alone : (page : ℕ) (is : List Interval) → page < root_pages → IsProjectionFrom spaces (page + 1) is
       → (page + 1 < root_pages → view_at spaces (page + 1) ≢ view_at spaces page) → (js : List Interval) × IsProjectionFrom spaces page js
   alone page is l rest other =
-      let i : Interval = record { first = page; pages = 1; view = view_at spaces page } in
-      (i ∷ is, (record {
-        begins = refl;
-        not_empty = omega arith;
-        in_root = omega (arith, l);
-        one_view = λ p low high. let e : page ≡ p = omega (arith, low, high) in ap (λ (n : ℕ). view_at spaces n) (sym e);
-        maximal = other;
-      }, rest))
+      let i : Interval = record { first = page; pages = 1; view = view_at spaces page } in (
+        i ∷ is,
+        (
+          record {
+            begins = refl;
+            not_empty = omega arith;
+            in_root = omega (arith, l);
+            one_view = λ p low high. let e : page ≡ p = omega (arith, low, high) in ap (λ (n : ℕ). view_at spaces n) (sym e);
+            maximal = other;
+          },
+          rest,
+        ),
+      )
 
   -- one page more, before an interval of its view
   longer : (page : ℕ) (j : Interval) (js : List Interval) → page < root_pages → IsMaximalFrom spaces (page + 1) j → IsProjectionFrom spaces (end_of j) js → view_at spaces page ≡ j.view
       → (ks : List Interval) × IsProjectionFrom spaces page ks
   longer page j js l at rest e =
       let i : Interval = record { first = page; pages = j.pages + 1; view = j.view } in
-      let ends : end_of j ≡ end_of i = omega (arith, at.begins) in
-      (i ∷ js, (record {
-        begins = refl;
-        not_empty = omega arith;
-        in_root = omega (arith, at.in_root, ends);
-        one_view = λ p low high. by p low high (cases_eq page p);
-        maximal = λ k. subst (λ (n : ℕ). n < root_pages → view_at spaces n ≢ j.view) ends at.maximal k;
-      }, subst (λ (n : ℕ). IsProjectionFrom spaces n js) ends rest))
+      let ends : end_of j ≡ end_of i = omega (arith, at.begins) in (
+        i ∷ js,
+        (
+          record {
+            begins = refl;
+            not_empty = omega arith;
+            in_root = omega (arith, at.in_root, ends);
+            one_view = λ p low high. by p low high (cases_eq page p);
+            maximal = λ k. subst (λ (n : ℕ). n < root_pages → view_at spaces n ≢ j.view) ends at.maximal k;
+          },
+          subst (λ (n : ℕ). IsProjectionFrom spaces n js) ends rest,
+        ),
+      )
     where
       by : (p : ℕ) → page ≤ p → p < page + (j.pages + 1) → (page ≡ p) ⊎ (page ≢ p) → view_at spaces p ≡ j.view
       by p low high (inl q) = ap (λ (n : ℕ). view_at spaces n) (sym q) ∙ e

@@ -1,5 +1,5 @@
 -- Replies that are allowed, and calls that are refused.
-use Rattle.std.proofs.Common.{◌≡◌, List, [], ◌∷◌, map, Option, None, Some, refl, ap, ℕ}
+use Rattle.std.proofs.Common.{◌≡◌, List, [], ◌∷◌, map, Option, None, Some, refl, ap, arith}
 use Rattle.std.specs.Prelude.{MatchOption, unwrap_or, is_none, if◌then◌else◌}
 use Rattle.std.specs.Option.{option_map_or}
 use Rattle.flat_machine.specs.declared.call.Call.{Call}
@@ -10,14 +10,14 @@ use Rattle.flat_machine.specs.File.{Cell}
 use Rattle.flat_machine.specs.Machine.{Machine}
 use Rattle.flat_machine.specs.At.{cells_at}
 use Rattle.flat_machine.specs.Refusal.{refusal}
-use Rattle.flat_machine.specs.Next.{change, next}
+use Rattle.flat_machine.specs.Next.{change}
 use Rattle.flat_machine.specs.Allows.{Answers, AgreesWithCells, plain_reply}
 use Rattle.flat_machine.specs.Laws.{SomeReplyIsAllowed, RefusedChangesNothing}
 
 -- 0 for any agrees
 zeros_agree : (cells : List Cell) → AgreesWithCells cells (map (λ cell. unwrap_or cell 0) cells)
 zeros_agree [] = tt
-zeros_agree (None ∷ cells) = (tt, zeros_agree cells)
+zeros_agree (None ∷ cells) = (omega arith, zeros_agree cells)
 zeros_agree (Some b ∷ cells) = (refl, zeros_agree cells)
 
 plain_answers : (m : Machine) (call : Call) → Answers m call (plain_reply m call)

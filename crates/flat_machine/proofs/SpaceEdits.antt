@@ -1,11 +1,11 @@
 -- A space is made, or removed.
-use Rattle.std.proofs.Common.{◌≡◌, ◌≢◌, ◌⊎◌, inl, inr, ℕ, zero, suc, ◌+◌, ◌<◌, ◌≤◌, Bool, true, false, not, ◌&&◌, ◌||◌, cond, List, [], ◌∷◌, map, filter, length, Option, Some, None, refl, sym, ◌∙◌, ap, subst, arith, eqb}
-use Rattle.std.specs.Prelude.{IsTrue, IsFalse, find, nat_lt, is_some, ◌==◌, if◌then◌else◌}
+use Rattle.std.proofs.Common.{◌≡◌, ◌≢◌, ◌⊎◌, inl, inr, ℕ, suc, ◌≤◌, Bool, true, false, not, ◌&&◌, cond, List, [], ◌∷◌, map, Option, Some, None, refl, sym, ◌∙◌, ap, subst, eqb}
+use Rattle.std.specs.Prelude.{nat_lt, is_some, ◌==◌}
 use Rattle.std.specs.Option.{option_map_or}
-use Rattle.std.specs.List.{AllByRecursion, list_any}
+use Rattle.std.specs.List.{list_any}
 use Rattle.std.proofs.lemmas.Bool.{eqb-true, eqb-false, eq-eqb, ne_eqb, true≢false, not-true, and_parts}
-use Rattle.flat_machine.specs.Space.{Space, Window, root, end, overlap, space_at, is_child_of, is_mapped, has_window}
-use Rattle.flat_machine.specs.Machine.{IsRising, IsSpace, EachTwo, ancestor, are_siblings, shares_anonymous}
+use Rattle.flat_machine.specs.Space.{Space, Window, root, end, overlap, is_child_of, is_mapped, has_window}
+use Rattle.flat_machine.specs.Machine.{IsRising, IsSpace, ancestor, are_siblings, shares_anonymous}
 use Rattle.flat_machine.specs.Next.{is_unused, put_space, without_space}
 use Rattle.flat_machine.proofs.Lists.{In, all_in, in_all, in_filter, filter_in, not_any, one_key, looked_up, look_up, rising_filter}
 use Rattle.flat_machine.proofs.HandleLemmas.{put_rises}

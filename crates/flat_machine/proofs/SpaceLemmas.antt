@@ -1,16 +1,11 @@
 -- What holds of a machine's spaces, and edits that keep it.
-use Rattle.std.proofs.Common.{◌≡◌, ◌≢◌, ◌⊎◌, inl, inr, ℕ, zero, suc, ◌+◌, ◌<◌, ◌≤◌, Bool, true, false, not, ◌&&◌, ◌||◌, cond, List, [], ◌∷◌, map, filter, length, Option, Some, None, refl, sym, ◌∙◌, ap, subst, arith, eqb}
-use Rattle.std.specs.Prelude.{IfSome, IsSomeAnd, IsTrue, IsFalse, find, nat_lt, nat_le, is_some, ◌==◌, if◌then◌else◌}
+use Rattle.std.proofs.Common.{◌≡◌, ◌≢◌, ℕ, zero, suc, ◌≤◌, Bool, true, false, ◌&&◌, cond, List, [], ◌∷◌, map, Option, Some, None, refl, sym, ◌∙◌, ap, subst}
+use Rattle.std.specs.Prelude.{IsSomeAnd, IsTrue, IsFalse, is_some, ◌==◌}
 use Rattle.std.specs.Option.{option_map_or}
-use Rattle.std.specs.List.{AllByRecursion, list_any}
-use Rattle.std.proofs.lemmas.Option.{same_Some, none-some}
-use Rattle.std.proofs.lemmas.Bool.{eqb-true, eqb-false, eq-eqb, ne_eqb, true≢false, not-true, and_parts}
-use Rattle.flat_machine.specs.File.{File}
-use Rattle.flat_machine.specs.Space.{Space, Window, FilePage, root, end, overlap, space_at, is_child_of, is_mapped, is_writable, has_window, shows}
-use Rattle.flat_machine.specs.Machine.{IsRising, IsSpace, IsWindow, EachTwo, ancestor, are_siblings, shares_anonymous, is_shown_writable}
-use Rattle.flat_machine.specs.Next.{is_unused, put_space}
-use Rattle.flat_machine.proofs.Lists.{In, all_in, in_all, in_filter, filter_in, in_map, map_in, any_in, in_any, not_any, one_key, looked_up, look_up, rising_filter, rising_map}
-use Rattle.flat_machine.proofs.HandleLemmas.{put_rises, every_put}
+use Rattle.std.specs.List.{AllByRecursion}
+use Rattle.flat_machine.specs.Space.{Space, Window, root, end, overlap, space_at, is_mapped}
+use Rattle.flat_machine.specs.Machine.{IsRising, IsSpace, EachTwo, ancestor, are_siblings, shares_anonymous}
+use Rattle.flat_machine.proofs.Lists.{In, all_in, in_all, in_map, map_in, looked_up, look_up, rising_map}
 
 -- what holds of every machine, of its spaces alone
 pub record AreSpaces (ss : List Space) : Type 0 where
@@ -130,6 +125,8 @@ module _ (u : Space → ℕ) (w : Space → Option Window) where
             unit_fits = units s i old.unit_fits;
             inside_parent = parent_by (map (fitted u w) ss) rise (fitted u w s) (fitted u w p.0)
                 (record { there = map_in (fitted u w) ss p.0 p.1.there; parent = p.1.parent; first = p.1.first; last = p.1.last });
-            leads_to_root = (old.leads_to_root.0,
-              same_ancestors ss (map (fitted u w) ss) (λ k. Unit {0}) (λ k good. (fitted_parents ss k, tt)) old.leads_to_root.0 s.handle tt ∙ old.leads_to_root.1);
+            leads_to_root = (
+              old.leads_to_root.0,
+              same_ancestors ss (map (fitted u w) ss) (λ k. Unit {0}) (λ k good. (fitted_parents ss k, tt)) old.leads_to_root.0 s.handle tt ∙ old.leads_to_root.1,
+            );
           }

@@ -1,6 +1,6 @@
 -- The machine that a disk starts.
-use Rattle.std.proofs.Common.{◌≡◌, ◌≢◌, ℕ, ◌+◌, ◌<◌, ◌≤◌, Bool, true, false, ◌&&◌, cond, List, [], ◌∷◌, map, filter, Option, Some, None, refl, sym, ◌∙◌, ap, subst, arith, eqb}
-use Rattle.std.specs.Prelude.{nat_lt, if◌then◌else◌}
+use Rattle.std.proofs.Common.{◌≡◌, ℕ, ◌+◌, Bool, true, false, ◌&&◌, cond, List, [], ◌∷◌, map, filter, Some, None, refl, sym, ◌∙◌, ap, subst, arith, eqb}
+use Rattle.std.specs.Prelude.{if◌then◌else◌}
 use Rattle.std.specs.List.{AllByRecursion, AllZip, enumerate_from}
 use Rattle.std.proofs.lemmas.Bool.{and_parts, false≢true}
 use Rattle.labelled_disk.specs.Sectors.{Sector}
@@ -9,7 +9,7 @@ use Rattle.labelled_disk.specs.Label.{is_file, is_permanent, leader_page}
 use Rattle.labelled_disk.specs.FilesOn.{leads, file_by, files_by, files_on, put_file}
 use Rattle.flat_machine.specs.File.{File, Page, any_page, Cell}
 use Rattle.flat_machine.specs.Settled.{settled, settled_file, Agrees, PageAgrees, CellAgrees}
-use Rattle.flat_machine.specs.Start.{start, opened}
+use Rattle.flat_machine.specs.Start.{start}
 use Rattle.flat_machine.proofs.FileLemmas.{each_put}
 use Rattle.flat_machine.specs.Laws.{OpenedIsMachine, StartAgrees}
 

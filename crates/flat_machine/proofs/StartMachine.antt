@@ -1,8 +1,7 @@
 -- A disk with right labels starts a machine.
-use Rattle.std.proofs.Common.{◌≡◌, ◌≢◌, ◌⊎◌, inl, inr, ℕ, zero, suc, ◌+◌, ◌-◌, ◌%◌, ◌^◌, ◌<◌, ◌≤◌, Bool, true, false, ◌&&◌, cond, List, [], ◌∷◌, map, length, take, drop, Option, Some, None, refl, sym, ◌∙◌, ap, subst, arith, eqb}
-use Rattle.std.specs.Prelude.{All, slice_get, slice_index, slice_range, find, option_map, if◌then◌else◌}
+use Rattle.std.proofs.Common.{◌≡◌, ◌≢◌, inl, inr, ℕ, zero, suc, ◌%◌, ◌^◌, ◌<◌, ◌≤◌, Bool, true, false, ◌&&◌, List, [], ◌∷◌, map, length, drop, Option, Some, None, refl, ◌∙◌, ap, subst, arith, eqb}
+use Rattle.std.specs.Prelude.{All, slice_get, slice_index, find, option_map, if◌then◌else◌}
 use Rattle.std.specs.List.{AllByRecursion}
-use Rattle.std.specs.Option.{option_map_or}
 use Rattle.std.proofs.lemmas.Option.{same_Some, none-some}
 use Rattle.std.proofs.lemmas.List.{length-map}
 use Rattle.std.proofs.lemmas.Bool.{and_parts}
@@ -11,11 +10,11 @@ use Rattle.labelled_disk.specs.Layout.{data_sectors, first_data}
 use Rattle.labelled_disk.specs.Label.{is_file, is_permanent, leader_page}
 use Rattle.labelled_disk.specs.FilesOn.{leads, file_by, files_by, files_on, is_page, page_at, put_file}
 use Rattle.labelled_disk.specs.Right.{IsGiven}
-use Rattle.labelled_disk.specs.Root.{LabelsRight, page_in, root_page, number_at, serial_of, counter_of}
+use Rattle.labelled_disk.specs.Root.{page_in, root_page, number_at, serial_of, counter_of}
 use Rattle.labelled_disk.proofs.Pages.{pages_all}
 use Rattle.labelled_disk.proofs.WriteLemmas.{file_id, files_on_rise}
 use Rattle.flat_machine.specs.File.{File, Page, byte}
-use Rattle.flat_machine.specs.Machine.{IsMachine, IsFile, IsFileId, IsByteOrAny}
+use Rattle.flat_machine.specs.Machine.{IsFile, IsByteOrAny}
 use Rattle.flat_machine.specs.Start.{start, opened}
 use Rattle.flat_machine.specs.Laws.{StartIsMachine}
 use Rattle.flat_machine.proofs.Lists.{In, all_in, in_all, find_in}
@@ -98,12 +97,15 @@ file_facts : (xs : List Sector) → ((s : Sector) → In s xs → IsSector s) �
 file_facts xs each s i leader =
     let outer = and_parts (is_file s.0 && eqb s.0.page leader_page) (is_permanent s.0) leader in
     let inner = and_parts (is_file s.0) (eqb s.0.page leader_page) outer.0 in
-    let ids = file_id s.0 inner.0 in
-    (ids.0, ids.1, record {
-      kind_fits = (each s i).kind_fits;
-      whole_pages = pages_all (λ p. length p ≡ 512) (page_at xs s.0.id) (λ j p e. (whole_page xs each s.0.id j p e).0) 0 leader_page;
-      cells = pages_all (AllByRecursion IsByteOrAny) (page_at xs s.0.id) (λ j p e. (whole_page xs each s.0.id j p e).1) 0 leader_page;
-    })
+    let ids = file_id s.0 inner.0 in (
+      ids.0,
+      ids.1,
+      record {
+        kind_fits = (each s i).kind_fits;
+        whole_pages = pages_all (λ p. length p ≡ 512) (page_at xs s.0.id) (λ j p e. (whole_page xs each s.0.id j p e).0) 0 leader_page;
+        cells = pages_all (AllByRecursion IsByteOrAny) (page_at xs s.0.id) (λ j p e. (whole_page xs each s.0.id j p e).1) 0 leader_page;
+      },
+    )
 
 pub start_is_machine : StartIsMachine
 start_is_machine d each right =

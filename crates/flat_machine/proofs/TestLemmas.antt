@@ -1,20 +1,18 @@
 -- What is known where the tests of a call do not hold.
-use Rattle.std.proofs.Common.{◌≡◌, ◌≢◌, ℕ, ◌+◌, ◌-◌, ◌<◌, ◌≤◌, Bool, true, false, not, ◌&&◌, ◌||◌, cond, List, [], ◌∷◌, filter, Option, Some, None, refl, sym, ◌∙◌, ap, subst, arith, eqb}
+use Rattle.std.proofs.Common.{◌≡◌, ◌≢◌, ℕ, ◌+◌, ◌≤◌, Bool, true, false, not, ◌&&◌, List, [], ◌∷◌, Option, Some, None, refl, sym, ◌∙◌, ap, arith, eqb}
 use Rattle.std.proofs.lemmas.Bool.Decides.{nat_tests}
-use Rattle.std.proofs.lemmas.Grind.{common_steps}
-use Rattle.std.specs.Prelude.{find, nat_lt, nat_le, is_none, is_some, option_map, option_and_then, ◌==◌, if◌then◌else◌}
+use Rattle.std.specs.Prelude.{find, nat_lt, is_none, is_some, option_map, option_and_then, ◌==◌, if◌then◌else◌}
 use Rattle.std.specs.Bool.{then_some}
-use Rattle.std.specs.List.{AllByRecursion, list_any}
 use Rattle.std.specs.Option.{option_map_or}
-use Rattle.std.proofs.lemmas.Option.{same_Some, none-some}
-use Rattle.std.proofs.lemmas.Bool.{eqb-true, eqb-false, eq-eqb, true≢false, and_parts}
+use Rattle.std.proofs.lemmas.Option.{none-some}
+use Rattle.std.proofs.lemmas.Bool.{eqb-false, eq-eqb, true≢false}
 use Rattle.flat_machine.specs.declared.call.Refusal.{Refusal}
 use Rattle.flat_machine.specs.declared.call.Refusal.TheVariants as why
-use Rattle.flat_machine.specs.File.{File, size, file_at}
+use Rattle.flat_machine.specs.File.{File, file_at}
 use Rattle.flat_machine.specs.Space.{Space, Window, space_at, is_mapped, has_window, overlap}
 use Rattle.flat_machine.specs.Machine.{Machine, used, nameable, is_anonymous}
-use Rattle.flat_machine.specs.Refusal.{Test, first_of, no_room, no_file, no_room_as, no_ids, is_immutable, of_file, file_mapped, cut_while_mapped, lowest_handle, no_space, of_space, is_root, has_children, self_mapped, path_mapped, not_mapped, shows_immutable, past_end}
-use Rattle.flat_machine.proofs.Lists.{In, find_in, not_found}
+use Rattle.flat_machine.specs.Refusal.{Test, first_of, no_room, no_file, of_file, file_mapped, lowest_handle, no_space, of_space, is_root, self_mapped, path_mapped, not_mapped}
+use Rattle.flat_machine.proofs.Lists.{In, not_found}
 
 -- Where no word is the first, no test holds.
 

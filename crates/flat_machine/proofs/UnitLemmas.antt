@@ -1,11 +1,7 @@
 -- Swap units, and the pages of a reference.
-use Rattle.std.proofs.Common.{◌≡◌, ◌≢◌, ◌⊎◌, inl, inr, ℕ, zero, suc, ◌+◌, ◌-◌, ◌*◌, ◌/◌, ◌<◌, ◌≤◌, min, max, Bool, true, false, cond, List, [], ◌∷◌, length, refl, sym, ◌∙◌, ap, subst, arith, eqb}
+use Rattle.std.proofs.Common.{◌≡◌, ◌⊎◌, inl, inr, ℕ, ◌+◌, ◌-◌, ◌*◌, ◌/◌, ◌<◌, ◌≤◌, Bool, true, false, [], ◌∷◌, refl, arith}
 use Rattle.std.specs.Prelude.{◌==◌, if◌then◌else◌}
-use Rattle.std.specs.List.{AllByRecursion}
 use Rattle.std.proofs.lemmas.Bool.{eqb-true, eqb-false, cases_lt}
-use Rattle.flat_machine.specs.Space.{Space}
-use Rattle.flat_machine.specs.Projection.{Interval, end_of, block_start, unit_first, unit_end, unit}
-use Rattle.flat_machine.specs.At.{pages_of}
 use Rattle.flat_machine.specs.Laws.{UnitHoldsItsPage, IsTouched, ReferenceTouches}
 
 -- the block of a page holds it

@@ -1,5 +1,5 @@
 -- Which replies the machine allows.
-use Rattle.std.specs.Prelude.{ℕ, ◌&&◌, ◌≡◌, ◌-◌, nat_lt, List, map, find, Option, option_map, unwrap_or, IfSome, MatchOption, is_some}
+use Rattle.std.specs.Prelude.{ℕ, ◌&&◌, ◌≡◌, ◌-◌, ◌<◌, nat_lt, List, map, find, Option, option_map, unwrap_or, MatchOption, is_some}
 use Rattle.std.specs.List.{AllZip}
 use Rattle.std.specs.Option.{option_map_or}
 use Rattle.flat_machine.specs.declared.call.Call.{Call}
@@ -13,9 +13,9 @@ use Rattle.flat_machine.specs.At.{cells_at}
 use Rattle.flat_machine.specs.Refusal.{refusal}
 use Rattle.flat_machine.specs.Next.{new_id, new_space}
 
--- as many bytes as cells, and each is its cell's, wherever that cell is a byte
+-- as many bytes as cells, and each is its cell's, or any byte where the cell is any
 abbrev pub AgreesWithCells : List Cell → List ℕ → Type 0
-AgreesWithCells cells bytes = AllZip (λ cell b. IfSome cell (λ c. b ≡ c)) cells bytes
+AgreesWithCells cells bytes = AllZip (λ cell b. MatchOption cell (b < 256) (λ c. b ≡ c)) cells bytes
 
 -- what a client is told of a file
 abbrev pub attributes_of : File → Reply

@@ -1,5 +1,5 @@
 -- What an address shows.
-use Rattle.std.specs.Prelude.{ℕ, zero, suc, ◌+◌, ◌-◌, ◌/◌, ◌%◌, List, [], ◌∷◌, Option, Some, None, option_map, option_and_then, slice_index_or, ◌==◌, if◌then◌else◌}
+use Rattle.std.specs.Prelude.{ℕ, zero, suc, ◌+◌, ◌-◌, ◌/◌, ◌%◌, List, [], ◌∷◌, Option, option_map, option_and_then, slice_index_or, ◌==◌, if◌then◌else◌}
 use Rattle.std.specs.Option.{option_map_or}
 use Rattle.flat_machine.specs.File.{File, Cell, any, file_at}
 use Rattle.flat_machine.specs.Space.{Space, Window, FilePage, mapped_at}

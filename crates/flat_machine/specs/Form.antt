@@ -1,6 +1,6 @@
 -- Calls in form.
 use Rattle.std.specs.Prelude.{◌≤◌, ◌<◌, length}
-use Rattle.std.specs.List.{AllByRecursion}
+pub use Rattle.flat_machine.specs.Bytes.{AreBytes}
 use Rattle.flat_machine.specs.declared.call.Call.{Call}
 use Rattle.flat_machine.specs.declared.call.Call.TheVariants as call
 
@@ -13,5 +13,5 @@ IsInForm c = Unit {0}
 -- the type of a new file has 16 bits, and the bytes of a store are bytes
 abbrev pub IsTyped : Call → Type 0
 IsTyped (call.Create pages kind) = kind < 65536
-IsTyped (call.Store address bytes) = AllByRecursion (λ b. b < 256) bytes
+IsTyped (call.Store address bytes) = AreBytes bytes
 IsTyped c = Unit {0}

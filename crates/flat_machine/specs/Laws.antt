@@ -9,15 +9,16 @@ use Rattle.flat_machine.specs.declared.call.Reply.{Reply}
 use Rattle.flat_machine.specs.declared.call.Refusal.{Refusal}
 use Rattle.flat_machine.specs.Text.{text}
 use Rattle.flat_machine.specs.Form.{IsTyped}
-use Rattle.flat_machine.specs.File.{size, file_at}
+use Rattle.labelled_disk.specs.Rising.{AreRising, BothBy}
+use Rattle.flat_machine.specs.File.{File, size, file_at}
 use Rattle.flat_machine.specs.Space.{Space, FilePage, overlap, root_pages, space_at}
-use Rattle.flat_machine.specs.Machine.{Machine, IsMachine, IsRising, ancestor}
+use Rattle.flat_machine.specs.Machine.{Machine, IsMachine, IsFile, IsRising, ancestor}
 use Rattle.flat_machine.specs.At.{shown_at, pages_of}
 use Rattle.flat_machine.specs.Refusal.{refusal, fits, lowest_gap}
 use Rattle.flat_machine.specs.Next.{next, is_unused, lowest_unused}
 use Rattle.flat_machine.specs.Allows.{Allows, reply_of}
 use Rattle.flat_machine.specs.After.{TraceLine, AllowsLine, next_line, after, Transcript}
-use Rattle.flat_machine.specs.Settled.{settled, Agrees}
+use Rattle.flat_machine.specs.Settled.{settled, Agrees, FileStandsFor}
 use Rattle.flat_machine.specs.Start.{opened, start}
 use Rattle.flat_machine.specs.Projection.{Interval, IsProjection, end_of, unit}
 
@@ -133,3 +134,8 @@ ForcedIsSettled = (m : Machine) → m.unforced ≡ [] → settled m ≡ filter (
 abbrev pub AfterIsMachine : Type 0
 AfterIsMachine = (built : Call → Bool) (m : Machine) (lines : List TraceLine) (k : ℕ) → AllByRecursion (λ line. IfSome line IsTyped) lines
     → IsMachine m → IsMachine (after built m lines k)
+
+-- where each file stands for the machine's of its identifier, the permanent ones agree with the settled machine
+abbrev pub StandingFilesAgree : Type 0
+StandingFilesAgree = (fs : List File) (m : Machine) → AreRising fs → AllByRecursion IsFile fs → IsMachine m
+    → ((id : ℕ) → BothBy (FileStandsFor m.unforced) (file_at fs id) (file_at m.files id)) → Agrees (filter (λ f. f.permanent) fs) (settled m)

@@ -1,5 +1,5 @@
 -- The machine after a call.
-use Rattle.std.specs.Prelude.{ℕ, Bool, true, false, not, ◌&&◌, ◌+◌, ◌-◌, ◌*◌, ◌/◌, ◌^◌, ◌==◌, nat_lt, min, List, [], ◌∷◌, ◌++◌, length, map, filter, take, replicate, Option, Some, None, is_none, option_map, unwrap_or, if◌then◌else◌, slice_index_or, slice_set, fold}
+use Rattle.std.specs.Prelude.{ℕ, Bool, true, false, not, ◌&&◌, ◌+◌, ◌-◌, ◌*◌, ◌^◌, ◌==◌, nat_lt, min, List, [], ◌∷◌, ◌++◌, length, map, filter, take, replicate, Option, Some, None, is_none, option_map, unwrap_or, if◌then◌else◌, slice_index_or, slice_set, fold}
 use Rattle.std.specs.List.{list_any, enumerate_from}
 use Rattle.std.specs.Option.{option_map_or}
 use Rattle.flat_machine.specs.declared.call.Call.{Call}

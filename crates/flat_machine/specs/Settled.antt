@@ -1,7 +1,7 @@
 -- The files that a stop leaves, and files that agree.
-use Rattle.std.specs.Prelude.{ℕ, Bool, ◌≡◌, List, map, filter, IfSome}
+use Rattle.std.specs.Prelude.{ℕ, Bool, false, ◌≡◌, List, map, filter, IfSome, Some, slice_get}
 use Rattle.std.specs.List.{list_any, AllZip}
-use Rattle.flat_machine.specs.File.{File, Cell, Page, byte}
+use Rattle.flat_machine.specs.File.{File, Cell, Page, byte, size}
 use Rattle.flat_machine.specs.Space.{FilePage}
 use Rattle.flat_machine.specs.Machine.{Machine}
 use Rattle.flat_machine.specs.Next.{with_any, is_page}
@@ -36,3 +36,12 @@ pub record FileAgrees (f g : File) : Type 0 where
 -- the same identifiers, types, immutability and sizes, and the first files have the same byte wherever the second have one
 abbrev pub Agrees : List File → List File → Type 0
 Agrees fs gs = AllZip FileAgrees fs gs
+
+-- a file of a disk stands for the machine's: the same but for the cells that are any, and for unforced pages
+pub record FileStandsFor (unforced : List FilePage) (f g : File) : Type 0 where
+  pub same_id : f.id ≡ g.id
+  pub same_kind : f.kind ≡ g.kind
+  pub same_permanent : f.permanent ≡ g.permanent
+  pub same_immutable : f.immutable ≡ g.immutable
+  pub same_size : size f ≡ size g
+  pub pages_agree : (k : ℕ) (p q : Page) → slice_get f.pages k ≡ Some p → slice_get g.pages k ≡ Some q → is_unforced unforced g.id k ≡ false → PageAgrees p q

@@ -1,10 +1,13 @@
 //! What the definitions of the machine say, shown on functions that do nothing.
 
 ghost use Rattle.flat_machine.specs.Laws.{SomeReplyIsAllowed, RefusedChangesNothing, TranscriptBegins, TranscriptGrows, AfterGrows};
+ghost use Rattle.flat_machine.specs.Form.{IsTyped};
 ghost use Rattle.flat_machine.specs.Rows.{WorkedRows};
 ghost use Rattle.flat_machine.specs.Laws.{OpenedIsMachine, StartAgrees, ProjectionIsUnique, LowestGapIsLeast, LowestUnusedIsLeast};
 ghost use Rattle.flat_machine.specs.Laws.{NextKeepsMachine, AfterIsMachine, StartIsMachine, UnitHoldsItsPage, ProjectionCovers};
-ghost use Rattle.flat_machine.specs.Laws.{ProjectionExists, SharingIsOnePath, ReferenceTouches, ShownIsThere, ForcedIsSettled};
+ghost use Rattle.flat_machine.specs.Laws.{ProjectionExists, SharingIsOnePath, ReferenceTouches, ShownIsThere, ForcedIsSettled, StandingFilesAgree};
+
+use crate::Call;
 
 /// Every call has an allowed reply.
 pub fn some_reply_is_allowed()
@@ -82,7 +85,24 @@ pub fn shown_is_there()
     ensures { ShownIsThere }
 {}
 
-/// After forcing everything, the settled files are the permanent ones.
-pub fn forced_is_settled()
-    ensures { ForcedIsSettled }
+/// After forcing everything, the settled files are the permanent ones; and files that stand for
+/// the machine's agree with the settled ones.
+pub fn settled_files()
+    ensures forced { ForcedIsSettled }
+    ensures standing { StandingFilesAgree }
 {}
+
+/// The numbers of every call fit their types.
+pub fn every_call_is_typed(call: &Call)
+    ensures { IsTyped call.now }
+{
+    match call {
+        Call::Create { kind, .. } => {
+            let _kind = *kind;
+        }
+        Call::Store { bytes, .. } => {
+            bytes.as_slice();
+        }
+        _ => {}
+    }
+}

@@ -1,0 +1,6 @@
+use Rattle.flat_machine.proofs.MoreLaws as more
+use Rattle.flat_machine.proofs.SettledLemmas as lemmas
+use Rattle.flat_machine.proofs.laws.settled_files.Goals as goal
+
+pub returns : goal.returns
+returns c = record { forced = more.forced_is_settled; standing = lemmas.standing_files_agree }
