@@ -24,4 +24,14 @@ pub mod StartMachine
 pub mod UnitLemmas
 pub mod PathLemmas
 pub mod MoreLaws
+pub mod SlowPlaceLemmas
+pub mod SlowLeastLemmas
+pub mod SlowSpaceLemmas
+pub mod SlowGapLemmas
+pub mod SlowEditLemmas
+pub mod SlowRoomLemmas
+pub mod SlowLoadLemmas
+pub mod SlowTestLemmas
+pub mod SlowFileLemmas
+pub mod SlowStepLemmas
 pub mod SettledLemmas

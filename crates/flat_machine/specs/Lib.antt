@@ -14,3 +14,4 @@ pub mod Start
 pub mod Projection
 pub mod Rows
 pub mod Laws
+pub mod Slow
