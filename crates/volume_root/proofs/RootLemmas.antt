@@ -71,16 +71,31 @@ all_zero i (b ∷ bs) e = either (eqb b 0) refl e (λ h. all_zero (i + 1) bs h)
 pub passes : (n : ℕ) (s : Sector) → IsRoot n (Some s) → judged false n s ≡ Ok (root_in s.1)
 passes n s valid =
     ap (λ (t : Test). option_map_or (λ (why : RootFault). Err why) t (Ok (root_in s.1)))
-    (first_none (tests false n s.0 s.1)
-    (none_of _ _ (not_false (names s.0 (record { id = 4; page = 0 })) valid.label),
-    (none_of _ _ (not_false (has_magic s.1) ((bytes_eq-Decides (slice_range s.1 0 8) (codes "PILOTVOL")).1 valid.magic)),
-    (none_of _ _ (not_false (eqb (short_at s.1 8) 3) (eq-eqb (short_at s.1 8) 3 valid.version)),
-    (none_of _ _ (not_false (eqb (number_at s.1 12) n) (eq-eqb (number_at s.1 12) n valid.count)),
-    (none_of _ _ (ne_eqb (number_at s.1 16) 0 (λ e. omega (arith, e, valid.serial))),
-    (none_of _ _ (ne_eqb (number_at s.1 20) 0 (λ e. omega (arith, e, valid.counter))),
-    (none_of _ _ (low (nat_lt 1 (short_at s.1 10)) refl),
-    (ap (λ (o : Option ℕ). option_map (λ i. fault.NotVolume (difference.Rest i)) o) (zeros 24 (drop 24 s.1) valid.rest),
-    (refl, tt))))))))))
+    (first_none (tests false n s.0 s.1) (
+      none_of _ _ (not_false (names s.0 (record { id = 4; page = 0 })) valid.label),
+      (
+        none_of _ _ (not_false (has_magic s.1) ((bytes_eq-Decides (slice_range s.1 0 8) (codes "PILOTVOL")).1 valid.magic)),
+        (
+          none_of _ _ (not_false (eqb (short_at s.1 8) 3) (eq-eqb (short_at s.1 8) 3 valid.version)),
+          (
+            none_of _ _ (not_false (eqb (number_at s.1 12) n) (eq-eqb (number_at s.1 12) n valid.count)),
+            (
+              none_of _ _ (ne_eqb (number_at s.1 16) 0 (λ e. omega (arith, e, valid.serial))),
+              (
+                none_of _ _ (ne_eqb (number_at s.1 20) 0 (λ e. omega (arith, e, valid.counter))),
+                (
+                  none_of _ _ (low (nat_lt 1 (short_at s.1 10)) refl),
+                  (
+                    ap (λ (o : Option ℕ). option_map (λ i. fault.NotVolume (difference.Rest i)) o) (zeros 24 (drop 24 s.1) valid.rest),
+                    (refl, tt),
+                  ),
+                ),
+              ),
+            ),
+          ),
+        ),
+      ),
+    ))
   where
     low : (b : Bool) → nat_lt 1 (short_at s.1 10) ≡ b → nat_lt 1 (short_at s.1 10) ≡ false
     low false e = e

@@ -76,7 +76,11 @@ fn the_first_test_that_fails_is_the_answer(rt: HostRuntime) -> Result<(), Fail> 
     ];
     for (at, byte, fault) in cases {
         let page = page_with(at, byte);
-        assert_eq!(rt; read(rt.alloc(), 256, &ROOT, &page, true)?, Err(fault), "byte {at}");
+        assert_eq!(rt;
+            read(rt.alloc(), 256, &ROOT, &page, true)?,
+            Err(fault),
+            "byte {at}"
+        );
     }
     Ok(())
 }
@@ -87,8 +91,14 @@ fn counts_and_labels_come_before_the_page(rt: HostRuntime) -> Result<(), Fail> {
     let second = Label { page: 1, ..ROOT };
     let label = RootFault::NotVolume(Difference::Label);
     assert_eq!(rt; read(rt.alloc(), 256, &second, &page, true)?, Err(label));
-    assert_eq!(rt; read(rt.alloc(), 255, &ROOT, &page, true)?, Err(RootFault::BadCount(255)));
-    assert_eq!(rt; read(rt.alloc(), 0, &ROOT, &page, true)?, Err(RootFault::BadCount(0)));
+    assert_eq!(rt;
+        read(rt.alloc(), 255, &ROOT, &page, true)?,
+        Err(RootFault::BadCount(255))
+    );
+    assert_eq!(rt;
+        read(rt.alloc(), 0, &ROOT, &page, true)?,
+        Err(RootFault::BadCount(0))
+    );
     Ok(())
 }
 

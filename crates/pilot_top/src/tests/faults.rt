@@ -47,9 +47,17 @@ fn each_call_of_the_source_fails_in_turn(rt: HostRuntime) -> Result<(), Fail> {
     for call in 1u64..64 {
         let mut disk = two_pages(rt.alloc(), &[])?;
         let outcome = command(rt.alloc(), &["run"], &mut disk, TRACE, &[call], &[])?;
-        let expected = if call <= 62 { Status::StreamFault } else { Status::Done };
+        let expected = if call <= 62 {
+            Status::StreamFault
+        } else {
+            Status::Done
+        };
         assert_eq!(rt; outcome.status, expected, "call {call}");
-        assert_eq!(rt; outcome.out.as_slice(), REPLIES[lines_before(call)].as_bytes(), "call {call}");
+        assert_eq!(rt;
+            outcome.out.as_slice(),
+            REPLIES[lines_before(call)].as_bytes(),
+            "call {call}"
+        );
     }
     Ok(())
 }
@@ -60,7 +68,11 @@ fn each_piece_of_the_sink_fails_in_turn(rt: HostRuntime) -> Result<(), Fail> {
         let mut disk = two_pages(rt.alloc(), &[])?;
         let piece = written as u64 + 1;
         let outcome = command(rt.alloc(), &["run"], &mut disk, TRACE, &[], &[piece])?;
-        let expected = if written < 6 { Status::StreamFault } else { Status::Done };
+        let expected = if written < 6 {
+            Status::StreamFault
+        } else {
+            Status::Done
+        };
         assert_eq!(rt; outcome.status, expected, "piece {piece}");
         assert_eq!(rt; outcome.out.as_slice(), replies.as_bytes(), "piece {piece}");
     }
@@ -83,7 +95,11 @@ fn each_transfer_fails_in_turn(rt: HostRuntime) -> Result<(), Fail> {
         };
         assert_eq!(rt; outcome.status, status, "transfer {transfer}");
         let expected = format!(in rt.alloc(); "{}{last}", REPLIES[lines])?;
-        assert_eq!(rt; outcome.out.as_slice(), expected.as_bytes(), "transfer {transfer}");
+        assert_eq!(rt;
+            outcome.out.as_slice(),
+            expected.as_bytes(),
+            "transfer {transfer}"
+        );
     }
     Ok(())
 }
