@@ -2,3 +2,4 @@ mod grammar;
 mod lines;
 mod replies;
 mod streams;
+mod traces;
