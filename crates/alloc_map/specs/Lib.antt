@@ -1,0 +1,4 @@
+pub mod Bits
+pub mod Pages
+pub mod Runs
+pub mod AllocMap

@@ -1,0 +1,84 @@
+//! The sectors of one page of the map, a bit each, the highest bit of a byte first.
+ghost use Rattle.std.specs.Prelude.{◌≡◌, ℕ, ◌+◌, ◌-◌, ◌*◌, ◌≤◌, ◌<◌, Bool, true, false, not, List};
+ghost use Rattle.alloc_map.specs.Bits.{is_used as is_used_in, AreAll, IsMarked, free_in};
+
+/// The bytes of a page of the map.
+pub type Page = [u8; 512];
+
+/// Whether a sector is used.
+pub fn is_used(page: &Page, sector: u32) -> bool
+    requires { sector < 4096 }
+    ensures { result ≡ is_used_in page.now sector }
+{
+    (page[(sector / 8) as usize] >> (7 - sector % 8)) & 1 == 1
+}
+
+/// The first sector from `from` on that is used, or is free, or `end` where there is none below it.
+pub fn find(page: &Page, from: u32, end: u32, used: bool) -> u32
+    requires order { from ≤ end }
+    requires inside { end ≤ 4096 }
+    ensures range { (from ≤ result) × (result ≤ end) }
+    ensures before { AreAll (not used) page.now from result }
+    ensures found { result < end → is_used_in page.now result ≡ used }
+{
+    let passed = if used { 0 } else { 255 };
+    let mut at = from;
+    'search: while at < end {
+        if page[(at / 8) as usize] == passed {
+            at = at - at % 8 + 8;
+        } else if is_used(page, at) == used {
+            return at;
+        } else {
+            at += 1;
+        }
+    }
+    end
+}
+
+/// How many of these sectors are free.
+pub fn count_free(page: &Page, from: u32, end: u32) -> u32
+    requires order { from ≤ end }
+    requires inside { end ≤ 4096 }
+    ensures { result ≡ free_in page.now from (end - from) }
+{
+    let mut count = 0;
+    let mut at = from;
+    'counting: while at < end {
+        if page[(at / 8) as usize] == 255 {
+            at = end.min(at - at % 8 + 8);
+        } else {
+            if !is_used(page, at) {
+                count += 1;
+            }
+            at += 1;
+        }
+    }
+    count
+}
+
+// Marks one sector used or free.
+fn set(page: &mut Page, sector: u32, used: bool)
+    requires { sector < 4096 }
+    ensures { IsMarked used page.old page.new sector (sector + 1) }
+{
+    let bit = 1u8 << (7 - sector % 8);
+    let byte = (sector / 8) as usize;
+    if used {
+        page[byte] |= bit;
+    } else {
+        page[byte] &= !bit;
+    }
+}
+
+/// Marks these sectors used or free.
+pub fn mark(page: &mut Page, from: u32, end: u32, used: bool)
+    requires order { from ≤ end }
+    requires inside { end ≤ 4096 }
+    ensures { IsMarked used page.old page.new from end }
+{
+    let mut at = from;
+    'marking: while at < end {
+        set(page, at, used);
+        at += 1;
+    }
+}

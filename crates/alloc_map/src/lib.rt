@@ -1,0 +1,13 @@
+//! The map of a volume's used sectors, in a flat memory.
+#![tactic(auto)]
+
+mod bits;
+mod error;
+mod map;
+mod pages;
+
+pub use error::AllocError;
+pub use map::AllocMap;
+
+#[cfg(test)]
+mod tests;
