@@ -1,5 +1,5 @@
 //! A disk over a file of sectors of 528 bytes, each a label of 16 bytes and then a page of 512.
-ghost use Rattle.std.specs.Prelude.{◌≡◌, ◌<◌, ◌≤◌, ◌+◌, ◌-◌, ◌*◌, ◌/◌, ◌^◌, ◌++◌, min, true, false, take, drop, IfOk, OnOk};
+ghost use Rattle.std.specs.Prelude.{◌≡◌, ◌<◌, ◌≤◌, ◌+◌, ◌-◌, ◌*◌, ◌/◌, ◌^◌, ◌++◌, min, true, false, take, drop};
 ghost use Rattle.labelled_disk.specs.Calls.{Reads, Writes, WritesData, Settles, Rose, Moved};
 ghost use Rattle.labelled_disk.specs.Label.{label_of, label_bytes, names};
 ghost use Rattle.labelled_disk.specs.Memory.{CountsFault};
@@ -222,7 +222,7 @@ impl<F: FileExt + OpenFile> Disk for ImageDisk<F> {
         ensures writes { WritesData sector wanted page.now (image_state self.old) result
             (image_state self.new) }
         ensures counts { Counts result (image_state self.old) (image_state self.new) }
-        ensures synced { OnOk result ((image_state self.new).synced ≡ false) }
+        ensures synced { (image_state self.new).synced ≡ false }
     {
         self.count_transfer();
         self.synced = false;
