@@ -8,7 +8,6 @@ mod images;
 
 use image_disk::ImageDisk;
 use image_word::{Image, image_of};
-use images::{made, opened};
 use labelled_disk::{Disk, MemoryDisk};
 use pilot_top::{Status, pilot};
 use std::fs::File;
@@ -17,9 +16,13 @@ use std::rt::Files;
 use std::{env, io};
 use trace_io::{ReaderSource, WriterSink};
 
-/// Takes a number of a standard stream that was closed, so that no later file gets it.
 fn hold_stream<R: Files>(rt: &R) -> io::Result<R::File> {
     File::open(rt, "/dev/null")
+}
+
+/// Takes the numbers of the standard streams that were closed, so that no later file gets one.
+fn hold_streams<R: Files>(rt: &R) -> io::Result<(R::File, R::File, R::File)> {
+    Ok((hold_stream(rt)?, hold_stream(rt)?, hold_stream(rt)?))
 }
 
 /// The words behind the program's name, or how the program ends without them.
@@ -35,7 +38,7 @@ fn words_of(rt: &HostRuntime) -> Result<Vec<String>, Status> {
 
 /// Carries out a command on a disk, over the standard streams.
 fn command<D: Disk>(rt: &HostRuntime, disk: &mut D, words: &[String]) -> Status {
-    let mut other: ImageDisk<File> = ImageDisk::absent();
+    let mut other = ImageDisk::<File>::absent();
     let mut source = ReaderSource::over(rt.reader());
     let mut sink = WriterSink::over(io::writer(rt));
     pilot(
@@ -62,8 +65,8 @@ fn in_memory(rt: &HostRuntime, sectors: u32, words: &[String]) -> Status {
 fn on_image(rt: &HostRuntime, held: bool, image: &str, words: &[String]) -> Status {
     let mut disk = match image_of(image) {
         Image::Memory(sectors) => return in_memory(rt, sectors, words),
-        Image::New { sectors, path } if held => made(rt, sectors, path),
-        Image::File(path) if held => opened(rt, path),
+        Image::New { sectors, path } if held => images::made(rt, sectors, path),
+        Image::File(path) if held => images::opened(rt, path),
         Image::New { .. } | Image::File(_) => ImageDisk::absent(),
     };
     command(rt, &mut disk, words)
@@ -90,13 +93,12 @@ fn run(rt: &HostRuntime, held: bool) -> Status {
     match words.as_slice() {
         [word] if word.as_str() == "--help" => tell(rt, about::HELP),
         [word] if word.as_str() == "--version" => tell(rt, about::VERSION),
-        [] => on_image(rt, false, "", &[]),
+        [] => command(rt, &mut ImageDisk::<File>::absent(), &[]),
         [image, rest @ ..] => on_image(rt, held, image.as_str(), rest),
     }
 }
 
 fn main(rt: HostRuntime) -> ExitCode {
-    let streams = (hold_stream(&rt), hold_stream(&rt), hold_stream(&rt));
-    let held = streams.0.is_ok() && streams.1.is_ok() && streams.2.is_ok();
-    ExitCode::from(run(&rt, held).exit())
+    let held = hold_streams(&rt);
+    ExitCode::from(run(&rt, held.is_ok()).exit())
 }
