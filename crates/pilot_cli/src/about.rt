@@ -9,6 +9,8 @@ usage: pilot IMAGE COMMAND
        pilot --help | --version
 
 images    :n       a disk of n sectors in memory, 256 to 1048576 for a volume
+          n:FILE   a new file of n sectors of 528 bytes, all zero
+          FILE     the sectors of that file, for reading and writing
 commands  run      reads calls from standard input, a line each, and writes a
                    reply to each; attr, next, close and halt are built, any
                    other call is answered 'error later'

@@ -2,21 +2,27 @@
 #![tactic(auto)]
 
 mod about;
+mod image_disk;
 mod image_word;
+mod images;
 
+use image_disk::ImageDisk;
 use image_word::{Image, image_of};
-use labelled_disk::{MemoryDisk, NoMemory};
+use labelled_disk::{Disk, MemoryDisk};
 use pilot_top::{Status, pilot};
-use std::alloc::Global;
 use std::fs::File;
 use std::process::ExitCode;
 use std::rt::Files;
 use std::{env, io};
 use trace_io::{ReaderSource, WriterSink};
 
-/// Takes a number of a standard stream that was closed, so that no later file gets it.
 fn hold_stream<R: Files>(rt: &R) -> io::Result<R::File> {
     File::open(rt, "/dev/null")
+}
+
+/// Takes the numbers of the standard streams that were closed, so that no later file gets one.
+fn hold_streams<R: Files>(rt: &R) -> io::Result<(R::File, R::File, R::File)> {
+    Ok((hold_stream(rt)?, hold_stream(rt)?, hold_stream(rt)?))
 }
 
 /// The words behind the program's name, or how the program ends without them.
@@ -30,30 +36,40 @@ fn words_of(rt: &HostRuntime) -> Result<Vec<String>, Status> {
         .map_err(|_| Status::NoMemory)
 }
 
-/// Images in files are not built. Each stands for a disk of 0 sectors, which no command opens.
-fn disk_of(alloc: Global, word: Option<&str>) -> Result<MemoryDisk<Global>, NoMemory> {
-    let sectors = match word.map(image_of) {
-        Some(Image::Memory(sectors)) => sectors,
-        Some(Image::New { .. } | Image::File(_)) | None => 0,
-    };
-    MemoryDisk::new(alloc, sectors)
-}
-
-/// Carries out a command over the standard streams.
-fn command(rt: &HostRuntime, image: Option<&str>, words: &[String]) -> Result<Status, NoMemory> {
-    let mut disk = disk_of(rt.alloc(), image)?;
-    let mut other = MemoryDisk::new(rt.alloc(), 0)?;
+/// Carries out a command on a disk, over the standard streams.
+fn command<D: Disk>(rt: &HostRuntime, disk: &mut D, words: &[String]) -> Status {
+    let mut other = ImageDisk::<File>::absent();
     let mut source = ReaderSource::over(rt.reader());
     let mut sink = WriterSink::over(io::writer(rt));
-    Ok(pilot(
+    pilot(
         rt.alloc(),
         rt.alloc(),
         words,
-        &mut disk,
+        disk,
         &mut other,
         &mut source,
         &mut sink,
-    ))
+    )
+}
+
+/// Carries out a command on a disk in memory.
+fn in_memory(rt: &HostRuntime, sectors: u32, words: &[String]) -> Status {
+    match MemoryDisk::new(rt.alloc(), sectors) {
+        Ok(mut disk) => command(rt, &mut disk, words),
+        Err(_) => Status::NoMemory,
+    }
+}
+
+/// Carries out a command on the disk that an image word asks for. No file is opened where a number
+/// of a standard stream may be free.
+fn on_image(rt: &HostRuntime, held: bool, image: &str, words: &[String]) -> Status {
+    let mut disk = match image_of(image) {
+        Image::Memory(sectors) => return in_memory(rt, sectors, words),
+        Image::New { sectors, path } if held => images::made(rt, sectors, path),
+        Image::File(path) if held => images::opened(rt, path),
+        Image::New { .. } | Image::File(_) => ImageDisk::absent(),
+    };
+    command(rt, &mut disk, words)
 }
 
 /// Writes a text of the program's own.
@@ -64,7 +80,7 @@ fn tell(rt: &HostRuntime, text: &str) -> Status {
     }
 }
 
-fn run(rt: &HostRuntime) -> Status {
+fn run(rt: &HostRuntime, held: bool) -> Status {
     let words = match words_of(rt) {
         Ok(words) => words,
         Err(status) => {
@@ -77,14 +93,12 @@ fn run(rt: &HostRuntime) -> Status {
     match words.as_slice() {
         [word] if word.as_str() == "--help" => tell(rt, about::HELP),
         [word] if word.as_str() == "--version" => tell(rt, about::VERSION),
-        [] => command(rt, None, &[]).unwrap_or(Status::NoMemory),
-        [image, rest @ ..] => {
-            command(rt, Some(image.as_str()), rest).unwrap_or(Status::NoMemory)
-        }
+        [] => command(rt, &mut ImageDisk::<File>::absent(), &[]),
+        [image, rest @ ..] => on_image(rt, held, image.as_str(), rest),
     }
 }
 
 fn main(rt: HostRuntime) -> ExitCode {
-    let _held = (hold_stream(&rt), hold_stream(&rt), hold_stream(&rt));
-    ExitCode::from(run(&rt).exit())
+    let held = hold_streams(&rt);
+    ExitCode::from(run(&rt, held.is_ok()).exit())
 }
