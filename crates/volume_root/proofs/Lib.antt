@@ -1,1 +1,8 @@
+mod Filling
+mod NewSectors
+mod NewVolume
+mod NoCount
 mod RootLemmas
+mod SectorRuns
+mod UsedBits
+mod WrittenLemmas

@@ -1,14 +1,18 @@
 -- The page of a root, and the order in which it is judged.
-use Rattle.std.specs.Prelude.{◌≡◌, ℕ, ◌+◌, Bool, not, ◌&&◌, ◌==◌, nat_lt, if◌then◌else◌, List, [], ◌∷◌, drop, take, codes, Option, Some, None, option_map, Result, Ok, Err, slice_range}
+use Rattle.byteorder.specs.Endian.{big_bytes}
+use Rattle.std.specs.Prelude.{◌≡◌, ℕ, ◌+◌, ◌≤◌, ◌++◌, replicate, Bool, not, ◌&&◌, ◌==◌, nat_lt, if◌then◌else◌, List, [], ◌∷◌, drop, codes, Option, Some, None, option_map, Result, Ok, Err, slice_range}
 use Rattle.std.specs.Bool.{then_some}
 use Rattle.std.specs.Str.{bytes_eq}
 use Rattle.std.specs.Option.{option_map_or}
+use Rattle.labelled_disk.specs.declared.disk.DiskWrite.{DiskWrite}
+use Rattle.labelled_disk.specs.declared.disk.DiskWrite.TheVariants.{Whole}
 use Rattle.labelled_disk.specs.declared.label.Label.{Label}
 use Rattle.labelled_disk.specs.declared.layout.RootFault.{RootFault}
 use Rattle.labelled_disk.specs.declared.layout.RootFault.TheVariants as fault
 use Rattle.labelled_disk.specs.declared.layout.Difference.TheVariants as difference
 use Rattle.labelled_disk.specs.Label.{names}
 use Rattle.labelled_disk.specs.Sectors.{Sector}
+use Rattle.labelled_disk.specs.Layout.{IsCount}
 use Rattle.labelled_disk.specs.Root.{short_at, number_at}
 use Rattle.volume_root.specs.declared.root.Root.{Root}
 
@@ -94,3 +98,31 @@ judged clean_only n s = option_map_or Err (first_of (tests clean_only n s.0 s.1)
 abbrev pub IsUnlessFault : Result Root RootFault → Result Root RootFault → Type 0
 IsUnlessFault (Err fault.Disk) right = Unit {0}
 IsUnlessFault result right = result ≡ right
+
+-- the label of the root
+abbrev pub root_label : Label
+root_label = record { id = 4; page = 0; kind = 0; flags = 0; last = 0 }
+
+-- the last fields of a root, from the count of sectors on
+abbrev pub number_bytes : Root → List ℕ
+number_bytes root = big_bytes 4 root.sectors ++ big_bytes 4 root.serial ++ big_bytes 4 root.counter
+
+-- the text that all roots begin with, and the fields behind it
+abbrev pub root_fields : Root → List ℕ
+root_fields root = codes "PILOTVOL" ++ big_bytes 2 root.version ++ big_bytes 2 (if root.clean then 1 else 0) ++ number_bytes root
+
+-- the page of a root
+abbrev pub root_bytes : Root → List ℕ
+root_bytes root = root_fields root ++ replicate 488 0
+
+-- the write of this root
+abbrev pub root_write : Root → DiskWrite
+root_write root = Whole 0 root_label (root_bytes root)
+
+-- the root of a volume of n sectors may have these fields
+pub record IsValidRoot (n : ℕ) (root : Root) : Type 0 where
+  pub version : root.version ≡ 3
+  pub accepted : IsCount n
+  pub count : root.sectors ≡ n
+  pub serial : 1 ≤ root.serial
+  pub counter : 1 ≤ root.counter

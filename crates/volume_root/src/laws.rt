@@ -1,9 +1,20 @@
 //! What the definitions say, as the contracts of functions that do nothing.
 ghost use Rattle.std.specs.Prelude.{ℕ};
 ghost use Rattle.labelled_disk.specs.Sectors.{Sector};
-ghost use Rattle.volume_root.specs.RootLaws.{ValidIsJudged};
+ghost use Rattle.volume_root.specs.FormatLaws.{NewIsEmpty};
+ghost use Rattle.volume_root.specs.RootLaws.{ValidIsJudged, WrittenIsRead};
 
 /// The tests of a root are those that a valid root passes.
 pub fn valid_roots_pass()
     ensures { (n : ℕ) (s : Sector) → ValidIsJudged n s }
+{}
+
+/// A root that is written is the one that is read.
+pub fn written_root_is_read()
+    ensures { WrittenIsRead }
+{}
+
+/// A volume that was just made is sound, and has no file.
+pub fn new_volume_is_empty()
+    ensures { NewIsEmpty }
 {}

@@ -1,14 +1,18 @@
-//! The root of a volume, as it is read and judged.
+//! The root of a volume, read, judged and written, and new volumes.
 #![tactic(auto)]
 
+mod formatting;
 mod laws;
 mod page;
 mod read;
 mod root;
 #[cfg(test)]
 mod tests;
+mod write;
 
+pub use formatting::format;
 pub use labelled_disk::{Difference, Layout, RootFault};
-pub use laws::valid_roots_pass;
+pub use laws::{new_volume_is_empty, valid_roots_pass, written_root_is_read};
 pub use read::read_root;
 pub use root::Root;
+pub use write::write_root;

@@ -1,4 +1,6 @@
-use crate::{Difference, Root, RootFault, read_root};
+ghost use Rattle.std.specs.Prelude.{◌<◌};
+
+use crate::{Difference, Layout, Root, RootFault, format, read_root, write_root};
 use labelled_disk::{Disk, Label, MemoryDisk, Page};
 use std::alloc::Global;
 use std::test::Fail;
@@ -107,5 +109,64 @@ fn a_disk_that_fails_has_no_root(rt: HostRuntime) -> Result<(), Fail> {
     let mut disk = MemoryDisk::failing(rt.alloc(), 256, &[1], 0)?;
     assert_eq!(rt; read_root(&mut disk, true), Err(RootFault::Disk));
     assert_eq!(rt; disk.faults(), 1);
+    Ok(())
+}
+
+#[test]
+fn a_root_is_written_as_it_is_written_out(rt: HostRuntime) -> Result<(), Fail> {
+    let root = Root {
+        version: 3,
+        clean: true,
+        sectors: 256,
+        serial: 7,
+        counter: 1,
+    };
+    let mut disk = MemoryDisk::new(rt.alloc(), 256)?;
+    assert_eq!(rt; write_root(&mut disk, &root), Ok(()));
+    let mut page = [1; 512];
+    assert_eq!(rt; disk.read(0, &mut page), Ok(ROOT));
+    assert_eq!(rt; page, page_with(0, 0x50));
+    let mut failing = MemoryDisk::failing(rt.alloc(), 256, &[1], 1)?;
+    assert_eq!(rt; write_root(&mut failing, &root), Err(RootFault::Disk));
+    Ok(())
+}
+
+// Of 256 sectors the first 36 are used: the root, one of the allocation map and 34 of the file map.
+#[test]
+fn a_new_volume_has_its_maps_and_a_root(rt: HostRuntime) -> Result<(), Fail> {
+    let mut disk = MemoryDisk::new(rt.alloc(), 256)?;
+    assert_eq!(rt; format(&mut disk, 7, 1), Layout::of(256));
+    let mut page = [1; 512];
+    assert_eq!(rt; disk.read(0, &mut page), Ok(ROOT));
+    assert_eq!(rt; page, page_with(0, 0x50));
+    assert_eq!(rt; disk.read(1, &mut page), Ok(Label { id: 1, ..ROOT }));
+    let mut used = [0; 512];
+    used[..5].copy_from_slice(&[0xff, 0xff, 0xff, 0xff, 0xf0]);
+    assert_eq!(rt; page, used);
+    let last = Label {
+        id: 2,
+        page: 33,
+        ..ROOT
+    };
+    assert_eq!(rt; disk.read(35, &mut page), Ok(last));
+    assert_eq!(rt; page, [0; 512]);
+    assert_eq!(rt; disk.read(36, &mut page), Ok(Label::FREE));
+    Ok(())
+}
+
+#[test]
+fn a_disk_that_fails_or_is_too_small_is_no_volume(rt: HostRuntime) -> Result<(), Fail> {
+    for call in [1, 256, 257] {
+        let mut disk = MemoryDisk::failing(rt.alloc(), 256, &[call], 300)?;
+        assert_eq!(rt;
+            format(&mut disk, 7, 1),
+            Err(RootFault::Disk),
+            "call {call}"
+        );
+        assert_eq!(rt; disk.faults(), 1);
+        assert_eq!(rt; disk.transfers(), call);
+    }
+    let mut small = MemoryDisk::new(rt.alloc(), 255)?;
+    assert_eq!(rt; format(&mut small, 7, 1), Err(RootFault::BadCount(255)));
     Ok(())
 }

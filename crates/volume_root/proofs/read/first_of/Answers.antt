@@ -1,4 +1,4 @@
-use Rattle.std.proofs.Common.{◌≡◌, ℕ, zero, suc, ◌+◌, ◌<◌, drop, length, get_or, List, [], ◌∷◌, None, Some, true, false, refl, arith, add-one, sym, ◌∙◌}
+use Rattle.std.proofs.Common.{◌≡◌, ℕ, zero, suc, ◌<◌, drop, length, get_or, List, [], ◌∷◌, None, Some, false, refl, arith, add-one, sym, ◌∙◌}
 use Rattle.std.specs.Prelude.{is_some}
 use Rattle.volume_root.specs.RootPage.{first_of, Test}
 use Rattle.volume_root.proofs.read.first_of.Goals as goal

@@ -1,11 +1,11 @@
-use Rattle.std.proofs.Common.{◌≡◌, ℕ, length, Some, Result, Ok, Err, sym, ◌∙◌, ap}
+use Rattle.std.proofs.Common.{◌≡◌, ℕ, length, Result, Ok, Err, sym, ◌∙◌, ap}
 use Rattle.std.proofs.lemmas.Option.{same_Some}
 use Rattle.labelled_disk.specs.Sectors.{Sector}
 use Rattle.labelled_disk.specs.declared.layout.RootFault.{RootFault}
 use Rattle.labelled_disk.specs.declared.layout.RootFault.TheVariants as fault
 use Rattle.volume_root.specs.declared.root.Root.{Root}
 use Rattle.volume_root.specs.RootPage.{judged, IsUnlessFault}
-use Rattle.volume_root.proofs.RootLemmas.{judged_no_count}
+use Rattle.volume_root.proofs.NoCount.{never_count}
 use Rattle.volume_root.proofs.read.read_root.Goals as goal
 
 as_judged : (result right : Result Root RootFault) → result ≡ right → IsUnlessFault result right
@@ -24,5 +24,4 @@ returns-clause-judged g c count d told s here =
     (c.judge.ensures ∙ ap (λ (n : ℕ). judged c.args.clean_only n (c.in-Ok.label, c.read.new.page)) size ∙ ap (λ (t : Sector). judged c.args.clean_only (length d) t) same)
 
 pub returns-clause-bad_count : goal.returns-clause-bad_count
-returns-clause-bad_count g c n is =
-    absurd (judged_no_count c.args.clean_only c.sectors-sectors.result (c.in-Ok.label, c.read.new.page) n (sym c.judge.ensures ∙ is))
+returns-clause-bad_count g c = λ n is. absurd (never_count n c.args.clean_only c.sectors-sectors.result (c.in-Ok.label, c.read.new.page) (sym c.judge.ensures ∙ is))

@@ -1,0 +1,69 @@
+-- A new volume: what each of its sectors holds.
+use Rattle.std.specs.Prelude.{ℕ, ◌≤◌, ◌++◌, length, take, ◌-◌, ◌*◌, min, true, ◌==◌, nat_le, nat_lt, if◌then◌else◌, List, [], ◌∷◌, map, replicate, slice_index, slice_set}
+use Rattle.std.specs.List.{range_with_len}
+use Rattle.labelled_disk.specs.declared.label.Label.{Label}
+use Rattle.labelled_disk.specs.declared.disk.DiskWrite.{DiskWrite}
+use Rattle.labelled_disk.specs.declared.disk.DiskWrite.TheVariants.{Whole}
+use Rattle.labelled_disk.specs.declared.layout.Layout.{Layout}
+use Rattle.labelled_disk.specs.declared.layout.RootFault.{RootFault}
+use Rattle.labelled_disk.specs.declared.layout.RootFault.TheVariants as fault
+use Rattle.labelled_disk.specs.Layout.{layout_of}
+use Rattle.labelled_disk.specs.Sectors.{Sector, zero_sector}
+use Rattle.labelled_disk.specs.State.{DiskState}
+use Rattle.labelled_disk.specs.WriteRuns.{Appended}
+use Rattle.volume_root.specs.declared.root.Root.{Root}
+use Rattle.volume_root.specs.RootPage.{root_label, root_bytes, root_write}
+
+-- the label of a page of a map
+abbrev pub map_label : ℕ → ℕ → Label
+map_label id page = record { id = id; page = page; kind = 0; flags = 0; last = 0 }
+
+-- the byte whose first bits, so many, are set
+abbrev pub high_bits : ℕ → ℕ
+high_bits bits = slice_index (0 ∷ 128 ∷ 192 ∷ 224 ∷ 240 ∷ 248 ∷ 252 ∷ 254 ∷ 255 ∷ []) bits
+
+-- byte k of an allocation map on which the first sectors, so many, are used, and no others
+abbrev pub used_byte : ℕ → ℕ → ℕ
+used_byte used k = high_bits (min 8 (used - 8 * k))
+
+-- a page of that map
+unfoldable pub used_page : ℕ → ℕ → List ℕ
+used_page used page = map (used_byte used) (range_with_len (512 * page) 512)
+
+-- sector i of a new volume, which has no root yet
+unfoldable pub new_sector : Layout → ℕ → Sector
+new_sector layout i =
+    if i == 0 then zero_sector
+    else (if nat_le i layout.vam then (map_label 1 (i - 1), used_page layout.first (i - 1))
+    else (if nat_lt i layout.first then (map_label 2 (i - 1 - layout.vam), replicate 512 0)
+    else zero_sector))
+
+-- the sectors of a new volume, from sector 0 on, so many
+abbrev pub new_sectors : Layout → ℕ → List Sector
+new_sectors layout k = map (new_sector layout) (range_with_len 0 k)
+
+-- the root of a new volume of n sectors: it is clean
+abbrev pub new_root : ℕ → ℕ → ℕ → Root
+new_root n serial counter = record { version = 3; clean = true; sectors = n; serial = serial; counter = counter }
+
+-- a new volume of n sectors
+abbrev pub formatted : ℕ → ℕ → ℕ → List Sector
+formatted n serial counter = slice_set (new_sectors (layout_of n) n) 0 (root_label, root_bytes (new_root n serial counter))
+
+-- the writes of these sectors, rising
+abbrev pub new_writes : Layout → ℕ → List DiskWrite
+new_writes layout k = map (λ i. Whole i (new_sector layout i).0 (new_sector layout i).1) (range_with_len 0 k)
+
+-- the writes that make a new volume of n sectors: each sector, rising, sector 0 as a free one; then the root
+abbrev pub format_writes : ℕ → ℕ → ℕ → List DiskWrite
+format_writes n serial counter = new_writes (layout_of n) n ++ root_write (new_root n serial counter) ∷ []
+
+-- the first of these writes were made, so many, and no others
+abbrev pub PartMade : List DiskWrite → DiskState → DiskState → Type 0
+PartMade writes old new = (k : ℕ) × (k ≤ length writes) × Appended (take k writes) old new
+
+-- no volume can be made: the disk failed, or has a count of sectors that no volume has
+abbrev pub IsFormatFault : RootFault → Type 0
+IsFormatFault fault.Disk = Unit {0}
+IsFormatFault (fault.BadCount n) = Unit {0}
+IsFormatFault why = ⊥

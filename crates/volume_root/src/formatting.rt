@@ -1,0 +1,136 @@
+//! A new volume.
+ghost use Rattle.std.specs.Prelude.{◌≡◌, ◌≤◌, ◌<◌, ℕ, List, Some, Err, true, length};
+ghost use Rattle.std.specs.Prelude.{IfOk, IfErr, OnOk, OnErr};
+ghost use Rattle.labelled_disk.specs.Calls.{OnlyReads, Rose};
+ghost use Rattle.labelled_disk.specs.Layout.{IsCount, layout_of};
+ghost use Rattle.labelled_disk.specs.Sectors.{Sector};
+ghost use Rattle.labelled_disk.specs.WriteRuns.{Appended};
+ghost use Rattle.volume_root.specs.Format.{format_writes, formatted, IsFormatFault, PartMade};
+ghost use Rattle.volume_root.specs.Format.{map_label, new_sector, new_sectors, new_writes};
+ghost use Rattle.volume_root.specs.Format.{used_byte, used_page};
+ghost use Rattle.volume_root.specs.Later.{IsLater};
+
+use crate::read::VERSION;
+use crate::{Layout, Root, RootFault, write_root};
+use labelled_disk::{Disk, Label, Page};
+
+// The bytes whose first bits are set: none, one, and so on.
+const HIGH_BITS: [u8; 9] = [0, 128, 192, 224, 240, 248, 252, 254, 255];
+
+fn used_byte(used: u32, at: u32) -> u8
+    requires { at < 131072 }
+    ensures { result ≡ used_byte used at }
+{
+    HIGH_BITS[used.saturating_sub(8 * at).min(8) as usize]
+}
+
+fn used_page(used: u32, page: u32) -> Page
+    requires { page < 256 }
+    ensures { result ≡ used_page used page }
+{
+    let mut bytes = [0; 512];
+    for at in 0..512 {
+        bytes[at] = used_byte(used, 512 * page + at as u32);
+    }
+    bytes
+}
+
+fn map_label(id: u64, page: u32) -> Label
+    ensures { result ≡ map_label id page }
+{
+    Label {
+        id,
+        page,
+        kind: 0,
+        flags: 0,
+        last: 0,
+    }
+}
+
+#[tactic(auto, unfolding(crate::specs::Format::new_sector))]
+fn new_sector(layout: &Layout, sector: u32) -> (Label, Page)
+    requires { layout.now.vam ≤ 256 }
+    ensures { result ≡ new_sector layout.now sector }
+{
+    if sector == 0 {
+        (Label::FREE, [0; 512])
+    } else if sector <= layout.vam {
+        (
+            map_label(1, sector - 1),
+            used_page(layout.first, sector - 1),
+        )
+    } else if sector < layout.first {
+        (map_label(2, sector - 1 - layout.vam), [0; 512])
+    } else {
+        (Label::FREE, [0; 512])
+    }
+}
+
+// Writes each sector, rising, as a new volume has it before its root.
+fn write_sectors<D: Disk>(disk: &mut D, layout: &Layout) -> Result<(), RootFault>
+    requires sectors { layout.now.sectors ≡ (D.state disk.old).sectors }
+    requires vam { layout.now.vam ≤ 256 }
+    ensures contents { OnOk result ((d : List Sector) → (D.state disk.old).contents ≡ Some d
+        → (D.state disk.new).contents ≡ Some (new_sectors layout.now layout.now.sectors)) }
+    ensures made { OnOk result (Appended (new_writes layout.now layout.now.sectors)
+        (D.state disk.old) (D.state disk.new)) }
+    ensures part { OnErr result (PartMade (new_writes layout.now layout.now.sectors)
+        (D.state disk.old) (D.state disk.new)) }
+    ensures cause { OnErr result (Rose (D.state disk.old).faults (D.state disk.new).faults) }
+    ensures err_disk { IfErr result (λ fault. fault ≡ RootFault.Disk) }
+    ensures later { IsLater (D.state disk.old) (D.state disk.new) }
+{
+    for sector in 0..layout.sectors {
+        let (label, page) = new_sector(layout, sector);
+        let Ok(()) = disk.write(sector, &label, &page) else {
+            return Err(RootFault::Disk);
+        };
+    }
+    Ok(())
+}
+
+/// Makes a new volume of all sectors of the disk, clean and without a file. Each sector is written,
+/// rising, sector 0 as a free one; then the root, and the disk is settled.
+pub fn format<D: Disk>(disk: &mut D, serial: u32, counter: u32) -> Result<Layout, RootFault>
+    requires serial { 1 ≤ serial }
+    requires counter { 1 ≤ counter }
+    ensures layout { IfOk result (λ layout. layout ≡ layout_of (D.state disk.old).sectors) }
+    ensures contents { OnOk result ((d : List Sector) → (D.state disk.old).contents ≡ Some d
+        → (D.state disk.new).contents ≡ Some (formatted (length d) serial counter)) }
+    ensures made { OnOk result (Appended (format_writes (D.state disk.old).sectors serial counter)
+        (D.state disk.old) (D.state disk.new)) }
+    ensures synced { OnOk result ((D.state disk.new).synced ≡ true) }
+
+    // A count of sectors that no volume has.
+    ensures count { ¬ IsCount (D.state disk.old).sectors
+        → result ≡ Err (RootFault.BadCount (D.state disk.old).sectors) }
+    ensures bad_count { (n : ℕ) → result ≡ Err (RootFault.BadCount n)
+        → ¬ IsCount (D.state disk.old).sectors × (n ≡ (D.state disk.old).sectors) }
+    ensures unwritten { ¬ IsCount (D.state disk.old).sectors
+        → OnlyReads (D.state disk.old) (D.state disk.new) }
+
+    // The disk failed.
+    ensures part { result ≡ Err RootFault.Disk
+        → PartMade (format_writes (D.state disk.old).sectors serial counter)
+        (D.state disk.old) (D.state disk.new) }
+    ensures cause { result ≡ Err RootFault.Disk
+        → Rose (D.state disk.old).faults (D.state disk.new).faults }
+
+    ensures err { IfErr result IsFormatFault }
+    ensures later { IsLater (D.state disk.old) (D.state disk.new) }
+{
+    let layout = Layout::of(disk.sectors())?;
+    write_sectors(disk, &layout)?;
+    let root = Root {
+        version: VERSION,
+        clean: true,
+        sectors: layout.sectors,
+        serial,
+        counter,
+    };
+    write_root(disk, &root)?;
+    let Ok(()) = disk.settle() else {
+        return Err(RootFault::Disk);
+    };
+    Ok(layout)
+}
