@@ -21,7 +21,9 @@ fn report(rt: &HostRuntime, frames: u32) -> io::Result<()>
     };
     let start = Instant::now(rt)?;
     let sum = frames::look_up(&pool, frames, TIMES);
-    let micros = Instant::now(rt)?.saturating_duration_since(start).as_micros();
+    let micros = Instant::now(rt)?
+        .saturating_duration_since(start)
+        .as_micros();
     println!(rt; "{frames} frames, {TIMES} look-ups: {micros} us ({sum})")
 }
 

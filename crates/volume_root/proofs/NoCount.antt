@@ -31,9 +31,22 @@ module _ (k : ℕ) where
 
   pub never_count : (clean_only : Bool) (n : ℕ) (s : Sector) → judged clean_only n s ≡ Err (fault.BadCount k) → ⊥
   never_count clean_only n s is = to_first (first_of (tests clean_only n s.0 s.1)) is
-      (first_other (tests clean_only n s.0 s.1)
-      (other_of _ _ (λ e. absurd (cc)), (other_of _ _ (λ e. absurd (cc)), (other_of _ _ (λ e. absurd (cc)), (other_of _ _ (λ e. absurd (cc)), (other_of _ _ (λ e. absurd (cc)),
-      (other_of _ _ (λ e. absurd (cc)), (other_of _ _ (λ e. absurd (cc)), (other_map (first_rest s.1), (other_of _ _ (λ e. absurd (cc)), tt))))))))))
+      (first_other (tests clean_only n s.0 s.1) (
+        other_of _ _ (λ e. absurd (cc)),
+        (
+          other_of _ _ (λ e. absurd (cc)),
+          (
+            other_of _ _ (λ e. absurd (cc)),
+            (
+              other_of _ _ (λ e. absurd (cc)),
+              (
+                other_of _ _ (λ e. absurd (cc)),
+                (other_of _ _ (λ e. absurd (cc)), (other_of _ _ (λ e. absurd (cc)), (other_map (first_rest s.1), (other_of _ _ (λ e. absurd (cc)), tt)))),
+              ),
+            ),
+          ),
+        ),
+      ))
     where
       to_first : (o : Test) → option_map_or (λ (why : RootFault). Err why) o (Ok (root_in s.1)) ≡ Err (fault.BadCount k) → IsOther o → ⊥
       to_first None e other = absurd (cc)

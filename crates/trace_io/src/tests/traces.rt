@@ -204,7 +204,10 @@ fn each_reply_is_that_of_its_row(rt: HostRuntime) -> Result<(), Fail> {
         };
         let mut expected = row[bar + 1..].to_vec(rt.alloc())?;
         expected.push(b'\n')?;
-        assert_eq!(rt; reply(rt.alloc(), &mut machine, &row[..bar])?.as_slice(), expected.as_slice());
+        assert_eq!(rt;
+            reply(rt.alloc(), &mut machine, &row[..bar])?.as_slice(),
+            expected.as_slice()
+        );
     }
     Ok(())
 }
