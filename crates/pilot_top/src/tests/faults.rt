@@ -1,8 +1,8 @@
 //! A trace of six lines, in which each call of the source, the sink and the disk fails in turn.
 
-use super::{LEADER, command, page};
+use super::{LEADER, command, page, set_labels};
 use crate::Status;
-use labelled_disk::{Disk, MemoryDisk};
+use labelled_disk::MemoryDisk;
 use std::alloc::Global;
 use std::test::Fail;
 
@@ -23,9 +23,7 @@ const REPLIES: [&str; 7] = [
 // A disk of 256 sectors with a file of two pages. Three transfers made it.
 fn two_pages(alloc: Global, fails: &[u64]) -> Result<MemoryDisk<Global>, Fail> {
     let mut disk = MemoryDisk::failing(alloc, 256, fails, 3)?;
-    for (sector, label) in [(40, LEADER), (41, page(0)), (36, page(1))] {
-        disk.write_label(sector, &label)?;
-    }
+    set_labels(&mut disk, &[(40, LEADER), (41, page(0)), (36, page(1))])?;
     Ok(disk)
 }
 
