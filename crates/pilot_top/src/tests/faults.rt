@@ -27,16 +27,16 @@ fn two_pages(alloc: Global, fails: &[u64]) -> Result<MemoryDisk<Global>, Fail> {
     Ok(disk)
 }
 
-// How many lines are whole before the source's call of this number.
-fn lines_before(call: u64) -> usize {
+// What is written where the lines are answered that are whole before the source's call of this number.
+fn replies_before(call: u64) -> &'static str {
     match call {
-        0..=7 => 0,
-        8..=11 => 1,
-        12..=33 => 2,
-        34..=55 => 3,
-        56 => 4,
-        57..=62 => 5,
-        _ => 6,
+        0..=7 => REPLIES[0],
+        8..=11 => REPLIES[1],
+        12..=33 => REPLIES[2],
+        34..=55 => REPLIES[3],
+        56 => REPLIES[4],
+        57..=62 => REPLIES[5],
+        _ => REPLIES[6],
     }
 }
 
@@ -53,7 +53,7 @@ fn each_call_of_the_source_fails_in_turn(rt: HostRuntime) -> Result<(), Fail> {
         assert_eq!(rt; outcome.status, expected, "call {call}");
         assert_eq!(rt;
             outcome.out.as_slice(),
-            REPLIES[lines_before(call)].as_bytes(),
+            replies_before(call).as_bytes(),
             "call {call}"
         );
     }
