@@ -14,15 +14,17 @@ pub fn filled(alloc: Global, frames: u32) -> Result<FramePool<Global>, NoMemory>
 {
     let mut pool = FramePool::with_frames(alloc, frames)?;
     for page in 0..frames {
-        if pool.frames() > 0 && pool.find(FILE, page).is_none() {
+        if pool.frames() > 0 {
             let slot = pool.victim(0, 0, 0);
             pool.clear(slot);
-            let home = Home {
-                sector: page,
-                id: FILE,
-                page,
-            };
-            pool.put(slot, home, &[0; 512]);
+            if pool.find(FILE, page).is_none() {
+                let home = Home {
+                    sector: page,
+                    id: FILE,
+                    page,
+                };
+                pool.put(slot, home, &[0; 512]);
+            }
         }
     }
     Ok(pool)
