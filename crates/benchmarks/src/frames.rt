@@ -17,7 +17,7 @@ pub fn filled(alloc: Global, frames: u32) -> Result<FramePool<Global>, NoMemory>
         if pool.frames() > 0 {
             let slot = pool.victim(0, 0, 0);
             pool.clear(slot);
-            if pool.find(FILE, page).is_none() {
+            if let None = pool.find(FILE, page) {
                 let home = Home {
                     sector: page,
                     id: FILE,
