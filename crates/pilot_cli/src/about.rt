@@ -5,15 +5,19 @@ pub const VERSION: &str = "pilot 0.1.0\n";
 
 /// How the program is called.
 pub const HELP: &str = "\
-usage: pilot IMAGE COMMAND
+usage: pilot IMAGE COMMAND [OPTION VALUE]...
        pilot --help | --version
 
 images    :n       a disk of n sectors in memory, 256 to 1048576 for a volume
           n:FILE   a new file of n sectors of 528 bytes, all zero
           FILE     the sectors of that file, for reading and writing
-commands  run      reads calls from standard input, a line each, and writes a
-                   reply to each; attr, next, close and halt are built, any
-                   other call is answered 'error later'
+commands  format   makes an empty volume of the whole disk; what was there is
+                   lost; options --serial n and --counter n, each 1 to
+                   4294967295, by default 1
+          run      opens the volume, reads calls from standard input, a line
+                   each, and writes a reply to each; attr, next, volume, close
+                   and halt are built, any other call is answered
+                   'error later'
 exit      0 done, 2 usage, 3 disk fault, 4 stream fault, 5 volume refused,
           6 trace too long, 7 no memory
 manual    docs/MANUAL.md in the repository

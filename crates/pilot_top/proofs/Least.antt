@@ -1,16 +1,14 @@
 -- The least identifier above another: by sectors, and in the list of files.
-use Rattle.std.proofs.Common.{◌≡◌, ◌≢◌, ◌⊎◌, inl, inr, ℕ, suc, ◌<◌, ◌≤◌, min, Bool, true, false, ◌&&◌, cond, eqb, List, [], ◌∷◌, fold, map, Option, Some, None, refl, sym, ◌∙◌, ap, subst, arith}
+use Rattle.std.proofs.Common.{◌≡◌, ◌≢◌, ◌⊎◌, inl, inr, ℕ, ◌<◌, ◌≤◌, min, Bool, true, false, ◌&&◌, cond, eqb, List, [], ◌∷◌, fold, Option, Some, None, refl, sym, ◌∙◌, ap, subst, arith}
 use Rattle.std.specs.Prelude.{find, nat_lt, option_map}
 use Rattle.std.specs.Option.{option_map_or, is_some}
 use Rattle.std.proofs.lemmas.Option.{same_Some, none-some}
 use Rattle.std.proofs.lemmas.Bool.{cases_lt, true≢false, and_parts, and_from, eqb-true, eq-eqb, lt-ltb, le-ltb, ltb-true, and_left}
-use Rattle.std.proofs.lemmas.Bool.Decides.{nat_tests}
 use Rattle.labelled_disk.specs.Sectors.{Sector}
 use Rattle.labelled_disk.specs.Layout.{data_sectors}
 use Rattle.labelled_disk.specs.File.{File, file_at}
-use Rattle.labelled_disk.specs.FilesOn.{leads, leads_file, file_by, file_among, files_on}
+use Rattle.labelled_disk.specs.FilesOn.{leads, leads_file, file_by, files_on}
 use Rattle.labelled_disk.specs.Rising.{AreRising}
-use Rattle.labelled_disk.specs.declared.label.Label.{Label}
 use Rattle.labelled_disk.proofs.RisingLemmas.{at_low, at_head, at_tail}
 use Rattle.labelled_disk.proofs.WriteLemmas.{look_up, files_on_rise}
 use Rattle.flat_machine.specs.Start.{start}

@@ -1,32 +1,35 @@
 -- A run, turn by turn.
-use Rattle.std.proofs.Common.{◌≡◌, ◌≢◌, ◌⊎◌, inl, inr, ℕ, suc, ◌+◌, ◌^◌, ◌<◌, ◌≤◌, Bool, true, false, List, [], ◌∷◌, ◌++◌, length, map, drop, get_or, fold, Option, Some, None, Result, Ok, Err, OnOk, OnErr, refl, sym, ap, ◌∙◌, subst, arith, append_assoc, append-nil, length-append}
-use Rattle.std.specs.Prelude.{String, flat_map}
+use Rattle.std.proofs.Common.{◌≡◌, ◌≢◌, ◌⊎◌, inl, inr, ℕ, ◌^◌, ◌<◌, ◌≤◌, true, false, List, [], ◌∷◌, ◌++◌, length, map, drop, get_or, fold, Option, Some, None, Result, Ok, Err, OnOk, OnErr, refl, sym, ap, ◌∙◌, subst, arith, append_assoc}
+use Rattle.std.specs.Prelude.{String}
 use Rattle.std.specs.String.{string_bytes}
 use Rattle.std.specs.declared.alloc.Global.{Global}
 use Rattle.std.specs.Io.KnownBytes.{Consumes, Appends, IsAtEnd}
 use Rattle.std.proofs.KnownBytes.{Appends-trans, Appends-nil}
+use Rattle.std.specs.List.{list_any}
+use Rattle.std.proofs.lemmas.Bool.{true≢false}
 use Rattle.std.proofs.lemmas.List.{flat_map_more, length_push}
+use Rattle.std.proofs.lemmas.List.Folds.{list_any-append}
 use Rattle.std.proofs.lemmas.List.Sums.{fold-append}
-use Rattle.labelled_disk.specs.Sectors.{Sector}
 use Rattle.labelled_disk.specs.State.{DiskState, lent_state}
 use Rattle.labelled_disk.specs.Calls.{Rose, OnlyReads}
 use Rattle.flat_machine.specs.declared.call.Reply.{Reply}
 use Rattle.flat_machine.specs.Text.{text}
 use Rattle.flat_machine.specs.Machine.{Machine}
 use Rattle.flat_machine.specs.After.{TraceLine, AllowsLine, AllowsAll, next_line, Transcript}
-use Rattle.flat_machine.specs.Start.{start}
+use Rattle.flat_machine.specs.declared.call.Call.TheVariants as call
 use Rattle.trace_io.specs.Stream.{IsFrontOf}
 use Rattle.trace_io.specs.Progress.{Progress}
 use Rattle.trace_io.specs.Lines.{TakesLine, TakesPart}
-use Rattle.trace_io.specs.Reading.{is_last, reading, whole_reading, rest_of, IsShort}
-use Rattle.trace_io.specs.Course.{AreLines, HasRead, HasReadAll, HasReadWhole}
+use Rattle.trace_io.specs.Reading.{is_last, reading, IsShort}
+use Rattle.trace_io.specs.Course.{AreLines, HasRead, HasReadAll}
 use Rattle.trace_io.specs.declared.progress.Stop.TheVariants as stop
 use Rattle.trace_io.specs.declared.stream.SinkFault.{SinkFault}
 use Rattle.trace_io.proofs.CourseLemmas.{HasRead-none, HasRead-line, HasRead-last, HasRead-end, HasRead-part, HasRead-item, HasRead-long}
 use Rattle.pilot_top.specs.Built.{is_built, Answered}
+use Rattle.pilot_top.specs.Opening.{is_halt, halts}
 use Rattle.pilot_top.specs.Turn.{Answers}
 use Rattle.pilot_top.specs.Last.{last_line, Puts}
-use Rattle.pilot_top.specs.Headline.{HasWritten, Taken, Run}
+use Rattle.pilot_top.specs.Headline.{HasWritten, Taken, Answering}
 use Rattle.pilot_top.specs.declared.last.Cause.TheVariants as cause
 use Rattle.pilot_top.specs.declared.status.Status.{Status}
 use Rattle.pilot_top.specs.declared.status.Status.TheVariants as status
@@ -66,6 +69,14 @@ answered_more m lines more out script = record {
   text_is = script.text_is;
 }
 
+-- a line that others may follow is no `halt`
+not_halt : (line : TraceLine) → is_last line ≡ false → is_halt line ≡ false
+not_halt (Some call.Halt) last = absurd (true≢false last)
+not_halt line last = refl
+
+none_halts-push : (lines : List TraceLine) (line : TraceLine) → halts lines ≡ false → is_halt line ≡ false → halts (lines ++ line ∷ []) ≡ false
+none_halts-push lines line none last = let here : list_any is_halt (line ∷ []) ≡ false = rw last refl in list_any-append is_halt lines (line ∷ []) ∙ rw (none, here) refl
+
 -- So many lines are answered: for each machine for which the first state stands, and the state now stands for the machine after them.
 pub record Going (a c t u : Option (List ℕ)) (p : Progress) (first now : Machine → Type 0) : Type 0 where
   pub lines : List TraceLine
@@ -74,6 +85,7 @@ pub record Going (a c t u : Option (List ℕ)) (p : Progress) (first now : Machi
   pub wrote : Appends t u out
   pub script : (m : Machine) → first m → Answered m lines out
   pub stands : (m : Machine) → first m → now (last_of m lines)
+  pub none_halts : halts lines ≡ false
 
 pub Going-start : (a t : Option (List ℕ)) (p : Progress) (first : Machine → Type 0) → p.taken ≡ 0 → p.stopped ≡ None → Going a a t t p first first
 Going-start a t p first zero none = record {
@@ -83,6 +95,7 @@ Going-start a t p first zero none = record {
   wrote = Appends-nil t;
   script = λ m is. record { replies = []; one_a_line = refl; allowed = tt; text_is = refl };
   stands = λ m is. is;
+  none_halts = refl;
 }
 
 -- the steps of a run, whether or not source and sink tell anything
@@ -100,6 +113,7 @@ module _ (a b t u : Option (List ℕ)) (p : Progress) (first now : Machine → T
     script = more_script then line r answers;
     stands = λ m is.
         subst then (sym (fold-append (next_line is_built) m going.lines (line ∷ []))) (answers.next (last_of m going.lines) (going.stands m is) goes);
+    none_halts = none_halts-push going.lines line going.none_halts (not_halt line goes);
   }
 
 told_bytes : (t : List ℕ) (u : Option (List ℕ)) (out : List ℕ) → Appends (Some t) u out → u ≡ Some (t ++ out)
@@ -118,7 +132,7 @@ told_front b (Some s) p lines read none =
     (reading s, ap reading read.took ∙ are.reads s)
 
 -- a last line behind what was written
-wrote_last : (failed : Type 0) (t : List ℕ) (u v : Option (List ℕ)) (out last : List ℕ) → Appends (Some t) u out → Puts failed u v last → HasWritten failed (t ++ out) v last
+pub wrote_last : (failed : Type 0) (t : List ℕ) (u v : Option (List ℕ)) (out last : List ℕ) → Appends (Some t) u out → Puts failed u v last → HasWritten failed (t ++ out) v last
 wrote_last failed t u v out last wrote (inl more) = inl (told_bytes t v (out ++ last) (Appends-trans (Some t) u v out last wrote more) ∙ ap Some (sym (append_assoc t out last)))
 wrote_last failed t u v out last wrote (inr more) =
     inr (more.0, more.1, more.2, told_bytes t v (out ++ more.1) (Appends-trans (Some t) u v out more.1 wrote more.3) ∙ ap Some (sym (append_assoc t out more.1)))
@@ -128,64 +142,56 @@ pub wrote_alone : (failed : Type 0) (t : List ℕ) (v : Option (List ℕ)) (last
 wrote_alone failed t v last (inl all) = inl (told_bytes t v last all)
 wrote_alone failed t v last (inr some) = inr (some.0, some.1, some.2, told_bytes t v some.1 some.3)
 
--- the ways out of a run on the sectors d, whose source has the bytes x and whose sink has the bytes t
-module _ (d : List Sector) (x t : List ℕ) (b u : Option (List ℕ)) (p : Progress) (first now : Machine → Type 0) (going : Going (Some x) b (Some t) u p first now) (is : first (start d)) (failed : Type 0) where
-  done_all : (c v : Option (List ℕ)) (taken limit : ℕ) (lines : List TraceLine) (out : List ℕ) → HasReadAll (Some x) c taken limit lines → Answered (start d) lines out → Appends (Some t) v out
-      → Run status.Done d x c t v failed
+-- the ways out of a run from the machine m, whose source has the bytes x and whose sink has the bytes t
+module _ (m : Machine) (x t : List ℕ) (b u : Option (List ℕ)) (p : Progress) (first now : Machine → Type 0) (going : Going (Some x) b (Some t) u p first now) (is : first m) (failed : Type 0) where
+  pub done_all : (c v : Option (List ℕ)) (taken limit : ℕ) (lines : List TraceLine) (out : List ℕ) → HasReadAll (Some x) c taken limit lines → Answered m lines out → Appends (Some t) v out
+      → Answering status.Done m x c t v failed
   done_all c v taken limit lines out all script wrote = (out, rw all.items_are script, told_bytes t v out wrote, all.rest_is)
 
   -- the line that ends the trace was answered
   pub Run-last : (c v : Option (List ℕ)) (q : Progress) (then : Machine → Type 0) (line : TraceLine) (r : Reply) → p.stopped ≡ None → TakesLine line b c p q → Answers now then line r
-      → is_last line ≡ true → Appends u v (text r) → Run status.Done d x c t v failed
+      → is_last line ≡ true → Appends u v (text r) → Answering status.Done m x c t v failed
   Run-last c v q then line r none takes answers last wrote =
       done_all c v q.taken q.limit (going.lines ++ line ∷ []) (going.out ++ text r) (HasRead-last (Some x) b c p q going.lines line going.read none takes last)
-      (more_script (Some x) b (Some t) u p first now going then line r answers (start d) is) (Appends-trans (Some t) u v going.out (text r) going.wrote wrote)
-
-  -- the source is at its end
-  pub Run-end : (c : Option (List ℕ)) → ((p.stopped ≡ None) × Consumes b c [] × IsAtEnd c × (p.taken < p.limit)) ⊎ ((p.stopped ≡ Some stop.End) × (c ≡ b)) → Run status.Done d x c t u failed
-  Run-end c (inl ended) =
-      done_all c u p.taken p.limit going.lines going.out (HasRead-end (Some x) b c p going.lines going.read ended.0 ended.1 ended.2 ended.3) (going.script (start d) is) going.wrote
-  Run-end c (inr ended) =
-      let all = rw ended.0 at going.read.goes_on in
-      done_all c u p.taken p.limit going.lines going.out (subst (λ e. HasReadAll (Some x) e p.taken p.limit going.lines) (sym ended.1) all.0) (going.script (start d) is) going.wrote
+      (more_script (Some x) b (Some t) u p first now going then line r answers m is) (Appends-trans (Some t) u v going.out (text r) going.wrote wrote)
 
   -- a line was read, and the disk failed
-  pub Run-disk : (c v : Option (List ℕ)) → p.stopped ≡ None → Puts failed u v (last_line cause.DiskFault) → Run status.DiskFault d x c t v failed
+  pub Run-disk : (c v : Option (List ℕ)) → p.stopped ≡ None → Puts failed u v (last_line cause.DiskFault) → Answering status.DiskFault m x c t v failed
   Run-disk c v none more =
       let front = told_front x b p going.lines going.read none in (
         length going.lines,
         going.out,
-        rw front.1 (answered_more (start d) going.lines front.0 going.out (going.script (start d) is)),
+        rw front.1 (answered_more m going.lines front.0 going.out (going.script m is)),
         wrote_last failed t u v going.out (last_line cause.DiskFault) going.wrote more,
       )
 
   -- as many bytes as the limit were taken
   pub Run-long : (c v : Option (List ℕ)) (q : Progress) → p.stopped ≡ None → TakesPart stop.Long b c p q → q.taken ≡ 2 ^ 32 → Puts failed u v (last_line cause.Long)
-      → Run status.Long d x c t v failed
+      → Answering status.Long m x c t v failed
   Run-long c v q none takes full more =
       let read = HasRead-part (Some x) b c p q stop.Long going.lines going.read none takes in
       let taken = told_taken x c read.bytes read.took in (
         taken.0,
         ap length taken.1 ∙ sym read.count ∙ full,
         going.out,
-        rw (taken.1, read.items_are) (going.script (start d) is),
+        rw (taken.1, read.items_are) (going.script m is),
         wrote_last failed t u v going.out (last_line cause.Long) going.wrote more,
       )
 
   -- the source failed
-  pub Run-read_fault : (c : Option (List ℕ)) (q : Progress) → p.stopped ≡ None → TakesPart stop.ReadFault b c p q → Run status.StreamFault d x c t u failed
+  pub Run-read_fault : (c : Option (List ℕ)) (q : Progress) → p.stopped ≡ None → TakesPart stop.ReadFault b c p q → Answering status.StreamFault m x c t u failed
   Run-read_fault c q none takes =
       let read = HasRead-part (Some x) b c p q stop.ReadFault going.lines going.read none takes in
       let taken = told_taken x c read.bytes read.took in
-      inl (taken.0, going.out, rw (taken.1, read.items_are) (going.script (start d) is), inl (told_bytes t u going.out going.wrote))
+      inl (taken.0, going.out, rw (taken.1, read.items_are) (going.script m is), inl (told_bytes t u going.out going.wrote))
 
   -- the sink failed on a reply
   pub Run-write_fault : (c v : Option (List ℕ)) (q : Progress) (then : Machine → Type 0) (line : TraceLine) (r : Reply) → p.stopped ≡ None → TakesLine line b c p q → Answers now then line r
-      → failed → (front : List ℕ) → IsFrontOf front (text r) → Appends u v front → Run status.StreamFault d x c t v failed
+      → failed → (front : List ℕ) → IsFrontOf front (text r) → Appends u v front → Answering status.StreamFault m x c t v failed
   Run-write_fault c v q then line r none takes answers rose front is_front wrote =
       let all = going.out ++ text r in
       let some = going.out ++ front in
-      let script = more_script (Some x) b (Some t) u p first now going then line r answers (start d) is in
+      let script = more_script (Some x) b (Some t) u p first now going then line r answers m is in
       let is_some : IsFrontOf some all = (is_front.0, ap (λ s. going.out ++ s) is_front.1 ∙ sym (append_assoc going.out front is_front.0)) in
       let took : v ≡ Some (t ++ some) = told_bytes t v some (Appends-trans (Some t) u v going.out front going.wrote wrote) in
       elim (HasRead-item (Some x) b c p q going.lines line going.read none takes) [
@@ -275,11 +281,6 @@ pub puts : (result : Result (Unit {0}) SinkFault) (failed : Type 0) (u v : Optio
     → OnOk result (Appends u v line) → OnErr result ((front : List ℕ) × IsFrontOf front line × Appends u v front) → OnErr result failed → Puts failed u v last
 puts (Ok done) failed u v line last same ok err cause = inl (subst (λ l. Appends u v l) same ok)
 puts (Err fault) failed u v line last same ok err cause = inr (cause, err.0, subst (λ l. IsFrontOf err.0 l) same err.1, err.2)
-
--- the last line of a refused count, alone
-pub count_alone : (failed : Type 0) (t : List ℕ) (u v : Option (List ℕ)) (n m : ℕ) → u ≡ Some t → n ≡ m → Puts failed u v (last_line (cause.Count n)) → HasWritten failed t v (last_line (cause.Count m))
-count_alone failed t u v n m told same put =
-    wrote_alone failed t v (last_line (cause.Count m)) (subst (λ (k : ℕ). Puts failed (Some t) v (last_line (cause.Count k))) same (subst (λ (o : Option (List ℕ)). Puts failed o v (last_line (cause.Count n))) told put))
 
 -- no fault rose behind a reference
 pub none_rose_behind : {D : Type 0} (state : D → DiskState) (before : ℕ) (x y : D) → (Rose before (state x).faults → ⊥) → x ≡ y → Rose before (state y).faults → ⊥

@@ -1,17 +1,39 @@
 -- The last line of a command that stopped.
-use Rattle.std.specs.Prelude.{◌≡◌, ◌⊎◌, ℕ, List, ◌++◌, codes, Option}
+use Rattle.std.specs.Prelude.{◌⊎◌, ℕ, List, ◌++◌, codes, Option}
 use Rattle.std.specs.Fmt.{decimal}
 use Rattle.std.specs.Io.KnownBytes.{Appends}
+use Rattle.labelled_disk.specs.declared.layout.Difference.{Difference}
+use Rattle.labelled_disk.specs.declared.layout.Difference.TheVariants as difference
+use Rattle.labelled_disk.specs.declared.layout.RootFault.{RootFault}
+use Rattle.labelled_disk.specs.declared.layout.RootFault.TheVariants as fault
 use Rattle.trace_io.specs.Stream.{IsFrontOf}
 use Rattle.pilot_top.specs.declared.last.Cause.{Cause}
 use Rattle.pilot_top.specs.declared.last.Cause.TheVariants as cause
+
+-- the word for what differs from a root
+abbrev pub difference_word : Difference → List ℕ
+difference_word difference.Label = codes "label"
+difference_word difference.Magic = codes "magic"
+difference_word (difference.Count n) = codes "count"
+difference_word difference.Serial = codes "serial"
+difference_word difference.Counter = codes "counter"
+difference_word (difference.Flag f) = codes "flag"
+difference_word (difference.Rest i) = codes "rest"
+
+-- what stands behind `stopped ` where the volume can't be opened
+abbrev pub root_words : RootFault → List ℕ
+root_words (fault.NotVolume what) = codes "notvolume " ++ difference_word what
+root_words fault.Unclean = codes "unclean"
+root_words (fault.Version v) = codes "version " ++ decimal v
+root_words (fault.BadCount n) = codes "count " ++ decimal n
+root_words fault.Disk = codes "disk"
 
 -- the line that says why it stopped
 abbrev pub last_line : Cause → List ℕ
 last_line cause.Usage = codes "stopped usage\n"
 last_line cause.DiskFault = codes "stopped disk\n"
 last_line cause.Long = codes "stopped long\n"
-last_line (cause.Count sectors) = codes "stopped count " ++ decimal sectors ++ codes "\n"
+last_line (cause.Root why) = codes "stopped " ++ root_words why ++ codes "\n"
 
 -- a sink took the text, or it failed, and took a front of it
 abbrev pub Puts : Type 0 → Option (List ℕ) → Option (List ℕ) → List ℕ → Type 0

@@ -1,6 +1,6 @@
 //! Labels and sectors of data.
 ghost use Rattle.std.specs.Prelude.{◌≡◌, false, []};
-ghost use Rattle.labelled_disk.specs.Layout.{first_data};
+ghost use Rattle.labelled_disk.specs.Layout.{first_data, capacity};
 ghost use Rattle.labelled_disk.specs.FilesOn.{leads};
 
 use labelled_disk::Label;
@@ -21,4 +21,11 @@ pub(crate) fn first_data_sector(sectors: u32) -> u32
     ensures { result ≡ first_data sectors }
 {
     1 + sectors.div_ceil(4096) + (sectors / 8 + 2)
+}
+
+/// How many sectors a volume on such a disk has for files.
+pub(crate) fn capacity(sectors: u32) -> u32
+    ensures { result ≡ capacity sectors }
+{
+    sectors.saturating_sub(1 + sectors.div_ceil(4096) + (sectors / 8 + 2) + 96)
 }

@@ -1,10 +1,11 @@
 //! The last line of a command that stopped.
-ghost use Rattle.std.specs.Prelude.{◌≡◌, ◌≤◌, ◌++◌, codes, decimal, length};
+ghost use Rattle.std.specs.Prelude.{◌≡◌, ◌≤◌, ◌+◌, ◌++◌, codes, length};
 ghost use Rattle.labelled_disk.specs.Calls.{Rose};
-ghost use Rattle.pilot_top.specs.Last.{last_line, Puts};
+ghost use Rattle.pilot_top.specs.Last.{difference_word, last_line, Puts};
 
 use arrayvec::ArrayVec;
 use itoa::Buffer;
+use labelled_disk::{Difference, RootFault};
 use trace_io::Sink;
 
 /// Why a command stopped.
@@ -13,18 +14,50 @@ pub(crate) enum Cause {
     Usage,
     DiskFault,
     Long,
-    /// A disk of so many sectors can't hold a volume.
-    Count(u32),
+    /// The volume can't be opened.
+    Root(RootFault),
 }
 
-fn count_line(sectors: u32) -> ArrayVec<u8, 32>
-    ensures { result.items ≡ codes "stopped count " ++ decimal sectors ++ codes "\n" }
+fn difference_word(what: Difference) -> &'static [u8]
+    ensures value { result.now ≡ difference_word what }
+    ensures short { length result.now ≤ 8 }
+{
+    match what {
+        Difference::Label => b"label",
+        Difference::Magic => b"magic",
+        Difference::Count(_) => b"count",
+        Difference::Serial => b"serial",
+        Difference::Counter => b"counter",
+        Difference::Flag(_) => b"flag",
+        Difference::Rest(_) => b"rest",
+    }
+}
+
+// The line of two parts behind `stopped `.
+fn line_of(word: &[u8], more: &[u8]) -> ArrayVec<u8, 32>
+    requires { length word.now + length more.now ≤ 23 }
+    ensures { result.items ≡ codes "stopped " ++ (word.now ++ more.now) ++ codes "\n" }
 {
     let mut line = ArrayVec::new();
-    let _ = line.try_extend_from_slice(b"stopped count ");
-    let _ = line.try_extend_from_slice(Buffer::new().format(sectors).as_bytes());
+    let _ = line.try_extend_from_slice(b"stopped ");
+    let _ = line.try_extend_from_slice(word);
+    let _ = line.try_extend_from_slice(more);
     let _ = line.try_extend_from_slice(b"\n");
     line
+}
+
+fn root_line(why: RootFault) -> ArrayVec<u8, 32>
+    ensures { result.items ≡ last_line (Cause.Root why) }
+{
+    match why {
+        RootFault::NotVolume(what) => line_of(b"notvolume ", difference_word(what)),
+        RootFault::Unclean => line_of(b"unclean", b""),
+        RootFault::Version(version) => {
+            line_of(b"version ", Buffer::new().format(version).as_bytes())
+        }
+        RootFault::BadCount(count) => line_of(b"count ", Buffer::new().format(count).as_bytes()),
+        RootFault::Disk => line_of(b"disk", b""),
+    }
 }
 
 /// Writes the last line. A sink that fails here changes nothing else.
@@ -37,6 +70,6 @@ pub(crate) fn put_last<K: Sink>(sink: &mut K, cause: Cause)
         Cause::Usage => sink.put(b"stopped usage\n"),
         Cause::DiskFault => sink.put(b"stopped disk\n"),
         Cause::Long => sink.put(b"stopped long\n"),
-        Cause::Count(sectors) => sink.put(&count_line(sectors)),
+        Cause::Root(why) => sink.put(&root_line(why)),
     };
 }

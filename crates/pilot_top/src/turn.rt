@@ -1,30 +1,46 @@
 //! One line of a trace, and the reply to it.
 ghost use Rattle.std.specs.Prelude.{◌≡◌, ◌⊎◌, ◌≤◌, Some, None};
 ghost use Rattle.labelled_disk.specs.Calls.{Rose, OnlyReads};
-ghost use Rattle.trace_io.specs.Reading.{is_last};
+ghost use Rattle.labelled_disk.specs.Layout.{IsCount};
 ghost use Rattle.pilot_top.specs.Built.{StandsFor};
-ghost use Rattle.pilot_top.specs.Turn.{Turns};
+ghost use Rattle.pilot_top.specs.Turn.{EndsAt, Turns};
 
 use crate::engine::Engine;
 use flat_machine::{Call, Refusal, Reply};
 use labelled_disk::Disk;
 use trace_io::{Line, Lines, Source, Stop};
 
+/// How a trace ends.
+#[derive(Clone, Copy, Debug, PartialEq, Eq)]
+pub(crate) enum End {
+    /// At a line `close`.
+    Close,
+    /// At a line `halt`.
+    Halt,
+    /// The source is at its end.
+    Trace,
+}
+
 /// One line of a trace, with the reply to it, or why there is none.
 #[derive(Drop)]
 pub(crate) enum Turn {
-    /// The line ends the trace where `last` is set.
-    Replies { reply: Reply, last: bool },
-    End,
+    /// Others may follow the line.
+    Replies(Reply),
+    Ends(End),
     DiskFault,
     ReadFault,
     Long,
 }
 
-fn is_last(call: &Call) -> bool
-    ensures { result ≡ is_last (Some call.now) }
+// How the call ends the trace, if it does.
+fn end_at(call: &Call) -> Option<End>
+    ensures { EndsAt call.now result }
 {
-    matches!(call, Call::Close | Call::Halt)
+    match call {
+        Call::Close => Some(End::Close),
+        Call::Halt => Some(End::Halt),
+        _ => None,
+    }
 }
 
 /// Reads a line, and carries out its call.
@@ -33,7 +49,8 @@ pub(crate) fn take_turn<D: Disk, S: Source>(
     lines: &mut Lines,
     source: &mut S,
 ) -> Turn
-    requires { (lines.old.stopped ≡ None) ⊎ (lines.old.stopped ≡ Some Stop.End) }
+    requires stopped { (lines.old.stopped ≡ None) ⊎ (lines.old.stopped ≡ Some Stop.End) }
+    requires count { IsCount (D.state engine.old.disk).sectors }
     ensures turns { Turns result (S.left source.old) (S.left source.new) lines.old lines.new
         (StandsFor (D.state engine.old.disk)) (StandsFor (D.state engine.new.disk)) }
     ensures bound { lines.new.taken ≤ lines.new.limit }
@@ -45,18 +62,15 @@ pub(crate) fn take_turn<D: Disk, S: Source>(
         → Rose (S.faults source.old) (S.faults source.new) }
 {
     match lines.next(source) {
-        Line::Call(call) => match engine.step(&call) {
-            Ok(reply) => Turn::Replies {
-                reply,
-                last: is_last(&call),
+        Line::Call(call) => match end_at(&call) {
+            Some(end) => Turn::Ends(end),
+            None => match engine.step(&call) {
+                Ok(reply) => Turn::Replies(reply),
+                Err(_) => Turn::DiskFault,
             },
-            Err(_) => Turn::DiskFault,
         },
-        Line::Bad => Turn::Replies {
-            reply: Reply::Refused(Refusal::Syntax),
-            last: false,
-        },
-        Line::End => Turn::End,
+        Line::Bad => Turn::Replies(Reply::Refused(Refusal::Syntax)),
+        Line::End => Turn::Ends(End::Trace),
         Line::ReadFault => Turn::ReadFault,
         Line::Long => Turn::Long,
     }

@@ -7,8 +7,8 @@ use Rattle.hex.proofs.HexLemmas.{decode_of-ok}
 use Rattle.flat_machine.specs.declared.call.Call.{Call}
 use Rattle.flat_machine.specs.Form.{IsInForm}
 use Rattle.trace_io.specs.Grammar.{number_of, bytes_of, count_of, only_id, only_number, number_and_type, id_and_number, two_numbers, number_and_mode, number_and_count, number_and_bytes, place, window, nothing, verb_of, with_fields, words_of, call_of_words, call_of}
-use Rattle.trace_io.specs.declared.words.Verb.{Verb}
-use Rattle.trace_io.specs.declared.words.Verb.TheVariants as verb
+use Rattle.trace_io.specs.declared.calls.Verb.{Verb}
+use Rattle.trace_io.specs.declared.calls.Verb.TheVariants as verb
 use Rattle.trace_io.proofs.LongLines.{some_same, then_some, cond_some, result_some, both-some}
 
 count-form : (word : List ℕ) (n : ℕ) → count_of word ≡ Some n → (1 ≤ n) × (n ≤ 64)

@@ -1,11 +1,13 @@
 -- A whole trace that was read line by line.
-use Rattle.std.proofs.Common.{◌≡◌, ℕ, true, inl, inr, Ok, Err, List, [], ◌∷◌, ◌++◌, length, Option, Some, None, refl, sym, ◌∙◌, arith, IfSome}
+use Rattle.std.proofs.Common.{◌≡◌, ℕ, true, inl, inr, Ok, Err, List, [], ◌∷◌, ◌++◌, ◌+◌, ◌<◌, length, Option, Some, None, refl, sym, ap, ◌∙◌, ◌≤◌, arith, append_assoc, length-append, IfSome}
 use Rattle.std.specs.Io.KnownBytes.{IsAtEnd}
+use Rattle.std.proofs.KnownBytes.{Consumes-trans}
 use Rattle.flat_machine.specs.declared.call.Call.{Call}
 use Rattle.trace_io.specs.Reading.{is_last}
 use Rattle.trace_io.specs.Progress.{Progress}
 use Rattle.trace_io.specs.Course.{HasRead, HasReadAll, HasReadWhole}
-use Rattle.trace_io.specs.Trace.{TakesFront, Reads, TakesItem}
+use Rattle.trace_io.specs.Trace.{TakesFront, Reads, TakesItem, TakesSomeLines}
+use Rattle.trace_io.specs.Lines.{TakesLine}
 use Rattle.trace_io.specs.declared.progress.Stop.{Stop}
 use Rattle.trace_io.specs.declared.progress.Stop.TheVariants as stop
 use Rattle.trace_io.proofs.CourseLemmas.{HasRead-last, HasRead-end, HasRead-part, HasRead-long}
@@ -43,3 +45,23 @@ pub Reads-last : (a b c : Option (List ℕ)) (p q : Progress) (items all : List 
 Reads-last a b c p q items all item limit read takes is last made =
     let same : limit ≡ q.limit = sym is ∙ sym takes.1.limit in
     rw (same, made) (Reads-all a c q.taken q.limit (items ++ item ∷ []) (HasRead-last a b c p q items item read takes.0 takes.1 last))
+
+-- the lines that were taken, with one that has no place
+pub TakesSomeLines-line : (a b c : Option (List ℕ)) (p q : Progress) (items : List (Option Call)) (item : Option Call) (limit : ℕ) → HasRead a b p items → TakesLine item b c p q → p.limit ≡ limit
+    → IfSome a (λ bytes. TakesSomeLines limit bytes c)
+TakesSomeLines-line None b c p q items item limit read takes is = tt
+TakesSomeLines-line (Some bytes) b None p q items item limit read takes is = absurd (Consumes-trans (Some bytes) b None read.bytes takes.bytes read.took takes.took)
+TakesSomeLines-line (Some bytes) b (Some s) p q items item limit read takes is =
+    let taken = read.bytes ++ takes.bytes in
+    let size : length taken ≡ length read.bytes + length takes.bytes = length-append read.bytes takes.bytes in
+    let all : bytes ≡ taken ++ s = Consumes-trans (Some bytes) b (Some s) read.bytes takes.bytes read.took takes.took in
+    let within : length taken ≤ limit = omega (arith, size, takes.taken, read.count, takes.within, takes.limit, is) in
+    elim takes.ends [
+      | inl fed ↦
+          let some : 0 < length taken = omega (arith, size, ap length fed.0, length-append takes.line (10 ∷ [])) in
+          let feed : taken ≡ (read.bytes ++ takes.line) ++ 10 ∷ [] = ap (λ r. read.bytes ++ r) fed.0 ∙ sym (append_assoc read.bytes takes.line (10 ∷ [])) in
+          record { bytes = taken; rest = s; all = all; left_is = refl; some = some; within = within; ends = inl (read.bytes ++ takes.line, feed) }
+      | inr ended ↦
+          let some : 0 < length taken = omega (arith, size, ap length ended.0, ended.1) in
+          record { bytes = taken; rest = s; all = all; left_is = refl; some = some; within = within; ends = inr ended.2 }
+    ]

@@ -1,5 +1,5 @@
 -- What is read of a whole trace.
-use Rattle.std.specs.Prelude.{◌≡◌, ◌⊎◌, ◌<◌, ℕ, List, [], ◌++◌, length, Option, Some, None, Result, Ok, Err}
+use Rattle.std.specs.Prelude.{◌≡◌, ◌⊎◌, ◌<◌, ◌≤◌, ℕ, List, [], ◌∷◌, ◌++◌, length, Option, Some, None, Result, Ok, Err}
 use Rattle.std.specs.Io.KnownBytes.{Consumes, IsAtEnd}
 use Rattle.flat_machine.specs.declared.call.Call.{Call}
 use Rattle.trace_io.specs.Reading.{reading, whole_reading, rest_of, IsShort}
@@ -15,6 +15,17 @@ pub record TakesFront (b : List ℕ) (left : Option (List ℕ)) (items : List (O
   pub all : b ≡ bytes ++ rest
   pub left_is : left ≡ Some rest
   pub items_are : items ≡ whole_reading bytes
+
+-- Of a source with the bytes b some were taken, no more than the limit, and the others are left. The last that was taken
+-- ends a line, or none is left: so no line is torn.
+pub record TakesSomeLines (limit : ℕ) (b : List ℕ) (left : Option (List ℕ)) : Type 0 where
+  pub bytes : List ℕ
+  pub rest : List ℕ
+  pub all : b ≡ bytes ++ rest
+  pub left_is : left ≡ Some rest
+  pub some : 0 < length bytes
+  pub within : length bytes ≤ limit
+  pub ends : ((front : List ℕ) × (bytes ≡ front ++ 10 ∷ [])) ⊎ (rest ≡ [])
 
 -- what was read of a source with the bytes b, and what it has left, by why no more was read
 abbrev pub Reads : Stop → ℕ → List ℕ → Option (List ℕ) → List (Option Call) → Type 0

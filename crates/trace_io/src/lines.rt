@@ -8,7 +8,7 @@ ghost use Rattle.trace_io.specs.Scan.{Scans, Keeps255};
 ghost use Rattle.trace_io.specs.Lines.{TakesNext, answer_of, line_of};
 
 use crate::progress::{Line, Stop};
-use crate::{Source, SourceFault, words};
+use crate::{Source, SourceFault, calls};
 use flat_machine::Call;
 use std::marker::Model;
 
@@ -98,7 +98,7 @@ fn item(buffer: &[u8; LINE], size: u64) -> Option<Call>
     if size > LINE as u64 {
         return None;
     }
-    words::call_of(&buffer[..size as usize])
+    calls::call_of(&buffer[..size as usize])
 }
 
 fn line_of(item: Option<Call>) -> Line

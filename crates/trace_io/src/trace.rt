@@ -1,8 +1,8 @@
 //! A whole trace, read into memory.
-ghost use Rattle.std.specs.Prelude.{◌≡◌, ◌≤◌, ◌⊎◌, Some, None, Err, IfOk, IfSome};
+ghost use Rattle.std.specs.Prelude.{◌≡◌, ◌≤◌, ◌⊎◌, Some, None, Err, IfOk, OnErr, IfSome};
 ghost use Rattle.trace_io.specs.Stream.{Rose};
 ghost use Rattle.trace_io.specs.Reading.{is_last};
-ghost use Rattle.trace_io.specs.Trace.{Reads, TakesItem};
+ghost use Rattle.trace_io.specs.Trace.{Reads, TakesItem, TakesSomeLines};
 
 use crate::{Line, Lines, Source, Stop};
 use flat_machine::Call;
@@ -34,7 +34,8 @@ fn take_item<S: Source>(lines: &mut Lines, source: &mut S) -> Result<Option<Call
 
 /// Reads a trace line by line up to its end, or to the line `close` or `halt`, and takes at most
 /// that many bytes. Each item is the call of a line, or None where the line is no call. Where the
-/// source fails or more bytes are needed, the items are those of the lines before.
+/// source fails or more bytes are needed, the items are those of the lines before. Where memory for an
+/// item is short, its line is taken, and the items are lost.
 pub fn read_trace<S: Source, A: Allocator>(
     alloc: A,
     source: &mut S,
@@ -42,6 +43,9 @@ pub fn read_trace<S: Source, A: Allocator>(
 ) -> Result<(Vec<Option<Call>, A>, Stop), NoMemory>
     ensures reads { IfOk result (λ r. IfSome (S.left source.old) (λ b.
         Reads r.1 limit b (S.left source.new) r.0.items)) }
+    // Without memory some lines were taken, and what is left stands behind them.
+    ensures memory { OnErr result (IfSome (S.left source.old) (λ b.
+        TakesSomeLines limit b (S.left source.new))) }
     ensures fault { IfOk result (λ r. r.1 ≡ Stop.ReadFault → Rose (S.faults source.old) (S.faults source.new)) }
     ensures faults { S.faults source.old ≤ S.faults source.new }
 {

@@ -1,8 +1,9 @@
 mod Filling
+pub mod FlagLemmas
 mod NewSectors
-mod NewVolume
+pub mod NewVolume
 mod NoCount
-mod RootLemmas
+pub mod RootLemmas
 mod SectorRuns
 mod UsedBits
 mod WrittenLemmas

@@ -1,12 +1,11 @@
 -- A new volume is sound, and has no file.
-use Rattle.std.proofs.Common.{◌≡◌, ◌≢◌, ◌⊎◌, inl, inr, ℕ, suc, ◌+◌, ◌-◌, ◌*◌, ◌/◌, ◌%◌, ◌^◌, ◌<◌, ◌≤◌, Bool, true, false, not, List, [], map, length, take, drop, replicate, get_or, Option, Some, None, refl, sym, ◌∙◌, ap, subst, arith, eqb, length-set, min}
-use Rattle.std.specs.Prelude.{slice_get, slice_set, slice_index, IsTrue, IsSomeAnd}
+use Rattle.std.proofs.Common.{◌≡◌, inl, ℕ, ◌+◌, ◌-◌, ◌*◌, ◌^◌, ◌<◌, ◌≤◌, true, false, not, List, [], map, length, take, drop, replicate, Option, Some, refl, sym, ◌∙◌, ap, subst, arith, length-set}
+use Rattle.std.specs.Prelude.{slice_get, slice_index, IsTrue, IsSomeAnd}
 use Rattle.std.specs.List.{flat_map, range_with_len, AllByRecursion}
 use Rattle.std.proofs.lemmas.Bool.{eq-eqb}
 use Rattle.std.proofs.lemmas.List.{get_or-take, get_or-drop, length-take, length-drop}
 use Rattle.std.proofs.lemmas.List.FromFn.{length-map-range_with_len, get_or-map-range_with_len, fill_by_all}
 use Rattle.std.proofs.lemmas.Option.{same_Some, slice_get_within, slice_get-get_or, get_or_from_slice_get}
-use Rattle.labelled_disk.specs.declared.layout.Layout.{Layout}
 use Rattle.labelled_disk.specs.Label.{is_file, is_free, names}
 use Rattle.labelled_disk.specs.Sectors.{Sector, zero_sector}
 use Rattle.labelled_disk.specs.Layout.{IsCount, capacity, data_sectors, first_data, layout_of, vam, vfm}
@@ -15,14 +14,13 @@ use Rattle.labelled_disk.specs.FilesOn.{files_among}
 use Rattle.labelled_disk.specs.Right.{FilesRight, IsWhole, IsGiven}
 use Rattle.labelled_disk.specs.Root.{IsRoot, HasMaps, LabelsRight, page_in, root_page, short_at, number_at, serial_of, counter_of}
 use Rattle.labelled_disk.specs.Runs.{zero_bytes}
-use Rattle.labelled_disk.specs.WriteLaws.{HasData}
 use Rattle.labelled_disk.proofs.Finds.{get_set_same, get_set_other}
 use Rattle.labelled_disk.proofs.LowestLemmas.{empty_has_none}
 use Rattle.labelled_disk.proofs.WriteLemmas.{get_drop}
 use Rattle.volume_root.specs.Format.{map_label, used_byte, used_page, new_sector, new_sectors, new_root, formatted}
 use Rattle.volume_root.specs.FormatLaws.{IsEmptyVolume, NewIsEmpty}
 use Rattle.volume_root.specs.RootPage.{IsValidRoot, root_label, root_bytes}
-use Rattle.volume_root.specs.Sound.{map_bytes, is_used, HasBits, HasFileMap, Sound}
+use Rattle.volume_root.specs.Sound.{map_bytes, HasBits, Sound}
 use Rattle.volume_root.proofs.NewSectors.{in_allocation, in_file_map, in_data}
 use Rattle.volume_root.proofs.UsedBits.{is_below, is_past, pages_joined, byte_of}
 use Rattle.volume_root.proofs.WrittenLemmas.{is_root, flag_read, serial_read, counter_read}

@@ -1,12 +1,11 @@
 -- A valid root passes each test, and passes no other.
-use Rattle.std.proofs.Common.{◌≡◌, ◌≢◌, ◌⊎◌, inl, inr, ℕ, zero, suc, ◌+◌, ◌<◌, ◌≤◌, Bool, true, false, not, ◌&&◌, List, [], ◌∷◌, length, drop, Option, Some, None, Result, Ok, Err, refl, sym, ◌∙◌, ap, subst, arith, eqb}
-use Rattle.std.specs.Prelude.{All, codes, slice_range, slice_index_or, option_map, nat_lt, if◌then◌else◌}
+use Rattle.std.proofs.Common.{◌≡◌, ℕ, zero, suc, ◌+◌, ◌≤◌, Bool, true, false, not, List, [], ◌∷◌, drop, Option, Some, None, Ok, Err, refl, sym, ap, arith, eqb}
+use Rattle.std.specs.Prelude.{All, codes, slice_range, option_map, nat_lt, if◌then◌else◌}
 use Rattle.std.specs.Bool.{then_some}
 use Rattle.std.specs.Option.{option_map_or}
-use Rattle.std.proofs.lemmas.Bool.{eq-eqb, eqb-true, eqb-false, ne_eqb, ltb-true, ltb-false, true≢false, false≢true}
-use Rattle.std.proofs.lemmas.Option.{none-some, same_Some}
+use Rattle.std.proofs.lemmas.Bool.{eq-eqb, eqb-true, ne_eqb, ltb-true, ltb-false, true≢false, false≢true}
+use Rattle.std.proofs.lemmas.Option.{none-some}
 use Rattle.std.proofs.lemmas.Slice.Eq.{bytes_eq-Decides}
-use Rattle.labelled_disk.specs.declared.label.Label.{Label}
 use Rattle.labelled_disk.specs.declared.layout.RootFault.{RootFault}
 use Rattle.labelled_disk.specs.declared.layout.RootFault.TheVariants as fault
 use Rattle.labelled_disk.specs.declared.layout.Difference.TheVariants as difference
@@ -15,8 +14,7 @@ use Rattle.labelled_disk.specs.Sectors.{Sector}
 use Rattle.labelled_disk.specs.Layout.{IsCount}
 use Rattle.labelled_disk.specs.Root.{IsRoot, short_at, number_at}
 use Rattle.volume_root.specs.declared.root.Root.{Root}
-use Rattle.volume_root.specs.RootPage.{Test, first_of, tests, judged, root_in, has_magic, first_from, first_rest, is_labelled, is_magic, is_version, is_counted, has_serial, has_counter, is_flagged, is_rest, is_closed}
-use Rattle.volume_root.specs.RootLaws.{ValidIsJudged}
+use Rattle.volume_root.specs.RootPage.{Test, first_of, tests, judged, root_in, has_magic, first_from, first_rest}
 
 -- a test passes where its condition doesn't hold
 none_of : {T : Type 0} (b : Bool) (x : T) → b ≡ false → then_some b x ≡ None

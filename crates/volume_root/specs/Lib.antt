@@ -1,3 +1,4 @@
+pub mod Flag
 pub mod Format
 pub mod FormatLaws
 pub mod Later

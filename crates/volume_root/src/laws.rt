@@ -1,6 +1,7 @@
 //! What the definitions say, as the contracts of functions that do nothing.
 ghost use Rattle.std.specs.Prelude.{ℕ};
 ghost use Rattle.labelled_disk.specs.Sectors.{Sector};
+ghost use Rattle.volume_root.specs.Flag.{FlagKeepsVolume, SoundIsOpened};
 ghost use Rattle.volume_root.specs.FormatLaws.{NewIsEmpty};
 ghost use Rattle.volume_root.specs.RootLaws.{ValidIsJudged, WrittenIsRead};
 
@@ -17,4 +18,14 @@ pub fn written_root_is_read()
 /// A volume that was just made is sound, and has no file.
 pub fn new_volume_is_empty()
     ensures { NewIsEmpty }
+{}
+
+/// With either clean flag a volume is the same, and one that was closed is sound again.
+pub fn flag_keeps_volume()
+    ensures { FlagKeepsVolume }
+{}
+
+/// A sound volume is opened.
+pub fn sound_is_opened()
+    ensures { SoundIsOpened }
 {}

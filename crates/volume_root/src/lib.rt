@@ -12,7 +12,9 @@ mod write;
 
 pub use formatting::format;
 pub use labelled_disk::{Difference, Layout, RootFault};
-pub use laws::{new_volume_is_empty, valid_roots_pass, written_root_is_read};
+pub use laws::{
+    flag_keeps_volume, new_volume_is_empty, sound_is_opened, valid_roots_pass, written_root_is_read,
+};
 pub use read::read_root;
 pub use root::Root;
 pub use write::write_root;

@@ -1,9 +1,9 @@
 //! The root of a volume, as it is read and judged.
-ghost use Rattle.std.specs.Prelude.{◌≡◌, ℕ, List, Some, Err, length, slice_get};
+ghost use Rattle.std.specs.Prelude.{◌≡◌, ℕ, List, Some, Err, length, slice_get, IfOk};
 ghost use Rattle.labelled_disk.specs.Calls.{OnlyReads, Rose};
 ghost use Rattle.labelled_disk.specs.Layout.{IsCount};
 ghost use Rattle.labelled_disk.specs.Sectors.{Sector};
-ghost use Rattle.volume_root.specs.RootPage.{judged, first_of, is_labelled, is_magic, is_version, is_counted, has_serial, has_counter, is_flagged, is_rest, is_closed, root_in, IsUnlessFault};
+ghost use Rattle.volume_root.specs.RootPage.{judged, first_of, is_labelled, is_magic, is_version, is_counted, has_serial, has_counter, is_flagged, is_rest, is_closed, root_in, IsUnlessFault, IsValidRoot};
 
 use crate::page::{first_rest, has_magic, number_at, short_at};
 use crate::{Difference, Layout, Root, RootFault};
@@ -134,6 +134,7 @@ pub fn read_root<D: Disk>(disk: &mut D, clean_only: bool) -> Result<Root, RootFa
     ensures bad_count { (n : ℕ) → result ≡ Err (RootFault.BadCount n) → ¬ IsCount (D.state disk.old).sectors × (n ≡ (D.state disk.old).sectors) }
     ensures judged { IsCount (D.state disk.old).sectors → (d : List Sector) → (D.state disk.old).contents ≡ Some d
         → (s : Sector) → slice_get d 0 ≡ Some s → IsUnlessFault result (judged clean_only (length d) s) }
+    ensures valid { IfOk result (IsValidRoot (D.state disk.old).sectors) }
     ensures cause { result ≡ Err RootFault.Disk → Rose (D.state disk.old).faults (D.state disk.new).faults }
     ensures only_reads { OnlyReads (D.state disk.old) (D.state disk.new) }
 {

@@ -1,6 +1,6 @@
 //! A trace of six lines, in which each call of the source, the sink and the disk fails in turn.
 
-use super::{LEADER, command, page, set_labels};
+use super::{LEADER, command, has_flag, page, set_labels, volume};
 use crate::Status;
 use labelled_disk::MemoryDisk;
 use std::alloc::Global;
@@ -12,17 +12,17 @@ const TRACE: &[u8] = b"volume\nfoo\nattr 0000000700000001\nnext 0000000000000000
 // What is written where so many lines are answered.
 const REPLIES: [&str; 7] = [
     "",
-    "error later\n",
-    "error later\nerror syntax\n",
-    "error later\nerror syntax\nattr 2 9 perm mutable\n",
-    "error later\nerror syntax\nattr 2 9 perm mutable\nfile 0000000700000001\n",
-    "error later\nerror syntax\nattr 2 9 perm mutable\nfile 0000000700000001\nerror syntax\n",
-    "error later\nerror syntax\nattr 2 9 perm mutable\nfile 0000000700000001\nerror syntax\nok\n",
+    "volume 124 124\n",
+    "volume 124 124\nerror syntax\n",
+    "volume 124 124\nerror syntax\nattr 2 9 perm mutable\n",
+    "volume 124 124\nerror syntax\nattr 2 9 perm mutable\nfile 0000000700000001\n",
+    "volume 124 124\nerror syntax\nattr 2 9 perm mutable\nfile 0000000700000001\nerror syntax\n",
+    "volume 124 124\nerror syntax\nattr 2 9 perm mutable\nfile 0000000700000001\nerror syntax\nok\n",
 ];
 
-// A disk of 256 sectors with a file of two pages. Three transfers made it.
+// A new volume with a file of two pages, which the map does not mark. 260 transfers made it.
 fn two_pages(alloc: Global, fails: &[u64]) -> Result<MemoryDisk<Global>, Fail> {
-    let mut disk = MemoryDisk::failing(alloc, 256, fails, 3)?;
+    let mut disk = volume(alloc, fails)?;
     set_labels(&mut disk, &[(40, LEADER), (41, page(0)), (36, page(1))])?;
     Ok(disk)
 }
@@ -45,12 +45,13 @@ fn each_call_of_the_source_fails_in_turn(rt: HostRuntime) -> Result<(), Fail> {
     for call in 1u64..64 {
         let mut disk = two_pages(rt.alloc(), &[])?;
         let outcome = command(rt.alloc(), &["run"], &mut disk, TRACE, &[call], &[])?;
-        let expected = if call <= 62 {
-            Status::StreamFault
+        let (status, flag) = if call <= 62 {
+            (Status::StreamFault, 0)
         } else {
-            Status::Done
+            (Status::Done, 1)
         };
-        assert_eq!(rt; outcome.status, expected, "call {call}");
+        assert_eq!(rt; outcome.status, status, "call {call}");
+        assert!(rt; has_flag(&mut disk, flag)?, "call {call}");
         assert_eq!(rt;
             outcome.out.as_slice(),
             replies_before(call).as_bytes(),
@@ -73,23 +74,26 @@ fn each_piece_of_the_sink_fails_in_turn(rt: HostRuntime) -> Result<(), Fail> {
         };
         assert_eq!(rt; outcome.status, expected, "piece {piece}");
         assert_eq!(rt; outcome.out.as_slice(), replies.as_bytes(), "piece {piece}");
+        let flag = u8::from(written >= 5);
+        assert!(rt; has_flag(&mut disk, flag)?, "piece {piece}");
     }
     Ok(())
 }
 
-// The leader is found at the 5th transfer, page 0 at the 6th after it, page 1 at the next, and page 2 in none of the 220
-// data sectors; `next` looks at each of these once more.
+// The root is read and written, and the map is read. The leader is found at the 5th transfer after
+// these, page 0 at the 6th after it, page 1 at the next, and page 2 in none of the 220 data sectors;
+// `next` looks at each of these once more. At last the root is written.
 #[test]
 fn each_transfer_fails_in_turn(rt: HostRuntime) -> Result<(), Fail> {
-    for transfer in 1u64..454 {
-        let mut disk = two_pages(rt.alloc(), &[transfer + 3])?;
+    for transfer in 1u64..458 {
+        let mut disk = two_pages(rt.alloc(), &[transfer + 260])?;
         let outcome = command(rt.alloc(), &["run"], &mut disk, TRACE, &[], &[])?;
-        let (status, lines, last) = if transfer <= 232 {
-            (Status::DiskFault, 2, "stopped disk\n")
-        } else if transfer <= 452 {
-            (Status::DiskFault, 3, "stopped disk\n")
-        } else {
-            (Status::Done, 6, "")
+        let (status, lines, last) = match transfer {
+            0..=3 => (Status::DiskFault, 0, "stopped disk\n"),
+            4..=235 => (Status::DiskFault, 2, "stopped disk\n"),
+            236..=455 => (Status::DiskFault, 3, "stopped disk\n"),
+            456 => (Status::DiskFault, 5, "stopped disk\n"),
+            _ => (Status::Done, 6, ""),
         };
         assert_eq!(rt; outcome.status, status, "transfer {transfer}");
         let expected = format!(in rt.alloc(); "{}{last}", REPLIES[lines])?;
@@ -98,6 +102,23 @@ fn each_transfer_fails_in_turn(rt: HostRuntime) -> Result<(), Fail> {
             expected.as_bytes(),
             "transfer {transfer}"
         );
+    }
+    Ok(())
+}
+
+#[test]
+fn a_disk_that_fails_stops_the_run(rt: HostRuntime) -> Result<(), Fail> {
+    let trace = b"foo\nattr 0000000700000001\nfoo\n";
+    for transfer in 1u64..7 {
+        let mut disk = volume(rt.alloc(), &[transfer + 257])?;
+        let outcome = command(rt.alloc(), &["run"], &mut disk, trace, &[], &[])?;
+        let out: &[u8] = if transfer <= 2 {
+            b"stopped disk\n"
+        } else {
+            b"error syntax\nstopped disk\n"
+        };
+        assert_eq!(rt; outcome.status, Status::DiskFault);
+        assert_eq!(rt; outcome.out.as_slice(), out);
     }
     Ok(())
 }

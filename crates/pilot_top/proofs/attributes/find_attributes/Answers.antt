@@ -1,4 +1,4 @@
-use Rattle.std.proofs.Common.{◌≡◌, List, Some, sym, ◌∙◌}
+use Rattle.std.proofs.Common.{sym, ◌∙◌}
 use Rattle.labelled_disk.specs.Layout.{data_sectors}
 use Rattle.pilot_top.proofs.Counting.{attributes_are}
 use Rattle.pilot_top.proofs.attributes.find_attributes.Goals as goal

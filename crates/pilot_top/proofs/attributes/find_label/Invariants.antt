@@ -1,4 +1,4 @@
-use Rattle.std.proofs.Common.{◌≡◌, List, Some, length, drop}
+use Rattle.std.proofs.Common.{◌≡◌, List, Some, drop}
 use Rattle.std.specs.Prelude.{find}
 use Rattle.labelled_disk.specs.Sectors.{Sector}
 use Rattle.labelled_disk.specs.Calls.{OnlyReads}

@@ -1,5 +1,4 @@
-use Rattle.std.proofs.Common.{◌≡◌, ◌+◌, List, Some, drop, fold, length, sym, ◌∙◌, ap, arith}
-use Rattle.labelled_disk.specs.Sectors.{Sector}
+use Rattle.std.proofs.Common.{◌≡◌, ◌+◌, drop, fold, length, sym, ◌∙◌, ap, arith}
 use Rattle.pilot_top.specs.Next.{lower}
 use Rattle.pilot_top.proofs.Least.{next_is}
 use Rattle.pilot_top.proofs.Scan.{fold_step, fold_end, reads_on}

@@ -1,6 +1,6 @@
 use Rattle.std.proofs.Common.{◌≡◌, ◌++◌, ◌∷◌, [], inl, inr, sym, ◌∙◌, rules, arith}
 use Rattle.trace_io.proofs.CourseLemmas.{HasRead-line}
-use Rattle.trace_io.proofs.TraceLemmas.{Reads-stop, Reads-last}
+use Rattle.trace_io.proofs.TraceLemmas.{Reads-stop, Reads-last, TakesSomeLines-line}
 use Rattle.trace_io.proofs.trace.read_trace.Goals as goal
 
 pub lines-preserved : goal.lines-preserved
@@ -26,3 +26,7 @@ returns-then-last-clause-reads g c =
     let pushed : c.push.new.self.items ≡ c.lines.items.items ++ c.in-Ok.item ∷ [] = search rules in
     Reads-last _ _ _ c.lines.lines c.take_item.new.lines c.lines.items.items _ c.in-Ok.item _ c.lines.invariant.read c.in-Ok.ensures.takes c.lines.invariant.limit
     (sym c.is_last-last.ensures ∙ c.if-last.true) pushed
+
+pub returns-in_default-clause-memory : goal.returns-in_default-clause-memory
+returns-in_default-clause-memory g c =
+    TakesSomeLines-line _ _ _ c.lines.lines c.take_item.new.lines c.lines.items.items c.in-Ok.item _ c.lines.invariant.read c.in-Ok.ensures.takes.1 c.lines.invariant.limit

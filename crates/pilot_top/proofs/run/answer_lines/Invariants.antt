@@ -3,7 +3,7 @@ use Rattle.labelled_disk.specs.Calls.{OnlyReads}
 use Rattle.trace_io.specs.declared.progress.Stop.TheVariants as stop
 use Rattle.pilot_top.specs.Built.{StandsFor}
 use Rattle.pilot_top.proofs.TopLemmas.{Going}
-use Rattle.pilot_top.proofs.top.answer_lines.Given as goal
+use Rattle.pilot_top.proofs.run.answer_lines.Given as goal
 
 -- so many lines are answered
 abbrev pub invariant-turns : goal.invariant-turns

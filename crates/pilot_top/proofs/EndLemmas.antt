@@ -1,0 +1,107 @@
+-- How a run ends.
+use Rattle.std.proofs.Common.{◌≡◌, ◌≢◌, ◌⊎◌, inl, inr, ℕ, ◌^◌, Bool, true, false, List, [], ◌∷◌, ◌++◌, length, Option, Some, refl, sym, ap, ◌∙◌, subst, append-nil}
+use Rattle.std.proofs.lemmas.Bool.{true≢false}
+use Rattle.std.proofs.lemmas.List.Folds.{list_any-append}
+use Rattle.std.proofs.KnownBytes.{Appends-trans}
+use Rattle.std.specs.Io.KnownBytes.{Appends}
+use Rattle.flat_machine.specs.declared.call.Call.TheVariants as call
+use Rattle.flat_machine.specs.declared.call.Reply.TheVariants as reply
+use Rattle.flat_machine.specs.Machine.{Machine}
+use Rattle.flat_machine.specs.After.{TraceLine}
+use Rattle.trace_io.specs.Course.{HasReadAll}
+use Rattle.trace_io.specs.Progress.{Progress}
+use Rattle.trace_io.specs.Reading.{reading, IsShort}
+use Rattle.trace_io.specs.Stream.{IsFrontOf}
+use Rattle.trace_io.proofs.CourseLemmas.{HasRead-last, HasRead-end}
+use Rattle.pilot_top.specs.Headline.{Answering}
+use Rattle.pilot_top.specs.Last.{last_line, Puts}
+use Rattle.pilot_top.specs.Opening.{is_halt, halts, is_halted, end_text}
+use Rattle.pilot_top.specs.Turn.{Answers, EndsTrace}
+use Rattle.pilot_top.specs.declared.last.Cause.TheVariants as cause
+use Rattle.pilot_top.specs.declared.status.Status.{Status}
+use Rattle.pilot_top.specs.declared.status.Status.TheVariants as status
+use Rattle.pilot_top.specs.declared.turn.End.{End}
+use Rattle.pilot_top.specs.declared.turn.End.TheVariants as end
+use Rattle.pilot_top.proofs.TopLemmas.{Going, done_all, Run-last, Run-disk, Run-write_fault, short_at_last, short_at_end, wrote_last}
+
+-- the reply to a line that ends the trace
+close_answers : (now later : Machine → Type 0) → Answers now later (Some call.Close) reply.Done
+close_answers now later = record {
+  allowed = λ m stands. record { now = λ is. refl; later = λ unbuilt. absurd (true≢false unbuilt) };
+  next = λ m stands going. absurd (true≢false going);
+}
+
+halt_answers : (now later : Machine → Type 0) → Answers now later (Some call.Halt) reply.Done
+halt_answers now later = record {
+  allowed = λ m stands. record { now = λ is. refl; later = λ unbuilt. absurd (true≢false unbuilt) };
+  next = λ m stands going. absurd (true≢false going);
+}
+
+-- what was read, where the source tells its bytes
+module _ (x : List ℕ) (b t u : Option (List ℕ)) (p : Progress) (first now : Machine → Type 0) (going : Going (Some x) b t u p first now) where
+  halts_with : (line : TraceLine) (h : Bool) → is_halt line ≡ h → halts (going.lines ++ line ∷ []) ≡ h
+  halts_with line true is = list_any-append is_halt going.lines (line ∷ []) ∙ rw (going.none_halts, is) refl
+  halts_with line false is = list_any-append is_halt going.lines (line ∷ []) ∙ rw (going.none_halts, is) refl
+
+  pub End-halts : (how : End) (c : Option (List ℕ)) (q : Progress) → EndsTrace how b c p q → halts (reading x) ≡ is_halted how
+  End-halts end.Close c q ended =
+      let all = HasRead-last (Some x) b c p q going.lines (Some call.Close) going.read ended.0 ended.1 refl in
+      ap halts all.items_are ∙ halts_with (Some call.Close) false refl
+  End-halts end.Halt c q ended =
+      let all = HasRead-last (Some x) b c p q going.lines (Some call.Halt) going.read ended.0 ended.1 refl in
+      ap halts all.items_are ∙ halts_with (Some call.Halt) true refl
+  End-halts end.Trace c q (inl ended) =
+      let all = HasRead-end (Some x) b c p going.lines going.read ended.0 ended.1 ended.2 ended.3 in
+      ap halts all.items_are ∙ going.none_halts
+  End-halts end.Trace c q (inr ended) = let all = rw ended.0 at going.read.goes_on in ap halts all.0.items_are ∙ going.none_halts
+
+  pub End-short : (how : End) (c : Option (List ℕ)) (q : Progress) → EndsTrace how b c p q → p.limit ≡ 2 ^ 32 → IsShort (2 ^ 32) x
+  End-short end.Close c q ended limit = short_at_last x b t u p first now going c q (Some call.Close) ended.0 ended.1 refl limit
+  End-short end.Halt c q ended limit = short_at_last x b t u p first now going c q (Some call.Halt) ended.0 ended.1 refl limit
+  End-short end.Trace c q ended limit = short_at_end x b t u p first now going c ended limit
+
+-- what was written, where source and sink tell their bytes
+module _ (m : Machine) (x t : List ℕ) (b u : Option (List ℕ)) (p : Progress) (first now : Machine → Type 0) (going : Going (Some x) b (Some t) u p first now) (is : first m) (failed : Type 0) where
+  wrote_nothing : (v : Option (List ℕ)) → Appends u v [] → Appends (Some t) v going.out
+  wrote_nothing v wrote = subst (λ out. Appends (Some t) v out) (append-nil going.out) (Appends-trans (Some t) u v going.out [] going.wrote wrote)
+
+  End-done : (how : End) (c v : Option (List ℕ)) (q : Progress) → EndsTrace how b c p q → Appends u v (end_text how) → Answering status.Done m x c t v failed
+  End-done end.Close c v q ended wrote = Run-last m x t b u p first now going is failed c v q now (Some call.Close) reply.Done ended.0 ended.1 (close_answers now now) refl wrote
+  End-done end.Halt c v q ended wrote = Run-last m x t b u p first now going is failed c v q now (Some call.Halt) reply.Done ended.0 ended.1 (halt_answers now now) refl wrote
+  End-done end.Trace c v q (inl ended) wrote =
+      done_all m x t b u p first now going is failed c v p.taken p.limit going.lines going.out (HasRead-end (Some x) b c p going.lines going.read ended.0 ended.1 ended.2 ended.3) (going.script m is) (wrote_nothing v wrote)
+  End-done end.Trace c v q (inr ended) wrote =
+      let all = rw ended.0 at going.read.goes_on in
+      done_all m x t b u p first now going is failed c v p.taken p.limit going.lines going.out (subst (λ e. HasReadAll (Some x) e p.taken p.limit going.lines) (sym ended.1) all.0) (going.script m is) (wrote_nothing v wrote)
+
+  End-part : (how : End) (c v : Option (List ℕ)) (q : Progress) → EndsTrace how b c p q → how ≢ end.Trace → failed → (front : List ℕ) → IsFrontOf front (end_text how) → Appends u v front
+      → Answering status.StreamFault m x c t v failed
+  End-part end.Close c v q ended other rose front is_front wrote = Run-write_fault m x t b u p first now going is failed c v q now (Some call.Close) reply.Done ended.0 ended.1 (close_answers now now) rose front is_front wrote
+  End-part end.Halt c v q ended other rose front is_front wrote = Run-write_fault m x t b u p first now going is failed c v q now (Some call.Halt) reply.Done ended.0 ended.1 (halt_answers now now) rose front is_front wrote
+  End-part end.Trace c v q ended other rose front is_front wrote = absurd (other refl)
+
+  End-disk : (how : End) (c v : Option (List ℕ)) (q : Progress) → EndsTrace how b c p q → Puts failed u v (last_line cause.DiskFault) → Answering status.DiskFault m x c t v failed
+  End-disk end.Close c v q ended more = Run-disk m x t b u p first now going is failed c v ended.0 more
+  End-disk end.Halt c v q ended more = Run-disk m x t b u p first now going is failed c v ended.0 more
+  End-disk end.Trace c v q (inl ended) more = Run-disk m x t b u p first now going is failed c v ended.0 more
+  End-disk end.Trace c v q (inr ended) more =
+      let all = rw ended.0 at going.read.goes_on in (
+        length going.lines,
+        going.out,
+        rw all.0.items_are (going.script m is),
+        wrote_last failed t u v going.out (last_line cause.DiskFault) going.wrote more,
+      )
+
+  pub End-answering : (s : Status) (how : End) (c v : Option (List ℕ)) (q : Progress) → EndsTrace how b c p q
+      → (s ≡ status.Done) ⊎ (s ≡ status.StreamFault) ⊎ (s ≡ status.DiskFault)
+      → (s ≡ status.Done → Appends u v (end_text how))
+      → (s ≡ status.StreamFault → (front : List ℕ) × IsFrontOf front (end_text how) × Appends u v front)
+      → (s ≡ status.StreamFault → failed × (how ≢ end.Trace))
+      → (s ≡ status.DiskFault → Puts failed u v (last_line cause.DiskFault))
+      → Answering s m x c t v failed
+  End-answering s how c v q ended (inl done) on_done on_part cause_is on_disk = rw done (End-done how c v q ended (on_done done))
+  End-answering s how c v q ended (inr (inl part)) on_done on_part cause_is on_disk =
+      let front = on_part part in
+      let why = cause_is part in
+      rw part (End-part how c v q ended why.1 why.0 front.0 front.1 front.2)
+  End-answering s how c v q ended (inr (inr disk)) on_done on_part cause_is on_disk = rw disk (End-disk how c v q ended (on_disk disk))

@@ -1,0 +1,98 @@
+//! The fields of a call, by the words behind the first.
+ghost use Rattle.std.specs.Prelude.{◌≡◌};
+ghost use Rattle.trace_io.specs.Grammar.{only_id, only_number, number_and_type, id_and_number, two_numbers, number_and_mode, number_and_count, number_and_bytes, place, window, nothing};
+ghost use Rattle.trace_io.specs.Words.{rest_words};
+
+use crate::words::{bytes, count, four, id, kind, mode, number, one, three, two};
+use flat_machine::Piece;
+
+#[tactic(auto, unfolding(crate::specs::Grammar::only_id))]
+pub(crate) fn only_id(rest: Option<&[u8]>) -> Option<u64>
+    ensures { result ≡ only_id (rest_words rest.entry) }
+{
+    id(one(rest)?)
+}
+
+#[tactic(auto, unfolding(crate::specs::Grammar::only_number))]
+pub(crate) fn only_number(rest: Option<&[u8]>) -> Option<u32>
+    ensures { result ≡ only_number (rest_words rest.entry) }
+{
+    number(one(rest)?)
+}
+
+#[tactic(auto, unfolding(crate::specs::Grammar::number_and_type))]
+pub(crate) fn number_and_type(rest: Option<&[u8]>) -> Option<(u32, u16)>
+    ensures { result ≡ number_and_type (rest_words rest.entry) }
+{
+    let (a, b) = two(rest)?;
+    Some((number(a)?, kind(b)?))
+}
+
+#[tactic(auto, unfolding(crate::specs::Grammar::id_and_number))]
+pub(crate) fn id_and_number(rest: Option<&[u8]>) -> Option<(u64, u32)>
+    ensures { result ≡ id_and_number (rest_words rest.entry) }
+{
+    let (a, b) = two(rest)?;
+    Some((id(a)?, number(b)?))
+}
+
+#[tactic(auto, unfolding(crate::specs::Grammar::two_numbers))]
+pub(crate) fn two_numbers(rest: Option<&[u8]>) -> Option<(u32, u32)>
+    ensures { result ≡ two_numbers (rest_words rest.entry) }
+{
+    let (a, b) = two(rest)?;
+    Some((number(a)?, number(b)?))
+}
+
+#[tactic(auto, unfolding(crate::specs::Grammar::number_and_mode))]
+pub(crate) fn number_and_mode(rest: Option<&[u8]>) -> Option<(u32, bool)>
+    ensures { result ≡ number_and_mode (rest_words rest.entry) }
+{
+    let (a, b) = two(rest)?;
+    Some((number(a)?, mode(b)?))
+}
+
+#[tactic(auto, unfolding(crate::specs::Grammar::number_and_count))]
+pub(crate) fn number_and_count(rest: Option<&[u8]>) -> Option<(u32, u8)>
+    ensures { result ≡ number_and_count (rest_words rest.entry) }
+{
+    let (a, b) = two(rest)?;
+    Some((number(a)?, count(b)?))
+}
+
+#[tactic(auto, unfolding(crate::specs::Grammar::number_and_bytes))]
+pub(crate) fn number_and_bytes(rest: Option<&[u8]>) -> Option<(u32, Piece)>
+    ensures { result ≡ number_and_bytes (rest_words rest.entry) }
+{
+    let (a, b) = two(rest)?;
+    Some((number(a)?, bytes(b)?))
+}
+
+#[tactic(auto, unfolding(crate::specs::Grammar::place))]
+pub(crate) fn place(rest: Option<&[u8]>) -> Option<(u32, u32, Option<u32>)>
+    ensures { result ≡ place (rest_words rest.entry) }
+{
+    if let Some((parent, pages)) = two(rest) {
+        return Some((number(parent)?, number(pages)?, None));
+    }
+    let (parent, pages, first) = three(rest)?;
+    Some((number(parent)?, number(pages)?, Some(number(first)?)))
+}
+
+#[tactic(auto, unfolding(crate::specs::Grammar::window))]
+pub(crate) fn window(rest: Option<&[u8]>) -> Option<(u32, u64, u32, bool)>
+    ensures { result ≡ window (rest_words rest.entry) }
+{
+    let (space, file, page, writable) = four(rest)?;
+    Some((number(space)?, id(file)?, number(page)?, mode(writable)?))
+}
+
+#[tactic(auto, unfolding(crate::specs::Grammar::nothing), using(crate::proofs::WordLemmas::words_some))]
+pub(crate) fn nothing(rest: Option<&[u8]>) -> Option<()>
+    ensures { result ≡ nothing (rest_words rest.entry) }
+{
+    match rest {
+        None => Some(()),
+        Some(_) => None,
+    }
+}
