@@ -65,10 +65,10 @@ module _ (d : List Sector) (lines : List TraceLine) where
   agree_after k = subst (λ (m : Machine). Agrees (files_on d) (settled m)) (sym (after_stays d lines k)) (start_agrees d).1
 
   -- the disk as it was, or with either flag
-  keeps_itself : LabelsRight d → KeepsFiles d d lines
+  pub keeps_itself : LabelsRight d → KeepsFiles d d lines
   keeps_itself right = record { right = right; agree = agree_after }
 
-  keeps_flagged : FlagLaws d → LabelsRight d → (clean : Bool) → KeepsFiles d (with_flag clean d) lines
+  pub keeps_flagged : FlagLaws d → LabelsRight d → (clean : Bool) → KeepsFiles d (with_flag clean d) lines
   keeps_flagged laws right clean = record {
     right = laws.right clean right;
     agree = λ k. subst (λ (fs : List File). Agrees fs (settled (after is_built (start d) lines k))) (sym (laws.files clean)) (agree_after k);
