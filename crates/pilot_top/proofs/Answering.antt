@@ -35,7 +35,7 @@ attributes_allowed d id =
     subst (λ (o : Option File). MatchOption (first_of (then_some (is_none o) why.File ∷ [])) (told_of (disk_file false d id) ≡ option_map_or attributes_of o reply.Nothing) (λ word. told_of (disk_file false d id) ≡ reply.Refused word))
     (sym (look_up false 0 0 d id)) (told (disk_file false d id))
 
-same_both : {X : Type 0} (b : Bool) (x : X) → cond b x x ≡ x
+pub same_both : {X : Type 0} (b : Bool) (x : X) → cond b x x ≡ x
 same_both true x = refl
 same_both false x = refl
 

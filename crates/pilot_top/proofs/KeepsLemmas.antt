@@ -1,5 +1,5 @@
 -- What a run leaves has the files of the machine.
-use Rattle.std.proofs.Common.{◌≡◌, ◌≢◌, inl, inr, ℕ, zero, suc, Bool, true, false, cond, List, [], ◌∷◌, length, take, fold, Some, None, refl, sym, ap, ◌∙◌, subst, arith}
+use Rattle.std.proofs.Common.{◌≡◌, ◌≢◌, inl, inr, ℕ, zero, suc, Bool, true, false, List, [], ◌∷◌, length, take, fold, Some, None, refl, sym, ap, ◌∙◌, subst, arith}
 use Rattle.std.specs.Prelude.{option_map, filter, is_none}
 use Rattle.std.proofs.lemmas.Option.{same_Some}
 use Rattle.labelled_disk.specs.declared.disk.DiskWrite.{DiskWrite}
@@ -24,6 +24,7 @@ use Rattle.volume_root.specs.Format.{PartMade}
 use Rattle.volume_root.specs.Sound.{Sound}
 use Rattle.volume_root.proofs.FlagLemmas.{flag_keeps_volume}
 use Rattle.pilot_top.specs.Built.{is_built}
+use Rattle.pilot_top.proofs.Answering.{same_both}
 use Rattle.pilot_top.specs.Headline.{KeepsFiles, IsClosed}
 use Rattle.pilot_top.specs.Opening.{Leaves}
 use Rattle.pilot_top.specs.declared.status.Status.{Status}
@@ -35,10 +36,6 @@ permanent_stay d = sym (forced_is_settled (start d) refl) ∙ (start_agrees d).0
 
 files_agree : (d : List Sector) → Agrees (files_on d) (files_on d)
 files_agree d = subst (λ (fs : List File). Agrees (files_on d) fs) (start_agrees d).0 (start_agrees d).1
-
-same_both : {X : Type 0} (b : Bool) (x : X) → cond b x x ≡ x
-same_both true x = refl
-same_both false x = refl
 
 closed_same : (d : List Sector) → next (start d) call.Close ≡ start d
 closed_same d = ap (λ (fs : List File). record (start d) { files = fs }) (permanent_stay d)

@@ -1,18 +1,17 @@
 -- Each moment of a run.
-use Rattle.std.proofs.Common.{◌≡◌, ◌≢◌, ◌⊎◌, inl, inr, ℕ, zero, suc, Bool, true, false, List, [], ◌∷◌, ◌++◌, Some, refl, sym, ap, ◌∙◌, subst, arith, drop}
+use Rattle.std.proofs.Common.{◌≡◌, ◌≢◌, inl, inr, ℕ, zero, suc, Bool, true, false, List, [], ◌∷◌, ◌++◌, Some, refl, sym, ap, ◌∙◌, subst, arith, drop}
 use Rattle.std.specs.Prelude.{option_map}
 use Rattle.std.proofs.lemmas.Option.{same_Some}
 use Rattle.labelled_disk.specs.declared.disk.DiskWrite.{DiskWrite}
 use Rattle.labelled_disk.specs.Calls.{OnlyReads}
 use Rattle.labelled_disk.specs.Moment.{moment}
-use Rattle.labelled_disk.specs.Root.{LabelsRight, root_page, short_at}
+use Rattle.labelled_disk.specs.Root.{LabelsRight}
 use Rattle.labelled_disk.specs.Sectors.{Sector, AreSectors}
 use Rattle.labelled_disk.specs.State.{DiskState}
 use Rattle.labelled_disk.specs.WriteRuns.{Appended}
 use Rattle.flat_machine.specs.After.{TraceLine}
 use Rattle.volume_root.specs.Flag.{FlagLaws, flag_write, with_flag}
 use Rattle.volume_root.specs.Format.{PartMade}
-use Rattle.volume_root.specs.Sound.{Sound}
 use Rattle.volume_root.proofs.FlagLemmas.{flag_keeps_volume}
 use Rattle.pilot_top.specs.Headline.{IsMoment}
 use Rattle.pilot_top.specs.Opening.{Leaves}

@@ -1,12 +1,9 @@
 -- A scan of the data sectors, one by one.
-use Rattle.std.proofs.Common.{◌≡◌, ℕ, zero, suc, ◌+◌, ◌≤◌, Bool, true, false, List, [], ◌∷◌, length, drop, fold, Some, None, Result, refl, ◌∙◌, ap, arith}
+use Rattle.std.proofs.Common.{◌≡◌, ℕ, zero, suc, ◌+◌, ◌≤◌, Bool, true, false, List, [], ◌∷◌, length, drop, fold, Some, None, refl, ◌∙◌, ap, arith}
 use Rattle.std.specs.Prelude.{slice_get, find}
 use Rattle.std.proofs.lemmas.Option.{same_Some, none-some}
 use Rattle.std.proofs.lemmas.List.{drop_all}
-use Rattle.labelled_disk.specs.State.{DiskState}
-use Rattle.labelled_disk.specs.Calls.{Reads, OnlyReads}
 use Rattle.labelled_disk.specs.declared.label.Label.{Label}
-use Rattle.labelled_disk.specs.declared.disk.DiskError.{DiskError}
 use Rattle.pilot_top.specs.Attributes.{is_sought}
 use Rattle.pilot_top.specs.declared.attributes.Sought.{Sought}
 use Rattle.pilot_top.specs.declared.attributes.Sought.TheVariants as sought
@@ -43,28 +40,3 @@ module _ {X Y : Type 0} (f : Y → X → Y) where
 pub sought_by_label : (sought : Sought) (id : ℕ) (label : Label) (page : List ℕ) → is_sought sought id (label, []) ≡ is_sought sought id (label, page)
 sought_by_label sought.Leader id label page = refl
 sought_by_label (sought.Page k) id label page = refl
-
-pub reads_itself : (a : DiskState) → OnlyReads a a
-reads_itself a = record { sectors = refl; lent = refl; contents = refl; writes = refl; transfers = omega arith; faults = omega arith; synced = λ s. s }
-
-pub reads_then : (a b c : DiskState) → OnlyReads a b → OnlyReads b c → OnlyReads a c
-reads_then a b c first next = record {
-  sectors = next.sectors ∙ first.sectors;
-  lent = next.lent ∙ first.lent;
-  contents = next.contents ∙ first.contents;
-  writes = next.writes ∙ first.writes;
-  transfers = omega (arith, first.transfers, next.transfers);
-  faults = omega (arith, first.faults, next.faults);
-  synced = λ s. next.synced (first.synced s);
-}
-
-pub reads_on : (a b c : DiskState) (sector : ℕ) (page : List ℕ) (result : Result Label DiskError) → OnlyReads a b → Reads b sector page result c → OnlyReads a c
-reads_on a b c sector page result first next = record {
-  sectors = next.moves.sectors ∙ first.sectors;
-  lent = next.moves.lent ∙ first.lent;
-  contents = next.same.contents ∙ first.contents;
-  writes = next.same.writes ∙ first.writes;
-  transfers = omega (arith, first.transfers, next.moves.transfers.later);
-  faults = omega (arith, first.faults, next.moves.faults);
-  synced = λ s. next.synced (first.synced s);
-}

@@ -1,8 +1,5 @@
 -- A run, turn by turn.
-use Rattle.std.proofs.Common.{◌≡◌, ◌≢◌, ◌⊎◌, inl, inr, ℕ, ◌^◌, ◌<◌, ◌≤◌, true, false, List, [], ◌∷◌, ◌++◌, length, map, drop, get_or, fold, Option, Some, None, Result, Ok, Err, OnOk, OnErr, refl, sym, ap, ◌∙◌, subst, arith, append_assoc}
-use Rattle.std.specs.Prelude.{String}
-use Rattle.std.specs.String.{string_bytes}
-use Rattle.std.specs.declared.alloc.Global.{Global}
+use Rattle.std.proofs.Common.{◌≡◌, ◌≢◌, ◌⊎◌, inl, inr, ℕ, ◌^◌, ◌<◌, ◌≤◌, true, false, List, [], ◌∷◌, ◌++◌, length, fold, Option, Some, None, Result, Ok, Err, OnOk, OnErr, refl, sym, ap, ◌∙◌, subst, arith, append_assoc}
 use Rattle.std.specs.Io.KnownBytes.{Consumes, Appends, IsAtEnd}
 use Rattle.std.proofs.KnownBytes.{Appends-trans, Appends-nil}
 use Rattle.std.specs.List.{list_any}
@@ -10,8 +7,8 @@ use Rattle.std.proofs.lemmas.Bool.{true≢false}
 use Rattle.std.proofs.lemmas.List.{flat_map_more, length_push}
 use Rattle.std.proofs.lemmas.List.Folds.{list_any-append}
 use Rattle.std.proofs.lemmas.List.Sums.{fold-append}
-use Rattle.labelled_disk.specs.State.{DiskState, lent_state}
-use Rattle.labelled_disk.specs.Calls.{Rose, OnlyReads}
+use Rattle.labelled_disk.specs.State.{DiskState}
+use Rattle.labelled_disk.specs.Calls.{Rose}
 use Rattle.flat_machine.specs.declared.call.Reply.{Reply}
 use Rattle.flat_machine.specs.Text.{text}
 use Rattle.flat_machine.specs.Machine.{Machine}
@@ -249,32 +246,6 @@ is_done status.NotOpened disk source sink is_short on_disk on_stream on_long usa
 is_done status.NoMemory disk source sink is_short on_disk on_stream on_long usage opened other short no_disk no_source no_sink = absurd (other.0 refl)
 is_done status.Damaged disk source sink is_short on_disk on_stream on_long usage opened other short no_disk no_source no_sink = absurd (other.1 refl)
 is_done status.Unfit disk source sink is_short on_disk on_stream on_long usage opened other short no_disk no_source no_sink = absurd (other.2 refl)
-
--- what holds of the state behind a reference holds of the state
-pub reads_behind : {D : Type 0} (state : D → DiskState) (first : DiskState) (x y : D) (m n : ℕ) → x ≡ y → OnlyReads (lent_state m first) (lent_state n (state y)) → OnlyReads first (state x)
-reads_behind state first x y m n same reads = rw same (record {
-  sectors = reads.sectors;
-  lent = lent_parts m n first.lent (state y).lent reads.lent;
-  contents = reads.contents;
-  writes = reads.writes;
-  transfers = reads.transfers;
-  faults = reads.faults;
-  synced = reads.synced;
-})
-  where
-    lent_parts : (m n : ℕ) (xs ys : List ℕ) → n ∷ ys ≡ m ∷ xs → ys ≡ xs
-    lent_parts m n xs ys e = ap (drop 1) e
-
--- one word, and its text
-pub words_are : (words : List (String Global)) (word : String Global) (text : List ℕ) → length words ≡ 1 → word ≡ get_or words 0 word → string_bytes word ≡ text → map string_bytes words ≡ text ∷ []
-words_are [] word text one is same = absurd (omega arith)
-words_are (w ∷ []) word text one is same = ap (λ v. string_bytes v ∷ []) (sym is) ∙ ap (λ b. b ∷ []) same
-words_are (w ∷ v ∷ more) word text one is same = absurd (omega arith)
-
-pub word_is : (words : List (String Global)) (word : String Global) (text : List ℕ) → length words ≡ 1 → word ≡ get_or words 0 word → map string_bytes words ≡ text ∷ [] → string_bytes word ≡ text
-word_is [] word text one is same = absurd (omega arith)
-word_is (w ∷ []) word text one is same = ap string_bytes is ∙ ap (λ l. get_or l 0 text) same
-word_is (w ∷ v ∷ more) word text one is same = absurd (omega arith)
 
 -- a text was put, or a front of it
 pub puts : (result : Result (Unit {0}) SinkFault) (failed : Type 0) (u v : Option (List ℕ)) (line last : List ℕ) → line ≡ last

@@ -1,8 +1,8 @@
 use Rattle.std.proofs.Common.{◌≡◌, ◌-◌, ◌*◌, ◌/◌, ◌%◌, length, sym, ◌∙◌, ap, arith, min}
 use Rattle.labelled_disk.specs.Layout.{first_data}
 use Rattle.volume_root.specs.Sound.{map_bytes, is_used}
+use Rattle.labelled_disk.proofs.CallLemmas.{only_reads_itself, only_reads_more}
 use Rattle.pilot_top.specs.Marked.{marked}
-use Rattle.pilot_top.proofs.Scan.{reads_itself, reads_on}
 use Rattle.pilot_top.proofs.BitCounts.{passing, passing-le, passing-zero, page_counted}
 use Rattle.pilot_top.proofs.marked.count_marked.Goals as goal
 
@@ -10,7 +10,7 @@ pub loop-map_page-init : goal.loop-map_page-init
 loop-map_page-init g c =
     let none : min c.sectors-sectors.result (4096 * (c.first_data_sector-first.result / 4096)) - c.first_data_sector-first.result ≡ 0 = omega arith in
     record {
-      only_reads = reads_itself _;
+      only_reads = only_reads_itself _;
       few = omega arith;
       counted = λ d told. sym (ap (passing (is_used (map_bytes d)) c.first_data_sector-first.result) none ∙ passing-zero (is_used (map_bytes d)) c.first_data_sector-first.result);
     }
@@ -31,7 +31,7 @@ loop-map_page-preserved g c =
     let so_far = c.loop-map_page.invariant in
     let few = passing-le (λ i. is_used c.read.new.page (i % 4096)) c.max.result (c.min.result - c.max.result) in
     record {
-      only_reads = reads_on _ _ _ _ _ _ so_far.only_reads c.read.ensures;
+      only_reads = only_reads_more so_far.only_reads c.read.ensures;
       few = omega (arith, few, c.marked_in-count.ensures, so_far.few, c.max.ensures, c.min.ensures);
       counted = λ d told.
           let size : c.sectors-sectors.result ≡ length d = c.sectors-sectors.ensures ∙ sym (g.met.D.Disk.whole c.args.disk.now d told) in

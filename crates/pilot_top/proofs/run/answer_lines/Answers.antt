@@ -1,6 +1,6 @@
 use Rattle.std.proofs.Common.{◌∙◌, sym, inl, inr, ap, subst, arith}
 use Rattle.labelled_disk.specs.Calls.{OnlyReads}
-use Rattle.pilot_top.proofs.Scan.{reads_itself, reads_then}
+use Rattle.labelled_disk.proofs.CallLemmas.{only_reads_itself, only_reads_then}
 use Rattle.pilot_top.proofs.TopLemmas.{Going-start, Going-reply, Going-source, Going-told, Run-disk, Run-long, Run-read_fault, Run-write_fault, not_short, rose_later, Puts-later}
 use Rattle.pilot_top.proofs.EndLemmas.{End-answering, End-halts, End-short}
 use Rattle.pilot_top.proofs.LeavesLemmas.{leaves_behind}
@@ -15,7 +15,7 @@ turns-init g c =
       goes_on = inl stopped;
       limit = ap (λ p. p.limit) made;
       bound = rw made (omega arith);
-      disk = reads_itself _;
+      disk = only_reads_itself _;
       source = omega arith;
       sink = omega arith;
     })
@@ -30,7 +30,7 @@ turns-preserved g c =
       goes_on = elim turn.2.ends [ inl fed ↦ inl fed.1 | inr ended ↦ inr ended.3 ];
       limit = turn.2.limit ∙ i.limit;
       bound = c.take_turn.ensures.bound;
-      disk = reads_then _ _ _ i.disk c.take_turn.ensures.only_reads;
+      disk = only_reads_then i.disk c.take_turn.ensures.only_reads;
       source = omega (arith, i.source, c.take_turn.ensures.source_later);
       sink = omega (arith, i.sink, c.in-Ok.ensures.cause.later);
     }
@@ -59,7 +59,7 @@ returns-in-Ends-clause-leaves g c b source =
     let going = Going-source _ _ _ _ _ _ _ b i.going source in
     rw (End-halts b _ _ _ c.turns.lines _ _ going c.in-Ends.end _ c.take_turn.new.lines c.in-Ends.ensures.turns)
     (leaves_behind c.end_trace.result.0 _ _ _ (g.D.Disk.state c.into_disk-in-Ends.result) _
-    (subst (λ x. OnlyReads (g.D.Disk.state c.args.disk) (g.D.Disk.state x)) (sym c.into_disk-in-Ends.ensures) (reads_then _ _ _ i.disk c.take_turn.ensures.only_reads))
+    (subst (λ x. OnlyReads (g.D.Disk.state c.args.disk) (g.D.Disk.state x)) (sym c.into_disk-in-Ends.ensures) (only_reads_then i.disk c.take_turn.ensures.only_reads))
     c.end_trace.ensures.leaves)
 
 pub returns-in-Ends-clause-short : goal.returns-in-Ends-clause-short
