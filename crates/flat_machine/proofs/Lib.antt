@@ -1,5 +1,6 @@
 pub mod ReplyLemmas
 pub mod AfterLemmas
+pub mod LineLemmas
 pub mod StartLemmas
 pub mod ProjectionLemmas
 pub mod RowLemmas

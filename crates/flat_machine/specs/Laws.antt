@@ -1,6 +1,6 @@
 -- What the definitions say.
-use Rattle.std.specs.Prelude.{◌≡◌, ◌⊎◌, ◌↔◌, ℕ, suc, ◌+◌, ◌/◌, ◌<◌, ◌≤◌, Bool, false, IsTrue, IsSomeAnd, IfSome, List, [], ◌∷◌, ◌++◌, length, filter, Some, slice_get}
-use Rattle.std.specs.List.{AllByRecursion}
+use Rattle.std.specs.Prelude.{◌≡◌, ◌≢◌, ◌⊎◌, ◌↔◌, ℕ, suc, ◌+◌, ◌/◌, ◌<◌, ◌≤◌, Bool, false, IsTrue, IsSomeAnd, IfSome, List, [], ◌∷◌, ◌++◌, length, filter, Some, slice_get}
+use Rattle.std.specs.List.{All, AllByRecursion}
 use Rattle.labelled_disk.specs.Sectors.{Sector, AreSectors}
 use Rattle.labelled_disk.specs.Root.{LabelsRight}
 use Rattle.labelled_disk.specs.FilesOn.{files_on}
@@ -139,3 +139,18 @@ AfterIsMachine = (built : Call → Bool) (m : Machine) (lines : List TraceLine) 
 abbrev pub StandingFilesAgree : Type 0
 StandingFilesAgree = (fs : List File) (m : Machine) → AreRising fs → AllByRecursion IsFile fs → IsMachine m
     → ((id : ℕ) → BothBy (FileStandsFor m.unforced) (file_at fs id) (file_at m.files id)) → Agrees (filter (λ f. f.permanent) fs) (settled m)
+
+-- the bytes are one line: a line feed ends them, and none stands before it
+pub record IsOneLine (bytes : List ℕ) : Type 0 where
+  pub line : List ℕ
+  pub ends : bytes ≡ line ++ 10 ∷ []
+  pub lacks : All (λ b. b ≢ 10) line
+
+-- the text of every reply is one line
+abbrev pub RepliesAreLines : Type 0
+RepliesAreLines = (r : Reply) → IsOneLine (text r)
+
+-- two transcripts of the same bytes, of any machines and any lines, have as many replies
+abbrev pub TranscriptsCount : Type 0
+TranscriptsCount = (built built' : Call → Bool) (m m' : Machine) (lines lines' : List TraceLine) (k k' : ℕ) (bytes : List ℕ)
+    → Transcript built m lines k bytes → Transcript built' m' lines' k' bytes → k ≡ k'

@@ -6,6 +6,7 @@ ghost use Rattle.flat_machine.specs.Rows.{WorkedRows};
 ghost use Rattle.flat_machine.specs.Laws.{OpenedIsMachine, StartAgrees, ProjectionIsUnique, LowestGapIsLeast, LowestUnusedIsLeast};
 ghost use Rattle.flat_machine.specs.Laws.{NextKeepsMachine, AfterIsMachine, StartIsMachine, UnitHoldsItsPage, ProjectionCovers};
 ghost use Rattle.flat_machine.specs.Laws.{ProjectionExists, SharingIsOnePath, ReferenceTouches, ShownIsThere, ForcedIsSettled, StandingFilesAgree};
+ghost use Rattle.flat_machine.specs.Laws.{RepliesAreLines, TranscriptsCount};
 
 use crate::Call;
 
@@ -24,6 +25,12 @@ pub fn transcript_grows()
     ensures begins { TranscriptBegins }
     ensures grows { TranscriptGrows }
     ensures after { AfterGrows }
+{}
+
+/// Each reply is one line, so the bytes of a transcript fix the number of its replies.
+pub fn replies_are_lines()
+    ensures lines { RepliesAreLines }
+    ensures count { TranscriptsCount }
 {}
 
 /// A volume without files is a machine.

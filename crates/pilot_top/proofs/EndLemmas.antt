@@ -1,6 +1,7 @@
 -- How a run ends.
-use Rattle.std.proofs.Common.{◌≡◌, ◌≢◌, ◌⊎◌, inl, inr, ℕ, ◌^◌, Bool, true, false, List, [], ◌∷◌, ◌++◌, length, Option, Some, refl, sym, ap, ◌∙◌, subst, append-nil}
+use Rattle.std.proofs.Common.{◌≡◌, ◌≢◌, ◌⊎◌, inl, inr, ℕ, ◌^◌, Bool, true, false, ◌||◌, List, [], ◌∷◌, ◌++◌, length, Option, Some, refl, sym, ap, ◌∙◌, subst, append-nil}
 use Rattle.std.proofs.lemmas.Bool.{true≢false}
+use Rattle.std.specs.List.{list_any}
 use Rattle.std.proofs.lemmas.List.Folds.{list_any-append}
 use Rattle.std.proofs.KnownBytes.{Appends-trans}
 use Rattle.std.specs.Io.KnownBytes.{Appends}
@@ -10,19 +11,19 @@ use Rattle.flat_machine.specs.Machine.{Machine}
 use Rattle.flat_machine.specs.After.{TraceLine}
 use Rattle.trace_io.specs.Course.{HasReadAll}
 use Rattle.trace_io.specs.Progress.{Progress}
-use Rattle.trace_io.specs.Reading.{reading, IsShort}
+use Rattle.trace_io.specs.Reading.{is_last, reading, rest_of, IsShort}
 use Rattle.trace_io.specs.Stream.{IsFrontOf}
 use Rattle.trace_io.proofs.CourseLemmas.{HasRead-last, HasRead-end}
 use Rattle.pilot_top.specs.Headline.{Answering}
 use Rattle.pilot_top.specs.Last.{last_line, Puts}
-use Rattle.pilot_top.specs.Opening.{is_halt, halts, is_halted, end_text}
+use Rattle.pilot_top.specs.Opening.{is_halt, halts, is_halted, is_close, closes, is_closed, end_text}
 use Rattle.pilot_top.specs.Turn.{Answers, EndsTrace}
 use Rattle.pilot_top.specs.declared.last.Cause.TheVariants as cause
 use Rattle.pilot_top.specs.declared.status.Status.{Status}
 use Rattle.pilot_top.specs.declared.status.Status.TheVariants as status
 use Rattle.pilot_top.specs.declared.turn.End.{End}
 use Rattle.pilot_top.specs.declared.turn.End.TheVariants as end
-use Rattle.pilot_top.proofs.TopLemmas.{Going, done_all, Run-last, Run-disk, Run-write_fault, short_at_last, short_at_end, wrote_last}
+use Rattle.pilot_top.proofs.TopLemmas.{Going, done_all, Run-last, Run-disk, Run-write_fault, short_at_last, short_at_end, wrote_last, before_last}
 
 -- the reply to a line that ends the trace
 close_answers : (now later : Machine → Type 0) → Answers now later (Some call.Close) reply.Done
@@ -36,6 +37,19 @@ halt_answers now later = record {
   allowed = λ m stands. record { now = λ is. refl; later = λ unbuilt. absurd (true≢false unbuilt) };
   next = λ m stands going. absurd (true≢false going);
 }
+
+-- a line that others may follow is no `close`
+not_close : (line : TraceLine) → is_last line ≡ false → is_close line ≡ false
+not_close (Some call.Close) last = absurd (true≢false last)
+not_close line last = refl
+
+none_close : (lines : List TraceLine) → list_any is_last lines ≡ false → closes lines ≡ false
+none_close [] none = refl
+none_close (line ∷ lines) none = rw (not_close line (or_parts (is_last line) (list_any is_last lines) none).0, none_close lines (or_parts (is_last line) (list_any is_last lines) none).1) refl
+  where
+    or_parts : (p q : Bool) → p || q ≡ false → (p ≡ false) × (q ≡ false)
+    or_parts false q e = (refl, e)
+    or_parts true q e = absurd (true≢false e)
 
 -- what was read, where the source tells its bytes
 module _ (x : List ℕ) (b t u : Option (List ℕ)) (p : Progress) (first now : Machine → Type 0) (going : Going (Some x) b t u p first now) where
@@ -54,6 +68,29 @@ module _ (x : List ℕ) (b t u : Option (List ℕ)) (p : Progress) (first now : 
       let all = HasRead-end (Some x) b c p going.lines going.read ended.0 ended.1 ended.2 ended.3 in
       ap halts all.items_are ∙ going.none_halts
   End-halts end.Trace c q (inr ended) = let all = rw ended.0 at going.read.goes_on in ap halts all.0.items_are ∙ going.none_halts
+
+  closes_with : (line : TraceLine) (h : Bool) → is_close line ≡ h → closes (going.lines ++ line ∷ []) ≡ h
+  closes_with line true is = list_any-append is_close going.lines (line ∷ []) ∙ rw (none_close going.lines going.none_last, is) refl
+  closes_with line false is = list_any-append is_close going.lines (line ∷ []) ∙ rw (none_close going.lines going.none_last, is) refl
+
+  pub End-closes : (how : End) (c : Option (List ℕ)) (q : Progress) → EndsTrace how b c p q → closes (reading x) ≡ is_closed how
+  End-closes end.Close c q ended =
+      let all = HasRead-last (Some x) b c p q going.lines (Some call.Close) going.read ended.0 ended.1 refl in
+      ap closes all.items_are ∙ closes_with (Some call.Close) true refl
+  End-closes end.Halt c q ended =
+      let all = HasRead-last (Some x) b c p q going.lines (Some call.Halt) going.read ended.0 ended.1 refl in
+      ap closes all.items_are ∙ closes_with (Some call.Halt) false refl
+  End-closes end.Trace c q (inl ended) =
+      let all = HasRead-end (Some x) b c p going.lines going.read ended.0 ended.1 ended.2 ended.3 in
+      ap closes all.items_are ∙ none_close going.lines going.none_last
+  End-closes end.Trace c q (inr ended) = let all = rw ended.0 at going.read.goes_on in ap closes all.0.items_are ∙ none_close going.lines going.none_last
+
+  -- all lines were taken
+  pub End-rest : (how : End) (c : Option (List ℕ)) (q : Progress) → EndsTrace how b c p q → c ≡ Some (rest_of x)
+  End-rest end.Close c q ended = let all = HasRead-last (Some x) b c p q going.lines (Some call.Close) going.read ended.0 ended.1 refl in all.rest_is
+  End-rest end.Halt c q ended = let all = HasRead-last (Some x) b c p q going.lines (Some call.Halt) going.read ended.0 ended.1 refl in all.rest_is
+  End-rest end.Trace c q (inl ended) = let all = HasRead-end (Some x) b c p going.lines going.read ended.0 ended.1 ended.2 ended.3 in all.rest_is
+  End-rest end.Trace c q (inr ended) = let all = rw ended.0 at going.read.goes_on in ended.1 ∙ all.0.rest_is
 
   pub End-short : (how : End) (c : Option (List ℕ)) (q : Progress) → EndsTrace how b c p q → p.limit ≡ 2 ^ 32 → IsShort (2 ^ 32) x
   End-short end.Close c q ended limit = short_at_last x b t u p first now going c q (Some call.Close) ended.0 ended.1 refl limit
@@ -89,6 +126,7 @@ module _ (m : Machine) (x t : List ℕ) (b u : Option (List ℕ)) (p : Progress)
         length going.lines,
         going.out,
         rw all.0.items_are (going.script m is),
+        before_last going.lines [] (reading x) (all.0.items_are ∙ sym (append-nil going.lines)) going.none_last,
         wrote_last failed t u v going.out (last_line cause.DiskFault) going.wrote more,
       )
 

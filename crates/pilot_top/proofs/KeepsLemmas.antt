@@ -1,9 +1,8 @@
 -- What a run leaves has the files of the machine.
-use Rattle.std.proofs.Common.{◌≡◌, ◌≢◌, inl, inr, ℕ, zero, suc, Bool, true, false, List, [], ◌∷◌, length, take, fold, Some, None, refl, sym, ap, ◌∙◌, subst, arith}
-use Rattle.std.specs.Prelude.{option_map, filter, is_none}
+use Rattle.std.proofs.Common.{◌≡◌, ℕ, zero, suc, Bool, true, false, List, [], ◌∷◌, length, take, fold, Some, None, refl, sym, ap, ◌∙◌, subst, arith}
+use Rattle.std.specs.Prelude.{option_map, filter, is_none, slice_set}
 use Rattle.std.proofs.lemmas.Option.{same_Some}
 use Rattle.labelled_disk.specs.declared.disk.DiskWrite.{DiskWrite}
-use Rattle.labelled_disk.specs.Calls.{OnlyReads}
 use Rattle.labelled_disk.specs.File.{File}
 use Rattle.labelled_disk.specs.FilesOn.{files_on}
 use Rattle.labelled_disk.specs.Root.{LabelsRight}
@@ -111,45 +110,32 @@ module _ (d e : List Sector) (lines : List TraceLine) (a c : DiskState) (told : 
     keeps_part (suc (suc zero), few, made) = keeps_closed made
     keeps_part (suc (suc (suc k)), few, made) = absurd (omega (arith, few))
 
-    keeps_left : (s : Status) (h : Bool) → (s ≢ status.NotOpened → Leaves s h (w ∷ []) (v ∷ []) a c) → (s ≡ status.NotOpened → OnlyReads a c) → KeepsFiles d e lines
-    keeps_left status.Done false left reads = let made = left (λ is. absurd (cc is)) in keeps_closed made.writes_made
-    keeps_left status.Done true left reads = keeps_open (left (λ is. absurd (cc is)))
-    keeps_left status.Long h left reads = keeps_open (left (λ is. absurd (cc is)))
-    keeps_left status.StreamFault h left reads = elim (left (λ is. absurd (cc is))) [ inl made ↦ keeps_open made | inr made ↦ keeps_closed made.writes_made ]
-    keeps_left status.DiskFault h left reads = keeps_part (left (λ is. absurd (cc is)))
-    keeps_left status.NotOpened h left reads =
-        subst (λ (x : List Sector). KeepsFiles d x lines) (same_Some d e (sym ((reads refl).contents ∙ told) ∙ later)) (keeps_itself d lines right)
-    keeps_left status.Usage h left reads = absurd (left (λ is. absurd (cc is)))
-    keeps_left status.NoMemory h left reads = absurd (left (λ is. absurd (cc is)))
-    keeps_left status.Damaged h left reads = absurd (left (λ is. absurd (cc is)))
-    keeps_left status.Unfit h left reads = absurd (left (λ is. absurd (cc is)))
+set_twice : (d : List Sector) (s t : Sector) → slice_set (slice_set d 0 s) 0 t ≡ slice_set d 0 t
+set_twice [] s t = refl
+set_twice (r ∷ d) s t = refl
 
-  closes_left : Sound d → (s : Status) (h : Bool) → s ≡ status.Done → h ≡ false → (s ≢ status.NotOpened → Leaves s h (w ∷ []) (v ∷ []) a c) → IsClosed d e lines × (c.synced ≡ true)
-  closes_left sound status.Done false done not left =
-      let made = left (λ is. absurd (cc is)) in
-      (subst (λ (x : List Sector). IsClosed d x lines) (after_both made.writes_made) (closed_flagged d lines laws sound), made.synced)
-  closes_left sound status.Done true done halted left = absurd (cc halted)
-  closes_left sound status.Long h done halted left = absurd (cc done)
-  closes_left sound status.StreamFault h done halted left = absurd (cc done)
-  closes_left sound status.DiskFault h done halted left = absurd (cc done)
-  closes_left sound status.NotOpened h done halted left = absurd (cc done)
-  closes_left sound status.Usage h done halted left = absurd (cc done)
-  closes_left sound status.NoMemory h done halted left = absurd (cc done)
-  closes_left sound status.Damaged h done halted left = absurd (cc done)
-  closes_left sound status.Unfit h done halted left = absurd (cc done)
+-- a volume that was closed has its flag, and is on the medium
+pub closed_told : (s : Status) (h k : Bool) (E U : Type 0) (d : List Sector) (a c : DiskState) → a.contents ≡ Some d → s ≡ status.Done → h ≡ false
+    → Leaves s h k E U (flag_write false d ∷ []) (flag_write true d ∷ []) a c → (c.contents ≡ Some (with_flag true d)) × (c.synced ≡ true)
+closed_told status.Done false k E U d a c told done going left = (
+  left.writes_made.contents ∙ ap (option_map (after_writes (flag_write false d ∷ flag_write true d ∷ []))) told ∙ ap (λ (x : List Sector). Some x) (set_twice d _ _),
+  left.synced,
+)
+closed_told status.Done true k E U d a c told done going left = absurd (cc going)
+closed_told status.Long h k E U d a c told done going left = absurd (cc done)
+closed_told status.StreamFault h k E U d a c told done going left = absurd (cc done)
+closed_told status.DiskFault h k E U d a c told done going left = absurd (cc done)
+closed_told status.NotOpened h k E U d a c told done going left = absurd left
+closed_told status.Usage h k E U d a c told done going left = absurd left
+closed_told status.NoMemory h k E U d a c told done going left = absurd left
+closed_told status.Damaged h k E U d a c told done going left = absurd left
+closed_told status.Unfit h k E U d a c told done going left = absurd left
 
 -- where the disk tells what it holds
-pub keeps : (d e : List Sector) (lines : List TraceLine) (a c : DiskState) → AreSectors d → a.contents ≡ Some d → c.contents ≡ Some e → LabelsRight d → (s : Status) (h : Bool)
-    → (s ≢ status.NotOpened → Leaves s h (flag_write false d ∷ []) (flag_write true d ∷ []) a c) → (s ≡ status.NotOpened → OnlyReads a c) → KeepsFiles d e lines
-keeps d e lines a c sectors told later right s h left reads = keeps_left d e lines a c told later (flag_keeps_volume d sectors right.has_root) right s h left reads
+pub keeps : (d e : List Sector) (lines : List TraceLine) (a c : DiskState) → AreSectors d → a.contents ≡ Some d → c.contents ≡ Some e → LabelsRight d
+    → PartMade (flag_write false d ∷ flag_write true d ∷ []) a c → KeepsFiles d e lines
+keeps d e lines a c sectors told later right part = keeps_part d e lines a c told later (flag_keeps_volume d sectors right.has_root) right part
 
-pub closes : (d e : List Sector) (lines : List TraceLine) (a c : DiskState) → AreSectors d → a.contents ≡ Some d → c.contents ≡ Some e → Sound d → (s : Status) (h : Bool) → s ≡ status.Done → h ≡ false
-    → (s ≢ status.NotOpened → Leaves s h (flag_write false d ∷ []) (flag_write true d ∷ []) a c) → IsClosed d e lines × (c.synced ≡ true)
-closes d e lines a c sectors told later sound s h done not left = closes_left d e lines a c told later (flag_keeps_volume d sectors sound.labels.has_root) sound s h done not left
-
--- what holds of the state behind a reference
-pub told_behind : {D : Type 0} (state : D → DiskState) (e : List Sector) (x y : D) → (state x).contents ≡ Some e → x ≡ y → (state y).contents ≡ Some e
-told_behind state e x y told same = subst (λ z. (state z).contents ≡ Some e) same told
-
-pub synced_behind : {D : Type 0} (state : D → DiskState) (x y : D) → x ≡ y → (state y).synced ≡ true → (state x).synced ≡ true
-synced_behind state x y same synced = subst (λ z. (state z).synced ≡ true) (sym same) synced
+pub is_closed_volume : (d e : List Sector) (lines : List TraceLine) → AreSectors d → Sound d → e ≡ with_flag true d → IsClosed d e lines
+is_closed_volume d e lines sectors sound same =
+    subst (λ (x : List Sector). IsClosed d x lines) (sym same) (closed_flagged d lines (flag_keeps_volume d sectors sound.labels.has_root) sound)

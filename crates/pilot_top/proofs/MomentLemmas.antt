@@ -1,9 +1,8 @@
 -- Each moment of a run.
-use Rattle.std.proofs.Common.{◌≡◌, ◌≢◌, inl, inr, ℕ, zero, suc, Bool, true, false, List, [], ◌∷◌, ◌++◌, Some, refl, sym, ap, ◌∙◌, subst, arith, drop}
+use Rattle.std.proofs.Common.{◌≡◌, ℕ, zero, suc, true, false, List, [], ◌∷◌, ◌++◌, Some, sym, ap, ◌∙◌, subst, arith, drop}
 use Rattle.std.specs.Prelude.{option_map}
 use Rattle.std.proofs.lemmas.Option.{same_Some}
 use Rattle.labelled_disk.specs.declared.disk.DiskWrite.{DiskWrite}
-use Rattle.labelled_disk.specs.Calls.{OnlyReads}
 use Rattle.labelled_disk.specs.Moment.{moment}
 use Rattle.labelled_disk.specs.Root.{LabelsRight}
 use Rattle.labelled_disk.specs.Sectors.{Sector, AreSectors}
@@ -14,9 +13,6 @@ use Rattle.volume_root.specs.Flag.{FlagLaws, flag_write, with_flag}
 use Rattle.volume_root.specs.Format.{PartMade}
 use Rattle.volume_root.proofs.FlagLemmas.{flag_keeps_volume}
 use Rattle.pilot_top.specs.Headline.{IsMoment}
-use Rattle.pilot_top.specs.Opening.{Leaves}
-use Rattle.pilot_top.specs.declared.status.Status.{Status}
-use Rattle.pilot_top.specs.declared.status.Status.TheVariants as status
 use Rattle.pilot_top.proofs.KeepsLemmas.{keeps_itself, keeps_flagged}
 
 cancel : (before xs ys : List DiskWrite) → before ++ xs ≡ before ++ ys → xs ≡ ys
@@ -66,37 +62,7 @@ module _ (d : List Sector) (lines : List TraceLine) (laws : FlagLaws d) (right :
     of_part (suc (suc zero), few, made) = of_made (flag_write false d ∷ flag_write true d ∷ []) (of_both k) made
     of_part (suc (suc (suc n)), few, made) = absurd (omega (arith, few))
 
-    of_reads : OnlyReads a c → IsMoment d (moment d writes k) lines
-    of_reads reads =
-        let none : before ++ [] ≡ before ++ writes = nil before ∙ same_Some before (before ++ writes) (sym (reads.writes ∙ told) ∙ later) in
-        subst (λ (ws : List DiskWrite). IsMoment d (moment d ws k) lines) (cancel before [] writes none) (of_none k)
-      where
-        nil : (xs : List DiskWrite) → xs ++ [] ≡ xs
-        nil [] = refl
-        nil (x ∷ xs) = ap (λ (l : List DiskWrite). x ∷ l) (nil xs)
-
-    of_left : (s : Status) (h : Bool) → (s ≢ status.NotOpened → Leaves s h (flag_write false d ∷ []) (flag_write true d ∷ []) a c) → (s ≡ status.NotOpened → OnlyReads a c)
-        → IsMoment d (moment d writes k) lines
-    of_left status.Done false left reads = let made = left (λ is. absurd (cc is)) in of_made (flag_write false d ∷ flag_write true d ∷ []) (of_both k) made.writes_made
-    of_left status.Done true left reads = of_made (flag_write false d ∷ []) (of_open k) (left (λ is. absurd (cc is)))
-    of_left status.Long h left reads = of_made (flag_write false d ∷ []) (of_open k) (left (λ is. absurd (cc is)))
-    of_left status.StreamFault h left reads = elim (left (λ is. absurd (cc is))) [
-      | inl made ↦ of_made (flag_write false d ∷ []) (of_open k) made
-      | inr made ↦ of_made (flag_write false d ∷ flag_write true d ∷ []) (of_both k) made.writes_made
-    ]
-    of_left status.DiskFault h left reads = of_part (left (λ is. absurd (cc is)))
-    of_left status.NotOpened h left reads = of_reads (reads refl)
-    of_left status.Usage h left reads = absurd (left (λ is. absurd (cc is)))
-    of_left status.NoMemory h left reads = absurd (left (λ is. absurd (cc is)))
-    of_left status.Damaged h left reads = absurd (left (λ is. absurd (cc is)))
-    of_left status.Unfit h left reads = absurd (left (λ is. absurd (cc is)))
-
 -- where the disk tells what it holds and what was written
 pub moments : (d : List Sector) (lines : List TraceLine) (a c : DiskState) (before writes : List DiskWrite) → AreSectors d → a.writes ≡ Some before → c.writes ≡ Some (before ++ writes) → LabelsRight d
-    → (k : ℕ) (s : Status) (h : Bool) → (s ≢ status.NotOpened → Leaves s h (flag_write false d ∷ []) (flag_write true d ∷ []) a c) → (s ≡ status.NotOpened → OnlyReads a c)
-    → IsMoment d (moment d writes k) lines
-moments d lines a c before writes sectors told later right k s h left reads = of_left d lines (flag_keeps_volume d sectors right.has_root) right a c before writes told later k s h left reads
-
--- what is told of writes behind a reference
-pub writes_behind : {D : Type 0} (state : D → DiskState) (writes : List DiskWrite) (x y : D) → (state x).writes ≡ Some writes → x ≡ y → (state y).writes ≡ Some writes
-writes_behind state writes x y told same = subst (λ z. (state z).writes ≡ Some writes) same told
+    → (k : ℕ) → PartMade (flag_write false d ∷ flag_write true d ∷ []) a c → IsMoment d (moment d writes k) lines
+moments d lines a c before writes sectors told later right k part = of_part d lines (flag_keeps_volume d sectors right.has_root) right a c before writes told later k part

@@ -2,6 +2,7 @@
 use Rattle.std.proofs.Common.{◌≡◌, ◌≢◌, ◌⊎◌, inl, inr, ℕ, ◌<◌, ◌≤◌, true, false, List, [], ◌∷◌, ◌++◌, length, Option, Some, None, Result, Ok, Err, refl, sym, ap, ◌∙◌, subst, arith, append-nil}
 use Rattle.std.specs.Prelude.{slice_get, option_map}
 use Rattle.std.specs.Option.{option_map_or}
+use Rattle.std.specs.List.{list_any}
 use Rattle.std.proofs.lemmas.Bool.{cases_lt}
 use Rattle.labelled_disk.specs.declared.layout.RootFault.{RootFault}
 use Rattle.labelled_disk.specs.declared.layout.RootFault.TheVariants as fault
@@ -10,7 +11,9 @@ use Rattle.labelled_disk.specs.Root.{IsRoot}
 use Rattle.labelled_disk.specs.Sectors.{Sector}
 use Rattle.labelled_disk.specs.State.{DiskState}
 use Rattle.labelled_disk.specs.WriteRuns.{Appended, after_writes}
+use Rattle.flat_machine.specs.After.{TraceLine}
 use Rattle.flat_machine.specs.Start.{start}
+use Rattle.trace_io.specs.Reading.{is_last, reading}
 use Rattle.volume_root.specs.declared.root.Root.{Root}
 use Rattle.volume_root.specs.Flag.{IsRefused, FlagLaws, flag_write, with_flag}
 use Rattle.volume_root.specs.RootPage.{Test, first_of, judged, root_in, tests, is_labelled, is_magic, is_version, is_counted, has_serial, has_counter, is_flagged, is_rest, is_closed, IsUnlessFault}
@@ -112,12 +115,17 @@ run_of status.NoMemory d b t left took failed opened is = is
 run_of status.Damaged d b t left took failed opened is = is
 run_of status.Unfit d b t left took failed opened is = is
 
+some_line : (lines : List TraceLine) → list_any is_last lines ≡ true → 0 < length lines
+some_line [] some = absurd (cc some)
+some_line (line ∷ lines) some = omega arith
+
 -- the disk failed before the first reply
 no_reply : (m : Machine) (b t : List ℕ) (took : Option (List ℕ)) (failed : Type 0) → HasWritten failed t took (last_line cause.DiskFault) → Answering status.DiskFault m b (Some b) t took failed
 no_reply m b t took failed wrote = (
   0,
   [],
   record { replies = []; one_a_line = refl; allowed = tt; text_is = refl },
+  some_line (reading b),
   subst (λ (u : List ℕ). HasWritten failed u took (last_line cause.DiskFault)) (sym (append-nil t)) wrote,
 )
 

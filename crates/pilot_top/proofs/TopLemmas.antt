@@ -1,5 +1,5 @@
 -- A run, turn by turn.
-use Rattle.std.proofs.Common.{◌≡◌, ◌≢◌, ◌⊎◌, inl, inr, ℕ, ◌^◌, ◌<◌, ◌≤◌, true, false, List, [], ◌∷◌, ◌++◌, length, fold, Option, Some, None, Result, Ok, Err, OnOk, OnErr, refl, sym, ap, ◌∙◌, subst, arith, append_assoc}
+use Rattle.std.proofs.Common.{◌≡◌, ◌≢◌, ◌⊎◌, inl, inr, ℕ, ◌^◌, ◌<◌, ◌≤◌, Bool, true, false, List, [], ◌∷◌, ◌++◌, length, fold, Option, Some, None, Result, Ok, Err, OnOk, OnErr, refl, sym, ap, ◌∙◌, subst, arith, append_assoc, append-nil, length-append}
 use Rattle.std.specs.Io.KnownBytes.{Consumes, Appends, IsAtEnd}
 use Rattle.std.proofs.KnownBytes.{Appends-trans, Appends-nil}
 use Rattle.std.specs.List.{list_any}
@@ -71,8 +71,15 @@ not_halt : (line : TraceLine) → is_last line ≡ false → is_halt line ≡ fa
 not_halt (Some call.Halt) last = absurd (true≢false last)
 not_halt line last = refl
 
-none_halts-push : (lines : List TraceLine) (line : TraceLine) → halts lines ≡ false → is_halt line ≡ false → halts (lines ++ line ∷ []) ≡ false
-none_halts-push lines line none last = let here : list_any is_halt (line ∷ []) ≡ false = rw last refl in list_any-append is_halt lines (line ∷ []) ∙ rw (none, here) refl
+none-push : (test : TraceLine → Bool) (lines : List TraceLine) (line : TraceLine) → list_any test lines ≡ false → test line ≡ false → list_any test (lines ++ line ∷ []) ≡ false
+none-push test lines line none last = let here : list_any test (line ∷ []) ≡ false = rw last refl in list_any-append test lines (line ∷ []) ∙ rw (none, here) refl
+
+-- where none of the first lines ends the trace, but one does, there are more
+pub before_last : (lines more all : List TraceLine) → all ≡ lines ++ more → list_any is_last lines ≡ false → list_any is_last all ≡ true → length lines < length all
+before_last lines [] all are none some =
+    let same : list_any is_last all ≡ false = ap (list_any is_last) (are ∙ append-nil lines) ∙ none in
+    absurd (true≢false (sym some ∙ same))
+before_last lines (line ∷ more) all are none some = omega (arith, ap length are, length-append lines (line ∷ more))
 
 -- So many lines are answered: for each machine for which the first state stands, and the state now stands for the machine after them.
 pub record Going (a c t u : Option (List ℕ)) (p : Progress) (first now : Machine → Type 0) : Type 0 where
@@ -83,6 +90,7 @@ pub record Going (a c t u : Option (List ℕ)) (p : Progress) (first now : Machi
   pub script : (m : Machine) → first m → Answered m lines out
   pub stands : (m : Machine) → first m → now (last_of m lines)
   pub none_halts : halts lines ≡ false
+  pub none_last : list_any is_last lines ≡ false
 
 pub Going-start : (a t : Option (List ℕ)) (p : Progress) (first : Machine → Type 0) → p.taken ≡ 0 → p.stopped ≡ None → Going a a t t p first first
 Going-start a t p first zero none = record {
@@ -93,6 +101,7 @@ Going-start a t p first zero none = record {
   script = λ m is. record { replies = []; one_a_line = refl; allowed = tt; text_is = refl };
   stands = λ m is. is;
   none_halts = refl;
+  none_last = refl;
 }
 
 -- the steps of a run, whether or not source and sink tell anything
@@ -110,7 +119,8 @@ module _ (a b t u : Option (List ℕ)) (p : Progress) (first now : Machine → T
     script = more_script then line r answers;
     stands = λ m is.
         subst then (sym (fold-append (next_line is_built) m going.lines (line ∷ []))) (answers.next (last_of m going.lines) (going.stands m is) goes);
-    none_halts = none_halts-push going.lines line going.none_halts (not_halt line goes);
+    none_halts = none-push is_halt going.lines line going.none_halts (not_halt line goes);
+    none_last = none-push is_last going.lines line going.none_last goes;
   }
 
 told_bytes : (t : List ℕ) (u : Option (List ℕ)) (out : List ℕ) → Appends (Some t) u out → u ≡ Some (t ++ out)
@@ -159,6 +169,7 @@ module _ (m : Machine) (x t : List ℕ) (b u : Option (List ℕ)) (p : Progress)
         length going.lines,
         going.out,
         rw front.1 (answered_more m going.lines front.0 going.out (going.script m is)),
+        before_last going.lines front.0 (reading x) front.1 going.none_last,
         wrote_last failed t u v going.out (last_line cause.DiskFault) going.wrote more,
       )
 

@@ -5,7 +5,7 @@ ghost use Rattle.labelled_disk.specs.Layout.{IsCount};
 ghost use Rattle.labelled_disk.specs.Root.{root_page};
 ghost use Rattle.labelled_disk.specs.Sectors.{Sector};
 ghost use Rattle.labelled_disk.specs.WriteRuns.{Appended};
-ghost use Rattle.volume_root.specs.Flag.{flag_write};
+ghost use Rattle.volume_root.specs.Flag.{flag_write, IsRefused};
 ghost use Rattle.volume_root.specs.Format.{PartMade};
 ghost use Rattle.volume_root.specs.Later.{IsLater};
 ghost use Rattle.volume_root.specs.RootPage.{judged, root_in, root_write, IsUnlessFault, IsValidRoot};
@@ -30,6 +30,8 @@ pub(crate) fn open_volume<D: Disk>(disk: &mut D) -> Result<Root, RootFault>
     // The volume can't be opened.
     ensures unwritten { (why : RootFault) → result ≡ Err why → why ≢ RootFault.Disk
         → OnlyReads (D.state disk.old) (D.state disk.new) }
+    ensures refused { (d : List Sector) (why : RootFault) → (D.state disk.old).contents ≡ Some d
+        → IsRefused d why → OnlyReads (D.state disk.old) (D.state disk.new) }
 
     // The disk failed.
     ensures part { (d : List Sector) → (D.state disk.old).contents ≡ Some d

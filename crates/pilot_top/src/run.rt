@@ -6,15 +6,16 @@ ghost use Rattle.labelled_disk.specs.Calls.{OnlyReads, Rose};
 ghost use Rattle.labelled_disk.specs.Layout.{IsCount};
 ghost use Rattle.flat_machine.specs.Machine.{Machine};
 ghost use Rattle.trace_io.specs.Stream.{IsFrontOf};
-ghost use Rattle.trace_io.specs.Reading.{IsShort, reading};
+ghost use Rattle.trace_io.specs.Reading.{IsShort, reading, rest_of};
 ghost use Rattle.volume_root.specs.Flag.{flag_write, IsRefused};
+ghost use Rattle.volume_root.specs.Format.{PartMade};
 ghost use Rattle.volume_root.specs.Later.{IsLater};
 ghost use Rattle.volume_root.specs.RootPage.{IsValidRoot, root_write};
 ghost use Rattle.pilot_top.specs.Built.{StandsFor};
 ghost use Rattle.pilot_top.specs.Headline.{Answering, Run};
 ghost use Rattle.pilot_top.specs.Last.{last_line, Puts};
 ghost use Rattle.pilot_top.specs.Marked.{MarksFiles};
-ghost use Rattle.pilot_top.specs.Opening.{Leaves, halts, is_halted, end_text};
+ghost use Rattle.pilot_top.specs.Opening.{Leaves, halts, closes, is_halted, is_closed, end_text};
 
 use crate::Status;
 use crate::engine::Engine;
@@ -32,7 +33,8 @@ const LIMIT: u64 = 1 << 32;
 // Closes the volume, unless the trace was stopped, and writes the reply to the line that ended it.
 fn end_trace<D: Disk, K: Sink>(mut disk: D, root: &Root, end: End, sink: &mut K) -> (Status, D)
     requires { IsValidRoot (D.state disk).sectors root.now }
-    ensures leaves { Leaves result.0 (is_halted end) []
+    ensures leaves { Leaves result.0 (is_halted end) (is_closed end) (Unit {0})
+        (Rose (K.faults sink.old) (K.faults sink.new)) []
         (root_write (record root.now { clean = true }) ∷ []) (D.state disk) (D.state result.1) }
     ensures done { result.0 ≡ Status.Done → Appends (K.took sink.old) (K.took sink.new) (end_text end) }
     ensures part { result.0 ≡ Status.StreamFault → (front : List ℕ) × IsFrontOf front (end_text end)
@@ -71,7 +73,10 @@ fn answer_lines<D: Disk, S: Source, K: Sink>(
         → Answering result.0 m b (S.left source.new) t (K.took sink.new)
         (Rose (K.faults sink.old) (K.faults sink.new)) }
     ensures leaves { (b : List ℕ) → S.left source.old ≡ Some b
-        → Leaves result.0 (halts (reading b)) [] (root_write (record root.now { clean = true }) ∷ [])
+        → Leaves result.0 (halts (reading b)) (closes (reading b))
+        (S.left source.new ≡ Some (rest_of b)) (Rose (K.faults sink.old) (K.faults sink.new)) []
+        (root_write (record root.now { clean = true }) ∷ []) (D.state disk) (D.state result.1) }
+    ensures part { PartMade (root_write (record root.now { clean = true }) ∷ [])
         (D.state disk) (D.state result.1) }
     ensures disk_cause { result.0 ≡ Status.DiskFault
         → Rose (D.state disk).faults (D.state result.1).faults }
@@ -124,8 +129,11 @@ pub(crate) fn run<D: Disk, S: Source, K: Sink>(
     ensures leaves { (d : List Sector) (b : List ℕ)
         → (D.state disk).contents ≡ Some d → S.left source.old ≡ Some b
         → result.0 ≢ Status.NotOpened
-        → Leaves result.0 (halts (reading b)) (flag_write false d ∷ []) (flag_write true d ∷ [])
-        (D.state disk) (D.state result.1) }
+        → Leaves result.0 (halts (reading b)) (closes (reading b))
+        (S.left source.new ≡ Some (rest_of b)) (Rose (K.faults sink.old) (K.faults sink.new))
+        (flag_write false d ∷ []) (flag_write true d ∷ []) (D.state disk) (D.state result.1) }
+    ensures part { (d : List Sector) → (D.state disk).contents ≡ Some d
+        → PartMade (flag_write false d ∷ flag_write true d ∷ []) (D.state disk) (D.state result.1) }
 
     // The volume can't be opened.
     ensures not_opened { (d : List Sector) → (D.state disk).contents ≡ Some d
@@ -134,6 +142,12 @@ pub(crate) fn run<D: Disk, S: Source, K: Sink>(
         (last_line (Cause.Root why)) }
     ensures refused { (d : List Sector) (why : RootFault) → (D.state disk).contents ≡ Some d
         → IsRefused d why → result.0 ≡ Status.NotOpened ⊎ result.0 ≡ Status.DiskFault }
+    ensures refused_line { result.0 ≡ Status.NotOpened → (why : RootFault)
+        × Puts (Rose (K.faults sink.old) (K.faults sink.new)) (K.took sink.old) (K.took sink.new)
+        (last_line (Cause.Root why)) }
+    ensures refused_unwritten { (d : List Sector) (why : RootFault) → (D.state disk).contents ≡ Some d
+        → IsRefused d why
+        → OnlyReads (D.state disk) (D.state result.1) × source.new ≡ source.old }
     ensures count { ¬ IsCount (D.state disk).sectors → result.0 ≡ Status.NotOpened
         × Puts (Rose (K.faults sink.old) (K.faults sink.new)) (K.took sink.old) (K.took sink.new)
         (last_line (Cause.Root (RootFault.BadCount (D.state disk).sectors))) }

@@ -95,6 +95,7 @@ module _ (s : Sector) (rest : List Sector) (bytes : All (λ b. b < 256) s.1) (ha
   flag_laws : FlagLaws (s ∷ rest)
   flag_laws = record {
     sectors = λ clean. refl;
+    others = λ clean i other. get_set_other (s ∷ rest) 0 i (now_first clean) other;
     same_data = λ clean. data_kept s (now_first clean) rest;
     files = λ clean. files_kept s (now_first clean) rest;
     has_serial = same_serial;
@@ -102,6 +103,8 @@ module _ (s : Sector) (rest : List Sector) (bytes : All (λ b. b < 256) s.1) (ha
     flag = λ clean. flag_read (flagged clean);
     map = λ clean. refl;
     again = λ before now. refl;
+    lawful_first = λ clean. inl (record { place = refl; root_label = refl; valid = has_root clean });
+    lawful = λ before now. inl (record { place = refl; root_label = refl; valid = has_root now });
     right = still_right;
     sound = λ sound. sound_kept s (now_first true) rest (still_right true sound.labels) (flag_read (flagged true)) sound;
   }

@@ -1,11 +1,12 @@
 -- The clean flag of a volume: it is cleared when the volume is opened, and set again when it is closed.
-use Rattle.std.specs.Prelude.{◌≡◌, ◌⊎◌, Bool, true, if◌then◌else◌, List, length, slice_get, Some, Err}
+use Rattle.std.specs.Prelude.{◌≡◌, ◌≢◌, ◌⊎◌, ℕ, Bool, true, if◌then◌else◌, List, length, slice_get, Some, Err}
 use Rattle.labelled_disk.specs.declared.disk.DiskWrite.{DiskWrite}
 use Rattle.labelled_disk.specs.declared.layout.RootFault.{RootFault}
 use Rattle.labelled_disk.specs.declared.layout.RootFault.TheVariants as fault
 use Rattle.labelled_disk.specs.Moment.{written}
 use Rattle.labelled_disk.specs.Sectors.{Sector, AreSectors}
 use Rattle.labelled_disk.specs.FilesOn.{files_on}
+use Rattle.labelled_disk.specs.Lawful.{Lawful}
 use Rattle.labelled_disk.specs.Layout.{IsCount, data_sectors}
 use Rattle.labelled_disk.specs.Root.{IsRoot, LabelsRight, root_page, serial_of, counter_of, short_at}
 use Rattle.volume_root.specs.declared.root.Root.{Root}
@@ -30,9 +31,11 @@ IsRefused d why =
     ((¬ IsCount (length d)) × (why ≡ fault.BadCount (length d)))
     ⊎ (IsCount (length d) × (s : Sector) × (slice_get d 0 ≡ Some s) × (judged true (length d) s ≡ Err why))
 
--- Sectors with a valid root have one with each flag, and the volume is the same.
+-- Sectors with a valid root have one with each flag, and the volume is the same: nothing but sector 0 changes. Each of
+-- the two writes, over these sectors or those with either flag, is lawful: of the few kinds that keep a volume repairable.
 pub record FlagLaws (d : List Sector) : Type 0 where
   pub sectors : (clean : Bool) → length (with_flag clean d) ≡ length d
+  pub others : (clean : Bool) (i : ℕ) → i ≢ 0 → slice_get (with_flag clean d) i ≡ slice_get d i
   pub same_data : (clean : Bool) → data_sectors (with_flag clean d) ≡ data_sectors d
   pub files : (clean : Bool) → files_on (with_flag clean d) ≡ files_on d
   pub has_serial : (clean : Bool) → serial_of (with_flag clean d) ≡ serial_of d
@@ -40,6 +43,8 @@ pub record FlagLaws (d : List Sector) : Type 0 where
   pub flag : (clean : Bool) → short_at (root_page (with_flag clean d)) 10 ≡ (if clean then 1 else 0)
   pub map : (clean : Bool) → map_bytes (with_flag clean d) ≡ map_bytes d
   pub again : (before now : Bool) → written (flag_write now d) (with_flag before d) ≡ with_flag now d
+  pub lawful_first : (clean : Bool) → Lawful d (flag_write clean d)
+  pub lawful : (before now : Bool) → Lawful (with_flag before d) (flag_write now d)
   pub right : (clean : Bool) → LabelsRight d → LabelsRight (with_flag clean d)
   pub sound : Sound d → Sound (with_flag true d)
 

@@ -2,8 +2,8 @@ use Rattle.std.proofs.Common.{◌∙◌, sym, inl, inr, ap, subst, arith}
 use Rattle.labelled_disk.specs.Calls.{OnlyReads}
 use Rattle.labelled_disk.proofs.CallLemmas.{only_reads_itself, only_reads_then}
 use Rattle.pilot_top.proofs.TopLemmas.{Going-start, Going-reply, Going-source, Going-told, Run-disk, Run-long, Run-read_fault, Run-write_fault, not_short, rose_later, Puts-later}
-use Rattle.pilot_top.proofs.EndLemmas.{End-answering, End-halts, End-short}
-use Rattle.pilot_top.proofs.LeavesLemmas.{leaves_behind}
+use Rattle.pilot_top.proofs.EndLemmas.{End-answering, End-closes, End-halts, End-rest, End-short}
+use Rattle.pilot_top.proofs.LeavesLemmas.{leaves_behind, leaves_part}
 use Rattle.pilot_top.proofs.run.answer_lines.Goals as goal
 
 pub turns-init : goal.turns-init
@@ -57,8 +57,9 @@ pub returns-in-Ends-clause-leaves : goal.returns-in-Ends-clause-leaves
 returns-in-Ends-clause-leaves g c b source =
     let i = c.turns.invariant in
     let going = Going-source _ _ _ _ _ _ _ b i.going source in
-    rw (End-halts b _ _ _ c.turns.lines _ _ going c.in-Ends.end _ c.take_turn.new.lines c.in-Ends.ensures.turns)
-    (leaves_behind c.end_trace.result.0 _ _ _ (g.D.Disk.state c.into_disk-in-Ends.result) _
+    let turns = c.in-Ends.ensures.turns in
+    rw (End-halts b _ _ _ c.turns.lines _ _ going c.in-Ends.end _ c.take_turn.new.lines turns, End-closes b _ _ _ c.turns.lines _ _ going c.in-Ends.end _ c.take_turn.new.lines turns)
+    (leaves_behind _ _ _ _ (λ all. End-rest b _ _ _ c.turns.lines _ _ going c.in-Ends.end _ c.take_turn.new.lines turns) (rose_later _ _ _ i.sink) c.end_trace.result.0 _ _ _ _ (g.D.Disk.state c.into_disk-in-Ends.result) _
     (subst (λ x. OnlyReads (g.D.Disk.state c.args.disk) (g.D.Disk.state x)) (sym c.into_disk-in-Ends.ensures) (only_reads_then i.disk c.take_turn.ensures.only_reads))
     c.end_trace.ensures.leaves)
 
@@ -95,3 +96,9 @@ returns-in-Long-clause-long g c b source is =
     let turn = c.in-Long.ensures.turns in
     let going = Going-source _ _ _ _ _ _ _ b c.turns.invariant.going source in
     not_short b _ _ _ c.turns.lines _ _ going _ c.take_turn.new.lines turn.0 turn.1 turn.2 c.turns.invariant.limit
+
+pub returns-in-Ends-clause-part : goal.returns-in-Ends-clause-part
+returns-in-Ends-clause-part g c =
+    leaves_part c.end_trace.result.0 _ _ _ _ _ _ (g.D.Disk.state c.into_disk-in-Ends.result) _
+    (subst (λ x. OnlyReads (g.D.Disk.state c.args.disk) (g.D.Disk.state x)) (sym c.into_disk-in-Ends.ensures) (only_reads_then c.turns.invariant.disk c.take_turn.ensures.only_reads))
+    c.end_trace.ensures.leaves
