@@ -1,17 +1,19 @@
 -- A machine in parts: its files, its spaces, the windows on the files, and the unforced pages.
-use Rattle.std.proofs.Common.{◌≡◌, ◌≤◌, Bool, List, filter, Option, Some, None, refl, subst}
+use Rattle.std.proofs.Common.{◌≡◌, ◌≤◌, Bool, true, false, cond, List, [], ◌∷◌, filter, Option, Some, None, refl, subst}
 use Rattle.std.specs.Prelude.{IfSome, IsTrue, is_none, if◌then◌else◌}
 use Rattle.std.specs.Option.{option_map_or}
-use Rattle.std.specs.List.{AllByRecursion}
+use Rattle.std.specs.List.{list_any, AllByRecursion}
 use Rattle.flat_machine.specs.declared.call.Call.{Call}
 use Rattle.flat_machine.specs.declared.call.Refusal.{Refusal}
 use Rattle.flat_machine.specs.File.{File, file_at}
 use Rattle.flat_machine.specs.Space.{Space, Window, FilePage}
-use Rattle.flat_machine.specs.Machine.{Machine, IsMachine, IsWindow, is_shown_writable}
+use Rattle.flat_machine.specs.Machine.{Machine, IsWindow, is_shown_writable}
+use Rattle.flat_machine.specs.IsMachine.{IsMachine, AreOnce}
 use Rattle.flat_machine.specs.Refusal.{refusal}
-use Rattle.flat_machine.specs.Next.{change}
-use Rattle.flat_machine.proofs.Lists.{In, all_in, in_all, in_filter}
+use Rattle.flat_machine.specs.Next.{change, is_page}
+use Rattle.flat_machine.proofs.Lists.{In, all_in, in_all, in_filter, any_not, not_any}
 use Rattle.flat_machine.proofs.FileLemmas.{AreFiles, Follows, window_kept}
+use Rattle.flat_machine.specs.Spaces.{AreAlone}
 use Rattle.flat_machine.proofs.SpaceLemmas.{AreSpaces}
 
 -- each window is one on its file
@@ -23,8 +25,8 @@ abbrev pub Shown : List Space → List FilePage → Type 0
 Shown ss us = AllByRecursion (λ u. IsTrue (is_shown_writable ss u)) us
 
 pub join : (m : Machine) → (1 ≤ m.serial) × (m.serial ≤ 4294967295) → (1 ≤ m.counter) × (m.counter ≤ 4294967295)
-    → AreFiles m.serial m.counter m.capacity m.files → AreSpaces m.spaces → Linked m.files m.spaces → Shown m.spaces m.unforced → IsMachine m
-join m serial counter files spaces linked shown = record {
+    → AreFiles m.serial m.counter m.capacity m.files → AreSpaces m.spaces → AreAlone m.spaces → Linked m.files m.spaces → Shown m.spaces m.unforced → AreOnce m.unforced → IsMachine m
+join m serial counter files spaces alone linked shown once = record {
   serial_fits = serial;
   counter_fits = counter;
   ids_rise = files.rise;
@@ -37,8 +39,9 @@ join m serial counter files spaces linked shown = record {
   siblings_apart = spaces.apart;
   one_mapped_on_a_path = spaces.path;
   whole_windows = linked;
-  anonymous_alone = spaces.alone;
+  anonymous_alone = alone;
   unforced_shown = shown;
+  unforced_once = once;
 }
 
 pub files_of : (m : Machine) → IsMachine m → AreFiles m.serial m.counter m.capacity m.files
@@ -51,7 +54,6 @@ spaces_of m h = record {
   whole = h.whole_spaces;
   apart = h.siblings_apart;
   path = h.one_mapped_on_a_path;
-  alone = h.anonymous_alone;
 }
 
 -- a refused call changes nothing
@@ -88,16 +90,27 @@ relinked fs gs ss h follow = linked_by gs ss (λ s w i e. window_kept fs gs s.pa
 
 -- Other files, the same spaces.
 pub with_files : (m : Machine) (fs : List File) → AreFiles m.serial m.counter m.capacity fs → Linked fs m.spaces → IsMachine m → IsMachine (record m { files = fs })
-with_files m fs files linked h = join (record m { files = fs }) h.serial_fits h.counter_fits files (spaces_of m h) linked h.unforced_shown
+with_files m fs files linked h = join (record m { files = fs }) h.serial_fits h.counter_fits files (spaces_of m h) h.anonymous_alone linked h.unforced_shown h.unforced_once
 
 -- Other spaces, the same files.
-pub with_spaces : (m : Machine) (ss : List Space) → AreSpaces ss → Linked m.files ss → Shown ss m.unforced → IsMachine m → IsMachine (record m { spaces = ss })
-with_spaces m ss spaces linked shown h = join (record m { spaces = ss }) h.serial_fits h.counter_fits (files_of m h) spaces linked shown
+pub with_spaces : (m : Machine) (ss : List Space) → AreSpaces ss → AreAlone ss → Linked m.files ss → Shown ss m.unforced → IsMachine m → IsMachine (record m { spaces = ss })
+with_spaces m ss spaces alone linked shown h = join (record m { spaces = ss }) h.serial_fits h.counter_fits (files_of m h) spaces alone linked shown h.unforced_once
 
 -- Other unforced pages.
-pub with_unforced : (m : Machine) (us : List FilePage) → Shown m.spaces us → IsMachine m → IsMachine (record m { unforced = us })
-with_unforced m us shown h = join (record m { unforced = us }) h.serial_fits h.counter_fits (files_of m h) (spaces_of m h) h.whole_windows shown
+pub with_unforced : (m : Machine) (us : List FilePage) → Shown m.spaces us → AreOnce us → IsMachine m → IsMachine (record m { unforced = us })
+with_unforced m us shown once h = join (record m { unforced = us }) h.serial_fits h.counter_fits (files_of m h) (spaces_of m h) h.anonymous_alone h.whole_windows shown once
 
 -- some pages are forced
 pub shown_filter : (ss : List Space) (p : FilePage → Bool) (us : List FilePage) → Shown ss us → Shown ss (filter p us)
 shown_filter ss p us h = in_all _ (filter p us) (λ u i. all_in _ us h u (in_filter p us u i).0)
+
+fewer_any : (q p : FilePage → Bool) (us : List FilePage) → list_any q us ≡ false → list_any q (filter p us) ≡ false
+fewer_any q p us e = any_not q (filter p us) (λ u i. not_any q us e u (in_filter p us u i).0)
+
+pub once_filter : (p : FilePage → Bool) (us : List FilePage) → AreOnce us → AreOnce (filter p us)
+once_filter p [] h = tt
+once_filter p (u ∷ us) h = either (p u) (once_filter p us h.1)
+  where
+    either : (b : Bool) → AreOnce (filter p us) → AreOnce (cond b (u ∷ filter p us) (filter p us))
+    either true more = (fewer_any (is_page u) p us h.0, more)
+    either false more = more

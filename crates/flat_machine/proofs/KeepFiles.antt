@@ -11,7 +11,8 @@ use Rattle.flat_machine.specs.declared.call.Call.TheVariants.{Delete, SetSize, M
 use Rattle.flat_machine.specs.declared.call.Refusal.TheVariants as why
 use Rattle.flat_machine.specs.File.{File, size, file_at, total_room}
 use Rattle.flat_machine.specs.Space.{Space, Window, space_at}
-use Rattle.flat_machine.specs.Machine.{Machine, IsMachine, IsFile, used}
+use Rattle.flat_machine.specs.Machine.{Machine, IsFile, used}
+use Rattle.flat_machine.specs.IsMachine.{IsMachine}
 use Rattle.flat_machine.specs.At.{Spot, spot_at}
 use Rattle.flat_machine.specs.Refusal.{refusal, no_file, file_mapped, is_immutable, cut_while_mapped, no_room_as}
 use Rattle.flat_machine.specs.Next.{next, change_file, without_file, resized, with_byte, store_byte, store_bytes, killed_file}

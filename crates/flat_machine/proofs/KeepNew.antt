@@ -8,7 +8,8 @@ use Rattle.flat_machine.specs.declared.call.Call.TheVariants.{Create}
 use Rattle.flat_machine.specs.declared.call.Refusal.TheVariants as why
 use Rattle.flat_machine.specs.File.{File, file_at, put_file, zero_page}
 use Rattle.flat_machine.specs.Space.{Space}
-use Rattle.flat_machine.specs.Machine.{Machine, IsMachine, IsFileId, IsFile}
+use Rattle.flat_machine.specs.Machine.{Machine, IsFileId, IsFile}
+use Rattle.flat_machine.specs.IsMachine.{IsMachine}
 use Rattle.flat_machine.specs.Refusal.{refusal, no_room, no_ids}
 use Rattle.flat_machine.specs.Next.{next, new_id, new_file, with_new_file}
 use Rattle.flat_machine.proofs.Lists.{In, all_in, in_all, looked_up, look_up_none}
@@ -60,11 +61,13 @@ module _ (m : Machine) (h : IsMachine m) where
         given = each_put (λ x. IsFileId m.serial (m.counter + 1) x.id) f m.files
             (record {
               above_reserved = omega (arith, h.serial_fits.0);
+              fits = omega (arith, h.serial_fits.1, h.counter_fits.1);
               low_half = λ e. last (sym halves.1 ∙ e);
               given_out = λ e. omega (arith, halves.1);
             })
             (in_all _ m.files (λ x i. let old = all_in (λ x. IsFileId m.serial m.counter x.id) m.files h.ids_given x i in record {
               above_reserved = old.above_reserved;
+              fits = old.fits;
               low_half = old.low_half;
               given_out = λ e. omega (arith, old.given_out e);
             }));
@@ -84,4 +87,4 @@ create_keeps pages kind m typed h = refused_or m (Create pages kind) h kept
     kept e =
         let tests = two_none (no_room m (pages + 1)) (no_ids m) e in
         join (with_new_file m pages kind) h.serial_fits (next_counter m h tests.1) (files_with_new m h pages kind typed tests.0 tests.1)
-        (spaces_of m h) (linked_by_new m h pages kind m.spaces h.whole_windows) h.unforced_shown
+        (spaces_of m h) h.anonymous_alone (linked_by_new m h pages kind m.spaces h.whole_windows) h.unforced_shown h.unforced_once

@@ -9,7 +9,8 @@ use Rattle.std.proofs.lemmas.Option.{none-some}
 use Rattle.flat_machine.specs.declared.call.Call.TheVariants.{MakeSpace, RemoveSpace}
 use Rattle.flat_machine.specs.declared.call.Refusal.TheVariants as why
 use Rattle.flat_machine.specs.Space.{Space, Window, root, end, overlap, space_at, is_child_of, is_writable, shows}
-use Rattle.flat_machine.specs.Machine.{Machine, IsMachine, IsWindow}
+use Rattle.flat_machine.specs.Machine.{Machine, IsWindow}
+use Rattle.flat_machine.specs.IsMachine.{IsMachine}
 use Rattle.flat_machine.specs.Refusal.{refusal, no_space, no_size, no_spaces, no_place, fits, is_clear, lowest_gap, gap_starts, is_root, has_children, self_mapped}
 use Rattle.flat_machine.specs.Next.{next, new_space, first_page_for, is_unused, put_space, without_space}
 use Rattle.flat_machine.proofs.Lists.{In, all_in, in_all, in_filter, filter_in, any_in, in_any, not_any, all_pass, one_key, looked_up}
@@ -17,31 +18,31 @@ use Rattle.flat_machine.proofs.TestLemmas.{four_none, then_none, space_there, of
 use Rattle.flat_machine.proofs.LowestLemmas.{least_among, filter_passed}
 use Rattle.flat_machine.proofs.HandleLemmas.{lowest_few, lowest_free, every_put}
 use Rattle.flat_machine.proofs.SpaceLemmas.{AreSpaces}
-use Rattle.flat_machine.proofs.SpaceEdits.{MayBeMade, made_spaces, removed_spaces, put_in, overlap_swap}
+use Rattle.flat_machine.proofs.SpaceEdits.{MayBeMade, made_spaces, made_alone, removed_spaces, removed_alone, put_in, overlap_swap}
 use Rattle.flat_machine.proofs.Keep.{spaces_of, refused_or, with_spaces}
 
 -- The place of a new space.
 
-place_fits : (m : Machine) (parent pages : ℕ) (first : Option ℕ) (p : Space) → space_at m.spaces parent ≡ Some p → no_place m parent pages first ≡ None
-    → fits m.spaces p pages (first_page_for m parent pages first) ≡ true
-place_fits m parent pages (Some first) p is e = either (fits m.spaces p pages first) refl (of_space_none m parent (λ q. then_some (not (fits m.spaces q pages first)) why.Range) p is e)
+pub place_fits : (ss : List Space) (parent pages : ℕ) (first : Option ℕ) (p : Space) → space_at ss parent ≡ Some p → no_place ss parent pages first ≡ None
+    → fits ss p pages (first_page_for ss parent pages first) ≡ true
+place_fits ss parent pages (Some first) p is e = either (fits ss p pages first) refl (of_space_none ss parent (λ q. then_some (not (fits ss q pages first)) why.Range) p is e)
   where
-    either : (b : Bool) → fits m.spaces p pages first ≡ b → then_some (not b) why.Range ≡ None → fits m.spaces p pages first ≡ true
+    either : (b : Bool) → fits ss p pages first ≡ b → then_some (not b) why.Range ≡ None → fits ss p pages first ≡ true
     either true t f = t
     either false t f = absurd (none-some why.Range (sym f))
-place_fits m parent pages None p is e = either (lowest_gap m.spaces p pages) refl (of_space_none m parent (λ q. then_some (is_none (lowest_gap m.spaces q pages)) why.Gap) p is e)
+place_fits ss parent pages None p is e = either (lowest_gap ss p pages) refl (of_space_none ss parent (λ q. then_some (is_none (lowest_gap ss q pages)) why.Gap) p is e)
   where
-    here : first_page_for m parent pages None ≡ unwrap_or (lowest_gap m.spaces p pages) 0
-    here = ap (λ (o : Option Space). option_map_or (λ q. unwrap_or (lowest_gap m.spaces q pages) 0) o 0) is
+    here : first_page_for ss parent pages None ≡ unwrap_or (lowest_gap ss p pages) 0
+    here = ap (λ (o : Option Space). option_map_or (λ q. unwrap_or (lowest_gap ss q pages) 0) o 0) is
 
-    either : (o : Option ℕ) → lowest_gap m.spaces p pages ≡ o → then_some (is_none o) why.Gap ≡ None → fits m.spaces p pages (first_page_for m parent pages None) ≡ true
+    either : (o : Option ℕ) → lowest_gap ss p pages ≡ o → then_some (is_none o) why.Gap ≡ None → fits ss p pages (first_page_for ss parent pages None) ≡ true
     either None t f = absurd (none-some why.Gap (sym f))
     either (Some g) t f =
-        let ok = filter_passed (fits m.spaces p pages) (gap_starts m.spaces p) g (least_among _ g t) in
-        ap (λ (n : ℕ). fits m.spaces p pages n) (here ∙ ap (λ (o : Option ℕ). unwrap_or o 0) t) ∙ ok
+        let ok = filter_passed (fits ss p pages) (gap_starts ss p) g (least_among _ g t) in
+        ap (λ (n : ℕ). fits ss p pages n) (here ∙ ap (λ (o : Option ℕ). unwrap_or o 0) t) ∙ ok
 
 -- what stands there is over no child of the parent
-clear_of : (ss : List Space) (p x : Space) → fits ss p x.pages x.first ≡ true → p.handle ≡ x.parent → (s : Space) → In s ss → is_child_of x.parent s ≡ true → overlap x s ≡ false
+pub clear_of : (ss : List Space) (p x : Space) → fits ss p x.pages x.first ≡ true → p.handle ≡ x.parent → (s : Space) → In s ss → is_child_of x.parent s ≡ true → overlap x s ≡ false
 clear_of ss p x f e s i child =
     let outer = and_parts (nat_le p.first x.first && nat_le (x.first + x.pages) (end p)) (is_clear ss p x.pages x.first) f in
     let passed = all_pass (λ t. not (is_child_of p.handle t && nat_lt t.first (x.first + x.pages) && nat_lt x.first (end t))) ss outer.1 s i in
@@ -54,33 +55,33 @@ clear_of ss p x f e s i child =
     right true true false t f = refl
     right true true true t f = absurd (false≢true f)
 
-inside_of : (ss : List Space) (p : Space) (pages first : ℕ) → fits ss p pages first ≡ true → (p.first ≤ first) × (first + pages ≤ end p)
+pub inside_of : (ss : List Space) (p : Space) (pages first : ℕ) → fits ss p pages first ≡ true → (p.first ≤ first) × (first + pages ≤ end p)
 inside_of ss p pages first f =
     let outer = and_parts (nat_le p.first first && nat_le (first + pages) (end p)) (is_clear ss p pages first) f in
     let inner = and_parts (nat_le p.first first) (nat_le (first + pages) (end p)) outer.0 in
     (leb-true p.first first inner.0, leb-true (first + pages) (end p) inner.1)
 
 -- the root's handle is in use
-zero_used : (ss : List Space) → AreSpaces ss → is_unused ss 0 ≡ false
+pub zero_used : (ss : List Space) → AreSpaces ss → is_unused ss 0 ≡ false
 zero_used ss h = let r = looked_up (λ s. s.handle) ss 0 root h.has_root in ap not (in_any (λ s. s.handle == 0) ss root r.0 refl)
 
 pub make_keeps : (parent pages : ℕ) (first : Option ℕ) (m : Machine) → IsMachine m → IsMachine (next m (MakeSpace parent pages first))
 make_keeps parent pages first m h = refused_or m (MakeSpace parent pages first) h kept
   where
-    kept : refusal m (MakeSpace parent pages first) ≡ None → IsMachine (record m { spaces = put_space (new_space m parent pages first) m.spaces })
+    kept : refusal m (MakeSpace parent pages first) ≡ None → IsMachine (record m { spaces = put_space (new_space m.spaces parent pages first) m.spaces })
     kept e =
-        let tests = four_none (no_space m parent) (no_size pages) (no_spaces m) (no_place m parent pages first) e in
+        let tests = four_none (no_space m.spaces parent) (no_size pages) (no_spaces m.spaces) (no_place m.spaces parent pages first) e in
         let spaces = spaces_of m h in
         let zero_there = zero_used m.spaces spaces in
         let free = lowest_free m.spaces spaces.rise zero_there in
         let few = ltb-false 511 (length m.spaces) (then_none (nat_lt 511 (length m.spaces)) why.Spaces tests.2) in
         let some : pages ≢ 0 = eqb-false pages 0 (then_none (pages == 0) why.Size tests.1) in
-        let there = space_there m parent tests.0 in
+        let there = space_there m.spaces parent tests.0 in
         let p : Space = there.0 in
         let at = looked_up (λ s. s.handle) m.spaces parent p there.1 in
-        let x = new_space m parent pages first in
-        let good = place_fits m parent pages first p there.1 tests.3 in
-        let inside = inside_of m.spaces p pages (first_page_for m parent pages first) good in
+        let x = new_space m.spaces parent pages first in
+        let good = place_fits m.spaces parent pages first p there.1 tests.3 in
+        let inside = inside_of m.spaces p pages (first_page_for m.spaces parent pages first) good in
         let may : MayBeMade m.spaces x p = record {
           unused = free.0;
           not_root = λ z. absurd (omega (arith, free.1, z));
@@ -91,7 +92,7 @@ make_keeps parent pages first m h = refused_or m (MakeSpace parent pages first) 
           inside = record { there = at.0; parent = at.1; first = inside.0; last = inside.1 };
           clear = clear_of m.spaces p x good at.1;
         } in
-        with_spaces m (put_space x m.spaces) (made_spaces m.spaces x p may spaces)
+        with_spaces m (put_space x m.spaces) (made_spaces m.spaces x p may spaces) (made_alone m.spaces x refl h.anonymous_alone)
         (every_put (λ s. IfSome s.window (IsWindow m.files s.pages)) x m.spaces tt h.whole_windows)
         (in_all _ m.unforced (λ u i.
         let r = any_in _ m.spaces (all_in _ m.unforced h.unforced_shown u i) in
@@ -107,13 +108,13 @@ remove_keeps space m h = refused_or m (RemoveSpace space) h kept
   where
     kept : refusal m (RemoveSpace space) ≡ None → IsMachine (record m { spaces = without_space space m.spaces })
     kept e =
-        let tests = four_none (no_space m space) (is_root space) (has_children m space) (self_mapped m space) e in
-        let there = space_there m space tests.0 in
-        let free = window_free m space there.0 there.1 tests.3 in
+        let tests = four_none (no_space m.spaces space) (is_root space) (has_children m.spaces space) (self_mapped m.spaces space) e in
+        let there = space_there m.spaces space tests.0 in
+        let free = window_free m.spaces space there.0 there.1 tests.3 in
         let at = looked_up (λ s. s.handle) m.spaces space there.0 there.1 in
         let stays = λ (s : Space). not (s.handle == space) in
         let none = not_any (is_child_of space) m.spaces (then_none (list_any (is_child_of space) m.spaces) why.Children tests.2) in
-        with_spaces m (without_space space m.spaces) (removed_spaces m.spaces space (not_root space tests.1) none (spaces_of m h))
+        with_spaces m (without_space space m.spaces) (removed_spaces m.spaces space (not_root space tests.1) none (spaces_of m h)) (removed_alone m.spaces space h.anonymous_alone)
         (in_all _ (without_space space m.spaces) (λ s i. all_in _ m.spaces h.whole_windows s (in_filter stays m.spaces s i).0))
         (in_all _ m.unforced (λ u i.
         let r = any_in _ m.spaces (all_in _ m.unforced h.unforced_shown u i) in

@@ -9,16 +9,18 @@ use Rattle.flat_machine.specs.declared.call.Call.TheVariants.{Unmap, Protect}
 use Rattle.flat_machine.specs.declared.call.Refusal.TheVariants as why
 use Rattle.flat_machine.specs.File.{File, file_at}
 use Rattle.flat_machine.specs.Space.{Space, Window, FilePage, root, space_at, is_mapped, is_writable, shows}
-use Rattle.flat_machine.specs.Machine.{Machine, IsMachine, IsWindow}
+use Rattle.flat_machine.specs.Machine.{Machine, IsWindow}
+use Rattle.flat_machine.specs.IsMachine.{IsMachine, AreOnce}
 use Rattle.flat_machine.specs.Refusal.{refusal, no_space, not_mapped, shows_immutable, is_immutable}
 use Rattle.flat_machine.specs.Next.{next, set_window, set_mode, with_mode, without_anonymous, without_file, without_window_of, unmapped, protected}
 use Rattle.flat_machine.proofs.Lists.{In, all_in, in_filter, any_in, one_key, looked_up}
 use Rattle.flat_machine.proofs.TestLemmas.{two_none, three_none, then_none, of_file_none, of_space_none, window_there}
 use Rattle.flat_machine.proofs.FileLemmas.{AreFiles, fewer_files, window_file, window_kept}
-use Rattle.flat_machine.proofs.SpaceLemmas.{AreSpaces, fitted, fitted_spaces, two_at, two_by}
+use Rattle.flat_machine.specs.Spaces.{AreAlone}
+use Rattle.flat_machine.proofs.SpaceLemmas.{AreSpaces, fitted, fitted_spaces, fitted_alone, two_at, two_by}
 use Rattle.flat_machine.proofs.KeepFiles.{follows_self, left_at}
 use Rattle.flat_machine.proofs.KeepWindows.{own, win, win_here, win_else, win_is_set, win_root, shares, shares_none, map_same, linked_fitted, shown_fitted, shown_still}
-use Rattle.flat_machine.proofs.Keep.{Linked, Shown, join, files_of, spaces_of, refused_or, at_there, window_at}
+use Rattle.flat_machine.proofs.Keep.{Linked, Shown, join, files_of, spaces_of, refused_or, at_there, window_at, once_filter}
 
 -- a mapped space is not the root
 mapped_not_root : (ss : List Space) (k : ℕ) (s : Space) (w : Window) → AreSpaces ss → space_at ss k ≡ Some s → s.window ≡ Some w → k ≢ 0
@@ -46,13 +48,16 @@ taken_spaces : (ss : List Space) (k : ℕ) → k ≢ 0 → AreSpaces ss → AreS
 taken_spaces ss k n h =
     fitted_spaces own (win k None) ss (win_root k None n) (λ s i old. old)
     (two_by _ ss (λ x y i j d t. two_at _ ss h.path x y i j d (both x y (x.handle == k) (y.handle == k) t)))
-    (two_by _ ss (λ x y i j d. fewer x y (x.handle == k) (y.handle == k) (two_at _ ss h.alone x y i j d))) h
+    h
   where
     both : (x y : Space) (b c : Bool) → is_some (if b then None else x.window) && is_some (if c then None else y.window) ≡ true → is_mapped x && is_mapped y ≡ true
     both x y true c t = absurd (false≢true t)
     both x y false true t = absurd (false≢true (and_parts (is_mapped x) false t).1)
     both x y false false t = t
 
+taken_alone : (ss : List Space) (k : ℕ) → AreAlone ss → AreAlone (map (fitted own (win k None)) ss)
+taken_alone ss k h = fitted_alone own (win k None) ss (two_by _ ss (λ x y i j d. fewer x y (x.handle == k) (y.handle == k) (two_at _ ss h x y i j d)))
+  where
     fewer : (x y : Space) (b c : Bool) → shares x.window y.window ≡ false → shares (if b then None else x.window) (if c then None else y.window) ≡ false
     fewer x y true c t = refl
     fewer x y false true t = shares_none x.window
@@ -88,10 +93,10 @@ unmap_keeps space m h = refused_or m (Unmap space) h kept
   where
     kept : refusal m (Unmap space) ≡ None → IsMachine (option_map_or (unmapped m) (space_at m.spaces space) m)
     kept e =
-        let tests = two_none (no_space m space) (not_mapped m space) e in
+        let tests = two_none (no_space m.spaces space) (not_mapped m.spaces space) e in
         at_there m (space_at m.spaces space) (unmapped m) h (λ s is.
         let at = looked_up (λ t. t.handle) m.spaces space s is in
-        let window = window_there m space s is tests.1 in
+        let window = window_there m.spaces space s is tests.1 in
         let w : Window = window.0 in
         let spaces = spaces_of m h in
         let us = without_window_of s m.unforced in
@@ -101,9 +106,9 @@ unmap_keeps space m h = refused_or m (Unmap space) h kept
         (subst (λ (ss : List Space). IsMachine (record m { files = without_anonymous w m.files; spaces = ss; unforced = us })) (win_is_set space None m.spaces)
         (join (record m { files = without_anonymous w m.files; spaces = new; unforced = us }) h.serial_fits h.counter_fits
         (files_left m.serial m.counter m.capacity w m.files (files_of m h))
-        (taken_spaces m.spaces space (mapped_not_root m.spaces space s w spaces is window.1) spaces)
+        (taken_spaces m.spaces space (mapped_not_root m.spaces space s w spaces is window.1) spaces) (taken_alone m.spaces space h.anonymous_alone)
         (taken_linked m space s w h is window.1)
-        (shown_elsewhere m.spaces m.unforced space s own (win space None) spaces is (win_else space None) h.unforced_shown)))))
+        (shown_elsewhere m.spaces m.unforced space s own (win space None) spaces is (win_else space None) h.unforced_shown) (once_filter (λ u. not (shows u.file u.page s)) m.unforced h.unforced_once)))))
 
 -- protect
 
@@ -144,13 +149,16 @@ moded_spaces : (ss : List Space) (k : ℕ) (b : Bool) → k ≢ 0 → AreSpaces 
 moded_spaces ss k b n h =
     fitted_spaces own (mode k b) ss (ap (λ (o : Option Window). record root { window = o }) (mode_else k b root (λ e. n (sym e)))) (λ s i old. old)
     (two_by _ ss (λ x y i j d t. two_at _ ss h.path x y i j d (both x y t)))
-    (two_by _ ss (λ x y i j d. same_shares b (x.handle == k) (y.handle == k) x.window y.window ∙ two_at _ ss h.alone x y i j d)) h
+    h
   where
     both : (x y : Space) → is_some (mode k b x) && is_some (mode k b y) ≡ true → is_mapped x && is_mapped y ≡ true
     both x y t =
         let p = same_some b (x.handle == k) x.window in
         let q = same_some b (y.handle == k) y.window in
         sym (ap (λ (c : Bool). c && is_some (mode k b y)) p ∙ ap (λ (c : Bool). is_some x.window && c) q) ∙ t
+
+moded_alone : (ss : List Space) (k : ℕ) (b : Bool) → AreAlone ss → AreAlone (map (fitted own (mode k b)) ss)
+moded_alone ss k b h = fitted_alone own (mode k b) ss (two_by _ ss (λ x y i j d. same_shares b (x.handle == k) (y.handle == k) x.window y.window ∙ two_at _ ss h x y i j d))
 
 moded_linked : (m : Machine) (k : ℕ) (s : Space) (b : Bool) → IsMachine m → space_at m.spaces k ≡ Some s
     → ((w : Window) → s.window ≡ Some w → b ≡ true → is_immutable m w.file ≡ None) → Linked m.files (map (fitted own (mode k b)) m.spaces)
@@ -196,25 +204,29 @@ protect_keeps space writable m h = refused_or m (Protect space writable) h kept
         → (w : Window) → s.window ≡ Some w → b ≡ true → is_immutable m w.file ≡ None
     mutable s is true e w q t =
         ap (λ (o : Option Window). option_and_then (λ v. is_immutable m v.file) o) (sym q)
-        ∙ of_space_none m space (λ y. option_and_then (λ v. is_immutable m v.file) y.window) s is e
+        ∙ of_space_none m.spaces space (λ y. option_and_then (λ v. is_immutable m v.file) y.window) s is e
     mutable s is false e w q t = absurd (false≢true t)
 
     shown : (s : Space) → space_at m.spaces space ≡ Some s → (b : Bool) → Shown (map (fitted own (mode space b)) m.spaces) (if b then m.unforced else without_window_of s m.unforced)
     shown s is true = writable_shown m.spaces m.unforced space h.unforced_shown
     shown s is false = shown_elsewhere m.spaces m.unforced space s own (mode space false) (spaces_of m h) is (mode_else space false) h.unforced_shown
 
+    once : (s : Space) (b : Bool) → AreOnce (if b then m.unforced else without_window_of s m.unforced)
+    once s true = h.unforced_once
+    once s false = once_filter (λ u. not (shows u.file u.page s)) m.unforced h.unforced_once
+
     kept : refusal m (Protect space writable) ≡ None → IsMachine (option_map_or (protected m writable) (space_at m.spaces space) m)
     kept e =
-        let tests = three_none (no_space m space) (not_mapped m space) (if writable then shows_immutable m space else None) e in
+        let tests = three_none (no_space m.spaces space) (not_mapped m.spaces space) (if writable then shows_immutable m space else None) e in
         at_there m (space_at m.spaces space) (protected m writable) h (λ s is.
         let at = looked_up (λ t. t.handle) m.spaces space s is in
-        let window = window_there m space s is tests.1 in
+        let window = window_there m.spaces space s is tests.1 in
         let spaces = spaces_of m h in
         let us = if writable then m.unforced else without_window_of s m.unforced in
         let new = map (fitted own (mode space writable)) m.spaces in
         subst (λ (k : ℕ). IsMachine (record (protected m writable s) { spaces = set_mode k writable m.spaces })) (sym at.1)
         (subst (λ (ss : List Space). IsMachine (record m { spaces = ss; unforced = us })) (mode_is_set space writable m.spaces)
         (join (record m { spaces = new; unforced = us }) h.serial_fits h.counter_fits (files_of m h)
-        (moded_spaces m.spaces space writable (mapped_not_root m.spaces space s window.0 spaces is window.1) spaces)
+        (moded_spaces m.spaces space writable (mapped_not_root m.spaces space s window.0 spaces is window.1) spaces) (moded_alone m.spaces space writable h.anonymous_alone)
         (moded_linked m space s writable h is (mutable s is writable tests.2))
-        (shown s is writable))))
+        (shown s is writable) (once s writable))))

@@ -10,12 +10,14 @@ use Rattle.flat_machine.specs.declared.call.Call.TheVariants.{Units, Map}
 use Rattle.flat_machine.specs.declared.call.Refusal.TheVariants as why
 use Rattle.flat_machine.specs.File.{File, size, file_at}
 use Rattle.flat_machine.specs.Space.{Space, Window, FilePage, root, end, overlap, space_at, is_mapped, is_writable, shows}
-use Rattle.flat_machine.specs.Machine.{Machine, IsMachine, IsSpace, IsWindow}
+use Rattle.flat_machine.specs.Machine.{Machine, IsSpace, IsWindow}
+use Rattle.flat_machine.specs.IsMachine.{IsMachine}
 use Rattle.flat_machine.specs.Refusal.{refusal, no_space, is_root, no_unit, no_file, path_mapped, past_end, is_immutable, of_file}
 use Rattle.flat_machine.specs.Next.{next, change_space, set_window}
 use Rattle.flat_machine.proofs.Lists.{In, all_in, in_all, in_map, map_in, any_in, in_any, not_any, one_key, looked_up}
 use Rattle.flat_machine.proofs.TestLemmas.{three_none, six_none, then_none, file_there, of_file_none, space_there, of_space_none, path_free, not_root, none_anonymous}
-use Rattle.flat_machine.proofs.SpaceLemmas.{AreSpaces, fitted, fitted_spaces, two_at, two_by}
+use Rattle.flat_machine.specs.Spaces.{AreAlone}
+use Rattle.flat_machine.proofs.SpaceLemmas.{AreSpaces, fitted, fitted_spaces, fitted_alone, two_at, two_by}
 use Rattle.flat_machine.proofs.SpaceEdits.{overlap_swap}
 use Rattle.flat_machine.proofs.KeepSpaces.{mapped_of}
 use Rattle.flat_machine.proofs.Keep.{Linked, Shown, spaces_of, refused_or, with_spaces, window_at, if_window}
@@ -48,13 +50,13 @@ own s = s.unit
 -- units
 
 -- the given unit for one space
-abbrev units_of : ℕ → ℕ → Space → ℕ
+abbrev pub units_of : ℕ → ℕ → Space → ℕ
 units_of k n s = if s.handle == k then n else s.unit
 
-abbrev window_of : Space → Option Window
+abbrev pub window_of : Space → Option Window
 window_of s = s.window
 
-units_are_set : (k n : ℕ) (ss : List Space) → map (fitted (units_of k n) window_of) ss ≡ change_space k (λ s. record s { unit = n }) ss
+pub units_are_set : (k n : ℕ) (ss : List Space) → map (fitted (units_of k n) window_of) ss ≡ change_space k (λ s. record s { unit = n }) ss
 units_are_set k n ss = map_same (fitted (units_of k n) window_of) (λ s. if s.handle == k then record s { unit = n } else s) (λ s. either s (s.handle == k)) ss
   where
     either : (s : Space) (b : Bool) → record s { unit = if b then n else s.unit; window = s.window } ≡ (if b then record s { unit = n } else s)
@@ -73,13 +75,14 @@ units_keeps space n m h = refused_or m (Units space n) h kept
 
     kept : refusal m (Units space n) ≡ None → IsMachine (record m { spaces = change_space space (λ s. record s { unit = n }) m.spaces })
     kept e =
-        let tests = three_none (no_space m space) (is_root space) (no_unit n) e in
+        let tests = three_none (no_space m.spaces space) (is_root space) (no_unit n) e in
         let range = in_range (then_none ((n == 0) || nat_lt 16 n) why.Size tests.2) in
         let other : eqb 0 space ≡ false = ne_eqb 0 space (λ q. not_root space tests.1 (sym q)) in
         subst (λ (ss : List Space). IsMachine (record m { spaces = ss })) (units_are_set space n m.spaces)
         (with_spaces m (map (fitted (units_of space n) window_of) m.spaces)
         (fitted_spaces (units_of space n) window_of m.spaces (ap (λ (b : Bool). record root { unit = if b then n else 16 }) other) (λ s i old. units range s (s.handle == space) old)
-        h.one_mapped_on_a_path h.anonymous_alone (spaces_of m h))
+        h.one_mapped_on_a_path (spaces_of m h))
+        (fitted_alone (units_of space n) window_of m.spaces h.anonymous_alone)
         (linked_fitted m.files (units_of space n) window_of m.spaces (λ s v i q. window_at m.files m.spaces h.whole_windows s v i q))
         (shown_fitted (units_of space n) window_of m.spaces m.unforced (λ x i. any_in _ m.spaces (all_in _ m.unforced h.unforced_shown x i))) h)
 
@@ -120,12 +123,10 @@ shares_none (Some w) = either w.anonymous
 -- A window is given to a space that shares no page with a mapped one.
 
 pub given_spaces : (ss : List Space) (k : ℕ) (s : Space) (w : Window) → space_at ss k ≡ Some s → k ≢ 0 → ((t : Space) → In t ss → is_mapped t ≡ true → overlap s t ≡ false)
-    → ((t : Space) → In t ss → t.handle ≢ k → shares (Some w) t.window ≡ false) → ((t : Space) → In t ss → t.handle ≢ k → shares t.window (Some w) ≡ false)
     → AreSpaces ss → AreSpaces (map (fitted own (win k (Some w))) ss)
-given_spaces ss k s w is n free first second h =
+given_spaces ss k s w is n free h =
     fitted_spaces own (win k (Some w)) ss (win_root k (Some w) n) (λ t i old. old)
-    (two_by _ ss (λ x y i j d. path x y i j d (cases_eq x.handle k) (cases_eq y.handle k)))
-    (two_by _ ss (λ x y i j d. alone x y i j d (cases_eq x.handle k) (cases_eq y.handle k))) h
+    (two_by _ ss (λ x y i j d. path x y i j d (cases_eq x.handle k) (cases_eq y.handle k))) h
   where
     is_it : (x : Space) → In x ss → x.handle ≡ k → s ≡ x
     is_it x i e = let at = looked_up (λ t. t.handle) ss k s is in one_key (λ t. t.handle) ss h.rise s x at.0 i (at.1 ∙ sym e)
@@ -148,6 +149,11 @@ given_spaces ss k s w is n free first second h =
         let b : is_mapped y ≡ true = mapped_there y q parts.1 in
         two_at _ ss h.path x y i j d (rw (a, b) refl)
 
+pub given_alone : (ss : List Space) (k : ℕ) (w : Window) → ((t : Space) → In t ss → t.handle ≢ k → shares (Some w) t.window ≡ false)
+    → ((t : Space) → In t ss → t.handle ≢ k → shares t.window (Some w) ≡ false) → AreAlone ss → AreAlone (map (fitted own (win k (Some w))) ss)
+given_alone ss k w first second h =
+    fitted_alone own (win k (Some w)) ss (two_by _ ss (λ x y i j d. alone x y i j d (cases_eq x.handle k) (cases_eq y.handle k)))
+  where
     alone : (x y : Space) → In x ss → In y ss → x.handle ≢ y.handle → (x.handle ≡ k) ⊎ (x.handle ≢ k) → (y.handle ≡ k) ⊎ (y.handle ≢ k)
         → shares (win k (Some w) x) (win k (Some w) y) ≡ false
     alone x y i j d (inl p) (inl q) = absurd (d (p ∙ sym q))
@@ -159,10 +165,10 @@ given_spaces ss k s w is n free first second h =
         (subst (λ (o : Option Window). shares x.window o ≡ false) (sym (win_here k (Some w) y q)) (second x i p))
     alone x y i j d (inr p) (inr q) =
         subst (λ (o : Option Window). shares o (win k (Some w) y) ≡ false) (sym (win_else k (Some w) x p))
-        (subst (λ (o : Option Window). shares x.window o ≡ false) (sym (win_else k (Some w) y q)) (two_at _ ss h.alone x y i j d))
+        (subst (λ (o : Option Window). shares x.window o ≡ false) (sym (win_else k (Some w) y q)) (two_at _ ss h x y i j d))
 
 -- a space on whose path nothing is mapped is not mapped itself
-pub own_free : (m : Machine) (k : ℕ) (s : Space) → IsMachine m → space_at m.spaces k ≡ Some s → path_mapped m k ≡ None → s.window ≡ None
+pub own_free : (m : Machine) (k : ℕ) (s : Space) → IsMachine m → space_at m.spaces k ≡ Some s → path_mapped m.spaces k ≡ None → s.window ≡ None
 own_free m k s h is e = either s.window refl
   where
     either : (o : Option Window) → s.window ≡ o → s.window ≡ None
@@ -170,7 +176,7 @@ own_free m k s h is e = either s.window refl
     either (Some w) q =
         let at = looked_up (λ t. t.handle) m.spaces k s is in
         let some = (all_in (IsSpace m.spaces) m.spaces h.whole_spaces s at.0).not_empty in
-        let apart : overlap s s ≡ false = path_free m k s is e s at.0 (ap (λ (o : Option Window). is_some o) q) in
+        let apart : overlap s s ≡ false = path_free m.spaces k s is e s at.0 (ap (λ (o : Option Window). is_some o) q) in
         absurd (true≢false (sym (inside s.first (end s) (omega (arith, some))) ∙ apart))
       where
         inside : (a b : ℕ) → a < b → nat_lt a b && nat_lt a b ≡ true
@@ -213,8 +219,8 @@ map_keeps space id page writable m h = refused_or m (Map space id page writable)
 
     kept : refusal m (Map space id page writable) ≡ None → IsMachine (record m { spaces = set_window space (Some (asked id page writable)) m.spaces })
     kept e =
-        let tests = six_none (no_space m space) (is_root space) (no_file m id) (path_mapped m space) (past_end m space id page) (if writable then is_immutable m id else None) e in
-        let there = space_there m space tests.0 in
+        let tests = six_none (no_space m.spaces space) (is_root space) (no_file m id) (path_mapped m.spaces space) (past_end m space id page) (if writable then is_immutable m id else None) e in
+        let there = space_there m.spaces space tests.0 in
         let s : Space = there.0 in
         let found = file_there m id tests.2 in
         let f : File = found.0 in
@@ -222,7 +228,7 @@ map_keeps space id page writable m h = refused_or m (Map space id page writable)
         let none = none_anonymous m.spaces id (not_any _ m.spaces found.2) in
         let fit = ltb-false (size f) (page + s.pages) (then_none (nat_lt (size f) (page + s.pages)) why.Window
         (of_file_none m id (λ x. then_some (nat_lt (size x) (page + s.pages)) why.Window) f found.1
-        (of_space_none m space (λ t. of_file m id (λ x. then_some (nat_lt (size x) (page + t.pages)) why.Window)) s there.1 tests.4))) in
+        (of_space_none m.spaces space (λ t. of_file m id (λ x. then_some (nat_lt (size x) (page + t.pages)) why.Window)) s there.1 tests.4))) in
         let good : IsWindow m.files s.pages (asked id page writable) = record {
           inside_file = subst (λ (o : Option File). IsSomeAnd o (λ x. page + s.pages ≤ size x)) (sym found.1) (omega (arith, fit));
           writable_mutable = λ t. subst (λ (o : Option File). IfSome o (λ x. IsFalse x.immutable)) (sym found.1) (mutable f found.1 writable tests.5 t);
@@ -230,7 +236,8 @@ map_keeps space id page writable m h = refused_or m (Map space id page writable)
         } in
         subst (λ (ss : List Space). IsMachine (record m { spaces = ss })) (win_is_set space (Some (asked id page writable)) m.spaces)
         (with_spaces m (map (fitted own (win space (Some (asked id page writable)))) m.spaces)
-        (given_spaces m.spaces space s (asked id page writable) there.1 (not_root space tests.1) (path_free m space s there.1 tests.3) (λ t i d. refl) (λ t i d. second t i none t.window refl) spaces)
+        (given_spaces m.spaces space s (asked id page writable) there.1 (not_root space tests.1) (path_free m.spaces space s there.1 tests.3) spaces)
+        (given_alone m.spaces space (asked id page writable) (λ t i d. refl) (λ t i d. second t i none t.window refl) h.anonymous_alone)
         (given_linked m.files m.spaces space s (asked id page writable) spaces there.1 h.whole_windows good)
         (given_shown m.spaces m.unforced space s (asked id page writable) spaces there.1 (own_free m space s h there.1 tests.3) h.unforced_shown) h)
       where

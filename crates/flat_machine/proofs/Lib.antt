@@ -4,6 +4,7 @@ pub mod LineLemmas
 pub mod StartLemmas
 pub mod ProjectionLemmas
 pub mod RowLemmas
+pub mod MoreRowLemmas
 pub mod Lists
 pub mod TestLemmas
 pub mod FileLemmas
@@ -25,14 +26,8 @@ pub mod StartMachine
 pub mod UnitLemmas
 pub mod PathLemmas
 pub mod MoreLaws
-pub mod SlowPlaceLemmas
-pub mod SlowLeastLemmas
-pub mod SlowSpaceLemmas
-pub mod SlowGapLemmas
-pub mod SlowEditLemmas
-pub mod SlowRoomLemmas
-pub mod SlowLoadLemmas
-pub mod SlowTestLemmas
-pub mod SlowFileLemmas
-pub mod SlowStepLemmas
+pub mod StoreLemmas
+pub mod PageLemmas
+pub mod ReferenceLemmas
+pub mod InnermostLemmas
 pub mod SettledLemmas

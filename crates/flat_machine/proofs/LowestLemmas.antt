@@ -1,13 +1,18 @@
 -- The lowest gap and the lowest unused handle are the least.
-use Rattle.std.proofs.Common.{◌≡◌, ℕ, zero, suc, ◌+◌, ◌≤◌, Bool, true, false, not, ◌&&◌, ◌||◌, cond, List, [], ◌∷◌, map, filter, Option, None, Some, refl, sym, ◌∙◌, ap, subst, arith, ◌⊎◌, inl, inr}
+use Rattle.std.proofs.Common.{◌≡◌, ℕ, zero, suc, ◌+◌, ◌≤◌, Bool, true, false, not, ◌&&◌, ◌||◌, ◌<◌, cond, List, [], ◌∷◌, map, filter, Option, None, Some, refl, sym, ◌∙◌, ap, subst, arith, ◌⊎◌, inl, inr}
 use Rattle.std.proofs.lemmas.Bool.Decides.{nat_tests}
-use Rattle.std.specs.Prelude.{MatchOption, IsSomeAnd, IsTrue, nat_le, nat_lt, unwrap_or, if◌then◌else◌, ◌==◌}
+use Rattle.std.specs.Prelude.{MatchOption, IsSomeAnd, IsTrue, nat_le, nat_lt, unwrap_or, option_map, find, if◌then◌else◌, ◌==◌}
 use Rattle.std.specs.Option.{option_map_or}
-use Rattle.std.specs.List.{list_all, list_any}
+use Rattle.std.specs.List.{list_all, list_any, AllByRecursion}
+use Rattle.std.proofs.lemmas.Bool.{true≢false}
+use Rattle.std.proofs.lemmas.Option.{same_Some, none-some}
+use Rattle.flat_machine.specs.Machine.{IsRising}
 use Rattle.flat_machine.specs.Space.{Space, is_child_of, end}
 use Rattle.flat_machine.specs.Refusal.{fits, lowest_gap, least, gap_starts}
 use Rattle.flat_machine.specs.Next.{is_unused, lowest_unused}
-use Rattle.flat_machine.specs.Laws.{LowestGapIsLeast, LowestUnusedIsLeast}
+use Rattle.flat_machine.specs.Laws.{LowestGapIsLeast, LowestUnusedIsLeast, IsOneOf}
+use Rattle.flat_machine.specs.SpaceLaws.{LeastIsLeast, IsLowest, LowestHandleIsLowest}
+use Rattle.flat_machine.proofs.Lists.{In, all_in, find_in, looked_up, look_up, map_in}
 
 -- The lowest gap.
 
@@ -208,3 +213,48 @@ lowest_unused_is_least spaces handle z u =
 pub least_among : (ns : List ℕ) (k : ℕ) → least ns ≡ Some k → Among k ns
 least_among ns k e = let P : Option ℕ → Type 0 = λ o. MatchOption o (ns ≡ []) (λ j. IsLeastOf j ns) in
     let h : IsLeastOf k ns = subst P e (least_is ns) in h.0
+
+-- The least of a list, as a law.
+
+all_at_most : (k : ℕ) (ns : List ℕ) → ((x : ℕ) → Among x ns → k ≤ x) → AllByRecursion (λ x. k ≤ x) ns
+all_at_most k [] f = tt
+all_at_most k (n ∷ ns) f = (f n (inl refl), all_at_most k ns (λ x a. f x (inr a)))
+
+one_of_them : (k : ℕ) (ns : List ℕ) → Among k ns → IsOneOf ns k
+one_of_them k [] a = a
+one_of_them k (n ∷ ns) (inl e) = inl e
+one_of_them k (n ∷ ns) (inr a) = inr (one_of_them k ns a)
+
+pub least_is_least : LeastIsLeast
+least_is_least ns n e =
+    let r = subst (λ (o : Option ℕ). MatchOption o (ns ≡ []) (λ k. IsLeastOf k ns)) e (least_is ns) in
+    (one_of_them n ns r.0, all_at_most n ns r.1)
+
+-- The lowest handle of a space that passes.
+
+lower_found : (test : Space → Bool) (ss : List Space) (low : Space) → IsRising (map (λ s. s.handle) ss) → find test ss ≡ Some low
+    → (t : Space) → In t ss → test t ≡ true → low.handle ≤ t.handle
+lower_found test [] low rise e t i passes = absurd i
+lower_found test (s ∷ ss) low rise e t i passes = either (test s) refl e i (λ f j. lower_found test ss low rise.1 f t j passes)
+  where
+    either : (b : Bool) → test s ≡ b → (if b then Some s else find test ss) ≡ Some low → (s ≡ t) ⊎ In t ss → (find test ss ≡ Some low → In t ss → low.handle ≤ t.handle) → low.handle ≤ t.handle
+    either true q f (inl k) more = let z : s ≡ low = same_Some s low f in let y : low.handle ≡ t.handle = ap (λ (r : Space). r.handle) (sym z ∙ k) in omega arith
+    either true q f (inr j) more =
+        let z : s.handle ≡ low.handle = ap (λ (r : Space). r.handle) (same_Some s low f) in
+        let l : s.handle < t.handle = all_in (λ k. s.handle < k) (map (λ r. r.handle) ss) rise.0 t.handle (map_in (λ r. r.handle) ss t j) in omega arith
+    either false q f (inl k) more = absurd (true≢false (sym passes ∙ ap test (sym k) ∙ q))
+    either false q f (inr j) more = more f j
+
+pub lowest_handle_is_lowest : LowestHandleIsLowest
+lowest_handle_is_lowest test ss handle rise e = either (find test ss) refl e
+  where
+    either : (o : Option Space) → find test ss ≡ o → option_map (λ s. s.handle) o ≡ Some handle → IsLowest test ss handle
+    either None q f = absurd (none-some handle f)
+    either (Some s) q f =
+        let k : s.handle ≡ handle = same_Some s.handle handle f in
+        let found = find_in test ss s q in record {
+          space = s;
+          there = look_up (λ r. r.handle) ss rise s found.0 handle k;
+          passes = found.1;
+          lowest = λ t at passes. let l = lower_found test ss s rise q t (looked_up (λ r. r.handle) ss t.handle t at).0 passes in omega (arith, l, k);
+        }

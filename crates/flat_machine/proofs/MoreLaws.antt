@@ -7,7 +7,7 @@ use Rattle.std.proofs.lemmas.Option.{same_Some, none-some}
 use Rattle.flat_machine.specs.Form.{IsTyped}
 use Rattle.flat_machine.specs.File.{File, Page, size, file_at, any_page}
 use Rattle.flat_machine.specs.Space.{Space, Window, FilePage, end, holds, is_mapped, mapped_at}
-use Rattle.flat_machine.specs.Machine.{IsMachine}
+use Rattle.flat_machine.specs.IsMachine.{IsMachine}
 use Rattle.flat_machine.specs.At.{page_through}
 use Rattle.flat_machine.specs.Next.{next}
 use Rattle.flat_machine.specs.After.{TraceLine, next_line}

@@ -13,9 +13,9 @@ use Rattle.flat_machine.proofs.SpaceEdits.{overlap_swap, child_by}
 use Rattle.flat_machine.proofs.Keep.{spaces_of}
 
 -- the pages of the second are all in the first
-record Covers (s t : Space) : Type 0 where
-  first : s.first ≤ t.first
-  last : end t ≤ end s
+pub record Covers (s t : Space) : Type 0 where
+  pub first : s.first ≤ t.first
+  pub last : end t ≤ end s
 
 wider : (s t c : Space) → Covers c t → overlap s t ≡ true → overlap s c ≡ true
 wider s t c in_c e =
@@ -38,7 +38,7 @@ module _ (ss : List Space) (h : AreSpaces ss) where
   covers_self s t e = subst (λ (r : Space). Covers s r) e (record { first = omega arith; last = omega arith })
 
   -- what is above covers what is below
-  covers : (k : ℕ) (s t : Space) → In s ss → In t ss → ancestor ss k t.handle ≡ s.handle → Covers s t
+  pub covers : (k : ℕ) (s t : Space) → In s ss → In t ss → ancestor ss k t.handle ≡ s.handle → Covers s t
   covers zero s t i j e = covers_self s t (same s t i j (sym e))
   covers (suc k) s t i j e =
       let p = parent_at ss t (all_in (IsSpace ss) ss h.whole t j) in
@@ -55,14 +55,14 @@ module _ (ss : List Space) (h : AreSpaces ss) where
       both a b c d l k = grind (arith, nat_tests)
 
   -- below a space, on the way to another, stands one of its children, or the other is the space itself
-  record ChildOnTheWay (p t : Space) : Type 0 where
-    child : Space
-    there : In child ss
-    not_root : child.handle ≢ 0
-    parent : child.parent ≡ p.handle
-    above : IsAtOrAbove ss child t
+  pub record ChildOnTheWay (p t : Space) : Type 0 where
+    pub child : Space
+    pub there : In child ss
+    pub not_root : child.handle ≢ 0
+    pub parent : child.parent ≡ p.handle
+    pub above : IsAtOrAbove ss child t
 
-  on_the_way : (k : ℕ) (p t : Space) → In p ss → In t ss → ancestor ss k t.handle ≡ p.handle → (t ≡ p) ⊎ ChildOnTheWay p t
+  pub on_the_way : (k : ℕ) (p t : Space) → In p ss → In t ss → ancestor ss k t.handle ≡ p.handle → (t ≡ p) ⊎ ChildOnTheWay p t
   on_the_way zero p t i j e = inl (same t p j i e)
   on_the_way (suc k) p t i j e =
       let q = parent_at ss t (all_in (IsSpace ss) ss h.whole t j) in

@@ -9,6 +9,7 @@ use Rattle.flat_machine.specs.Machine.{IsRising, IsSpace, ancestor, are_siblings
 use Rattle.flat_machine.specs.Next.{is_unused, put_space, without_space}
 use Rattle.flat_machine.proofs.Lists.{In, all_in, in_all, in_filter, filter_in, not_any, one_key, looked_up, look_up, rising_filter}
 use Rattle.flat_machine.proofs.HandleLemmas.{put_rises}
+use Rattle.flat_machine.specs.Spaces.{AreAlone}
 use Rattle.flat_machine.proofs.SpaceLemmas.{AreSpaces, IsIn, IsHandle, two_at, two_by, parent_at, parent_by, parent_of, parent_is, same_ancestors}
 
 pub in_put : (x : Space) (ss : List Space) (y : Space) → In y (put_space x ss) → (x ≡ y) ⊎ In y ss
@@ -111,7 +112,6 @@ made_spaces ss x p may h =
       whole = in_all (IsSpace new) new (λ y i. whole_of y (in_put x ss y i) rise);
       apart = two_by _ new (λ y z i j n t. apart_of y z (in_put x ss y i) (in_put x ss z j) n t);
       path = two_by _ new (λ y z i j n t. path_of y z (in_put x ss y i) (in_put x ss z j) n t);
-      alone = two_by _ new (λ y z i j n. alone_of y z (in_put x ss y i) (in_put x ss z j) n);
     }
   where
     apart_of : (y z : Space) → (x ≡ y) ⊎ In y ss → (x ≡ z) ⊎ In z ss → y.handle ≢ z.handle → are_siblings y z ≡ true → overlap y z ≡ false
@@ -129,11 +129,6 @@ made_spaces ss x p may h =
         absurd (true≢false (sym t ∙ and_swap (is_mapped y) (is_mapped z) ∙ subst (λ (s : Space). is_mapped z && is_mapped s ≡ false) e (unmapped_pair z x may.unmapped)))
     path_of y z (inr i) (inl q) n t = absurd (true≢false (sym t ∙ subst (λ (s : Space). is_mapped y && is_mapped s ≡ false) q (unmapped_pair y x may.unmapped)))
     path_of y z (inr i) (inr j) n t = two_at _ ss h.path y z i j n t
-
-    alone_of : (y z : Space) → (x ≡ y) ⊎ In y ss → (x ≡ z) ⊎ In z ss → y.handle ≢ z.handle → shares_anonymous y z ≡ false
-    alone_of y z (inl e) k n = subst (λ (s : Space). shares_anonymous s z ≡ false) e (unmapped_first x z may.unmapped)
-    alone_of y z (inr i) (inl q) n = subst (λ (s : Space). shares_anonymous y s ≡ false) q (unmapped_second y x may.unmapped)
-    alone_of y z (inr i) (inr j) n = two_at _ ss h.alone y z i j n
 
     -- an old handle has the same parent, an old one
     step : IsRising (map (λ s. s.handle) (put_space x ss)) → (k : ℕ) → IsHandle ss k → (parent_of (put_space x ss) k ≡ parent_of ss k) × IsHandle ss (parent_of ss k)
@@ -186,7 +181,6 @@ removed_spaces ss k n none h =
       whole = in_all (IsSpace new) new (λ y i. whole_of y i rise);
       apart = two_by _ new (λ y z i j d. two_at _ ss h.apart y z (back y i) (back z j) d);
       path = two_by _ new (λ y z i j d. two_at _ ss h.path y z (back y i) (back z j) d);
-      alone = two_by _ new (λ y z i j d. two_at _ ss h.alone y z (back y i) (back z j) d);
     }
   where
     stays : (s : Space) → In s ss → s.handle ≢ k → In s (without_space k ss)
@@ -228,3 +222,18 @@ removed_spaces ss k n none h =
           inside_parent = parent_by (without_space k ss) rise y p.0 p.1;
           leads_to_root = (old.leads_to_root.0, same_ancestors ss (without_space k ss) (IsHandle (without_space k ss)) (step rise) old.leads_to_root.0 y.handle (y, i, refl) ∙ old.leads_to_root.1);
         }
+
+-- Files with an anonymous window.
+
+pub made_alone : (ss : List Space) (x : Space) → x.window ≡ None → AreAlone ss → AreAlone (put_space x ss)
+made_alone ss x unmapped h = two_by _ (put_space x ss) (λ y z i j n. alone_of y z (in_put x ss y i) (in_put x ss z j) n)
+  where
+    alone_of : (y z : Space) → (x ≡ y) ⊎ In y ss → (x ≡ z) ⊎ In z ss → y.handle ≢ z.handle → shares_anonymous y z ≡ false
+    alone_of y z (inl e) k n = subst (λ (s : Space). shares_anonymous s z ≡ false) e (unmapped_first x z unmapped)
+    alone_of y z (inr i) (inl q) n = subst (λ (s : Space). shares_anonymous y s ≡ false) q (unmapped_second y x unmapped)
+    alone_of y z (inr i) (inr j) n = two_at _ ss h y z i j n
+
+pub removed_alone : (ss : List Space) (k : ℕ) → AreAlone ss → AreAlone (without_space k ss)
+removed_alone ss k h =
+    let back = λ (s : Space) (i : In s (without_space k ss)). (in_filter (λ t. not (t.handle == k)) ss s i).0 in
+    two_by _ (without_space k ss) (λ y z i j d. two_at _ ss h y z (back y i) (back z j) d)

@@ -5,16 +5,9 @@ use Rattle.std.specs.Option.{option_map_or}
 use Rattle.std.specs.List.{AllByRecursion}
 use Rattle.flat_machine.specs.Space.{Space, Window, root, end, overlap, space_at, is_mapped}
 use Rattle.flat_machine.specs.Machine.{IsRising, IsSpace, EachTwo, ancestor, are_siblings, shares_anonymous}
+pub use Rattle.flat_machine.specs.Spaces.{AreSpaces}
+use Rattle.flat_machine.specs.Spaces.{AreAlone}
 use Rattle.flat_machine.proofs.Lists.{In, all_in, in_all, in_map, map_in, looked_up, look_up, rising_map}
-
--- what holds of every machine, of its spaces alone
-pub record AreSpaces (ss : List Space) : Type 0 where
-  pub has_root : space_at ss 0 ≡ Some root
-  pub rise : IsRising (map (λ s. s.handle) ss)
-  pub whole : AllByRecursion (IsSpace ss) ss
-  pub apart : EachTwo (λ s t. IsTrue (are_siblings s t) → IsFalse (overlap s t)) ss
-  pub path : EachTwo (λ s t. IsTrue (is_mapped s && is_mapped t) → IsFalse (overlap s t)) ss
-  pub alone : EachTwo (λ s t. IsFalse (shares_anonymous s t)) ss
 
 -- of every two different ones
 pub two_at : (R : Space → Space → Type 0) (ss : List Space) → EachTwo R ss → (s t : Space) → In s ss → In t ss → s.handle ≢ t.handle → R s t
@@ -87,9 +80,8 @@ module _ (u : Space → ℕ) (w : Space → Option Window) where
 
   pub fitted_spaces : (ss : List Space) → fitted u w root ≡ root → ((s : Space) → In s ss → (1 ≤ s.unit) × (s.unit ≤ 16) → (1 ≤ u s) × (u s ≤ 16))
       → EachTwo (λ s t. IsTrue (is_some (w s) && is_some (w t)) → IsFalse (overlap s t)) ss
-      → EachTwo (λ s t. IsFalse (shares_anonymous (fitted u w s) (fitted u w t))) ss
       → AreSpaces ss → AreSpaces (map (fitted u w) ss)
-  fitted_spaces ss keeps_root units path alone h =
+  fitted_spaces ss keeps_root units path h =
       let new = map (fitted u w) ss in
       let rise : IsRising (map (λ s. s.handle) new) = rising_map (λ s. s.handle) (fitted u w) (λ s. refl) ss h.rise in
       let back = in_map (fitted u w) ss in
@@ -106,10 +98,6 @@ module _ (u : Space → ℕ) (w : Space → Option Window) where
             subst (λ (s : Space). IsTrue (is_mapped s && is_mapped y) → IsFalse (overlap s y)) a.2
             (subst (λ (t : Space). IsTrue (is_mapped (fitted u w a.0) && is_mapped t) → IsFalse (overlap (fitted u w a.0) t)) b.2
             (two_at _ ss path a.0 b.0 a.1 b.1 (differ a.0 b.0 x y a.2 b.2 n))));
-        alone = two_by _ new (λ x y i j n. let a = back x i in let b = back y j in
-            subst (λ (s : Space). IsFalse (shares_anonymous s y)) a.2
-            (subst (λ (t : Space). IsFalse (shares_anonymous (fitted u w a.0) t)) b.2
-            (two_at _ ss alone a.0 b.0 a.1 b.1 (differ a.0 b.0 x y a.2 b.2 n))));
       }
     where
       differ : (a b x y : Space) → fitted u w a ≡ x → fitted u w b ≡ y → x.handle ≢ y.handle → a.handle ≢ b.handle
@@ -130,3 +118,10 @@ module _ (u : Space → ℕ) (w : Space → Option Window) where
               same_ancestors ss (map (fitted u w) ss) (λ k. Unit {0}) (λ k good. (fitted_parents ss k, tt)) old.leads_to_root.0 s.handle tt ∙ old.leads_to_root.1,
             );
           }
+
+  pub fitted_alone : (ss : List Space) → EachTwo (λ s t. IsFalse (shares_anonymous (fitted u w s) (fitted u w t))) ss → AreAlone (map (fitted u w) ss)
+  fitted_alone ss alone =
+      two_by _ (map (fitted u w) ss) (λ x y i j n. let a = in_map (fitted u w) ss x i in let b = in_map (fitted u w) ss y j in
+      subst (λ (s : Space). IsFalse (shares_anonymous s y)) a.2
+      (subst (λ (t : Space). IsFalse (shares_anonymous (fitted u w a.0) t)) b.2
+      (two_at _ ss alone a.0 b.0 a.1 b.1 (λ e. n (sym (ap (λ (s : Space). s.handle) a.2) ∙ e ∙ ap (λ (s : Space). s.handle) b.2)))))

@@ -29,6 +29,7 @@ opened_is_machine serial counter capacity a b c d = record {
   whole_windows = (tt, tt);
   anonymous_alone = ((λ n. absurd (n refl), tt), tt);
   unforced_shown = tt;
+  unforced_once = tt;
 }
 
 -- what holds of the file of each leader holds of all files

@@ -113,6 +113,7 @@ start_is_machine d each right =
     let xs = data_sectors d in
     let whole : AllByRecursion IsFile (files_on d) = each_leader IsFile false xs xs (λ s i e. (file_facts xs fit s i e).2) in
     let low : AllByRecursion (λ f. 16 ≤ f.id) (files_on d) = each_leader (λ f. 16 ≤ f.id) false xs xs (λ s i e. (file_facts xs fit s i e).0) in
+    let fits : AllByRecursion (λ f. f.id < 2 ^ 64) (files_on d) = each_leader (λ f. f.id < 2 ^ 64) false xs xs (λ s i e. (fit s i).id_fits) in
     let half : AllByRecursion (λ f. f.id % 2 ^ 32 ≢ 4294967295) (files_on d) = each_leader (λ f. f.id % 2 ^ 32 ≢ 4294967295) false xs xs (λ s i e. (file_facts xs fit s i e).1) in
     join (start d)
     (right.has_root.serial, omega (arith, number_fits (root_page d) 16 (root_bytes d each)))
@@ -121,10 +122,11 @@ start_is_machine d each right =
       rise = files_on_rise false 0 0 d;
       given = in_all _ (files_on d) (λ f i. record {
         above_reserved = all_in _ (files_on d) low f i;
+        fits = all_in _ (files_on d) fits f i;
         low_half = all_in _ (files_on d) half f i;
         given_out = all_in (IsGiven (serial_of d) (counter_of d)) (files_on d) right.files.ids_given f i;
       });
       whole = whole;
       room = right.files.room;
     })
-    (spaces_of (opened 1 1 0) (opened_is_machine 1 1 0 (omega arith) (omega arith) (omega arith) (omega arith))) (tt, tt) tt
+    (spaces_of (opened 1 1 0) (opened_is_machine 1 1 0 (omega arith) (omega arith) (omega arith) (omega arith))) ((λ n. absurd (n refl), tt), tt) (tt, tt) tt tt

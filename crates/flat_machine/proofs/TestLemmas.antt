@@ -82,11 +82,11 @@ file_there m id e = either (is_anonymous m.spaces id) refl (is_there (nameable m
 pub of_file_none : (m : Machine) (id : ℕ) (test : File → Test) (f : File) → file_at m.files id ≡ Some f → of_file m id test ≡ None → test f ≡ None
 of_file_none m id test f is e = ap (λ (o : Option File). option_and_then test o) (sym is) ∙ e
 
-pub space_there : (m : Machine) (h : ℕ) → no_space m h ≡ None → (s : Space) × (space_at m.spaces h ≡ Some s)
-space_there m h e = is_there (space_at m.spaces h) (then_none (is_none (space_at m.spaces h)) why.Space e)
+pub space_there : (ss : List Space) (h : ℕ) → no_space ss h ≡ None → (s : Space) × (space_at ss h ≡ Some s)
+space_there ss h e = is_there (space_at ss h) (then_none (is_none (space_at ss h)) why.Space e)
 
-pub of_space_none : (m : Machine) (h : ℕ) (test : Space → Test) (s : Space) → space_at m.spaces h ≡ Some s → of_space m h test ≡ None → test s ≡ None
-of_space_none m h test s is e = ap (λ (o : Option Space). option_and_then test o) (sym is) ∙ e
+pub of_space_none : (ss : List Space) (h : ℕ) (test : Space → Test) (s : Space) → space_at ss h ≡ Some s → of_space ss h test ≡ None → test s ≡ None
+of_space_none ss h test s is e = ap (λ (o : Option Space). option_and_then test o) (sym is) ∙ e
 
 -- no space passes the test
 pub no_lowest : (word : ℕ → Refusal) (test : Space → Bool) (ss : List Space) → option_map word (lowest_handle test ss) ≡ None → (s : Space) → In s ss → test s ≡ false
@@ -126,26 +126,26 @@ pub not_root : (h : ℕ) → is_root h ≡ None → h ≢ 0
 not_root h e = eqb-false h 0 (then_none (h == 0) why.Root e)
 
 -- the space has a window
-pub window_there : (m : Machine) (h : ℕ) (s : Space) → space_at m.spaces h ≡ Some s → not_mapped m h ≡ None → (w : Window) × (s.window ≡ Some w)
-window_there m h s is e = either s.window refl (then_none (not (is_mapped s)) why.NotMapped (of_space_none m h (λ t. then_some (not (is_mapped t)) why.NotMapped) s is e))
+pub window_there : (ss : List Space) (h : ℕ) (s : Space) → space_at ss h ≡ Some s → not_mapped ss h ≡ None → (w : Window) × (s.window ≡ Some w)
+window_there ss h s is e = either s.window refl (then_none (not (is_mapped s)) why.NotMapped (of_space_none ss h (λ t. then_some (not (is_mapped t)) why.NotMapped) s is e))
   where
     either : (o : Option Window) → s.window ≡ o → not (is_some o) ≡ false → (w : Window) × (s.window ≡ Some w)
     either None q f = absurd (true≢false f)
     either (Some w) q f = (w, q)
 
 -- the space has no window
-pub window_free : (m : Machine) (h : ℕ) (s : Space) → space_at m.spaces h ≡ Some s → self_mapped m h ≡ None → s.window ≡ None
-window_free m h s is e = either s.window refl (then_none (is_mapped s) (why.Mapped h) (of_space_none m h (λ t. then_some (is_mapped t) (why.Mapped h)) s is e))
+pub window_free : (ss : List Space) (h : ℕ) (s : Space) → space_at ss h ≡ Some s → self_mapped ss h ≡ None → s.window ≡ None
+window_free ss h s is e = either s.window refl (then_none (is_mapped s) (why.Mapped h) (of_space_none ss h (λ t. then_some (is_mapped t) (why.Mapped h)) s is e))
   where
     either : (o : Option Window) → s.window ≡ o → is_some o ≡ false → s.window ≡ None
     either None q f = q
     either (Some w) q f = absurd (true≢false f)
 
 -- no mapped space shares a page with the space
-pub path_free : (m : Machine) (h : ℕ) (s : Space) → space_at m.spaces h ≡ Some s → path_mapped m h ≡ None
-    → (t : Space) → In t m.spaces → is_mapped t ≡ true → overlap s t ≡ false
-path_free m h s is e t i mapped =
-    right (is_mapped t) mapped (no_lowest why.Mapped (λ u. is_mapped u && overlap s u) m.spaces (of_space_none m h (λ r. option_map why.Mapped (lowest_handle (λ u. is_mapped u && overlap r u) m.spaces)) s is e) t i)
+pub path_free : (ss : List Space) (h : ℕ) (s : Space) → space_at ss h ≡ Some s → path_mapped ss h ≡ None
+    → (t : Space) → In t ss → is_mapped t ≡ true → overlap s t ≡ false
+path_free ss h s is e t i mapped =
+    right (is_mapped t) mapped (no_lowest why.Mapped (λ u. is_mapped u && overlap s u) ss (of_space_none ss h (λ r. option_map why.Mapped (lowest_handle (λ u. is_mapped u && overlap r u) ss)) s is e) t i)
   where
     right : (b : Bool) → b ≡ true → b && overlap s t ≡ false → overlap s t ≡ false
     right true q f = f

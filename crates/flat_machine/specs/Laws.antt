@@ -12,7 +12,8 @@ use Rattle.flat_machine.specs.Form.{IsTyped}
 use Rattle.labelled_disk.specs.Rising.{AreRising, BothBy}
 use Rattle.flat_machine.specs.File.{File, size, file_at}
 use Rattle.flat_machine.specs.Space.{Space, FilePage, overlap, root_pages, space_at}
-use Rattle.flat_machine.specs.Machine.{Machine, IsMachine, IsFile, IsRising, ancestor}
+use Rattle.flat_machine.specs.Machine.{Machine, IsFile, IsRising, ancestor}
+use Rattle.flat_machine.specs.IsMachine.{IsMachine}
 use Rattle.flat_machine.specs.At.{shown_at, pages_of}
 use Rattle.flat_machine.specs.Refusal.{refusal, fits, lowest_gap}
 use Rattle.flat_machine.specs.Next.{next, is_unused, lowest_unused}

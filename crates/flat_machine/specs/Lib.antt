@@ -2,6 +2,8 @@ pub mod Bytes
 pub mod File
 pub mod Space
 pub mod Machine
+pub mod IsMachine
+pub mod Spaces
 pub mod At
 pub mod Refusal
 pub mod Next
@@ -13,5 +15,10 @@ pub mod Settled
 pub mod Start
 pub mod Projection
 pub mod Rows
+pub mod MoreRows
 pub mod Laws
-pub mod Slow
+pub mod StoreLaws
+pub mod PageLaws
+pub mod SettledLaws
+pub mod References
+pub mod SpaceLaws

@@ -1,10 +1,10 @@
--- The machine of files and spaces, and what holds of every machine.
-use Rattle.std.specs.Prelude.{ℕ, zero, suc, Bool, ◌&&◌, ◌≡◌, ◌≢◌, ◌+◌, ◌/◌, ◌%◌, ◌^◌, ◌<◌, ◌≤◌, ◌==◌, if◌then◌else◌, List, Option, Some, None, length, map, IsTrue, IsFalse, IfSome, IsSomeAnd}
+-- The machine of files and spaces, and what holds of its parts.
+use Rattle.std.specs.Prelude.{ℕ, zero, suc, Bool, ◌&&◌, ◌≡◌, ◌≢◌, ◌+◌, ◌/◌, ◌%◌, ◌^◌, ◌<◌, ◌≤◌, ◌==◌, if◌then◌else◌, List, Option, None, length, IsTrue, IsFalse, IfSome, IsSomeAnd}
 use Rattle.std.specs.List.{list_any, AllByRecursion}
 use Rattle.std.specs.Option.{option_map_or}
 pub use Rattle.labelled_disk.specs.Rising.{IsRising, AreRising}
 use Rattle.flat_machine.specs.File.{File, Cell, size, file_at, total_room}
-use Rattle.flat_machine.specs.Space.{Space, Window, FilePage, root, end, overlap, space_at, is_child_of, is_mapped, is_writable, has_window, shows}
+use Rattle.flat_machine.specs.Space.{Space, Window, FilePage, end, space_at, is_child_of, is_writable, has_window, shows}
 
 -- Files in rising identifiers; spaces in rising handles, the root first; the numbers that new identifiers are made of;
 -- how many sectors files may have; and the pages that were stored to and not forced since.
@@ -30,9 +30,10 @@ nameable m id = if is_anonymous m.spaces id then None else file_at m.files id
 
 -- What holds of every machine.
 
--- the identifiers that a file may have: one with the volume's own serial has a counter that was given out
+-- the identifiers that a file may have, of 64 bits: one with the volume's own serial has a counter that was given out
 pub record IsFileId (serial counter id : ℕ) : Type 0 where
   pub above_reserved : 16 ≤ id
+  pub fits : id < 2 ^ 64
   pub low_half : id % 2 ^ 32 ≢ 4294967295
   pub given_out : id / 2 ^ 32 ≡ serial → id % 2 ^ 32 < counter
 
@@ -80,20 +81,3 @@ shares_anonymous s t = has_window (λ w. w.anonymous && has_window (λ v. v.file
 -- some writable window shows the page
 abbrev pub is_shown_writable : List Space → FilePage → Bool
 is_shown_writable spaces u = list_any (λ s. is_writable s && shows u.file u.page s) spaces
-
--- What holds of every machine. Two spaces that share a page lie on one path from the root, one above the other.
-pub record IsMachine (m : Machine) : Type 0 where
-  pub serial_fits : (1 ≤ m.serial) × (m.serial ≤ 4294967295)
-  pub counter_fits : (1 ≤ m.counter) × (m.counter ≤ 4294967295)
-  pub ids_rise : AreRising m.files
-  pub ids_given : AllByRecursion (λ f. IsFileId m.serial m.counter f.id) m.files
-  pub whole_files : AllByRecursion IsFile m.files
-  pub room : used m ≤ m.capacity
-  pub has_root : space_at m.spaces 0 ≡ Some root
-  pub handles_rise : IsRising (map (λ s. s.handle) m.spaces)
-  pub whole_spaces : AllByRecursion (IsSpace m.spaces) m.spaces
-  pub siblings_apart : EachTwo (λ s t. IsTrue (are_siblings s t) → IsFalse (overlap s t)) m.spaces
-  pub one_mapped_on_a_path : EachTwo (λ s t. IsTrue (is_mapped s && is_mapped t) → IsFalse (overlap s t)) m.spaces
-  pub whole_windows : AllByRecursion (λ s. IfSome s.window (IsWindow m.files s.pages)) m.spaces
-  pub anonymous_alone : EachTwo (λ s t. IsFalse (shares_anonymous s t)) m.spaces
-  pub unforced_shown : AllByRecursion (λ u. IsTrue (is_shown_writable m.spaces u)) m.unforced

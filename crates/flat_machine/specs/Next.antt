@@ -60,16 +60,16 @@ abbrev pub lowest_unused : List Space → ℕ
 lowest_unused spaces = unwrap_or (least (filter (is_unused spaces) (map (λ s. s.handle + 1) spaces))) 0
 
 -- the given first page, or the start of the parent's lowest gap that is long enough
-abbrev pub first_page_for : Machine → ℕ → ℕ → Option ℕ → ℕ
-first_page_for m parent pages (Some first) = first
-first_page_for m parent pages None = option_map_or (λ p. unwrap_or (lowest_gap m.spaces p pages) 0) (space_at m.spaces parent) 0
+abbrev pub first_page_for : List Space → ℕ → ℕ → Option ℕ → ℕ
+first_page_for spaces parent pages (Some first) = first
+first_page_for spaces parent pages None = option_map_or (λ p. unwrap_or (lowest_gap spaces p pages) 0) (space_at spaces parent) 0
 
 -- the space that a call for one makes
-abbrev pub new_space : Machine → ℕ → ℕ → Option ℕ → Space
-new_space m parent pages first = record {
-  handle = lowest_unused m.spaces;
+abbrev pub new_space : List Space → ℕ → ℕ → Option ℕ → Space
+new_space spaces parent pages first = record {
+  handle = lowest_unused spaces;
   parent = parent;
-  first = first_page_for m parent pages first;
+  first = first_page_for spaces parent pages first;
   pages = pages;
   unit = min pages 16;
   window = None;
@@ -185,7 +185,7 @@ change m (MakePermanent id) = record m { files = change_file id (λ f. record f 
 change m (MakeImmutable id) = record m { files = change_file id (λ f. record f { immutable = true }) m.files }
 change m (Next id) = m
 change m Volume = m
-change m (MakeSpace parent pages first) = record m { spaces = put_space (new_space m parent pages first) m.spaces }
+change m (MakeSpace parent pages first) = record m { spaces = put_space (new_space m.spaces parent pages first) m.spaces }
 change m (RemoveSpace space) = record m { spaces = without_space space m.spaces }
 change m (Place page) = m
 change m (Units space pages) = record m { spaces = change_space space (λ s. record s { unit = pages }) m.spaces }

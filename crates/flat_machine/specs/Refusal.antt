@@ -60,19 +60,19 @@ file_mapped m id test = option_map why.FileMapped (lowest_handle (has_window (λ
 abbrev pub cut_while_mapped : Machine → ℕ → ℕ → Test
 cut_while_mapped m id pages = of_file m id (λ f. if nat_lt pages (size f) then file_mapped m id (λ w. true) else None)
 
--- Tests of spaces.
+-- Tests of spaces, by their list alone.
 
 -- no space has the handle
-abbrev pub no_space : Machine → ℕ → Test
-no_space m handle = then_some (is_none (space_at m.spaces handle)) why.Space
+abbrev pub no_space : List Space → ℕ → Test
+no_space spaces handle = then_some (is_none (space_at spaces handle)) why.Space
 
 -- it is the root's handle
 abbrev pub is_root : ℕ → Test
 is_root handle = then_some (handle == 0) why.Root
 
 -- a test of the space of that handle
-abbrev pub of_space : Machine → ℕ → (Space → Test) → Test
-of_space m handle test = option_and_then test (space_at m.spaces handle)
+abbrev pub of_space : List Space → ℕ → (Space → Test) → Test
+of_space spaces handle test = option_and_then test (space_at spaces handle)
 
 -- a space is to have no page
 abbrev pub no_size : ℕ → Test
@@ -83,8 +83,8 @@ abbrev pub no_unit : ℕ → Test
 no_unit pages = then_some (pages == 0 || nat_lt 16 pages) why.Size
 
 -- there are 511 spaces beside the root
-abbrev pub no_spaces : Machine → Test
-no_spaces m = then_some (nat_lt 511 (length m.spaces)) why.Spaces
+abbrev pub no_spaces : List Space → Test
+no_spaces spaces = then_some (nat_lt 511 (length spaces)) why.Spaces
 
 -- so many pages from the first one on are over no child of the parent
 abbrev pub is_clear : List Space → Space → ℕ → ℕ → Bool
@@ -110,45 +110,45 @@ abbrev pub lowest_gap : List Space → Space → ℕ → Option ℕ
 lowest_gap spaces parent pages = least (filter (fits spaces parent pages) (gap_starts spaces parent))
 
 -- no gap of the parent has so many pages
-abbrev pub no_gap : Machine → ℕ → ℕ → Test
-no_gap m parent pages = of_space m parent (λ p. then_some (is_none (lowest_gap m.spaces p pages)) why.Gap)
+abbrev pub no_gap : List Space → ℕ → ℕ → Test
+no_gap spaces parent pages = of_space spaces parent (λ p. then_some (is_none (lowest_gap spaces p pages)) why.Gap)
 
 -- so many pages from the first one on are not a free place inside the parent
-abbrev pub out_of_range : Machine → ℕ → ℕ → ℕ → Test
-out_of_range m parent pages first = of_space m parent (λ p. then_some (not (fits m.spaces p pages first)) why.Range)
+abbrev pub out_of_range : List Space → ℕ → ℕ → ℕ → Test
+out_of_range spaces parent pages first = of_space spaces parent (λ p. then_some (not (fits spaces p pages first)) why.Range)
 
 -- a given place is out of range, or where none is given there is no gap
-abbrev pub no_place : Machine → ℕ → ℕ → Option ℕ → Test
-no_place m parent pages None = no_gap m parent pages
-no_place m parent pages (Some first) = out_of_range m parent pages first
+abbrev pub no_place : List Space → ℕ → ℕ → Option ℕ → Test
+no_place spaces parent pages None = no_gap spaces parent pages
+no_place spaces parent pages (Some first) = out_of_range spaces parent pages first
 
 -- the space has children
-abbrev pub has_children : Machine → ℕ → Test
-has_children m handle = then_some (list_any (is_child_of handle) m.spaces) why.Children
+abbrev pub has_children : List Space → ℕ → Test
+has_children spaces handle = then_some (list_any (is_child_of handle) spaces) why.Children
 
 -- the space itself is mapped
-abbrev pub self_mapped : Machine → ℕ → Test
-self_mapped m handle = of_space m handle (λ s. then_some (is_mapped s) (why.Mapped handle))
+abbrev pub self_mapped : List Space → ℕ → Test
+self_mapped spaces handle = of_space spaces handle (λ s. then_some (is_mapped s) (why.Mapped handle))
 
 -- The space, one above it, or one below it is mapped: two spaces share a page exactly where one is the other or above it.
-abbrev pub path_mapped : Machine → ℕ → Test
-path_mapped m handle = of_space m handle (λ s. option_map why.Mapped (lowest_handle (λ t. is_mapped t && overlap s t) m.spaces))
+abbrev pub path_mapped : List Space → ℕ → Test
+path_mapped spaces handle = of_space spaces handle (λ s. option_map why.Mapped (lowest_handle (λ t. is_mapped t && overlap s t) spaces))
 
 -- the space itself is not mapped
-abbrev pub not_mapped : Machine → ℕ → Test
-not_mapped m handle = of_space m handle (λ s. then_some (not (is_mapped s)) why.NotMapped)
+abbrev pub not_mapped : List Space → ℕ → Test
+not_mapped spaces handle = of_space spaces handle (λ s. then_some (not (is_mapped s)) why.NotMapped)
 
 -- the space's window from that page of the file on would reach past the file's end
 abbrev pub past_end : Machine → ℕ → ℕ → ℕ → Test
-past_end m handle id page = of_space m handle (λ s. of_file m id (λ f. then_some (nat_lt (size f) (page + s.pages)) why.Window))
+past_end m handle id page = of_space m.spaces handle (λ s. of_file m id (λ f. then_some (nat_lt (size f) (page + s.pages)) why.Window))
 
 -- the space's window shows an immutable file
 abbrev pub shows_immutable : Machine → ℕ → Test
-shows_immutable m handle = of_space m handle (λ s. option_and_then (λ w. is_immutable m w.file) s.window)
+shows_immutable m handle = of_space m.spaces handle (λ s. option_and_then (λ w. is_immutable m w.file) s.window)
 
 -- there is no room for an anonymous file of the space's size
 abbrev pub no_room_for_space : Machine → ℕ → Test
-no_room_for_space m handle = of_space m handle (λ s. no_room m (s.pages + 1))
+no_room_for_space m handle = of_space m.spaces handle (λ s. no_room m (s.pages + 1))
 
 -- Tests of pages.
 
@@ -178,22 +178,22 @@ tests m (MakePermanent id) = no_file m id ∷ []
 tests m (MakeImmutable id) = no_file m id ∷ file_mapped m id (λ w. w.writable) ∷ []
 tests m (Next id) = []
 tests m Volume = []
-tests m (MakeSpace parent pages first) = no_space m parent ∷ no_size pages ∷ no_spaces m ∷ no_place m parent pages first ∷ []
-tests m (RemoveSpace space) = no_space m space ∷ is_root space ∷ has_children m space ∷ self_mapped m space ∷ []
+tests m (MakeSpace parent pages first) = no_space m.spaces parent ∷ no_size pages ∷ no_spaces m.spaces ∷ no_place m.spaces parent pages first ∷ []
+tests m (RemoveSpace space) = no_space m.spaces space ∷ is_root space ∷ has_children m.spaces space ∷ self_mapped m.spaces space ∷ []
 tests m (Place page) = past_root page ∷ []
-tests m (Units space pages) = no_space m space ∷ is_root space ∷ no_unit pages ∷ []
+tests m (Units space pages) = no_space m.spaces space ∷ is_root space ∷ no_unit pages ∷ []
 tests m (Map space id page writable) =
-    no_space m space ∷ is_root space ∷ no_file m id ∷ path_mapped m space ∷ past_end m space id page
+    no_space m.spaces space ∷ is_root space ∷ no_file m id ∷ path_mapped m.spaces space ∷ past_end m space id page
     ∷ (if writable then is_immutable m id else None) ∷ []
-tests m (MapAnonymous space) = no_space m space ∷ is_root space ∷ path_mapped m space ∷ no_room_for_space m space ∷ no_ids m ∷ []
-tests m (Unmap space) = no_space m space ∷ not_mapped m space ∷ []
-tests m (Protect space writable) = no_space m space ∷ not_mapped m space ∷ (if writable then shows_immutable m space else None) ∷ []
+tests m (MapAnonymous space) = no_space m.spaces space ∷ is_root space ∷ path_mapped m.spaces space ∷ no_room_for_space m space ∷ no_ids m ∷ []
+tests m (Unmap space) = no_space m.spaces space ∷ not_mapped m.spaces space ∷ []
+tests m (Protect space writable) = no_space m.spaces space ∷ not_mapped m.spaces space ∷ (if writable then shows_immutable m space else None) ∷ []
 tests m (Load address count) = no_map m address count ∷ []
 tests m (Store address bytes) = no_map m address (length bytes) ∷ read_only m address (length bytes) ∷ []
-tests m (Activate space) = no_space m space ∷ []
-tests m (Deactivate space) = no_space m space ∷ []
-tests m (Kill space) = no_space m space ∷ []
-tests m (ForceOut space) = no_space m space ∷ []
+tests m (Activate space) = no_space m.spaces space ∷ []
+tests m (Deactivate space) = no_space m.spaces space ∷ []
+tests m (Kill space) = no_space m.spaces space ∷ []
+tests m (ForceOut space) = no_space m.spaces space ∷ []
 tests m Close = []
 tests m Halt = []
 

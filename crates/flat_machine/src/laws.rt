@@ -3,10 +3,16 @@
 ghost use Rattle.flat_machine.specs.Laws.{SomeReplyIsAllowed, RefusedChangesNothing, TranscriptBegins, TranscriptGrows, AfterGrows};
 ghost use Rattle.flat_machine.specs.Form.{IsTyped};
 ghost use Rattle.flat_machine.specs.Rows.{WorkedRows};
+ghost use Rattle.flat_machine.specs.MoreRows.{MoreRows};
 ghost use Rattle.flat_machine.specs.Laws.{OpenedIsMachine, StartAgrees, ProjectionIsUnique, LowestGapIsLeast, LowestUnusedIsLeast};
 ghost use Rattle.flat_machine.specs.Laws.{NextKeepsMachine, AfterIsMachine, StartIsMachine, UnitHoldsItsPage, ProjectionCovers};
 ghost use Rattle.flat_machine.specs.Laws.{ProjectionExists, SharingIsOnePath, ReferenceTouches, ShownIsThere, ForcedIsSettled, StandingFilesAgree};
 ghost use Rattle.flat_machine.specs.Laws.{RepliesAreLines, TranscriptsCount};
+ghost use Rattle.flat_machine.specs.SpaceLaws.{InnermostIsOne, LeastIsLeast, LowestHandleIsLowest};
+ghost use Rattle.flat_machine.specs.SettledLaws.{SettledByIdentifier, SettledByPage};
+ghost use Rattle.flat_machine.specs.References.{TouchedAreShown};
+ghost use Rattle.flat_machine.specs.StoreLaws.{StoredIsShown, StoredIsLoaded};
+ghost use Rattle.flat_machine.specs.PageLaws.{CreatedPages, DeletedPages, SizedPages, KilledPages, StoredPages, StoredCells};
 
 use crate::Call;
 
@@ -52,13 +58,38 @@ pub fn projection_is_one()
 
 /// The worked rows come out as they are written.
 pub fn worked_rows()
-    ensures { WorkedRows }
+    ensures rows { WorkedRows }
+    ensures more { MoreRows }
 {}
 
-/// A new space stands as low as it can, and has the least handle.
+/// A new space stands as low as it can, and has the least handle; a refusal names the lowest
+/// handle.
 pub fn lowest_is_least()
     ensures gap { LowestGapIsLeast }
     ensures handle { LowestUnusedIsLeast }
+    ensures number { LeastIsLeast }
+    ensures named { LowestHandleIsLowest }
+{}
+
+/// Each page of the root has exactly one innermost space.
+pub fn innermost_is_one()
+    ensures { InnermostIsOne }
+{}
+
+/// What a call does to one page of the files, and that all others stay.
+pub fn pages_change()
+    ensures created { CreatedPages }
+    ensures deleted { DeletedPages }
+    ensures sized { SizedPages }
+    ensures killed { KilledPages }
+    ensures stored { StoredPages }
+    ensures cells { StoredCells }
+{}
+
+/// What is stored is what a load behind it replies.
+pub fn stored_is_loaded()
+    ensures shown { StoredIsShown }
+    ensures loaded { StoredIsLoaded }
 {}
 
 /// What holds of every machine holds after every call.
@@ -82,9 +113,10 @@ pub fn sharing_is_one_path()
     ensures { SharingIsOnePath }
 {}
 
-/// A reference touches two pages at most.
+/// A reference touches two pages at most; where it is not refused, a window shows each.
 pub fn reference_touches()
-    ensures { ReferenceTouches }
+    ensures pages { ReferenceTouches }
+    ensures shown { TouchedAreShown }
 {}
 
 /// A page that is shown is one of its file.
@@ -93,10 +125,12 @@ pub fn shown_is_there()
 {}
 
 /// After forcing everything, the settled files are the permanent ones; and files that stand for
-/// the machine's agree with the settled ones.
+/// the machine's agree with the settled ones. A settled file is one of the machine's, page by page.
 pub fn settled_files()
     ensures forced { ForcedIsSettled }
     ensures standing { StandingFilesAgree }
+    ensures file { SettledByIdentifier }
+    ensures page { SettledByPage }
 {}
 
 /// The numbers of every call fit their types.

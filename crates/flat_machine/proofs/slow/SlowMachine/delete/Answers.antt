@@ -1,7 +1,0 @@
-use Rattle.flat_machine.proofs.SlowRoomLemmas.{room_filter}
-use Rattle.flat_machine.proofs.SlowFileLemmas.{rising_filter}
-use Rattle.flat_machine.proofs.slow.SlowMachine.delete.Goals as goal
-
-pub invariant_of-self : goal.invariant_of-self
-invariant_of-self g c =
-    (rw c.remove.ensures (room_filter _ c.self.inside.files.items _ c.self.invariant.0), rw c.remove.ensures (rising_filter _ c.self.inside.files.items c.self.invariant.1), c.self.invariant.2)

@@ -1,8 +1,0 @@
-use Rattle.std.proofs.Common.{sym}
-use Rattle.flat_machine.proofs.SlowGapLemmas.{gap_taken}
-use Rattle.flat_machine.proofs.slow.gap.lowest_gap.Goals as goal
-
-pub loop-s-preserved : goal.loop-s-preserved
-loop-s-preserved c =
-    rw (c.with_gap_behind-lowest.ensures, c.loop-s.invariant)
-    (sym (gap_taken c.args.spaces.now c.args.parent.now c.args.pages c.loop-s.s-index _ c.loop-s-test.true))

@@ -1,6 +1,0 @@
-use Rattle.std.proofs.Common.{◌≡◌, take}
-use Rattle.flat_machine.proofs.SlowGapLemmas.{gap_so_far}
-use Rattle.flat_machine.proofs.slow.gap.lowest_gap.Given as goal
-
-abbrev pub invariant-loop-s : goal.invariant-loop-s
-invariant-loop-s l = l.lowest ≡ gap_so_far l.spaces l.parent l.pages (take l.s-index l.spaces)

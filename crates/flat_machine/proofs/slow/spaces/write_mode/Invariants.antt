@@ -1,6 +1,0 @@
-use Rattle.std.proofs.Common.{◌≡◌, ◌++◌, take, drop, true}
-use Rattle.flat_machine.specs.Next.{set_mode}
-use Rattle.flat_machine.proofs.slow.spaces.write_mode.Given as goal
-
-abbrev pub invariant-loop-s : goal.invariant-loop-s
-invariant-loop-s l = l.spaces ≡ set_mode l.handle l.writable (take l.s-index l.initial.spaces) ++ drop l.s-index l.initial.spaces

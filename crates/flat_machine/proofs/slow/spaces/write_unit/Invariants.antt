@@ -1,6 +1,0 @@
-use Rattle.std.proofs.Common.{◌≡◌, ◌++◌, take, drop, true}
-use Rattle.flat_machine.specs.Next.{change_space}
-use Rattle.flat_machine.proofs.slow.spaces.write_unit.Given as goal
-
-abbrev pub invariant-loop-s : goal.invariant-loop-s
-invariant-loop-s l = l.spaces ≡ change_space l.handle (λ s. record s { unit = l.unit }) (take l.s-index l.initial.spaces) ++ drop l.s-index l.initial.spaces

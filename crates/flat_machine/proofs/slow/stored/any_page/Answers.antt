@@ -1,7 +1,0 @@
-use Rattle.labelled_disk.specs.File.{any_page}
-use Rattle.std.proofs.Common.{refl, rules}
-use Rattle.flat_machine.proofs.slow.stored.any_page.Goals as goal
-
-pub returns : goal.returns
-unfolding any_page
-returns c = search rules

@@ -1,0 +1,10 @@
+mod EditLemmas
+mod FileLemmas
+mod GapLemmas
+mod LeastLemmas
+mod LoadLemmas
+mod PlaceLemmas
+mod RoomLemmas
+mod SpaceLemmas
+mod StepLemmas
+mod TestLemmas

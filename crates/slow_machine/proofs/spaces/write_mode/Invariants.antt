@@ -1,0 +1,6 @@
+use Rattle.std.proofs.Common.{◌≡◌, ◌++◌, take, drop}
+use Rattle.flat_machine.specs.Next.{set_mode}
+use Rattle.slow_machine.proofs.spaces.write_mode.Given as goal
+
+abbrev pub invariant-loop-s : goal.invariant-loop-s
+invariant-loop-s l = l.spaces ≡ set_mode l.handle l.writable (take l.s-index l.initial.spaces) ++ drop l.s-index l.initial.spaces
