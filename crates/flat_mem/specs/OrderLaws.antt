@@ -26,7 +26,7 @@ reversed Less h = absurd (false≢true (sym h))
 reversed Equal h = refl
 reversed Greater h = refl
 
-false_from : (t : Bool) → (t ≡ true → ⊥) → t ≡ false
+pub false_from : (t : Bool) → (t ≡ true → ⊥) → t ≡ false
 false_from true h = absurd (h refl)
 false_from false h = refl
 

@@ -1,6 +1,7 @@
 -- Laws of a part of a memory.
-use Rattle.std.specs.Prelude.{◌≡◌, ℕ, ◌*◌, ◌+◌, ◌<◌, ◌≤◌, Bool, List, length, if◌then◌else◌}
-use Rattle.std.proofs.Common.{inl, inr, refl, sym, ◌∙◌, ap, arith}
+use Rattle.std.specs.Prelude.{◌≡◌, ℕ, ◌*◌, ◌+◌, ◌<◌, ◌≤◌, Bool, List, ◌++◌, length, take, drop, if◌then◌else◌}
+use Rattle.std.proofs.Common.{inl, inr, refl, sym, ◌∙◌, ap, subst, arith, rules}
+use Rattle.std.proofs.lemmas.List.{same_lists, places}
 use Rattle.std.proofs.lemmas.Bool.{le-leb}
 use Rattle.std.proofs.lemmas.Bool.Decides.{leb_tells}
 use Rattle.flat_mem.specs.Memory.{part, overwritten}
@@ -20,6 +21,21 @@ same_beside_written first pages at w piece inside fits = record {
   front = take-overwritten w piece (512 * first + at) (512 * first) (omega arith) (omega (arith, inside));
   back = drop-overwritten w piece (512 * first + at) (512 * first + 512 * pages) (omega (arith, inside)) (omega (arith, inside));
 }
+
+-- a list is its front, its middle and its back
+cut : (b : List ℕ) (at len : ℕ) → b ≡ take at b ++ (part b at len ++ drop (at + len) b)
+cut b at len = same_lists _ _ (search (rules, places)) (λ k d h. grind (arith, places))
+
+-- what is the same beside the pages and within them is the same
+pub same_whole : (first pages : ℕ) (w v : List ℕ) → IsSameBeside first pages w v → part v (512 * first) (512 * pages) ≡ part w (512 * first) (512 * pages) → v ≡ w
+same_whole first pages w v beside middle =
+    let at = 512 * first in
+    let len = 512 * pages in
+    cut v at len
+    ∙ ap (λ (x : List ℕ). x ++ (part v at len ++ drop (at + len) v)) beside.front
+    ∙ ap (λ (x : List ℕ). take at w ++ (x ++ drop (at + len) v)) middle
+    ∙ ap (λ (x : List ℕ). take at w ++ (part w at len ++ x)) beside.back
+    ∙ sym (cut w at len)
 
 pub part_size_is : (whole first pages : ℕ) → 512 * first + 512 * pages ≤ whole → part_size whole first pages ≡ 512 * pages
 part_size_is whole first pages fits = ap (λ (t : Bool). if t then 512 * pages else 0) (le-leb (512 * first + 512 * pages) whole fits)
@@ -65,3 +81,10 @@ module _ {M X : Type 0} (tells : M → List ℕ → Type 0) where
     others_kept once a b w v kept before after =
         let told = kept.others w before in
         rw (once b.mem v told.0 after told.1) told.2
+
+    -- where the part tells what it told, so does the memory
+    pub whole_unchanged : ((m : M) (w v : List ℕ) → tells m w → tells m v → w ≡ v) → (p q : Part M X) (w : List ℕ) → IsKept tells beside p q → tells p.mem w → TellsPart tells q (part w (512 * p.first) (512 * p.pages)) → tells q.mem w
+    whole_unchanged once p q w kept before told =
+        let others = others_kept once p q w told.whole kept before told.told in
+        let middle : part told.whole (512 * p.first) (512 * p.pages) ≡ part w (512 * p.first) (512 * p.pages) = cc (told.is, kept.first, kept.pages) in
+        subst (λ (x : List ℕ). tells q.mem x) (same_whole p.first p.pages w told.whole others middle) told.told

@@ -60,4 +60,5 @@ fresh_pool n least most =
             rw (in_order n slot low) low;
       };
       distinct = λ i j f g has has2 ids pages. absurd (none-some f (sym (none_there n i) ∙ frame_of_has (empty_slots n) i f has));
+      pages = λ i f has. absurd (none-some f (sym (none_there n i) ∙ frame_of_has (empty_slots n) i f has));
     }

@@ -4,8 +4,8 @@ use Rattle.std.specs.Prelude.{option_map}
 use Rattle.frame_pool.specs.declared.home.Home.{Home}
 use Rattle.std.proofs.lemmas.Bool.{cases_eq, cases_lt}
 use Rattle.std.proofs.lemmas.Option.{same_Some, none-some}
-use Rattle.frame_pool.specs.Frames.{Frame, Slots, frame_at, shown, IsNowhere}
-use Rattle.frame_pool.specs.FrameLaws.{distinct_put, distinct_cleared}
+use Rattle.frame_pool.specs.Frames.{Frame, Slots, frame_at, shown, IsNowhere, IsPageBytes}
+use Rattle.frame_pool.specs.FrameLaws.{distinct_put, distinct_cleared, pages_filled, pages_cleared}
 use Rattle.frame_pool.specs.Lists.{Lists, IsSized}
 use Rattle.frame_pool.specs.Index.{bucket_of, bucket_in, bucket_at, IsIndex, Puts, KeepsButChains}
 use Rattle.frame_pool.specs.Order.{slot_at, place_of, IsOrder, Exchanges, HasEmpties, KeepsButOrder}
@@ -173,11 +173,11 @@ cleared_empties l0 l1 l2 slot place f below chains orders moved order empties so
           ];
     }
 
-pub filled_pool : (l0 l1 l2 : Lists) (slot place : ℕ) (f : Frame) → IsPool l0 (place + 1) → slot < length l0.frames → frame_at l0.frames slot ≡ None → IsNowhere l0.frames f.home.id f.home.page
+pub filled_pool : (l0 l1 l2 : Lists) (slot place : ℕ) (f : Frame) → IsPool l0 (place + 1) → slot < length l0.frames → frame_at l0.frames slot ≡ None → IsNowhere l0.frames f.home.id f.home.page → IsPageBytes f.bytes
     → KeepsButChains l0 l1 → ((at : ℕ → Option ℕ) → Puts (bucket_at l0.frames) slot (Some (bucket_of (length l0.frames) f.home.id f.home.page)) at → IsIndex at l1)
     → KeepsButOrder l1 l2 → IsOrder l2 → Exchanges l1 l2 slot place
     → IsPool (with_frame l0 l2 slot (Some f)) place
-filled_pool l0 l1 l2 slot place f pool below none nowhere chains linked orders order moved =
+filled_pool l0 l1 l2 slot place f pool below none nowhere page chains linked orders order moved =
     let long : length (set l0.frames slot (Some f)) ≡ length l0.frames = length-set l0.frames slot (Some f) in
     record {
       least = rw long pool.least;
@@ -187,6 +187,7 @@ filled_pool l0 l1 l2 slot place f pool below none nowhere chains linked orders o
       order = order_set l0 l1 l2 slot place (Some f) below chains orders order;
       first_empties = filled_empties l0 l1 l2 slot place f below chains orders moved pool.order pool.first_empties none;
       distinct = distinct_put l0.frames slot f below pool.distinct nowhere;
+      pages = pages_filled l0.frames slot f below pool.pages page;
     }
 
 pub cleared_pool : (l0 l1 l2 : Lists) (slot place : ℕ) (f : Frame) → IsPool l0 place → slot < length l0.frames → frame_at l0.frames slot ≡ Some f
@@ -203,6 +204,7 @@ cleared_pool l0 l1 l2 slot place f pool below some chains unlinked orders order 
       order = order_set l0 l1 l2 slot place None below chains orders order;
       first_empties = cleared_empties l0 l1 l2 slot place f below chains orders moved pool.order pool.first_empties some;
       distinct = distinct_cleared l0.frames slot below pool.distinct;
+      pages = pages_cleared l0.frames slot below pool.pages;
     }
 
 -- what is held is of a frame

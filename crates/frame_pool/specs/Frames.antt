@@ -1,5 +1,5 @@
 -- The slots of a pool: each is empty or has a frame.
-use Rattle.std.specs.Prelude.{◌≡◌, ◌<◌, ◌≤◌, ◌+◌, ◌-◌, nat_le, nat_lt, ◌++◌, ◌==◌, ◌&&◌, ℕ, Bool, true, false, List, length, take, drop, Option, Some, None, slice_get, slice_index_or, slice_set, option_map}
+use Rattle.std.specs.Prelude.{◌≡◌, ◌<◌, ◌≤◌, ◌+◌, ◌-◌, nat_le, nat_lt, ◌++◌, ◌==◌, ◌&&◌, ℕ, Bool, true, false, List, length, take, drop, Option, Some, None, slice_get, slice_index_or, slice_set, option_map, All}
 use Rattle.frame_pool.specs.declared.home.Home.{Home}
 
 -- a page of a file, its home, and whether the home may have other bytes
@@ -14,6 +14,14 @@ Slots = List (Option Frame)
 -- the slot has this frame
 pub record Has (slots : Slots) (slot : ℕ) (frame : Frame) : Type 0 where
   pub is : slice_get slots slot ≡ Some (Some frame)
+
+-- 512 bytes
+abbrev pub IsPageBytes : List ℕ → Type 0
+IsPageBytes page = (length page ≡ 512) × All (λ b. b < 256) page
+
+-- the bytes of each frame are those of a page
+abbrev pub ArePages : Slots → Type 0
+ArePages slots = (slot : ℕ) (frame : Frame) → Has slots slot frame → IsPageBytes frame.bytes
 
 -- the frame of the slot, or none
 abbrev pub frame_at : Slots → ℕ → Option Frame

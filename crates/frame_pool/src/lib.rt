@@ -8,8 +8,6 @@ mod order;
 mod pool;
 mod sweep;
 mod table;
-#[cfg(test)]
-mod tests;
 
 pub use home::Home;
 pub use pool::FramePool;

@@ -1,6 +1,6 @@
 //! The pool of frames: a bounded map from the pages of files to their bytes, homes and dirty marks.
 ghost use Rattle.std.specs.Prelude.{◌≡◌, ◌<◌, ◌≤◌, ◌+◌, ◌↔◌, ℕ, length, IfOk, IfSome, IsSome, Some, None, slice_set, option_map, replicate};
-ghost use Rattle.frame_pool.specs.Frames.{Frame, Has, HasDistinct, HasPage, IsEmpty, IsNowhere, IsOutside, changed_at, cleaned_at, frame_at, new_frame, shown};
+ghost use Rattle.frame_pool.specs.Frames.{ArePages, Frame, Has, HasDistinct, HasPage, IsEmpty, IsNowhere, IsOutside, IsPageBytes, changed, changed_at, clean, cleaned_at, frame_at, new_frame, shown};
 
 use crate::home::Home;
 use crate::sweep::sweep;
@@ -52,6 +52,7 @@ impl<A: Allocator> FramePool<A> {
         ensures least { 24 ≤ result }
         ensures most { result ≤ 4096 }
         ensures distinct { HasDistinct self.now }
+        ensures pages { ArePages self.now }
     {
         self.table.len() as u32
     }
@@ -62,6 +63,7 @@ impl<A: Allocator> FramePool<A> {
         ensures below { IfSome result (λ slot. slot < length self.now) }
         ensures nowhere { result ≡ None ↔ IsNowhere self.now id page }
         ensures distinct { HasDistinct self.now }
+        ensures pages { ArePages self.now }
     {
         match chain::find(&self.table, id, page) {
             Some(slot) => Some(u32::from(slot)),
@@ -72,7 +74,9 @@ impl<A: Allocator> FramePool<A> {
     /// The home of the slot's page, and whether the frame is dirty.
     pub fn held(&self, slot: u32) -> Option<(Home, bool)>
         requires { slot < length self.now }
-        ensures { result ≡ option_map shown (frame_at self.now slot) }
+        ensures value { result ≡ option_map shown (frame_at self.now slot) }
+        ensures filled { IfSome result (λ held. (frame : Frame) × Has self.now slot frame × (frame.home ≡ held.0) × (frame.dirty ≡ held.1)) }
+        ensures empty { result ≡ None ↔ IsEmpty self.now slot }
     {
         self.table.held(slot as u16)
     }
@@ -81,7 +85,9 @@ impl<A: Allocator> FramePool<A> {
     pub fn bytes(&self, slot: u32) -> &Page
         requires below { slot < length self.now }
         requires filled { IsSome (frame_at self.now slot) }
-        ensures { IfSome (frame_at self.now slot) (λ frame. result.now ≡ frame.bytes) }
+        ensures value { IfSome (frame_at self.now slot) (λ frame. result.now ≡ frame.bytes) }
+        ensures bytes { (frame : Frame) → Has self.now slot frame → result.now ≡ frame.bytes }
+        ensures page { IsPageBytes result.now }
     {
         self.table.bytes(slot as u16)
     }
@@ -123,7 +129,9 @@ impl<A: Allocator> FramePool<A> {
         requires below { slot < length self.old }
         requires filled { IsSome (frame_at self.old slot) }
         requires inside { at + length bytes.now ≤ 512 }
-        ensures { self.new ≡ changed_at self.old slot at bytes.now }
+        ensures value { self.new ≡ changed_at self.old slot at bytes.now }
+        ensures changed { (frame : Frame) → Has self.old slot frame → self.new ≡ slice_set self.old slot (Some (changed frame at bytes.now)) }
+        ensures distinct { HasDistinct self.old }
     {
         self.table.overwrite(slot as u16, at as usize, bytes);
         self.table.mark(slot as u16);
@@ -133,7 +141,8 @@ impl<A: Allocator> FramePool<A> {
     pub fn mark_clean(&mut self, slot: u32)
         requires below { slot < length self.old }
         requires filled { IsSome (frame_at self.old slot) }
-        ensures { self.new ≡ cleaned_at self.old slot }
+        ensures value { self.new ≡ cleaned_at self.old slot }
+        ensures clean { (frame : Frame) → Has self.old slot frame → self.new ≡ slice_set self.old slot (Some (clean frame)) }
     {
         self.table.clean(slot as u16);
     }
@@ -141,7 +150,8 @@ impl<A: Allocator> FramePool<A> {
     /// Empties a slot. What was dirty in it is lost.
     pub fn clear(&mut self, slot: u32)
         requires { slot < length self.old }
-        ensures { self.new ≡ slice_set self.old slot None }
+        ensures value { self.new ≡ slice_set self.old slot None }
+        ensures distinct { HasDistinct self.old }
     {
         self.empties = fill::clear(&mut self.table, self.empties, slot as u16);
     }

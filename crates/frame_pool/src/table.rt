@@ -1,7 +1,7 @@
 //! The pool's one piece of memory: for each slot its frame, and a share of the index and of the order of the slots.
 ghost use Rattle.std.specs.Prelude.{◌≡◌, ◌<◌, ◌≤◌, ◌+◌, ◌^◌, ◌↔◌, length, true, false, IfOk, IfSome, IsTrue, IsSome, Some, None, slice_index_or, slice_set, option_map};
 ghost use Rattle.frame_pool.specs.Table.{lists_of};
-ghost use Rattle.frame_pool.specs.Frames.{frame_at, new_frame, clean, changed, overwritten, shown, is_of, is_kept};
+ghost use Rattle.frame_pool.specs.Frames.{frame_at, new_frame, clean, changed, overwritten, shown, is_of, is_kept, IsPageBytes};
 ghost use Rattle.frame_pool.specs.Lists.{Lists, fresh_lists};
 
 use crate::home::Home;
@@ -227,7 +227,8 @@ impl<A: Allocator> Table<A> {
 
     pub(crate) fn fill(&mut self, slot: u16, home: Home, bytes: &Page)
         requires { slot < length self.old.frames }
-        ensures { self.new ≡ record self.old { frames = slice_set self.old.frames slot (Some (new_frame home bytes.now)) } }
+        ensures value { self.new ≡ record self.old { frames = slice_set self.old.frames slot (Some (new_frame home bytes.now)) } }
+        ensures page { IsPageBytes bytes.now }
     {
         let Home { sector, id, page } = home;
         self.slots[slot as usize].kept = Some(Kept {

@@ -1,10 +1,10 @@
 -- Calls in a row: what one leaves, and what the row leaves.
-use Rattle.std.proofs.Common.{ℕ, ◌≤◌, List, ◌++◌, ◌∷◌, [], Result, Ok, refl, ◌∙◌, ap, arith}
+use Rattle.std.proofs.Common.{ℕ, ◌+◌, ◌≤◌, List, ◌++◌, ◌∷◌, [], Result, Ok, refl, ◌∙◌, ap, arith}
 use Rattle.std.specs.Prelude.{option_map}
 use Rattle.labelled_disk.specs.declared.label.Label.{Label}
 use Rattle.labelled_disk.specs.declared.disk.DiskError.{DiskError}
 use Rattle.labelled_disk.specs.declared.disk.DiskWrite.{DiskWrite}
-use Rattle.labelled_disk.specs.Calls.{Rose, TellsSame, TellsWrite, Reads, Settles, OnlyReads}
+use Rattle.labelled_disk.specs.Calls.{Rose, TellsSame, TellsWrite, Reads, Settles, OnlyReads, ReadsAtMost}
 use Rattle.labelled_disk.specs.Moment.{written}
 use Rattle.labelled_disk.specs.State.{DiskState}
 
@@ -47,6 +47,22 @@ read_only read = record {
 -- one read more, whatever its answer
 pub only_reads_more : {a b c : DiskState} {sector : ℕ} {page : List ℕ} {result : Result Label DiskError} → OnlyReads a b → Reads b sector page result c → OnlyReads a c
 only_reads_more so_far read = only_reads_then so_far (read_only read)
+
+-- no call moves a sector
+pub reads_at_most_itself : (d : DiskState) → ReadsAtMost 0 d d
+reads_at_most_itself d = record { only = only_reads_itself d; moved = omega arith }
+
+-- more calls that wrote nothing
+pub reads_at_most_then : {a b c : DiskState} {most more : ℕ} → ReadsAtMost most a b → ReadsAtMost more b c → ReadsAtMost (most + more) a c
+reads_at_most_then first next = record { only = only_reads_then first.only next.only; moved = omega (arith, first.moved, next.moved) }
+
+-- a greater bound
+pub reads_at_most_wider : {a b : DiskState} {most more : ℕ} → most ≤ more → ReadsAtMost most a b → ReadsAtMost more a b
+reads_at_most_wider less reads = record { only = reads.only; moved = omega (arith, less, reads.moved) }
+
+-- one read
+pub reads_one : {a b : DiskState} {sector : ℕ} {page : List ℕ} {result : Result Label DiskError} → Reads a sector page result b → ReadsAtMost 1 a b
+reads_one read = record { only = read_only read; moved = read.moves.transfers.by_one }
 
 -- a settling that was answered
 pub settled_only : {a b : DiskState} → Settles a (Ok tt) b → OnlyReads a b

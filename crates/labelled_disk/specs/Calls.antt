@@ -96,3 +96,8 @@ pub record OnlyReads (old new : DiskState) : Type 0 where
   pub transfers : old.transfers ≤ new.transfers
   pub faults : old.faults ≤ new.faults
   pub synced : old.synced ≡ true → new.synced ≡ true
+
+-- Calls in a row that wrote nothing, and moved so many sectors at most.
+pub record ReadsAtMost (most : ℕ) (old new : DiskState) : Type 0 where
+  pub only : OnlyReads old new
+  pub moved : new.transfers ≤ old.transfers + most

@@ -17,6 +17,3 @@ pub use laws::{
 };
 pub use layout::{Difference, Layout, RootFault};
 pub use memory::MemoryDisk;
-
-#[cfg(test)]
-mod tests;

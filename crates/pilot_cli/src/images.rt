@@ -1,6 +1,6 @@
 //! Image files: a new one, and one that is there.
 
-use crate::image_disk::{ImageDisk, SECTOR_BYTES};
+use image_disk::{ImageDisk, SECTOR_BYTES};
 use std::fs::{File, OpenOptions};
 use std::io;
 

@@ -2,12 +2,9 @@
 #![tactic(auto)]
 
 mod about;
-mod image_disk;
-mod image_word;
 mod images;
 
-use image_disk::ImageDisk;
-use image_word::{Image, image_of};
+use image_disk::{Image, ImageDisk, image_of};
 use labelled_disk::{Disk, MemoryDisk};
 use pilot_top::{Status, pilot};
 use std::fs::File;

@@ -5,7 +5,7 @@ ghost use Rattle.swap_units.specs.Unit.{Holds, IsUnit, IsAmong, LiesIn};
 use labelled_disk::FileId;
 
 /// A longest run of pages of the root that have the same innermost space and the same mapped space.
-#[derive(Clone, Copy, Debug, PartialEq, Eq)]
+#[derive(Clone, Copy, Debug, Default, PartialEq, Eq)]
 pub struct Interval {
     /// The first page of the root that the interval has.
     pub first: u32,

@@ -6,4 +6,4 @@ mod NoCount
 pub mod RootLemmas
 mod SectorRuns
 mod UsedBits
-mod WrittenLemmas
+pub mod WrittenLemmas

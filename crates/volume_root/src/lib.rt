@@ -6,8 +6,6 @@ mod laws;
 mod page;
 mod read;
 mod root;
-#[cfg(test)]
-mod tests;
 mod write;
 
 pub use formatting::format;

@@ -1,6 +1,6 @@
 //! The root of a volume, as it is read and judged.
 ghost use Rattle.std.specs.Prelude.{◌≡◌, ℕ, List, Some, Err, length, slice_get, IfOk};
-ghost use Rattle.labelled_disk.specs.Calls.{OnlyReads, Rose};
+ghost use Rattle.labelled_disk.specs.Calls.{OnlyReads, ReadsAtMost, Rose};
 ghost use Rattle.labelled_disk.specs.Layout.{IsCount};
 ghost use Rattle.labelled_disk.specs.Sectors.{Sector};
 ghost use Rattle.volume_root.specs.RootPage.{judged, first_of, is_labelled, is_magic, is_version, is_counted, has_serial, has_counter, is_flagged, is_rest, is_closed, root_in, IsUnlessFault, IsValidRoot};
@@ -137,6 +137,7 @@ pub fn read_root<D: Disk>(disk: &mut D, clean_only: bool) -> Result<Root, RootFa
     ensures valid { IfOk result (IsValidRoot (D.state disk.old).sectors) }
     ensures cause { result ≡ Err RootFault.Disk → Rose (D.state disk.old).faults (D.state disk.new).faults }
     ensures only_reads { OnlyReads (D.state disk.old) (D.state disk.new) }
+    ensures at_most { ReadsAtMost 1 (D.state disk.old) (D.state disk.new) }
 {
     let sectors = disk.sectors();
     let _layout = Layout::of(sectors)?;

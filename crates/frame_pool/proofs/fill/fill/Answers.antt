@@ -11,7 +11,7 @@ returns-clause-pool g c =
     let low = c.requires.pool.first_empties.placed c.args.slot c.requires.slot c.requires.empty in
     let one_less : place + 1 ≡ c.args.empties = omega (arith, low) in
     let pool : IsPool l0 (place + 1) = rw one_less c.requires.pool in
-    rw (c.fill.ensures, c.exchange.ensures.kept.frames, c.link.ensures.kept.frames)
-    (filled_pool l0 c.link.new.table c.exchange.new.table c.args.slot place (new_frame c.args.home c.args.bytes.now) pool c.requires.slot c.requires.empty c.requires.nowhere c.link.ensures.kept
+    rw (c.fill.ensures.value, c.exchange.ensures.kept.frames, c.link.ensures.kept.frames)
+    (filled_pool l0 c.link.new.table c.exchange.new.table c.args.slot place (new_frame c.args.home c.args.bytes.now) pool c.requires.slot c.requires.empty c.requires.nowhere c.fill.ensures.page c.link.ensures.kept
     (λ at puts. c.link.ensures.linked at (rw (c.bucket_of-bucket.ensures.value, c.len.ensures) puts))
     c.exchange.ensures.kept c.exchange.ensures.order c.exchange.ensures.moved)

@@ -6,4 +6,4 @@ use Rattle.frame_pool.proofs.pool.FramePool.mark_clean.Goals as goal
 pub invariant_of-self : goal.invariant_of-self
 invariant_of-self g c =
     rw c.clean.ensures
-    (kept_pool clean c.self.inside.table c.self.inside.empties c.args.slot (λ f. refl) c.self.invariant (rw c.self.view_is c.requires.below))
+    (kept_pool clean c.self.inside.table c.self.inside.empties c.args.slot (λ f. refl) (λ f page. page) c.self.invariant (rw c.self.view_is c.requires.below))

@@ -1,0 +1,264 @@
+//! A disk over a file of sectors of 528 bytes, each a label of 16 bytes and then a page of 512.
+ghost use Rattle.std.specs.Prelude.{◌≡◌, ◌<◌, ◌≤◌, ◌+◌, ◌-◌, ◌*◌, ◌/◌, ◌^◌, ◌++◌, min, true, false, take, drop};
+ghost use Rattle.labelled_disk.specs.Calls.{Reads, Writes, WritesData, Settles, Rose, Moved};
+ghost use Rattle.labelled_disk.specs.Label.{label_of, label_bytes, names};
+ghost use Rattle.labelled_disk.specs.Memory.{CountsFault};
+
+use labelled_disk::{Disk, DiskError, DiskWrite, Label, Page, Wanted};
+use std::fs::OpenFile;
+use std::io;
+use std::os::unix::fs::FileExt;
+
+/// The bytes of a sector in an image file.
+pub const SECTOR_BYTES: u64 = 528;
+
+const LABEL_BYTES: u64 = 16;
+
+/// A disk over an image file. It tells nothing of what the file holds, since no contract can: only
+/// its counts. It is synced from an Ok of `settle` to the next call that may write.
+#[derive(Drop)]
+pub struct ImageDisk<F: FileExt + OpenFile> {
+    file: Option<F>,
+    sectors: u32,
+    transfers: u64,
+    faults: u64,
+    synced: bool,
+    ghost few: { sectors < 2 ^ 32 },
+}
+
+impl<F: FileExt + OpenFile> ImageDisk<F> {
+    ghost use Rattle.image_disk.specs.Image.{image_state};
+
+    /// The disk of the sectors that lie in the file whole. Bytes behind the last of them are not
+    /// looked at. Where the file doesn't tell its length the disk has no sector.
+    pub fn over(file: F) -> ImageDisk<F>
+        ensures counts { image_state result
+            ≡ record (image_state result) { transfers = 0; faults = 0; synced = false } }
+    {
+        let length = file.metadata().map_or(0, |metadata| metadata.len());
+        ImageDisk::with_length(file, length)
+    }
+
+    fn with_length(file: F, length: u64) -> ImageDisk<F>
+        ensures sectors { (image_state result).sectors ≡ min (length / 528) (2 ^ 32 - 1) }
+        ensures counts { image_state result
+            ≡ record (image_state result) { transfers = 0; faults = 0; synced = false } }
+    {
+        ImageDisk {
+            file: Some(file),
+            sectors: u32::try_from(length / SECTOR_BYTES).unwrap_or(u32::MAX),
+            transfers: 0,
+            faults: 0,
+            synced: false,
+        }
+    }
+
+    /// A disk of no sector, for an image that can't be opened.
+    pub fn absent() -> ImageDisk<F>
+        ensures sectors { (image_state result).sectors ≡ 0 }
+        ensures counts { image_state result
+            ≡ record (image_state result) { transfers = 0; faults = 0; synced = false } }
+    {
+        ImageDisk {
+            file: None,
+            sectors: 0,
+            transfers: 0,
+            faults: 0,
+            synced: false,
+        }
+    }
+
+    // Reads as many bytes as there are to fill, from this byte of the file on.
+    fn get(&self, at: u64, bytes: &mut [u8]) -> io::Result<()> {
+        match &self.file {
+            Some(file) => file.read_exact_at(bytes, at),
+            None => Err(io::ErrorKind::NotFound.into()),
+        }
+    }
+
+    // Writes all bytes, from this byte of the file on.
+    fn put(&self, at: u64, bytes: &[u8]) -> io::Result<()> {
+        match &self.file {
+            Some(file) => file.write_all_at(bytes, at),
+            None => Err(io::ErrorKind::NotFound.into()),
+        }
+    }
+
+    // Writes the page of a sector whose label was found to name it.
+    fn put_page(&self, sector: u32, _found: Label, _wanted: Wanted, page: &Page) -> io::Result<()>
+        requires { names _found _wanted ≡ true }
+    {
+        self.put(page_at(sector), page.as_slice())
+    }
+
+    // Waits until what was written to the file is on the medium.
+    fn sync(&self) -> io::Result<()> {
+        match &self.file {
+            Some(file) => file.sync_data(),
+            None => Ok(()),
+        }
+    }
+
+    fn count_transfer(&mut self)
+        ensures moved { Moved self.old.transfers self.new.transfers }
+        ensures transfers { self.new.transfers ≡ min (self.old.transfers + 1) (2 ^ 64 - 1) }
+        ensures faults { self.new.faults ≡ self.old.faults }
+        ensures sectors { self.new.sectors ≡ self.old.sectors }
+        ensures synced { self.new.synced ≡ self.old.synced }
+    {
+        self.transfers = self.transfers.saturating_add(1);
+    }
+
+    // Counts a fault of the system.
+    fn fault(&mut self) -> DiskError
+        ensures result { result ≡ DiskError.Failed }
+        ensures cause { Rose self.old.faults self.new.faults }
+        ensures never_falls { self.old.faults ≤ self.new.faults }
+        ensures faults { self.new.faults ≡ min (self.old.faults + 1) (2 ^ 64 - 1) }
+        ensures transfers { self.new.transfers ≡ self.old.transfers }
+        ensures sectors { self.new.sectors ≡ self.old.sectors }
+        ensures synced { self.new.synced ≡ self.old.synced }
+    {
+        self.faults = self.faults.saturating_add(1);
+        DiskError::Failed
+    }
+}
+
+// Where the label of a sector begins in the file.
+fn label_at(sector: u32) -> u64
+    ensures { result ≡ sector * 528 }
+{
+    u64::from(sector) * SECTOR_BYTES
+}
+
+// Where its page begins.
+fn page_at(sector: u32) -> u64
+    ensures { result ≡ sector * 528 + 16 }
+{
+    label_at(sector) + LABEL_BYTES
+}
+
+// The bytes of a sector: those of the label and then those of the page.
+fn joined(label: &Label, page: &Page) -> [u8; 528]
+    ensures { result ≡ label_bytes label.now ++ page.now }
+{
+    let mut bytes = [0; 528];
+    bytes[..16].copy_from_slice(&label.to_bytes());
+    bytes[16..].copy_from_slice(page.as_slice());
+    bytes
+}
+
+// The label of a sector of these bytes; its page is put in `page`.
+fn parted(bytes: &[u8; 528], page: &mut Page) -> Label
+    ensures label { result ≡ label_of (take 16 bytes.now) }
+    ensures page { page.new ≡ drop 16 bytes.now }
+{
+    let mut label = [0; 16];
+    label.copy_from_slice(&bytes[..16]);
+    page.copy_from_slice(&bytes[16..]);
+    Label::from_bytes(&label)
+}
+
+impl<F: FileExt + OpenFile> Disk for ImageDisk<F> {
+    ghost use Rattle.image_disk.specs.Image.{image_state, not_told, Counts};
+
+    ghost state = { image_state };
+
+    ghost whole = { λ d all told. not_told all told };
+
+    ghost in_form = { λ d all told. not_told all told };
+
+    ghost few = { λ d. d.few };
+
+    fn sectors(&self) -> u32 {
+        self.sectors
+    }
+
+    fn read(&mut self, sector: u32, page: &mut Page) -> Result<Label, DiskError>
+        requires { sector < (image_state self.old).sectors }
+        ensures reads { Reads (image_state self.old) sector page.new result (image_state self.new) }
+        ensures counts { Counts result (image_state self.old) (image_state self.new) }
+    {
+        self.count_transfer();
+        let mut bytes = [0; 528];
+        match self.get(label_at(sector), &mut bytes) {
+            Ok(()) => Ok(parted(&bytes, page)),
+            Err(_) => Err(self.fault()),
+        }
+    }
+
+    fn write(&mut self, sector: u32, label: &Label, page: &Page) -> Result<(), DiskError>
+        requires { sector < (image_state self.old).sectors }
+        ensures writes { Writes (DiskWrite.Whole sector label.now page.now) (image_state self.old)
+            result (image_state self.new) }
+        ensures counts { Counts result (image_state self.old) (image_state self.new) }
+        ensures synced { (image_state self.new).synced ≡ false }
+    {
+        self.count_transfer();
+        self.synced = false;
+        match self.put(label_at(sector), &joined(label, page)) {
+            Ok(()) => Ok(()),
+            Err(_) => Err(self.fault()),
+        }
+    }
+
+    fn write_label(&mut self, sector: u32, label: &Label) -> Result<(), DiskError>
+        requires { sector < (image_state self.old).sectors }
+        ensures writes { Writes (DiskWrite.LabelOnly sector label.now) (image_state self.old)
+            result (image_state self.new) }
+        ensures counts { Counts result (image_state self.old) (image_state self.new) }
+        ensures synced { (image_state self.new).synced ≡ false }
+    {
+        self.count_transfer();
+        self.synced = false;
+        match self.put(label_at(sector), &label.to_bytes()) {
+            Ok(()) => Ok(()),
+            Err(_) => Err(self.fault()),
+        }
+    }
+
+    fn write_data(&mut self, sector: u32, wanted: Wanted, page: &Page) -> Result<(), DiskError>
+        requires { sector < (image_state self.old).sectors }
+        ensures writes { WritesData sector wanted page.now (image_state self.old) result
+            (image_state self.new) }
+        ensures counts { Counts result (image_state self.old) (image_state self.new) }
+        ensures synced { (image_state self.new).synced ≡ false }
+    {
+        self.count_transfer();
+        self.synced = false;
+        let mut bytes = [0; 16];
+        if self.get(label_at(sector), &mut bytes).is_err() {
+            return Err(self.fault());
+        }
+        let found = Label::from_bytes(&bytes);
+        if !found.names(wanted) {
+            return Err(DiskError::Wrong { found });
+        }
+        match self.put_page(sector, found, wanted, page) {
+            Ok(()) => Ok(()),
+            Err(_) => Err(self.fault()),
+        }
+    }
+
+    fn settle(&mut self) -> Result<(), DiskError>
+        ensures settles { Settles (image_state self.old) result (image_state self.new) }
+        ensures faults { CountsFault result self.old.faults self.new.faults }
+    {
+        if self.sync().is_err() {
+            return Err(self.fault());
+        }
+        self.synced = true;
+        Ok(())
+    }
+
+    fn transfers(&self) -> u64 {
+        self.transfers
+    }
+
+    fn faults(&self) -> u64 {
+        self.faults
+    }
+}
+
+#[cfg(test)]
+mod tests;

@@ -1,0 +1,72 @@
+-- Laws of a table in a part of a memory that was lent to it.
+use Rattle.std.specs.Prelude.{◌≡◌, ℕ, ◌+◌, ◌-◌, ◌*◌, List, Result, Ok, Err, OnOk, IfErr, is_ok, if◌then◌else◌}
+use Rattle.std.proofs.Common.{refl, sym, ◌∙◌}
+use Rattle.flat_mem.specs.declared.error.TableError.{TableError}
+use Rattle.flat_mem.specs.declared.part.Part.{Part}
+use Rattle.flat_mem.specs.Memory.{part}
+use Rattle.flat_mem.specs.Part.{IsSameBeside, TellsPart, IsKept}
+use Rattle.flat_mem.specs.PartLaws.{others_kept}
+use Rattle.record_table.specs.Table.{entries, TellsEntries}
+use Rattle.record_table.specs.Edits.{IsInserted, IsReplaced, IsRemoved, IfMem}
+use Rattle.record_table.specs.InPart.{TellsBeside, IsInsertedIn, IsReplacedIn, IsRemovedIn}
+
+-- what holds of the memory that was lent holds of it under another name
+pub lent : {M : Type 0} (P : M → Type 0) (m n : M) → m ≡ n → P n → P m
+lent P m n same h = rw same h
+
+pub lent_error : {M T X : Type 0} (r : Result T (TableError X)) (P : M → X → Type 0) (m n : M) → m ≡ n → IfErr r (IfMem (P n)) → IfErr r (IfMem (P m))
+lent_error r P m n same h = rw same h
+
+-- what an Ok says, where the count is one more
+pub counted : {T X : Type 0} (r : Result T X) (n m : ℕ) (P Q : Type 0) → m ≡ (if is_ok r then n + 1 else n) → (m ≡ n + 1 → P → Q) → OnOk r P → OnOk r Q
+counted (Ok v) n m P Q is f p = f is p
+counted (Err e) n m P Q is f p = p
+
+-- what an Ok says, where the count is one less
+pub discounted : {T X : Type 0} (r : Result T X) (n m : ℕ) (P Q : Type 0) → m ≡ (if is_ok r then n - 1 else n) → (m ≡ n - 1 → P → Q) → OnOk r P → OnOk r Q
+discounted (Ok v) n m P Q is f p = f is p
+discounted (Err e) n m P Q is f p = p
+
+module _ {M X : Type 0} (tells : M → List ℕ → Type 0) (beside : M → M → Type 0) (once : (m : M) (w v : List ℕ) → tells m w → tells m v → w ≡ v) (e k first pages : ℕ) (p q : Part M X) (w : List ℕ)
+    (first_is : p.first ≡ first) (pages_is : p.pages ≡ pages) (kept : IsKept tells beside p q) (before : tells p.mem w) where
+  first_now : q.first ≡ first
+  first_now = sym kept.first ∙ first_is
+
+  pages_now : q.pages ≡ pages
+  pages_now = sym kept.pages ∙ pages_is
+
+  others_are : (v : List ℕ) → tells q.mem v → IsSameBeside first pages w v
+  others_are v told = rw (first_is, pages_is) at (others_kept tells beside once p q w v kept before told)
+
+  bytes_are : (b v : List ℕ) → b ≡ part v (512 * q.first) (512 * q.pages) → b ≡ part v (512 * first) (512 * pages)
+  bytes_are b v is = rw (first_now, pages_now) at is
+
+  pub inserted_in : (n m : ℕ) (new : List ℕ) → m ≡ n + 1 → IsInserted k (TellsEntries e (TellsPart tells q) m) (entries e (part w (512 * first) (512 * pages)) n) new → IsInsertedIn e k first pages (tells q.mem) w n new
+  inserted_in n m new count i =
+      let told = i.listed.told in
+      record {
+        whole = told.whole;
+        told = told.told;
+        others = others_are told.whole told.told;
+        table = record { at = i.at; within = i.within; listed = rw (bytes_are i.listed.bytes told.whole told.is, count) at i.listed.are; behind = i.behind; rising = i.rising };
+      }
+
+  pub replaced_in : (n m place : ℕ) (new : List ℕ) → m ≡ n → IsReplaced k (TellsEntries e (TellsPart tells q) m) (entries e (part w (512 * first) (512 * pages)) n) place new → IsReplacedIn e k first pages (tells q.mem) w n place new
+  replaced_in n m place new count i =
+      let told = i.listed.told in
+      record {
+        whole = told.whole;
+        told = told.told;
+        others = others_are told.whole told.told;
+        table = record { listed = rw (bytes_are i.listed.bytes told.whole told.is, count) at i.listed.are; rising = i.rising };
+      }
+
+  pub removed_in : (n m place : ℕ) → m ≡ n - 1 → IsRemoved k (TellsEntries e (TellsPart tells q) m) (entries e (part w (512 * first) (512 * pages)) n) place → IsRemovedIn e k first pages (tells q.mem) w n place
+  removed_in n m place count i =
+      let told = i.listed.told in
+      record {
+        whole = told.whole;
+        told = told.told;
+        others = others_are told.whole told.told;
+        table = record { listed = rw (bytes_are i.listed.bytes told.whole told.is, count) at i.listed.are; rising = i.rising };
+      }

@@ -1,0 +1,99 @@
+use std::io::{self, ErrorKind, Read, Write};
+use std::test::Fail;
+use trace_io::{MemorySink, ReaderSource, Sink, SinkFault, Source, SourceFault, WriterSink};
+
+// Moves at most 3 bytes a call, and fails at its second call. A write of `x` takes nothing.
+#[derive(Drop)]
+struct Halting<T> {
+    inner: T,
+    calls: u8,
+}
+
+impl<T> Halting<T> {
+    fn turn(&mut self, len: usize) -> io::Result<usize> {
+        self.calls = self.calls.saturating_add(1);
+        if self.calls == 2 {
+            return Err(io::Error::from(ErrorKind::WouldBlock));
+        }
+        Ok(len.min(3))
+    }
+}
+
+impl<T: Read> Read for Halting<T> {
+    fn read(&mut self, buf: &mut [u8]) -> io::Result<usize> {
+        let len = self.turn(buf.len())?.min(buf.len());
+        self.inner.read(&mut buf[..len])
+    }
+}
+
+impl<T: Write> Write for Halting<T> {
+    fn write(&mut self, buf: &[u8]) -> io::Result<usize> {
+        let len = self.turn(buf.len())?.min(buf.len());
+        if buf.starts_with(b"x") {
+            return Ok(0);
+        }
+        self.inner.write(&buf[..len])
+    }
+
+    fn flush(&mut self) -> io::Result<()> {
+        Ok(())
+    }
+}
+
+#[test]
+fn a_reader_that_fails_gives_all_its_bytes_afterwards(rt: HostRuntime) -> Result<(), Fail> {
+    let reader = Halting {
+        inner: b"abcde".as_slice(),
+        calls: 0,
+    };
+    let mut source = ReaderSource::over(reader);
+    for byte in b"abc" {
+        assert_eq!(rt; source.next(), Ok(Some(*byte)));
+    }
+    assert_eq!(rt; source.next(), Err(SourceFault));
+    for byte in b"de" {
+        assert_eq!(rt; source.next(), Ok(Some(*byte)));
+    }
+    assert_eq!(rt; source.next(), Ok(None));
+    assert_eq!(rt; source.next(), Ok(None));
+    Ok(())
+}
+
+#[test]
+fn a_writer_takes_a_piece_part_by_part(rt: HostRuntime) -> Result<(), Fail> {
+    let mut bytes = Vec::new(rt.alloc());
+    let mut sink = WriterSink::over(Halting {
+        inner: &mut bytes,
+        calls: 2,
+    });
+    assert_eq!(rt; sink.put(b"abcdefgh"), Ok(()));
+    assert_eq!(rt; sink.put(b"x"), Err(SinkFault));
+    assert_eq!(rt; sink.put(b"i"), Ok(()));
+    drop(sink);
+    assert_eq!(rt; bytes.as_slice(), b"abcdefghi".as_slice());
+    Ok(())
+}
+
+#[test]
+fn a_writer_that_fails_has_taken_a_front(rt: HostRuntime) -> Result<(), Fail> {
+    let mut bytes = Vec::new(rt.alloc());
+    let mut sink = WriterSink::over(Halting {
+        inner: &mut bytes,
+        calls: 0,
+    });
+    assert_eq!(rt; sink.put(b"abcdefgh"), Err(SinkFault));
+    drop(sink);
+    assert_eq!(rt; bytes.as_slice(), b"abc".as_slice());
+    Ok(())
+}
+
+#[test]
+fn a_sink_takes_no_piece_beyond_its_room(rt: HostRuntime) -> Result<(), Fail> {
+    let mut sink = MemorySink::new(rt.alloc(), 4, &[2])?;
+    assert_eq!(rt; sink.put(b"abc"), Ok(()));
+    assert_eq!(rt; sink.put(b"d"), Err(SinkFault));
+    assert_eq!(rt; sink.put(b"de"), Err(SinkFault));
+    assert_eq!(rt; sink.put(b"d"), Ok(()));
+    assert_eq!(rt; sink.taken(), b"abcd".as_slice());
+    Ok(())
+}
