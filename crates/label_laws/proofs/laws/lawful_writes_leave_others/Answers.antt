@@ -1,0 +1,8 @@
+use Rattle.label_laws.proofs.FileLemmas as laws
+use Rattle.label_laws.proofs.laws.lawful_writes_leave_others.Goals as goal
+
+pub returns-clause-one : goal.returns-clause-one
+returns-clause-one c temps = laws.others_stay temps
+
+pub returns-clause-runs : goal.returns-clause-runs
+returns-clause-runs c temps = laws.others_stay_in_runs temps

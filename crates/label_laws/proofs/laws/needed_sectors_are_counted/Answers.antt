@@ -1,0 +1,8 @@
+use Rattle.label_laws.proofs.CountLemmas as laws
+use Rattle.label_laws.proofs.laws.needed_sectors_are_counted.Goals as goal
+
+pub returns-clause-lists : goal.returns-clause-lists
+returns-clause-lists c temps = laws.list_laws temps
+
+pub returns-clause-counts : goal.returns-clause-counts
+returns-clause-counts c temps = laws.count_laws temps

@@ -1,0 +1,51 @@
+-- Label writes mixed with writes of page bytes, on a volume.
+use Rattle.std.specs.Prelude.{◌≡◌, ◌≢◌, ℕ, ◌<◌, ◌≤◌, Bool, List, length, take, slice_get, Option, option_map}
+use Rattle.std.specs.List.{AllByRecursion}
+use Rattle.labelled_disk.specs.declared.label.Wanted.{Wanted}
+use Rattle.labelled_disk.specs.declared.disk.DiskWrite.{DiskWrite}
+use Rattle.labelled_disk.specs.declared.disk.DiskWrite.TheVariants.{Whole, LabelOnly, Page}
+use Rattle.labelled_disk.specs.Sectors.{Sector}
+use Rattle.labelled_disk.specs.Moment.{moment, written}
+use Rattle.labelled_disk.specs.Layout.{first_data}
+use Rattle.labelled_disk.specs.File.{File}
+use Rattle.labelled_disk.specs.FilesOn.{disk_file}
+use Rattle.labelled_disk.specs.Right.{FilesRight}
+use Rattle.labelled_disk.specs.Root.{RightFor, serial_of, counter_of}
+use Rattle.labelled_disk.specs.WriteLaws.{Changed}
+use Rattle.label_laws.specs.Mixed.{labels, label_writes}
+use Rattle.label_laws.specs.Shape.{SameShape, shape_of}
+
+-- the write leaves the root and the labels of both maps
+abbrev pub LeavesLow : ℕ → DiskWrite → Type 0
+LeavesLow first (Whole sector label page) = first ≤ sector
+LeavesLow first (LabelOnly sector label) = first ≤ sector
+LeavesLow first (Page sector wanted page) = 0 < sector
+
+-- one file has this shape now, all others have those that they had, and the labels of the files are right
+pub record ShapeChanged (temps : Bool) (serial counter : ℕ) (d e : List Sector) (id : ℕ) (now : Option File) : Type 0 where
+  pub file : option_map shape_of (disk_file temps e id) ≡ option_map shape_of now
+  pub others : (other : ℕ) → other ≢ id → SameShape temps d e other
+  pub right : FilesRight temps serial counter e
+
+-- all files have the shapes that they had, and the labels of the files are right
+pub record ShapesKept (temps : Bool) (serial counter : ℕ) (d e : List Sector) : Type 0 where
+  pub shapes : (other : ℕ) → SameShape temps d e other
+  pub right : FilesRight temps serial counter e
+
+-- the moment of the label writes alone that has the labels of moment k
+abbrev pub label_count : List DiskWrite → ℕ → ℕ
+label_count writes k = length (label_writes (take k writes))
+
+pub record MixedLaws (temps : Bool) : Type 0 where
+  -- the same labels and the same root
+  pub labels_right : (d e : List Sector) → labels e ≡ labels d → slice_get e 0 ≡ slice_get d 0 → RightFor temps d → RightFor temps e
+  -- bytes for a page, whether or not its label names it
+  pub page_right : (d : List Sector) (sector : ℕ) (wanted : Wanted) (page : List ℕ) → 0 < sector → RightFor temps d → RightFor temps (written (Page sector wanted page) d)
+  -- any writes that leave root and maps
+  pub runs_right : (d : List Sector) (writes : List DiskWrite) (k : ℕ) → RightFor temps d → AllByRecursion (LeavesLow (first_data (length d))) writes
+      → FilesRight temps (serial_of d) (counter_of d) (moment d writes k) → RightFor temps (moment d writes k)
+  -- what the label writes alone make of a file is what all make of its shape
+  pub changes : (serial counter : ℕ) (d : List Sector) (writes : List DiskWrite) (k id : ℕ) (now : Option File)
+      → Changed temps serial counter d (moment d (label_writes writes) (label_count writes k)) id now → ShapeChanged temps serial counter d (moment d writes k) id now
+  -- and there are no more of them than there are
+  pub fewer : (writes : List DiskWrite) (k : ℕ) → label_count writes k ≤ length (label_writes writes)

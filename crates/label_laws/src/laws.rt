@@ -1,0 +1,137 @@
+//! Laws of labels and writes, as the contracts of functions that do nothing.
+
+ghost use Rattle.std.specs.Prelude.{ℕ, Bool, List};
+ghost use Rattle.label_laws.specs.AllPermanent.{NoTemporaryLaws, PermanentLaws, SeenByPermanent};
+ghost use Rattle.label_laws.specs.AnyDisk.{AnyDiskLaws, LeaderAdded};
+ghost use Rattle.label_laws.specs.Assembly.{RightByRoom};
+ghost use Rattle.label_laws.specs.Counts.{CountLaws, UnneededListLaws};
+ghost use Rattle.label_laws.specs.LabelWrites.{LabelLaterLaws, LabelWritesAppended};
+ghost use Rattle.label_laws.specs.StayLaws.{StayLaws};
+ghost use Rattle.label_laws.specs.TemporaryRuns.{TemporaryRunLaws};
+ghost use Rattle.label_laws.specs.Quiet.{QuietAppended, QuietMoments};
+ghost use Rattle.label_laws.specs.Shape.{LabelsGiveShape, MixedShapes, PagesBySectors, SameByPages};
+ghost use Rattle.label_laws.specs.SoundParts.{SoundByRoom, SoundWhenClosed};
+ghost use Rattle.label_laws.specs.LawfulOrders.{OrdersAreLawful};
+ghost use Rattle.label_laws.specs.LawfulRuns.{LawfulLaws, LaterLaws};
+ghost use Rattle.label_laws.specs.LawfulThere.{ThereLaws};
+ghost use Rattle.label_laws.specs.MapLabels.{MappedOneMore, MappedAreMaps, MapRelabelled};
+ghost use Rattle.label_laws.specs.Marks.{MarksAreAdded, MarksOfFiles};
+ghost use Rattle.label_laws.specs.Mixed.{LabelsByLabelWrites, LastPageShows, LastPageStands, PageStands, PageStays, SectorStays};
+ghost use Rattle.label_laws.specs.MixedRuns.{LabelCountRises, MixedRunLaws};
+ghost use Rattle.label_laws.specs.MixedVolumes.{MixedLaws};
+ghost use Rattle.label_laws.specs.OneFile.{OthersStay, OthersStayInRuns};
+ghost use Rattle.labelled_disk.specs.Sectors.{Sector};
+ghost use Rattle.label_laws.specs.Unneeded.{FreedAll, FreedMoments, FreedStayRight, NeededIfFiles};
+ghost use Rattle.label_laws.specs.Unseen.{UnseenAppended, UnseenCreation, UnseenMoments, UnseenOrders};
+
+/// Lawful writes in a row, and states of a disk that are lawfully later.
+pub fn lawful_runs()
+    ensures rows { LawfulLaws }
+    ensures states { LaterLaws }
+    ensures orders { OrdersAreLawful }
+    ensures there { ThereLaws }
+{}
+
+/// A lawful write changes the file of one identifier at most: that of the sector that it is made on.
+pub fn lawful_writes_leave_others()
+    ensures one { (temps : Bool) → OthersStay temps }
+    ensures runs { (temps : Bool) → OthersStayInRuns temps }
+{}
+
+/// A label with a mark more.
+pub fn marks_are_added()
+    ensures labels { MarksAreAdded }
+    ensures files { (temps : Bool) (serial counter : ℕ) → MarksOfFiles temps serial counter }
+{}
+
+/// What a write of root or maps, or of a page's bytes, makes of the files of any disk.
+pub fn any_disk_keeps_files()
+    ensures any { (temps : Bool) → AnyDiskLaws temps }
+    ensures leader { (temps : Bool) (serial counter : ℕ) → LeaderAdded temps serial counter }
+{}
+
+/// Label writes mixed with writes of page bytes.
+pub fn labels_by_label_writes()
+    ensures labels { LabelsByLabelWrites }
+    ensures sectors { SectorStays }
+    ensures stands { (temps : Bool) (serial counter : ℕ) → PageStands temps serial counter }
+    ensures stays { (temps : Bool) (serial counter : ℕ) → PageStays temps serial counter }
+    ensures last { LastPageStands }
+    ensures shows { (temps : Bool) (serial counter : ℕ) → LastPageShows temps serial counter }
+    ensures volumes { (temps : Bool) → MixedLaws temps }
+    ensures rises { LabelCountRises }
+    ensures runs { (temps : Bool) (serial counter : ℕ) → MixedRunLaws temps serial counter }
+{}
+
+/// Writes in a row of a file that does not count.
+pub fn unseen_runs()
+    ensures rows { (temps : Bool) (id : ℕ) → UnseenAppended temps id }
+    ensures moments { (temps : Bool) (id serial counter : ℕ) → UnseenMoments temps id serial counter }
+    ensures orders { (temps : Bool) (id : ℕ) → UnseenOrders temps id }
+    ensures creation { (id : ℕ) → UnseenCreation id }
+    ensures quiet_rows { (temps : Bool) (id : ℕ) → QuietAppended temps id }
+    ensures quiet { (temps : Bool) (id serial counter : ℕ) → QuietMoments temps id serial counter }
+{}
+
+/// Sectors that no file needs are freed.
+pub fn unneeded_are_freed()
+    ensures moments { (temps : Bool) → FreedMoments temps }
+    ensures all { (temps : Bool) → FreedAll temps }
+    ensures right { (temps : Bool) → FreedStayRight temps }
+    ensures needed { (temps : Bool) → NeededIfFiles temps }
+{}
+
+/// The labels of both maps.
+pub fn map_labels()
+    ensures sectors { (n : ℕ) (d : List Sector) → MappedAreMaps n d }
+    ensures one_more { MappedOneMore }
+    ensures written { (temps : Bool) → MapRelabelled temps }
+{}
+
+/// What labels alone say of the files of a disk.
+pub fn labels_give_shape()
+    ensures labels { (temps : Bool) → LabelsGiveShape temps }
+    ensures mixed { (temps : Bool) → MixedShapes temps }
+    ensures files { SameByPages }
+    ensures pages { (temps : Bool) → PagesBySectors temps }
+{}
+
+/// The labels of a disk that was put in order are right exactly where there is room for its files.
+pub fn right_by_room()
+    ensures { (temps : Bool) → RightByRoom temps }
+{}
+
+/// With a clean root, what is sound but for its clean flag is sound.
+pub fn sound_when_closed()
+    ensures closed { SoundWhenClosed }
+    ensures by_room { SoundByRoom }
+{}
+
+/// The permanent files, and all files.
+pub fn permanent_files()
+    ensures permanent { PermanentLaws }
+    ensures seen { SeenByPermanent }
+    ensures no_temporary { NoTemporaryLaws }
+{}
+
+/// The label writes among the writes of calls in a row.
+pub fn label_writes_in_a_row()
+    ensures rows { LabelWritesAppended }
+    ensures states { LabelLaterLaws }
+{}
+
+/// A temporary file is made, lengthened, shortened and removed, and the permanent files stay.
+pub fn temporary_runs_are_unseen()
+    ensures { (serial counter : ℕ) → TemporaryRunLaws serial counter }
+{}
+
+/// What is counted of a disk that is put in order.
+pub fn needed_sectors_are_counted()
+    ensures lists { (temps : Bool) → UnneededListLaws temps }
+    ensures counts { (temps : Bool) → CountLaws temps }
+{}
+
+/// Runs of label writes that keep the permanent files, and right labels, at each moment.
+pub fn permanent_files_stay()
+    ensures { StayLaws }
+{}

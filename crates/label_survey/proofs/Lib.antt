@@ -1,0 +1,12 @@
+mod ScanLemmas
+mod PlaceLemmas
+mod StandingLemmas
+mod WalkLemmas
+mod ClaimLemmas
+mod EntryLemmas
+mod TallyLemmas
+mod OnceLemmas
+mod SortLemmas
+mod TripleLemmas
+mod CounterLemmas
+mod RunLemmas

@@ -1,0 +1,7 @@
+pub mod Entries
+pub mod Standings
+pub mod Progress
+pub mod Survey
+pub mod Triples
+pub mod Counter
+pub mod Runs

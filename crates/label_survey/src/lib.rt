@@ -1,0 +1,21 @@
+//! What the labels of a disk make of each data sector.
+#![tactic(auto)]
+
+mod counter;
+mod entries;
+mod reading;
+mod runs;
+mod standing;
+mod survey;
+mod tally;
+mod triples;
+mod walk;
+
+pub use counter::raise_counter;
+pub use reading::{SurveyFault, read_labels};
+pub use runs::{Run, runs_of};
+pub use standing::Standing;
+pub use survey::{Survey, survey_labels};
+pub use tally::Tally;
+pub use triples::{Triple, needed_triples};
+pub use walk::find_standings;
