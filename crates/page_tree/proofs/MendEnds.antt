@@ -1,0 +1,79 @@
+-- A removal begins; and it ends where the root goes.
+use Rattle.std.proofs.Common.{◌≡◌, ◌≢◌, inl, inr, ℕ, zero, suc, ◌+◌, ◌<◌, ◌≤◌, List, [], ◌∷◌, length, map, arith, refl, sym, ◌∙◌, ap, subst}
+use Rattle.std.proofs.lemmas.Bool.{cases_lt}
+use Rattle.std.proofs.lemmas.List.{append-nil, length-map}
+use Rattle.page_tree.specs.Keys.{Item, IsRising}
+use Rattle.page_tree.specs.Page.{page_at, kind_of, next_in, record_item}
+use Rattle.page_tree.specs.Tree.{Node, node_at, items_of, before}
+use Rattle.page_tree.specs.Change.{without}
+use Rattle.page_tree.specs.Path.{IsPath}
+use Rattle.page_tree.specs.Climb.{IsClosed, IsReady}
+use Rattle.page_tree.specs.Open.{IsOpen}
+use Rattle.page_tree.specs.Mend.{IsMend}
+use Rattle.page_tree.proofs.Less.{length-without, without_below, without_above}
+use Rattle.page_tree.proofs.Owed.{begin_lack, shrink_root, shrink_one}
+use Rattle.page_tree.proofs.PairOpen.{open_shrink}
+
+pub map_without : {X Y : Type 0} (f : X → Y) (xs : List X) (p : ℕ) → p < length xs → map f (without xs p) ≡ without (map f xs) p
+map_without f [] p below = absurd (omega arith)
+map_without f (x ∷ xs) zero below = refl
+map_without f (x ∷ xs) (suc p) below = ap (λ (ys : List _). f x ∷ ys) (map_without f xs p (omega arith))
+
+pub rising_without : (xs : List Item) (p : ℕ) → IsRising xs → p < length xs → IsRising (without xs p)
+rising_without xs p rising below i j order inside = elim (cases_lt j p) [
+  | inl j_low ↦
+      let left = without_below xs p i below (omega (arith, j_low, order)) in
+      let right = without_below xs p j below j_low in
+      rw (left, right) (rising i j order (omega (arith, j_low, below)))
+  | inr j_high ↦
+      let right = without_above xs p j below (omega (arith, j_high)) in
+      elim (cases_lt i p) [
+        | inl i_low ↦ let left = without_below xs p i below i_low in rw (left, right) (rising i (suc j) (omega (arith, order)) (omega (arith, inside, length-without xs p below)))
+        | inr i_high ↦ let left = without_above xs p i below (omega (arith, i_high)) in rw (left, right) (rising (suc i) (suc j) (omega (arith, order)) (omega (arith, inside, length-without xs p below)))
+      ]
+]
+
+pub begin_mend : (e k pages : ℕ) (b : List ℕ) (records : List (List ℕ)) (levels root first top : ℕ) (ready : IsReady e k pages b records levels root first top)
+    (paths index : List ℕ) (home : ℕ) (place : ℕ → ℕ) → IsPath ready.nodes levels 1 paths index home place → (pos slot : ℕ) → pos < length records → pos ≡ before (ready.nodes 1) (place 1) + slot
+    → IsMend e k pages b (without records pos) levels 1 paths index home slot 1 [] root first top
+begin_mend e k pages b records levels root first top ready paths index home place path pos slot below is = record {
+  nodes = ready.nodes;
+  free = ready.free;
+  place = place;
+  pos = pos;
+  opened = record { stored = ready.rooted.tower.stored; filled = ready.rooted.tower.filled; chain = ready.chain; shared = ready.shared };
+  owed = begin_lack k records levels ready.nodes pos below ready.rooted.tower.listed;
+  path = path;
+  pos_is = is;
+  order = subst IsRising (sym (map_without (record_item k) records pos below)) (rising_without (map (record_item k) records) pos ready.rooted.tower.rising (omega (arith, below, length-map records (record_item k))));
+  one = ready.rooted.one;
+  root_is = ready.rooted.root_is;
+  top_below = ready.top_below;
+}
+
+pub items_one : (ns : List Node) → length ns ≡ 1 → items_of ns ≡ (node_at ns 0).items
+items_one [] one = absurd (omega (arith, one))
+items_one (n ∷ []) one = append-nil n.items
+items_one (n ∷ m ∷ ns) one = absurd (omega (arith, one))
+
+-- a root of two children loses one: the other is the root, and the page is free
+pub mend_shrink : (e k pages : ℕ) (b : List ℕ) (records : List (List ℕ)) (lower : ℕ) (paths index : List ℕ) (home slot root first top : ℕ)
+    (mend : IsMend e k pages b records (lower + 1) (lower + 1) paths index home slot 1 [] root first top) → 1 ≤ lower → slot < 2 → length (node_at (mend.nodes (lower + 1)) 0).items ≡ 2
+    → (c : List ℕ) → ((q : ℕ) → 1 ≤ q → q ≢ root → page_at c q ≡ page_at b q) → kind_of (page_at c root) ≡ 0 → next_in (page_at c root) ≡ first
+    → IsClosed e k pages c records lower (node_at (mend.nodes lower) 0).page root top
+mend_shrink e k pages b records lower paths index home slot root first top mend some less two c others kind next = record {
+  nodes = mend.nodes;
+  free = root ∷ mend.free;
+  opened = subst (λ (q : ℕ). IsOpen e k c lower mend.nodes (q ∷ mend.free) q top) (sym mend.root_is)
+      (open_shrink e k b (lower + 1) mend.nodes mend.free first top mend.opened lower refl mend.one c
+      (λ (q : ℕ) (some_q : 1 ≤ q) (other : q ≢ (node_at (mend.nodes (lower + 1)) 0).page). others q some_q (λ (h : q ≡ root). other (h ∙ mend.root_is)))
+      (subst (λ (q : ℕ). kind_of (page_at c q) ≡ 0) mend.root_is kind)
+      (subst (λ (q : ℕ). next_in (page_at c q) ≡ first) mend.root_is next));
+  listed = shrink_root k records lower mend.nodes mend.pos mend.owed;
+  order = mend.order;
+  one = shrink_one k records lower mend.nodes mend.pos mend.owed some
+      (omega (arith, mend.pos_is, less, ap (before (mend.nodes (lower + 1))) mend.path.top))
+      (ap length (items_one (mend.nodes (lower + 1)) mend.one) ∙ two);
+  root_is = refl;
+  top_below = mend.top_below;
+}

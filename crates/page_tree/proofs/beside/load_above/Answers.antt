@@ -1,0 +1,30 @@
+use Rattle.std.proofs.Common.{◌≡◌, ◌+◌, ◌/◌, get_or, arith}
+use Rattle.page_tree.specs.Page.{page_at}
+use Rattle.page_tree.proofs.Inner.{links_fit}
+use Rattle.page_tree.proofs.Paired.{up_in, above_inner, above_index, above_full}
+use Rattle.page_tree.proofs.beside.load_above.Goals as goal
+use Rattle.page_tree.proofs.beside.load_above.Goals.{then-above-ne2-via-then-above-ne2, then-above-ne2-via-else-above-ne2+then-count-eq0, then-above-ne2-via-else-above-ne2+else-count-eq0+then-count, then-above-ne2-via-else-above-ne2+else-count-eq0+else-count+then-index-count}
+
+pub returns-then-up-pages-clause-well : goal.returns-then-up-pages-clause-well
+returns-then-up-pages-clause-well g c = λ e b h records at page root first top pending.
+    let inside = up_in e g.row.K (g.M.FlatMem.size c.args.mem.now / 512) b records c.args.levels c.args.level c.args.path.now.pages c.args.path.now.index at page root first top pending c.requires.some c.requires.under in
+    omega (arith, inside.1, c.if-up-pages.true, c.len.ensures)
+
+pub returns-then-above-ne2-clause-well : goal.returns-then-above-ne2-clause-well
+returns-then-above-ne2-clause-well g c = λ e b h records at page root first top pending.
+    let read : c.load.new.page ≡ page_at b (get_or c.args.path.now.pages (c.args.level + 1) 0) = c.in-Ok.ensures.read b h in
+    let inner = above_inner e g.row.K (g.M.FlatMem.size c.args.mem.now / 512) b records c.args.levels c.args.level c.args.path.now.pages c.args.path.now.index at page root first top pending c.requires.some c.requires.under c.load.new.page read in
+    let index = above_index e g.row.K (g.M.FlatMem.size c.args.mem.now / 512) b records c.args.levels c.args.level c.args.path.now.pages c.args.path.now.index at page root first top pending c.requires.some c.requires.under c.load.new.page read in
+    elim c.then-above-ne2.branch [
+      | then-above-ne2-via-then-above-ne2 w ↦ absurd (omega (arith, w.if-above-ne2.true, inner.kind))
+      | then-above-ne2-via-else-above-ne2+then-count-eq0 w ↦ absurd (omega (arith, w.if-count-eq0.true, inner.count, inner.some, c.filled_of-count.ensures))
+      | then-above-ne2-via-else-above-ne2+else-count-eq0+then-count w ↦ absurd (omega (arith, w.if-count.true, inner.count, inner.most, c.filled_of-count.ensures))
+      | then-above-ne2-via-else-above-ne2+else-count-eq0+else-count+then-index-count w ↦ absurd (omega (arith, w.if-index-count.true, index, c.filled_of-count.ensures))
+    ]
+
+pub returns-then-level-levels-clause-well : goal.returns-then-level-levels-clause-well
+returns-then-level-levels-clause-well g c = λ e b h records at page root first top pending.
+    let read : c.load.new.page ≡ page_at b (get_or c.args.path.now.pages (c.args.level + 1) 0) = c.in-Ok.ensures.read b h in
+    let full = above_full e g.row.K (g.M.FlatMem.size c.args.mem.now / 512) b records c.args.levels c.args.level c.args.path.now.pages c.args.path.now.index at page root first top pending c.requires.some c.requires.under c.load.new.page read
+    (omega (arith, c.if-level-levels.true)) in
+    omega (arith, full, (links_fit g.row.K c.requires.some_key c.requires.key_most).2, c.if-count-eq1.true, c.filled_of-count.ensures)

@@ -1,0 +1,39 @@
+use Rattle.std.proofs.Common.{◌≡◌, ℕ, ◌+◌, ◌*◌, ◌/◌, ◌≤◌, List, length, take, remove, arith, sym, ◌∙◌, ap, subst}
+use Rattle.page_tree.specs.Page.{filled, record_at}
+use Rattle.page_tree.specs.Tree.{before}
+use Rattle.page_tree.specs.Copied.{leaf_without}
+use Rattle.page_tree.specs.Climb.{TellsClosed}
+use Rattle.page_tree.specs.Named.{IsNamed}
+use Rattle.page_tree.specs.Thin.{IsPending}
+use Rattle.page_tree.proofs.FirstOut.{can_name, first_pending}
+use Rattle.page_tree.proofs.taking.take_first.Goals as goal
+
+pub returns-in-Err-clause-out : goal.returns-in-Err-clause-out
+returns-in-Err-clause-out g c = λ b h records here sought reached last. c.in-Err.ensures.named b h (can_name g.row.E g.row.K (g.M.FlatMem.size c.args.mem.now / 512) b records c.args.header.now.levels c.args.header.now.root c.args.header.now.free c.args.header.now.top here sought c.args.page.now c.args.path.now.pages c.args.path.now.index c.args.at reached)
+
+pub returns-in-Err-mend-clause-out : goal.returns-in-Err-mend-clause-out
+returns-in-Err-mend-clause-out g c = λ b h records here sought reached last.
+    let size : 512 * (g.M.FlatMem.size c.args.mem.now / 512) ≤ length b = omega (arith, g.met.M.FlatMem.told_length c.args.mem.now b h) in
+    let key_is : c.copy_from_slice.new.self ≡ take g.row.K (record_at g.row.E c.args.page.now 1) = c.copy_from_slice.ensures.after ∙ ap (take g.row.K) c.record_of.ensures in
+    let named = subst (λ (x : List ℕ). IsNamed g.row.K (g.M.FlatMem.tells c.name_leaf.new.mem) b c.args.header.now.levels c.args.path.now.pages c.args.path.now.index x) key_is
+    (c.in-Ok.ensures.named b h (can_name g.row.E g.row.K (g.M.FlatMem.size c.args.mem.now / 512) b records c.args.header.now.levels c.args.header.now.root c.args.header.now.free c.args.header.now.top here sought c.args.page.now c.args.path.now.pages c.args.path.now.index c.args.at reached)) in
+    let pending = first_pending g.row.E g.row.K (g.M.FlatMem.size c.args.mem.now / 512) b records c.args.header.now.levels c.args.header.now.root c.args.header.now.free c.args.header.now.top here c.requires.widths (omega (arith, c.requires.some)) sought c.args.page.now c.args.path.now.pages c.args.path.now.index c.args.at reached last c.told-page (omega (arith, c.requires.two, c.requires.counts)) size (g.M.FlatMem.tells c.name_leaf.new.mem) named in
+    let is : c.remove_record.new.page ≡ leaf_without g.row.E c.args.page.now (filled c.args.page.now) 0 = c.remove_record.ensures ∙ ap (λ (n : ℕ). leaf_without g.row.E c.args.page.now n 0) c.requires.counts in
+    let same = g.met.M.FlatMem.same_size _ _ c.name_leaf.ensures.kept in
+    let moved = subst (λ (s : ℕ). IsPending g.row.E g.row.K (s / 512) pending.0 (remove records (before (here.nodes 1) (reached.place 1) + 0)) c.args.header.now.levels 1 c.args.path.now.pages c.args.path.now.index c.args.at c.remove_record.new.page c.args.header.now.root c.args.header.now.free c.args.header.now.top) same
+    (subst (λ (x : List ℕ). IsPending g.row.E g.row.K (g.M.FlatMem.size c.args.mem.now / 512) pending.0 (remove records (before (here.nodes 1) (reached.place 1) + 0)) c.args.header.now.levels 1 c.args.path.now.pages c.args.path.now.index c.args.at x c.args.header.now.root c.args.header.now.free c.args.header.now.top) (sym is) pending.2) in
+    c.in-Err-mend.ensures.mended pending.0 pending.1 (remove records (before (here.nodes 1) (reached.place 1) + 0)) moved
+
+pub returns-clause-out : goal.returns-clause-out
+returns-clause-out g c = λ b h records here sought reached last.
+    let size : 512 * (g.M.FlatMem.size c.args.mem.now / 512) ≤ length b = omega (arith, g.met.M.FlatMem.told_length c.args.mem.now b h) in
+    let key_is : c.copy_from_slice.new.self ≡ take g.row.K (record_at g.row.E c.args.page.now 1) = c.copy_from_slice.ensures.after ∙ ap (take g.row.K) c.record_of.ensures in
+    let named = subst (λ (x : List ℕ). IsNamed g.row.K (g.M.FlatMem.tells c.name_leaf.new.mem) b c.args.header.now.levels c.args.path.now.pages c.args.path.now.index x) key_is
+    (c.in-Ok.ensures.named b h (can_name g.row.E g.row.K (g.M.FlatMem.size c.args.mem.now / 512) b records c.args.header.now.levels c.args.header.now.root c.args.header.now.free c.args.header.now.top here sought c.args.page.now c.args.path.now.pages c.args.path.now.index c.args.at reached)) in
+    let pending = first_pending g.row.E g.row.K (g.M.FlatMem.size c.args.mem.now / 512) b records c.args.header.now.levels c.args.header.now.root c.args.header.now.free c.args.header.now.top here c.requires.widths (omega (arith, c.requires.some)) sought c.args.page.now c.args.path.now.pages c.args.path.now.index c.args.at reached last c.told-page (omega (arith, c.requires.two, c.requires.counts)) size (g.M.FlatMem.tells c.name_leaf.new.mem) named in
+    let is : c.remove_record.new.page ≡ leaf_without g.row.E c.args.page.now (filled c.args.page.now) 0 = c.remove_record.ensures ∙ ap (λ (n : ℕ). leaf_without g.row.E c.args.page.now n 0) c.requires.counts in
+    let same = g.met.M.FlatMem.same_size _ _ c.name_leaf.ensures.kept in
+    let moved = subst (λ (s : ℕ). IsPending g.row.E g.row.K (s / 512) pending.0 (remove records (before (here.nodes 1) (reached.place 1) + 0)) c.args.header.now.levels 1 c.args.path.now.pages c.args.path.now.index c.args.at c.remove_record.new.page c.args.header.now.root c.args.header.now.free c.args.header.now.top) same
+    (subst (λ (x : List ℕ). IsPending g.row.E g.row.K (g.M.FlatMem.size c.args.mem.now / 512) pending.0 (remove records (before (here.nodes 1) (reached.place 1) + 0)) c.args.header.now.levels 1 c.args.path.now.pages c.args.path.now.index c.args.at x c.args.header.now.root c.args.header.now.free c.args.header.now.top) (sym is) pending.2) in
+    let done = c.in-Ok-mend.ensures.mended pending.0 pending.1 (remove records (before (here.nodes 1) (reached.place 1) + 0)) moved in
+    subst (λ (s : ℕ). TellsClosed g.row.E g.row.K (s / 512) (g.M.FlatMem.tells c.mend.new.mem) (remove records (before (here.nodes 1) (reached.place 1) + 0)) c.mend.new.header.levels c.mend.new.header.root c.mend.new.header.free c.mend.new.header.top) (sym same) done

@@ -1,0 +1,23 @@
+use Rattle.std.proofs.Common.{◌≡◌, inl, ℕ, ◌+◌, ◌/◌, List, remove, arith, sym, ◌∙◌, ap, subst}
+use Rattle.page_tree.specs.Page.{filled}
+use Rattle.page_tree.specs.Tree.{before}
+use Rattle.page_tree.specs.Copied.{leaf_without}
+use Rattle.page_tree.specs.Thin.{IsPending}
+use Rattle.page_tree.proofs.TakenOut.{out_pending}
+use Rattle.page_tree.proofs.taking.take_later.Goals as goal
+
+pub returns-in-Err-clause-out : goal.returns-in-Err-clause-out
+returns-in-Err-clause-out g c = λ b h records here key reached last.
+    let pending = out_pending g.row.E g.row.K (g.M.FlatMem.size c.args.mem.now / 512) b records c.args.header.now.levels c.args.header.now.root c.args.header.now.free c.args.header.now.top here c.requires.widths (omega (arith, c.requires.some))
+    key c.args.page.now c.args.path.now.pages c.args.path.now.index c.args.at reached c.args.place last c.told-page (omega (arith, c.requires.two, c.requires.counts)) (inl c.requires.behind) in
+    let is : c.remove_record.new.page ≡ leaf_without g.row.E c.args.page.now (filled c.args.page.now) c.args.place = c.remove_record.ensures ∙ ap (λ (n : ℕ). leaf_without g.row.E c.args.page.now n c.args.place) c.requires.counts in
+    let moved = subst (λ (x : List ℕ). IsPending g.row.E g.row.K (g.M.FlatMem.size c.args.mem.now / 512) b (remove records (before (here.nodes 1) (reached.place 1) + c.args.place)) c.args.header.now.levels 1 c.args.path.now.pages c.args.path.now.index c.args.at x c.args.header.now.root c.args.header.now.free c.args.header.now.top) (sym is) pending in
+    c.in-Err.ensures.mended b h (remove records (before (here.nodes 1) (reached.place 1) + c.args.place)) moved
+
+pub returns-clause-out : goal.returns-clause-out
+returns-clause-out g c = λ b h records here key reached last.
+    let pending = out_pending g.row.E g.row.K (g.M.FlatMem.size c.args.mem.now / 512) b records c.args.header.now.levels c.args.header.now.root c.args.header.now.free c.args.header.now.top here c.requires.widths (omega (arith, c.requires.some))
+    key c.args.page.now c.args.path.now.pages c.args.path.now.index c.args.at reached c.args.place last c.told-page (omega (arith, c.requires.two, c.requires.counts)) (inl c.requires.behind) in
+    let is : c.remove_record.new.page ≡ leaf_without g.row.E c.args.page.now (filled c.args.page.now) c.args.place = c.remove_record.ensures ∙ ap (λ (n : ℕ). leaf_without g.row.E c.args.page.now n c.args.place) c.requires.counts in
+    let moved = subst (λ (x : List ℕ). IsPending g.row.E g.row.K (g.M.FlatMem.size c.args.mem.now / 512) b (remove records (before (here.nodes 1) (reached.place 1) + c.args.place)) c.args.header.now.levels 1 c.args.path.now.pages c.args.path.now.index c.args.at x c.args.header.now.root c.args.header.now.free c.args.header.now.top) (sym is) pending in
+    c.in-Ok.ensures.mended b h (remove records (before (here.nodes 1) (reached.place 1) + c.args.place)) moved

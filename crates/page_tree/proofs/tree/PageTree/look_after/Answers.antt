@@ -1,0 +1,14 @@
+use Rattle.page_tree.proofs.Listed.{lists_kept}
+use Rattle.page_tree.proofs.tree.PageTree.look_after.Goals as goal
+
+pub returns-in-Ok-clause-found : goal.returns-in-Ok-clause-found
+returns-in-Ok-clause-found g c = λ xs lists. rw c.is_some.ensures (c.in-Ok.ensures.answer lists.bytes lists.told xs lists.tree)
+
+pub returns-in-Err-clause-found : goal.returns-in-Err-clause-found
+returns-in-Err-clause-found g c = λ xs lists. c.in-Err.ensures.answer lists.bytes lists.told xs lists.tree
+
+pub returns-in-Ok-clause-same_list : goal.returns-in-Ok-clause-same_list
+returns-in-Ok-clause-same_list g c = λ xs lists. lists_kept g.row.E g.row.K _ _ _ _ xs (g.met.M.FlatMem.same_size _ _ c.look_after.ensures.kept) c.look_after.ensures.unchanged lists
+
+pub returns-in-Err-clause-same_list : goal.returns-in-Err-clause-same_list
+returns-in-Err-clause-same_list g c = λ xs lists. lists_kept g.row.E g.row.K _ _ _ _ xs (g.met.M.FlatMem.same_size _ _ c.look_after.ensures.kept) c.look_after.ensures.unchanged lists

@@ -1,0 +1,59 @@
+use Rattle.std.proofs.Common.{ℕ, ◌+◌, ◌/◌, ◌<◌, get_or, arith, ◌∙◌, ap, subst}
+use Rattle.page_tree.specs.Tree.{IsRooted}
+use Rattle.page_tree.proofs.WalkLaws.{path_cut, met_cut, leads_behind, none_behind, led_moved}
+use Rattle.page_tree.proofs.walk.next_leaf.Goals as goal
+
+pub returns-in-Err-clause-leaf : goal.returns-in-Err-clause-leaf
+returns-in-Err-clause-leaf g c = λ b h records root at nodes home rooted path. c.in-Err.ensures.turn b h g.row.E records root at nodes home rooted path
+
+pub returns-in-Err-clause-met : goal.returns-in-Err-clause-met
+returns-in-Err-clause-met g c = λ b h root path. c.in-Err.ensures.met b h g.row.E root path
+
+pub returns-in-None-clause-leaf : goal.returns-in-None-clause-leaf
+returns-in-None-clause-leaf g c = λ b h records root at nodes home rooted path.
+    none_behind g.row.E g.row.K _ b records c.args.levels root nodes rooted c.requires.some c.args.path.now.pages c.args.path.now.index at home path (rw c.in-None.is at (c.in-Ok.ensures.turn b h g.row.E records root at nodes home rooted path))
+
+pub go_down-requires-clause-inside : goal.go_down-requires-clause-inside
+go_down-requires-clause-inside g c =
+    let form = rw c.in-Some.is at c.in-Ok.ensures.form in
+    omega (arith, c.requires.path c.in-Some.level (omega (arith, form.0)) form.1, g.met.M.FlatMem.same_size _ _ c.turning_level.ensures.kept)
+
+pub returns-in-Err-go_down-clause-leaf : goal.returns-in-Err-go_down-clause-leaf
+returns-in-Err-go_down-clause-leaf g c = λ b h records root at nodes home rooted path.
+    let form = rw c.in-Some.is at c.in-Ok.ensures.form in
+    let turn = rw c.in-Some.is at (c.in-Ok.ensures.turn b h g.row.E records root at nodes home rooted path) in
+    let size = g.met.M.FlatMem.same_size _ _ c.turning_level.ensures.kept in
+    let rooted_now = subst (λ (s : ℕ). IsRooted g.row.E g.row.K (s / 512) b records c.args.levels root nodes) size rooted in
+    c.in-Err-go_down.ensures.leaf b (c.turning_level.ensures.unchanged b h) records c.args.levels root nodes home rooted_now form.1 (path_cut nodes c.args.levels 1 c.in-Some.level _ _ at home path (omega (arith, form.0)) form.1) (λ above. turn.0)
+
+pub returns-clause-leaf : goal.returns-clause-leaf
+returns-clause-leaf g c = λ b h records root at nodes home rooted path.
+    let form = rw c.in-Some.is at c.in-Ok.ensures.form in
+    let turn = rw c.in-Some.is at (c.in-Ok.ensures.turn b h g.row.E records root at nodes home rooted path) in
+    let size = g.met.M.FlatMem.same_size _ _ c.turning_level.ensures.kept in
+    let rooted_now = subst (λ (s : ℕ). IsRooted g.row.E g.row.K (s / 512) b records c.args.levels root nodes) size rooted in
+    let led = c.in-Ok-go_down.ensures.leaf b (c.turning_level.ensures.unchanged b h) records c.args.levels root nodes home rooted_now form.1 (path_cut nodes c.args.levels 1 c.in-Some.level _ _ at home path (omega (arith, form.0)) form.1) (λ above. turn.0) in
+    led_moved b c.args.levels nodes c.go_down.new.page c.go_down.new.path.pages c.go_down.new.path.index c.in-Ok-go_down.leaf _ (home 1 + 1) (leads_behind nodes c.args.levels _ _ at home path c.in-Some.level form.0 form.1 turn.1) led
+
+pub returns-in-Err-go_down-clause-met : goal.returns-in-Err-go_down-clause-met
+returns-in-Err-go_down-clause-met g c = λ b h root path.
+    let form = rw c.in-Some.is at c.in-Ok.ensures.form in
+    let fits = rw c.in-Some.is at (c.in-Ok.ensures.met b h g.row.E root path) in
+    let size = g.met.M.FlatMem.same_size _ _ c.turning_level.ensures.kept in
+    let above : 1 < c.in-Some.level = omega (arith, form.0) in
+    rw size (c.in-Err-go_down.ensures.met b (c.turning_level.ensures.unchanged b h) c.args.levels root form.1 (path.met c.in-Some.level above form.1) (met_cut g.row.K b c.args.levels 1 c.in-Some.level root _ _ above path) (λ above. fits)
+    (λ same. ap (λ (i : ℕ). get_or c.args.path.now.pages i 0) same ∙ path.top (omega (arith, above, form.1))))
+
+pub returns-clause-met : goal.returns-clause-met
+returns-clause-met g c = λ b h root path.
+    let form = rw c.in-Some.is at c.in-Ok.ensures.form in
+    let fits = rw c.in-Some.is at (c.in-Ok.ensures.met b h g.row.E root path) in
+    let above : 1 < c.in-Some.level = omega (arith, form.0) in
+    (c.in-Ok-go_down.ensures.met b (c.turning_level.ensures.unchanged b h) c.args.levels root form.1 (path.met c.in-Some.level above form.1) (met_cut g.row.K b c.args.levels 1 c.in-Some.level root _ _ above path) (λ above. fits)
+    (λ same. ap (λ (i : ℕ). get_or c.args.path.now.pages i 0) same ∙ path.top (omega (arith, above, form.1)))).1
+
+pub returns-clause-path : goal.returns-clause-path
+returns-clause-path g c =
+    let form = rw c.in-Some.is at c.in-Ok.ensures.form in
+    let size = g.met.M.FlatMem.same_size _ _ c.turning_level.ensures.kept in
+    rw size (c.in-Ok-go_down.ensures.path c.args.levels (λ n from most. rw (← size) (c.requires.path n (omega (arith, from, form.0)) most)))

@@ -1,0 +1,181 @@
+// An insertion from the header on.
+ghost use Rattle.std.specs.Prelude.{◌≡◌, ℕ, ◌+◌, ◌-◌, ◌*◌, ◌/◌, ◌^◌, ◌<◌, ◌≤◌, List, length, take, IfOk, IfErr, MatchResult};
+ghost use Rattle.page_tree.specs.Page.{IsWidths, page_at, kind_of, filled, leaf_room, count_in};
+ghost use Rattle.page_tree.specs.Broken.{Meets, Breaks, IfMalformed};
+ghost use Rattle.page_tree.specs.Way.{IsUnderWay, GoesOn};
+ghost use Rattle.page_tree.specs.Tree.{IsTree};
+ghost use Rattle.page_tree.specs.Path.{IsReached};
+ghost use Rattle.page_tree.specs.Answer.{FromMemory, IfMem, IfMemory, IfFull, CanBegin};
+ghost use Rattle.page_tree.specs.Put.{IsPut, FullOr, capacity_of};
+ghost use Rattle.page_tree.specs.Climb.{IsHead, IsReady, IsLow, IsPutIn};
+
+use crate::climb::{climb, store_halves};
+use crate::error::TreeError;
+use crate::look::{Header, Path, capacity_of_pages, descend, read_header};
+use crate::pages::{Page, count_at_most, filled_of, put_record, store};
+use crate::split::{make_leaf, split_leaf};
+use crate::take::{finish, take_page};
+use flat_mem::FlatMem;
+
+/// Puts a record into its leaf, and says whether there was room. Else the leaf is split, and `key` and `link` name its new half.
+fn put_low<M: FlatMem, const E: usize, const K: usize>(
+    mem: &mut M,
+    header: &mut Header,
+    at: u32,
+    page: &mut Page,
+    entry: &[u8; E],
+    key: &mut [u8; K],
+    link: &mut u32,
+) -> Result<bool, TreeError<M::Error>>
+    requires widths { IsWidths E K }
+    requires small { M.size mem.old ≤ 2 ^ 27 }
+    requires some_pages { 9 * 512 ≤ M.size mem.old }
+    requires inside { at < M.size mem.old / 512 }
+    requires some { 1 ≤ filled page.old }
+    requires most { filled page.old ≤ leaf_room E }
+    requires same { key.old ≡ take K entry.now }
+    requires levels { 1 ≤ header.old.levels }
+    requires few { header.old.levels ≤ 6 }
+    requires free { header.old.free < M.size mem.old / 512 }
+    ensures low { (b : List ℕ) → M.tells mem.old b → (records : List (List ℕ)) (ready : IsReady E K (M.size mem.old / 512) b records header.old.levels header.old.root header.old.free header.old.top) (paths index : List ℕ) → IsReached b header.old.levels ready.nodes key.old page.old paths index at → MatchResult result (IsLow E K (M.size mem.old / 512) (M.tells mem.new) records entry.now key.old header.old.levels paths index key.new link.new header.old.root header.new.free header.new.top) FromMemory }
+    ensures on { (b : List ℕ) → M.tells mem.old b → IsUnderWay K b b 0 0 header.old.free header.old.top → Meets K b 1 at → kind_of page.old ≡ 1 → MatchResult result (GoesOn K (M.tells mem.new) b 1 header.new.free header.new.top) (IfMalformed (Breaks E K (M.size mem.old / 512) b)) }
+    ensures free { IfOk result (λ _. header.new.free < M.size mem.old / 512) }
+    ensures count { header.new.count ≡ header.old.count }
+    ensures root { header.new.root ≡ header.old.root }
+    ensures same_levels { header.new.levels ≡ header.old.levels }
+    ensures kept { M.beside mem.old mem.new }
+    ensures cause { IfErr result (IfMem (M.accounted mem.old mem.new)) }
+    ensures cost { M.spent mem.new ≤ M.spent mem.old + 3 * M.cost }
+{
+    let count = filled_of(page);
+    let place = count_at_most(page, E, count, key);
+    if count < 504 / E {
+        put_record(page, count, place, entry);
+        match store(mem, at, page) {
+            Ok(()) => return Ok(true),
+            Err(error) => return Err(error),
+        }
+    }
+    let mut right = [0; 512];
+    split_leaf(page, &mut right, count, place, entry, key);
+    let new = match store_halves(mem, header, at, page, &right) {
+        Ok(new) => new,
+        Err(error) => return Err(error),
+    };
+    *link = new;
+    Ok(false)
+}
+
+/// Puts the first record of all.
+fn put_first<M: FlatMem, const E: usize, const K: usize>(
+    mem: &mut M,
+    header: &mut Header,
+    entry: &[u8; E],
+) -> Result<(), TreeError<M::Error>>
+    requires widths { IsWidths E K }
+    requires small { M.size mem.old ≤ 2 ^ 27 }
+    requires some_pages { 9 * 512 ≤ M.size mem.old }
+    requires none { header.old.levels ≡ 0 }
+    requires free { header.old.free < M.size mem.old / 512 }
+    ensures put { (b : List ℕ) → M.tells mem.old b → (records : List (List ℕ)) → IsTree E K (M.size mem.old / 512) b records → IsHead (page_at b 0) header.old.count header.old.root header.old.top header.old.free header.old.levels → MatchResult result (λ _. IsPutIn E K (M.size mem.old / 512) (M.tells mem.new) records entry.now header.new.levels header.new.root header.new.free header.new.top) FromMemory }
+    ensures on { (b : List ℕ) → M.tells mem.old b → IsUnderWay K b b 0 0 header.old.free header.old.top → IfErr result (IfMalformed (Breaks E K (M.size mem.old / 512) b)) }
+    ensures count { header.new.count ≡ header.old.count }
+    ensures levels { IfOk result (λ _. header.new.levels ≤ 6) }
+    ensures kept { M.beside mem.old mem.new }
+    ensures cause { IfErr result (IfMem (M.accounted mem.old mem.new)) }
+    ensures cost { M.spent mem.new ≤ M.spent mem.old + 2 * M.cost }
+{
+    let new = match take_page(mem, header) {
+        Ok(new) => new,
+        Err(error) => return Err(error),
+    };
+    let mut page = [0; 512];
+    make_leaf(&mut page, entry);
+    match store(mem, new, &page) {
+        Ok(()) => (),
+        Err(error) => return Err(error),
+    }
+    header.root = new;
+    header.levels = 1;
+    Ok(())
+}
+
+/// Puts a record into the levels. Only the header is left to be written.
+fn put_in<M: FlatMem, const E: usize, const K: usize>(
+    mem: &mut M,
+    header: &mut Header,
+    entry: &[u8; E],
+) -> Result<(), TreeError<M::Error>>
+    requires widths { IsWidths E K }
+    requires small { M.size mem.old ≤ 2 ^ 27 }
+    requires some_pages { 9 * 512 ≤ M.size mem.old }
+    requires begins { CanBegin (M.size mem.old / 512) header.old.levels header.old.root }
+    requires free { header.old.free < M.size mem.old / 512 }
+    ensures put { (b : List ℕ) → M.tells mem.old b → (records : List (List ℕ)) → IsTree E K (M.size mem.old / 512) b records → IsHead (page_at b 0) header.old.count header.old.root header.old.top header.old.free header.old.levels → length records < capacity_of E (M.size mem.old / 512) → MatchResult result (λ _. IsPutIn E K (M.size mem.old / 512) (M.tells mem.new) records entry.now header.new.levels header.new.root header.new.free header.new.top) FromMemory }
+    ensures on { (b : List ℕ) → M.tells mem.old b → IsHead (page_at b 0) header.old.count header.old.root header.old.top header.old.free header.old.levels → IfErr result (IfMalformed (Breaks E K (M.size mem.old / 512) b)) }
+    ensures count { header.new.count ≡ header.old.count }
+    ensures few { IfOk result (λ _. header.new.levels ≤ 6) }
+    ensures kept { M.beside mem.old mem.new }
+    ensures cause { IfErr result (IfMem (M.accounted mem.old mem.new)) }
+    ensures cost { M.spent mem.new ≤ M.spent mem.old + 31 * M.cost }
+{
+    if header.levels == 0 {
+        return put_first::<M, E, K>(mem, header, entry);
+    }
+    let mut key = [0; K];
+    key.copy_from_slice(&entry[..K]);
+    let mut path = Path {
+        pages: [0; 7],
+        index: [0; 7],
+    };
+    let mut page = [0; 512];
+    let at = match descend::<M, E, K>(mem, header.root, header.levels, &key, &mut path, &mut page) {
+        Ok(at) => at,
+        Err(error) => return Err(error),
+    };
+    let mut link = 0;
+    let done = match put_low(mem, header, at, &mut page, entry, &mut key, &mut link) {
+        Ok(done) => done,
+        Err(error) => return Err(error),
+    };
+    if done {
+        return Ok(());
+    }
+    climb(mem, header, &path, &mut key, link)
+}
+
+/// Puts a record behind those whose key is at most its own.
+pub fn insert<M: FlatMem, const E: usize, const K: usize>(
+    mem: &mut M,
+    entry: &[u8; E],
+) -> Result<(), TreeError<M::Error>>
+    requires widths { IsWidths E K }
+    requires small { M.size mem.old ≤ 2 ^ 27 }
+    requires some_pages { 9 * 512 ≤ M.size mem.old }
+    ensures answer { (b : List ℕ) → M.tells mem.old b → (records : List (List ℕ)) → IsTree E K (M.size mem.old / 512) b records → MatchResult result (λ _. IsPut E K (M.size mem.old / 512) (M.tells mem.new) records entry.now) (FullOr E (M.size mem.old / 512) (M.tells mem.new) b records) }
+    ensures full { (b : List ℕ) → M.tells mem.old b → IfErr result (IfFull (capacity_of E (M.size mem.old / 512) ≤ count_in (page_at b 0))) }
+    ensures broken { (b : List ℕ) → M.tells mem.old b → IfErr result (IfMalformed (Breaks E K (M.size mem.old / 512) b)) }
+    ensures kept { M.beside mem.old mem.new }
+    ensures cause { IfErr result (IfMemory (M.accounted mem.old mem.new)) }
+    ensures cost { M.spent mem.new ≤ M.spent mem.old + 33 * M.cost }
+{
+    let capacity = capacity_of_pages::<E>((mem.len() / 512) as u32);
+    let mut head = [0; 512];
+    let mut header = match read_header::<M, E, K>(mem, &mut head) {
+        Ok(header) => header,
+        Err(error) => return Err(error),
+    };
+    if header.count >= capacity {
+        return Err(TreeError::Full);
+    }
+    match put_in::<M, E, K>(mem, &mut header, entry) {
+        Ok(()) => (),
+        Err(error) => return Err(error),
+    }
+    header.count += 1;
+    match finish(mem, &mut head, header) {
+        Ok(()) => (),
+        Err(error) => return Err(error),
+    }
+    Ok(())
+}

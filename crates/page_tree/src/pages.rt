@@ -1,0 +1,244 @@
+// Reading a page of the tree, and the steps of a search in it.
+ghost use Rattle.std.specs.Prelude.{◌≡◌, ℕ, ◌+◌, ◌-◌, ◌*◌, ◌<◌, ◌≤◌, List, length, take, true, false, IfOk, IfErr, OnOk, slice_index};
+ghost use Rattle.byteorder.specs.Endian.{big_number};
+ghost use Rattle.flat_mem.specs.Memory.{part, overwritten};
+ghost use Rattle.flat_mem.specs.Order.{at_most};
+ghost use Rattle.page_tree.specs.Page.{page_at, kind_of, filled, key_room, leaf_room, links_at, link_at, key_at, count_in, root_in, levels_in, top_in, free_in};
+ghost use Rattle.page_tree.specs.Answer.{FromMemory, IfMem};
+ghost use Rattle.page_tree.specs.Change.{with_record, with_cell, with_count, with_child, with_root, with_leaf, from_cell, leaf_from, inner_from};
+
+use crate::error::TreeError;
+use byteorder::{BigEndian, ByteOrder};
+use flat_mem::FlatMem;
+
+pub type Page = [u8; 512];
+
+#[tactic(auto, unfolding(flat_mem::specs::Order::at_most))]
+pub fn is_at_most(key: &[u8], other: &[u8]) -> bool
+    ensures { result ≡ at_most key.now other.now }
+{
+    key.cmp(&other).is_le()
+}
+
+/// Reads page `index` for a call of the tree.
+pub fn load<M: FlatMem>(mem: &mut M, index: u32, page: &mut Page) -> Result<(), TreeError<M::Error>>
+    requires { 512 * index + 512 ≤ M.size mem.old }
+    ensures read { (b : List ℕ) → M.tells mem.old b → OnOk result (page.new ≡ page_at b index) }
+    ensures memory { IfErr result FromMemory }
+    ensures unchanged { (b : List ℕ) → M.tells mem.old b → M.tells mem.new b }
+    ensures kept { M.beside mem.old mem.new }
+    ensures cause { IfErr result (IfMem (M.accounted mem.old mem.new)) }
+    ensures cost { M.spent mem.new ≤ M.spent mem.old + M.cost }
+{
+    match mem.read(512 * index as u64, page) {
+        Ok(()) => Ok(()),
+        Err(error) => Err(TreeError::Mem(error)),
+    }
+}
+
+/// How many of the first `count` keys are at most `key`, up to the first that is not.
+/// The keys stand from byte 8 on, `step` bytes apart.
+pub fn count_at_most<const K: usize>(page: &Page, step: usize, count: usize, key: &[u8; K]) -> usize
+    requires inside { 8 + step * count ≤ 512 }
+    requires width { K ≤ step }
+    ensures below { result ≤ count }
+    ensures holds { 0 < result → at_most (part page.now (8 + step * (result - 1)) K) key.now ≡ true }
+    ensures above { result < count → at_most (part page.now (8 + step * result) K) key.now ≡ false }
+{
+    let mut found = 0;
+    'scan: while found < count {
+        let at = 8 + step * found;
+        if !is_at_most(&page[at..at + K], key) {
+            return found;
+        }
+        found += 1;
+    }
+    found
+}
+
+pub fn filled_of(page: &Page) -> usize
+    ensures { result ≡ filled page.now }
+{
+    BigEndian::read_u16(&page[2..4]) as usize
+}
+
+/// The page number at `index` of an inner page.
+pub fn link_of<const K: usize>(page: &Page, index: usize) -> u32
+    requires width { K ≤ 12 }
+    requires inside { index ≤ key_room K }
+    ensures { result ≡ link_at K page.now index }
+{
+    let at = 8 + K * (500 / (K + 4)) + 4 * index;
+    BigEndian::read_u32(&page[at..at + 4])
+}
+
+/// Copies the key at `index` of an inner page.
+pub fn key_of<const K: usize>(page: &Page, index: usize, into: &mut [u8; K])
+    requires width { K ≤ 12 }
+    requires inside { index < key_room K }
+    ensures { into.new ≡ key_at K page.now index }
+{
+    let at = 8 + K * index;
+    into.copy_from_slice(&page[at..at + K]);
+}
+
+/// Copies the key of the first record of a leaf.
+pub fn first_key_of<const K: usize>(page: &Page, into: &mut [u8; K])
+    requires width { K ≤ 12 }
+    ensures { into.new ≡ part page.now 8 K }
+{
+    let at = 8;
+    into.copy_from_slice(&page[at..at + K]);
+}
+
+/// Writes page `index` for a call of the tree.
+pub fn store<M: FlatMem>(mem: &mut M, index: u32, page: &Page) -> Result<(), TreeError<M::Error>>
+    requires { 512 * index + 512 ≤ M.size mem.old }
+    ensures written { (b : List ℕ) → M.tells mem.old b → OnOk result (M.tells mem.new (overwritten b (512 * index) page.now)) }
+    ensures memory { IfErr result FromMemory }
+    ensures kept { M.beside mem.old mem.new }
+    ensures cause { IfErr result (IfMem (M.accounted mem.old mem.new)) }
+    ensures cost { M.spent mem.new ≤ M.spent mem.old + M.cost }
+{
+    match mem.write(512 * index as u64, page) {
+        Ok(()) => Ok(()),
+        Err(error) => Err(TreeError::Mem(error)),
+    }
+}
+
+/// Writes bytes into a page.
+pub fn put(page: &mut Page, at: usize, bytes: &[u8])
+    requires { at + length bytes.now ≤ 512 }
+    ensures { page.new ≡ overwritten page.old at bytes.now }
+{
+    page[at..at + bytes.len()].copy_from_slice(bytes);
+}
+
+/// Puts a record into a leaf of `count` records, before record `at`.
+pub fn put_record<const E: usize>(page: &mut Page, count: usize, at: usize, entry: &[u8; E])
+    requires some { 24 ≤ E }
+    requires most { E ≤ 32 }
+    requires place { at ≤ count }
+    requires room { count < leaf_room E }
+    ensures { page.new ≡ with_record E page.old count at entry.now }
+{
+    let moved = *page;
+    put(page, 8 + E * (at + 1), &moved[8 + E * at..8 + E * count]);
+    put(page, 8 + E * at, entry);
+    put(page, 2, &((count + 1) as u16).to_be_bytes());
+}
+
+/// Writes the count of a page of the tree.
+pub fn put_count(page: &mut Page, count: usize)
+    requires { count < 512 }
+    ensures { page.new ≡ with_count page.old count }
+{
+    put(page, 2, &(count as u16).to_be_bytes());
+}
+
+/// Puts a cell before cell `at` of the `count` that stand `width` bytes apart from byte `base` on.
+fn put_cell(page: &mut Page, base: usize, width: usize, count: usize, at: usize, cell: &[u8])
+    requires width { length cell.now ≡ width }
+    requires few { count < 512 }
+    requires place { at ≤ count }
+    requires room { base + width * (count + 1) ≤ 512 }
+    ensures { page.new ≡ with_cell base width page.old count at cell.now }
+{
+    let moved = *page;
+    put(
+        page,
+        base + width * (at + 1),
+        &moved[base + width * at..base + width * count],
+    );
+    put(page, base + width * at, cell);
+}
+
+/// Moves the cells from `from` on to the front.
+fn keep_cells(page: &mut Page, base: usize, width: usize, count: usize, from: usize)
+    requires place { from ≤ count }
+    requires room { base + width * count ≤ 512 }
+    ensures { page.new ≡ from_cell base width page.old count from }
+{
+    let moved = *page;
+    put(
+        page,
+        base,
+        &moved[base + width * from..base + width * count],
+    );
+}
+
+/// Puts a child into an inner page of `count` keys: its number before child `at`, and a key before key `slot`.
+pub fn put_child<const K: usize>(
+    page: &mut Page,
+    count: usize,
+    slot: usize,
+    at: usize,
+    key: &[u8; K],
+    link: u32,
+)
+    requires some { 1 ≤ K }
+    requires most { K ≤ 12 }
+    requires key_place { slot ≤ count }
+    requires place { at ≤ count + 1 }
+    requires room { count < key_room K }
+    ensures { page.new ≡ with_child K page.old count slot key.now at link }
+{
+    put_cell(page, 8, K, count, slot, key);
+    put_cell(
+        page,
+        8 + K * (500 / (K + 4)),
+        4,
+        count + 1,
+        at,
+        &link.to_be_bytes(),
+    );
+    put_count(page, count + 1);
+}
+
+/// Makes an inner page of two children.
+pub fn put_root<const K: usize>(page: &mut Page, left: u32, key: &[u8; K], right: u32)
+    requires some { 1 ≤ K }
+    requires most { K ≤ 12 }
+    ensures { page.new ≡ with_root K page.old left key.now right }
+{
+    put(page, 0, &[2]);
+    put_count(page, 1);
+    put(page, 8, key);
+    let at = 8 + K * (500 / (K + 4));
+    put(page, at, &left.to_be_bytes());
+    put(page, at + 4, &right.to_be_bytes());
+}
+
+/// Makes a leaf of one record.
+pub fn put_leaf<const E: usize>(page: &mut Page, entry: &[u8; E])
+    requires { E ≤ 32 }
+    ensures { page.new ≡ with_leaf page.old entry.now }
+{
+    put(page, 0, &[1]);
+    put_count(page, 1);
+    put(page, 8, entry);
+}
+
+/// Leaves in a leaf of `count` records those from `from` on.
+pub fn keep_records<const E: usize>(page: &mut Page, count: usize, from: usize)
+    requires some { 1 ≤ E }
+    requires place { from ≤ count }
+    requires room { count ≤ leaf_room E }
+    ensures { page.new ≡ leaf_from E page.old count from }
+{
+    keep_cells(page, 8, E, count, from);
+    put_count(page, count - from);
+}
+
+/// Leaves in an inner page of `count` keys the children from `from` on.
+pub fn keep_children<const K: usize>(page: &mut Page, count: usize, from: usize)
+    requires some { 1 ≤ K }
+    requires most { K ≤ 12 }
+    requires place { from ≤ count }
+    requires room { count ≤ key_room K }
+    ensures { page.new ≡ inner_from K page.old count from }
+{
+    keep_cells(page, 8, K, count, from);
+    keep_cells(page, 8 + K * (500 / (K + 4)), 4, count + 1, from);
+    put_count(page, count - from);
+}

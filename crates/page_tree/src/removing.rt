@@ -1,0 +1,133 @@
+// A removal by its key, from the header on.
+ghost use Rattle.std.specs.Prelude.{◌≡◌, ℕ, ◌+◌, ◌*◌, ◌/◌, ◌^◌, ◌<◌, ◌≤◌, List, false, IfOk, IfErr, MatchResult};
+ghost use Rattle.page_tree.specs.Page.{IsWidths, page_at};
+ghost use Rattle.page_tree.specs.Tree.{IsTree};
+ghost use Rattle.page_tree.specs.Answer.{FromMemory, IfMem, CanBegin};
+ghost use Rattle.page_tree.specs.Climb.{IsHead};
+ghost use Rattle.page_tree.specs.Removed.{IsRemoved};
+ghost use Rattle.page_tree.specs.Out.{IsOut};
+
+use crate::error::TreeError;
+use crate::even::give_page;
+use crate::look::{Header, Path, descend, read_header};
+use crate::pages::{Page, filled_of};
+use crate::sought::last_of_key;
+use crate::take::finish;
+use crate::taking::{take_first, take_later};
+use flat_mem::FlatMem;
+
+// Takes the last record of the key out. Only the header is left to be written.
+fn remove_in<M: FlatMem, const E: usize, const K: usize>(
+    mem: &mut M,
+    header: &mut Header,
+    key: &[u8; K],
+    path: &mut Path,
+    page: &mut Page,
+    above: &mut Page,
+    second: &mut [u8; E],
+    second_key: &mut [u8; K],
+) -> Result<bool, TreeError<M::Error>>
+    requires widths { IsWidths E K }
+    requires small { M.size mem.old ≤ 2 ^ 27 }
+    requires some { 1 ≤ header.old.levels }
+    requires begins { CanBegin (M.size mem.old / 512) header.old.levels header.old.root }
+    ensures out { (b : List ℕ) → M.tells mem.old b → (records : List (List ℕ)) → IsTree E K (M.size mem.old / 512) b records → IsHead (page_at b 0) header.old.count header.old.root header.old.top header.old.free header.old.levels
+        → MatchResult result (IsOut E K (M.size mem.old / 512) (M.tells mem.new) b records key.now header.new.levels header.new.root header.new.free header.new.top) FromMemory }
+    ensures few { header.new.levels ≤ 6 }
+    ensures count { header.new.count ≡ header.old.count }
+    ensures absent { (b : List ℕ) → M.tells mem.old b → IfOk result (λ found. found ≡ false → M.tells mem.new b) }
+    ensures kept { M.beside mem.old mem.new }
+    ensures cause { IfErr result (IfMem (M.accounted mem.old mem.new)) }
+    ensures cost { M.spent mem.new ≤ M.spent mem.old + 34 * M.cost }
+{
+    let at = match descend::<M, E, K>(mem, header.root, header.levels, key, path, page) {
+        Ok(at) => at,
+        Err(error) => return Err(error),
+    };
+    let place = match last_of_key::<E, K>(page, key) {
+        Some(place) => place,
+        None => return Ok(false),
+    };
+    let count = filled_of(page);
+    if count == 1 {
+        if header.levels > 1 {
+            return Err(TreeError::Malformed { page: at });
+        }
+        header.root = 0;
+        header.levels = 0;
+        match give_page(mem, header, at) {
+            Ok(()) => return Ok(true),
+            Err(error) => return Err(error),
+        }
+    }
+    if place == 0 {
+        match take_first::<M, E, K>(
+            mem, header, path, at, page, count, above, second, second_key,
+        ) {
+            Ok(()) => return Ok(true),
+            Err(error) => return Err(error),
+        }
+    }
+    match take_later::<M, E, K>(mem, header, path, at, page, count, place) {
+        Ok(()) => (),
+        Err(error) => return Err(error),
+    }
+    Ok(true)
+}
+
+/// Takes out the last record of this key, and says whether there is one.
+pub fn remove_key<M: FlatMem, const E: usize, const K: usize>(
+    mem: &mut M,
+    key: &[u8; K],
+) -> Result<bool, TreeError<M::Error>>
+    requires widths { IsWidths E K }
+    requires small { M.size mem.old ≤ 2 ^ 27 }
+    requires some_pages { 9 * 512 ≤ M.size mem.old }
+    ensures answer { (b : List ℕ) → M.tells mem.old b → (records : List (List ℕ)) → IsTree E K (M.size mem.old / 512) b records → MatchResult result (IsRemoved E K (M.size mem.old / 512) (M.tells mem.new) b records key.now) FromMemory }
+    ensures absent { (b : List ℕ) → M.tells mem.old b → IfOk result (λ found. found ≡ false → M.tells mem.new b) }
+    ensures kept { M.beside mem.old mem.new }
+    ensures cause { IfErr result (IfMem (M.accounted mem.old mem.new)) }
+    ensures cost { M.spent mem.new ≤ M.spent mem.old + 36 * M.cost }
+{
+    let mut head = [0; 512];
+    let mut header = match read_header::<M, E, K>(mem, &mut head) {
+        Ok(header) => header,
+        Err(error) => return Err(error),
+    };
+    if header.levels == 0 {
+        return Ok(false);
+    }
+    let mut path = Path {
+        pages: [0; 7],
+        index: [0; 7],
+    };
+    let mut page = [0; 512];
+    let mut above = [0; 512];
+    let mut second = [0; E];
+    let mut second_key = [0; K];
+    let found = match remove_in::<M, E, K>(
+        mem,
+        &mut header,
+        key,
+        &mut path,
+        &mut page,
+        &mut above,
+        &mut second,
+        &mut second_key,
+    ) {
+        Ok(found) => found,
+        Err(error) => return Err(error),
+    };
+    if !found {
+        return Ok(false);
+    }
+    if header.count == 0 {
+        return Err(TreeError::Malformed { page: 0 });
+    }
+    header.count -= 1;
+    match finish(mem, &mut head, header) {
+        Ok(()) => (),
+        Err(error) => return Err(error),
+    }
+    Ok(true)
+}

@@ -1,0 +1,95 @@
+// A record is taken out of its leaf and out of the levels.
+ghost use Rattle.std.specs.Prelude.{◌≡◌, ℕ, ◌+◌, ◌*◌, ◌/◌, ◌^◌, ◌<◌, ◌≤◌, ◌⊎◌, List, remove, IfErr, MatchResult};
+ghost use Rattle.page_tree.specs.Page.{IsWidths, filled, leaf_room};
+ghost use Rattle.page_tree.specs.Tree.{before};
+ghost use Rattle.page_tree.specs.Path.{IsReached};
+ghost use Rattle.page_tree.specs.Answer.{FromMemory, IfMem};
+ghost use Rattle.page_tree.specs.Climb.{TellsClosed};
+ghost use Rattle.page_tree.specs.Removed.{IsLastHere};
+ghost use Rattle.page_tree.specs.Standing.{IsStanding};
+
+use crate::edits::{record_of, remove_record};
+use crate::error::TreeError;
+use crate::look::{Header, Path};
+use crate::naming::name_leaf;
+use crate::pages::Page;
+use crate::thin::mend;
+use flat_mem::FlatMem;
+
+/// Takes out a record that is not the first of its leaf.
+pub fn take_later<M: FlatMem, const E: usize, const K: usize>(
+    mem: &mut M,
+    header: &mut Header,
+    path: &Path,
+    at: u32,
+    page: &mut Page,
+    count: usize,
+    place: usize,
+) -> Result<(), TreeError<M::Error>>
+    requires widths { IsWidths E K }
+    requires small { M.size mem.old ≤ 2 ^ 27 }
+    requires some { 1 ≤ header.old.levels }
+    requires few { header.old.levels ≤ 6 }
+    requires inside { at < M.size mem.old / 512 }
+    requires counts { count ≡ filled page.old }
+    requires two { 2 ≤ count }
+    requires most { count ≤ leaf_room E }
+    requires below { place < count }
+    requires behind { 0 < place }
+    ensures out { (b : List ℕ) → M.tells mem.old b → (records : List (List ℕ)) (here : IsStanding E K (M.size mem.old / 512) b records header.old.levels header.old.root header.old.free header.old.top) (key : List ℕ) (reached : IsReached b header.old.levels here.nodes key page.old path.now.pages path.now.index at) → IsLastHere E K page.old key place
+        → MatchResult result (λ _. TellsClosed E K (M.size mem.old / 512) (M.tells mem.new) (remove records (before (here.nodes 1) (reached.place 1) + place)) header.new.levels header.new.root header.new.free header.new.top) FromMemory }
+    ensures levels { header.new.levels ≤ header.old.levels }
+    ensures count { header.new.count ≡ header.old.count }
+    ensures kept { M.beside mem.old mem.new }
+    ensures cause { IfErr result (IfMem (M.accounted mem.old mem.new)) }
+    ensures cost { M.spent mem.new ≤ M.spent mem.old + 26 * M.cost }
+{
+    remove_record::<E>(page, count, place);
+    match mend::<M, E, K>(mem, header, path, at, page) {
+        Ok(()) => (),
+        Err(error) => return Err(error),
+    }
+    Ok(())
+}
+
+/// Takes out the first of at least two records of a leaf. The key of the second goes to the page above that has the first.
+pub fn take_first<M: FlatMem, const E: usize, const K: usize>(
+    mem: &mut M,
+    header: &mut Header,
+    path: &Path,
+    at: u32,
+    page: &mut Page,
+    count: usize,
+    above: &mut Page,
+    second: &mut [u8; E],
+    key: &mut [u8; K],
+) -> Result<(), TreeError<M::Error>>
+    requires widths { IsWidths E K }
+    requires small { M.size mem.old ≤ 2 ^ 27 }
+    requires some { 1 ≤ header.old.levels }
+    requires few { header.old.levels ≤ 6 }
+    requires inside { at < M.size mem.old / 512 }
+    requires counts { count ≡ filled page.old }
+    requires two { 2 ≤ count }
+    requires most { count ≤ leaf_room E }
+    ensures out { (b : List ℕ) → M.tells mem.old b → (records : List (List ℕ)) (here : IsStanding E K (M.size mem.old / 512) b records header.old.levels header.old.root header.old.free header.old.top) (sought : List ℕ) (reached : IsReached b header.old.levels here.nodes sought page.old path.now.pages path.now.index at) → IsLastHere E K page.old sought 0
+        → MatchResult result (λ _. TellsClosed E K (M.size mem.old / 512) (M.tells mem.new) (remove records (before (here.nodes 1) (reached.place 1) + 0)) header.new.levels header.new.root header.new.free header.new.top) FromMemory }
+    ensures levels { header.new.levels ≤ header.old.levels }
+    ensures count { header.new.count ≡ header.old.count }
+    ensures kept { M.beside mem.old mem.new }
+    ensures cause { IfErr result (IfMem (M.accounted mem.old mem.new)) }
+    ensures cost { M.spent mem.new ≤ M.spent mem.old + 28 * M.cost }
+{
+    record_of(page, 1, second);
+    key.copy_from_slice(&second[..K]);
+    match name_leaf(mem, path, header.levels, key, above) {
+        Ok(()) => (),
+        Err(error) => return Err(error),
+    }
+    remove_record::<E>(page, count, 0);
+    match mend::<M, E, K>(mem, header, path, at, page) {
+        Ok(()) => (),
+        Err(error) => return Err(error),
+    }
+    Ok(())
+}
