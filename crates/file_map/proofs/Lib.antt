@@ -1,0 +1,13 @@
+pub mod Records
+pub mod Keys
+pub mod Outcomes
+pub mod Runs
+pub mod Searches
+pub mod Named
+pub mod Edits
+pub mod Adding
+pub mod Cutting
+pub mod Few
+pub mod Trees
+pub mod Room
+pub mod Empty

@@ -1,0 +1,46 @@
+-- An error of the list of records is passed on as one of the map.
+use Rattle.std.proofs.Common.{◌≡◌, inl, inr, ℕ, sym, subst, Ok, Err, MatchResult, IfErr}
+use Rattle.std.specs.declared.result.Result.{Result}
+use Rattle.std.specs.Result.{IsErr, IsErrAnd}
+use Rattle.page_tree.specs.declared.error.TreeError.{TreeError}
+use Rattle.page_tree.specs.declared.error.TreeError.TheVariants.{Full as TreeFull, Malformed as TreeMalformed, Mem as TreeMem}
+use Rattle.file_map.specs.declared.error.MapError.{MapError}
+use Rattle.file_map.specs.declared.error.MapError.TheVariants.{Full, Malformed, Mem}
+use Rattle.file_map.specs.Entries.{Sight, Entry, Count, Broken, IsOwn as IsOwnTree, IsCause as IsCauseTree}
+use Rattle.file_map.specs.Cause.{of_tree, IsCause, IsOwn, IsFullOr}
+
+pub passed : {T E : Type 0} (r : Result T E) (P : T → Type 0) (Q : E → Type 0) (e : E) → IsErr r → IsErrAnd r (λ x. x ≡ e) → Q e → MatchResult r P Q
+passed (Ok x) P Q e is_err is q = absurd is
+passed (Err x) P Q e is_err is q = subst Q (sym is) q
+
+pub passed_cause : {T E : Type 0} (r : Result T E) (Q : E → Type 0) (e : E) → IsErrAnd r (λ x. x ≡ e) → Q e → IfErr r Q
+passed_cause (Ok x) Q e is q = absurd is
+passed_cause (Err x) Q e is q = subst Q (sym is) q
+
+pub own : {X : Type 0} (e : TreeError X) → IsOwnTree e → IsOwn (of_tree e)
+own TreeFull h = h
+own (TreeMalformed page) h = h
+own (TreeMem error) h = h
+
+pub cause : {X : Type 0} (n : ℕ) (full : Type 0) (shows : Sight → Type 0) (accounted : X → Type 0) (e : TreeError X) → IsCauseTree full shows accounted e → IsCause n full shows accounted (of_tree e)
+cause n full shows accounted TreeFull h = h
+cause n full shows accounted (TreeMalformed page) h = inl h
+cause n full shows accounted (TreeMem error) h = h
+
+pub full_or : {T X : Type 0} (r : Result T (MapError X)) (P : T → Type 0) (full stays : Type 0) → MatchResult r P IsOwn → MatchResult r P (IsFullOr full stays)
+full_or (Ok x) P full stays h = h
+full_or (Err Full) P full stays h = absurd h
+full_or (Err (Malformed page)) P full stays h = h
+full_or (Err (Mem error)) P full stays h = h
+
+pub cause_wider : {X : Type 0} (n : ℕ) (full whole : Type 0) (shows earlier : Sight → Type 0) (accounted wider : X → Type 0) (e : MapError X) → (full → whole) → ((s : Sight) → shows s → earlier s) → ((x : X) → accounted x → wider x)
+    → IsCause n full shows accounted e → IsCause n whole earlier wider e
+cause_wider n full whole shows earlier accounted wider Full k h f is = k is
+cause_wider n full whole shows earlier accounted wider (Malformed page) k h f is = elim is [
+  | inl why ↦ inl (h (Broken page) why)
+  | inr other ↦ elim other [
+    | inl (entry, at, broken) ↦ inr (inl (entry, h (Entry page entry) at, broken))
+    | inr (zero_is, (count, at, more)) ↦ inr (inr (zero_is, (count, h (Count count) at, more)))
+  ]
+]
+cause_wider n full whole shows earlier accounted wider (Mem error) k h f is = f error is

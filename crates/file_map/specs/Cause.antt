@@ -1,0 +1,44 @@
+-- Why a call of the map answered an error.
+use Rattle.std.specs.Prelude.{◌≡◌, ◌⊎◌, ℕ, ◌<◌, List}
+use Rattle.page_tree.specs.declared.error.TreeError.{TreeError}
+use Rattle.page_tree.specs.declared.error.TreeError.TheVariants.{Full as TreeFull, Malformed as TreeMalformed, Mem as TreeMem}
+use Rattle.file_map.specs.declared.error.MapError.{MapError}
+use Rattle.file_map.specs.declared.error.MapError.TheVariants.{Full, Malformed, Mem}
+use Rattle.file_map.specs.Entries.{Sight, Entry, Count, Broken}
+use Rattle.file_map.specs.Run.{IsRecord}
+use Rattle.file_map.specs.FileMap.{most_records}
+
+-- an error of the list of records as one of the map
+abbrev pub of_tree : {X : Type 0} → TreeError X → MapError X
+of_tree TreeFull = Full
+of_tree (TreeMalformed page) = Malformed page
+of_tree (TreeMem error) = Mem error
+
+-- The page breaks its form: as a page of the list, or as one with a record that breaks the form of one on a volume of
+-- n sectors, or as page 0, which counts more records than there are data sectors
+abbrev pub IsBroken : ℕ → (Sight → Type 0) → ℕ → Type 0
+IsBroken n shows page =
+    shows (Broken page) ⊎ (((entry : List ℕ) × shows (Entry page entry) × (IsRecord n entry → ⊥)) ⊎ ((page ≡ 0) × ((count : ℕ) × shows (Count count) × (most_records n < count))))
+
+-- why a call answered an error: where the map is full, this holds; a page that is malformed is shown to break its form; the
+-- memory's error is accounted for
+abbrev pub IsCause : {X : Type 0} → ℕ → Type 0 → (Sight → Type 0) → (X → Type 0) → MapError X → Type 0
+IsCause n full shows accounted Full = full
+IsCause n full shows accounted (Malformed page) = IsBroken n shows page
+IsCause n full shows accounted (Mem error) = accounted error
+
+-- no record may be added: whatever count is told, it is that of the data sectors
+abbrev pub IsMost : ℕ → (ℕ → Type 0) → Type 0
+IsMost n counts = (count : ℕ) → counts count → count ≡ most_records n
+
+-- the map has a record for each data sector, and stays; or the error is the memory's own
+abbrev pub IsFullOr : {X : Type 0} → Type 0 → Type 0 → MapError X → Type 0
+IsFullOr full stays Full = full × stays
+IsFullOr full stays (Malformed page) = ⊥
+IsFullOr full stays (Mem error) = Unit {0}
+
+-- the error is the memory's own
+abbrev pub IsOwn : {X : Type 0} → MapError X → Type 0
+IsOwn Full = ⊥
+IsOwn (Malformed page) = ⊥
+IsOwn (Mem error) = Unit {0}

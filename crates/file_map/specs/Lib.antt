@@ -1,0 +1,9 @@
+pub mod Run
+pub mod FileMap
+pub mod Entries
+pub mod Cause
+pub mod Searches
+pub mod Edits
+pub mod Shown
+pub mod Map
+pub mod Laws
