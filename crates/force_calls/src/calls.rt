@@ -1,0 +1,93 @@
+//! The calls: each looks at every slot once.
+ghost use Rattle.std.specs.Prelude.{◌≡◌, ◌≤◌, ◌+◌, ℕ, false, List, [], IfErr, OnErr, OnOk};
+ghost use Rattle.labelled_disk.specs.declared.evidence.Halt.TheVariants as halt;
+ghost use Rattle.labelled_disk.specs.Sectors.{Sector};
+ghost use Rattle.frame_pool.specs.Frames.{Frame, Has, IsWithin};
+ghost use Rattle.swapper_kernel.specs.Homes.{no_home};
+ghost use Rattle.swapper_kernel.specs.Stands.{Stands};
+ghost use Rattle.swapper_kernel.specs.Goes.{Goes, Swaps, no_page};
+ghost use Rattle.swapper_kernel.specs.Differs.{Differs, of_run};
+ghost use Rattle.swapper_kernel.specs.Halts.{Halts};
+ghost use Rattle.swapper_kernel.specs.Steps.{Steps};
+ghost use Rattle.force_calls.specs.Run.{LetsGo, OnlyRun, Stay, dirty_count};
+
+use crate::run::Run;
+use labelled_disk::{Disk, FileId, Halt};
+use std::alloc::Allocator;
+use swapper_kernel::SwapperOver;
+
+/// Writes out each dirty frame of these pages of a file. The frames stay.
+pub fn force<D: Disk, A: Allocator>(
+    swapper: &mut SwapperOver<D, A>,
+    id: FileId,
+    first: u32,
+    pages: u32,
+) -> Result<(), Halt>
+    requires size { (D.state swapper.old.under).sectors ≡ swapper.old.layout.sectors }
+    ensures clean { OnOk result ((i : ℕ) (f : Frame) → Has swapper.new.pool i f → IsWithin id first pages f.home → f.dirty ≡ false) }
+    ensures stay { Stay swapper.old.pool swapper.new.pool }
+    ensures run { OnlyRun id first pages swapper.old.pool swapper.new.pool }
+    ensures sound { (m : List Sector) → Stands (D.state swapper.old.under) swapper.old.pool m → IfErr result (λ e. e ≡ halt.Disk) }
+    ensures cause { IfErr result (Halts no_home (D.state swapper.old.under) swapper.old.pool (D.state swapper.new.under)) }
+    ensures swaps { Swaps (D.state swapper.old.under) swapper.old.pool (D.state swapper.new.under) swapper.new.pool }
+    ensures steps { Steps no_home no_home (D.state swapper.old.under) swapper.old.pool (D.state swapper.new.under) swapper.new.pool }
+    ensures layout { swapper.new.layout ≡ swapper.old.layout }
+    ensures cost { (D.state swapper.new.under).transfers ≤ (D.state swapper.old.under).transfers + dirty_count id first pages swapper.old.pool }
+{
+    let run = Run { id, first, pages };
+    for slot in 0..swapper.frames().frames() {
+        if let Some(dirty) = run.held_in(swapper.frames(), slot) {
+            if dirty {
+                swapper.write_out(slot)?;
+            }
+        }
+    }
+    Ok(())
+}
+
+/// Gives up each frame of these pages of a file. What is dirty is written out first.
+pub fn let_go<D: Disk, A: Allocator>(
+    swapper: &mut SwapperOver<D, A>,
+    id: FileId,
+    first: u32,
+    pages: u32,
+) -> Result<(), Halt>
+    requires size { (D.state swapper.old.under).sectors ≡ swapper.old.layout.sectors }
+    ensures gone { OnOk result ((i : ℕ) (f : Frame) → Has swapper.new.pool i f → IsWithin id first pages f.home → ⊥) }
+    ensures run { OnlyRun id first pages swapper.old.pool swapper.new.pool }
+    ensures sound { (m : List Sector) → Stands (D.state swapper.old.under) swapper.old.pool m → IfErr result (λ e. e ≡ halt.Disk) }
+    ensures cause { IfErr result (Halts no_home (D.state swapper.old.under) swapper.old.pool (D.state swapper.new.under)) }
+    ensures swaps { Swaps (D.state swapper.old.under) swapper.old.pool (D.state swapper.new.under) swapper.new.pool }
+    ensures written { OnOk result (LetsGo id first pages (D.state swapper.old.under) swapper.old.pool (D.state swapper.new.under) swapper.new.pool) }
+    ensures stay { OnErr result (Stay swapper.old.pool swapper.new.pool) }
+    ensures steps { OnErr result (Steps no_home no_home (D.state swapper.old.under) swapper.old.pool (D.state swapper.new.under) swapper.new.pool) }
+    ensures layout { swapper.new.layout ≡ swapper.old.layout }
+    ensures cost { (D.state swapper.new.under).transfers ≤ (D.state swapper.old.under).transfers + dirty_count id first pages swapper.old.pool }
+{
+    force(swapper, id, first, pages)?;
+    forget(swapper, id, first, pages);
+    Ok(())
+}
+
+/// Gives up each frame of these pages of a file, dirty or not, without a transfer. The pages are what the disk has.
+pub fn forget<D: Disk, A: Allocator>(
+    swapper: &mut SwapperOver<D, A>,
+    id: FileId,
+    first: u32,
+    pages: u32,
+)
+    ensures gone { (i : ℕ) (f : Frame) → Has swapper.new.pool i f → IsWithin id first pages f.home → ⊥ }
+    ensures run { OnlyRun id first pages swapper.old.pool swapper.new.pool }
+    ensures left { (i : ℕ) (f : Frame) → Has swapper.new.pool i f → Has swapper.old.pool i f }
+    ensures swaps { ((i : ℕ) (f : Frame) → Has swapper.old.pool i f → IsWithin id first pages f.home → f.dirty ≡ false) → Swaps (D.state swapper.old.under) swapper.old.pool (D.state swapper.new.under) swapper.new.pool }
+    ensures goes { Goes (Differs (of_run id first pages)) no_page [] (D.state swapper.old.under) swapper.old.pool (D.state swapper.new.under) swapper.new.pool }
+    ensures under { swapper.new.under ≡ swapper.old.under }
+    ensures layout { swapper.new.layout ≡ swapper.old.layout }
+{
+    let run = Run { id, first, pages };
+    for slot in 0..swapper.frames().frames() {
+        if let Some(_dirty) = run.held_in(swapper.frames(), slot) {
+            swapper.clear(slot);
+        }
+    }
+}

@@ -1,0 +1,7 @@
+//! Dirty pages of a file written out, given up, or forgotten: a run of its pages at a time.
+#![tactic(auto)]
+
+mod calls;
+mod run;
+
+pub use calls::{force, forget, let_go};

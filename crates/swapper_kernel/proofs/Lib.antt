@@ -1,0 +1,11 @@
+pub mod BringLemmas
+pub mod ChangeLemmas
+pub mod KindLemmas
+pub mod LendLemmas
+pub mod LoadLemmas
+pub mod MoveLemmas
+pub mod OutLemmas
+pub mod PlacedLemmas
+pub mod StepLemmas
+pub mod WindowLemmas
+pub mod BesideLemmas

@@ -1,0 +1,132 @@
+//! Frames over a disk, and who holds the disk.
+ghost use Rattle.std.specs.Prelude.{◌≡◌, ◌==◌, ◌≤◌, ◌+◌, ◌<◌, ◌*◌, ℕ, IfOk, IfErr, IsSome, None, length, replicate, slice_set, Some};
+ghost use Rattle.frame_pool.specs.Frames.{Has, IsEmpty, IsNowhere, HasDistinct, HasPage, frame_at};
+ghost use Rattle.swapper_kernel.specs.Homes.{IsLayout, ArePlaced};
+
+use frame_pool::FramePool;
+use labelled_disk::{Disk, Layout, NoMemory};
+use std::alloc::Allocator;
+
+/// Frames over a disk that is held by value. Every call that moves sectors asks that the disk has as many sectors as
+/// the layout: a disk that was lent might be another one.
+#[derive(Drop)]
+pub struct SwapperOver<D: Disk, A: Allocator> {
+    pub(crate) under: D,
+    pub(crate) pool: FramePool<A>,
+    pub(crate) layout: Layout,
+    ghost accepted: { IsLayout layout },
+    ghost placed: { ArePlaced pool layout },
+    ghost least: { 24 ≤ length pool },
+}
+
+/// Frames over a disk that is lent.
+pub type Swapper<'d, D, A> = SwapperOver<&'d mut D, A>;
+
+impl<D: Disk, A: Allocator> SwapperOver<D, A> {
+    /// Empty frames over a disk, 24 to 4,096. This takes all the memory that they ever have. The disk is handed back
+    /// where there is none.
+    pub fn over(
+        alloc: A,
+        disk: D,
+        layout: Layout,
+        frames: u32,
+    ) -> Result<SwapperOver<D, A>, (NoMemory, D)>
+        requires layout { IsLayout layout }
+        requires least { 24 ≤ frames }
+        requires most { frames ≤ 4096 }
+        ensures under { IfOk result (λ s. s.under ≡ disk) }
+        ensures empty { IfOk result (λ s. s.pool ≡ replicate frames None) }
+        ensures layout { IfOk result (λ s. s.layout ≡ layout) }
+        ensures back { IfErr result (λ e. e.1 ≡ disk) }
+    {
+        match FramePool::with_frames(alloc, frames) {
+            Ok(pool) => Ok(SwapperOver {
+                under: disk,
+                pool,
+                layout,
+            }),
+            Err(fault) => Err((fault, disk)),
+        }
+    }
+
+    /// Gives the frames up, and the disk back. What is dirty is lost.
+    pub fn into_disk(self) -> D
+        ensures { result ≡ self.under }
+    {
+        let SwapperOver {
+            under,
+            pool: _,
+            layout: _,
+        } = self;
+        under
+    }
+
+    /// The frames.
+    pub fn frames(&self) -> &FramePool<A>
+        ensures { result.now ≡ self.now.pool }
+    {
+        &self.pool
+    }
+
+    /// Whether the disk has as many sectors as the layout, which every call that moves sectors asks for.
+    pub fn fits(&self) -> bool
+        ensures { result ≡ ((D.state self.now.under).sectors == self.now.layout.sectors) }
+    {
+        self.under.sectors() == self.layout.sectors
+    }
+
+    /// The layout of the volume.
+    pub fn layout(&self) -> Layout
+        ensures { result ≡ self.now.layout }
+    {
+        self.layout
+    }
+}
+
+impl<D: Disk, A: Allocator> SwapperOver<D, A> {
+    ghost use Rattle.std.specs.Borrow.{sem};
+    ghost use Rattle.swapper_kernel.specs.Lending.{LendsUnder};
+
+    /// The disk, as it is held.
+    pub fn disk_over(&mut self) -> &mut D
+        ensures value { result.now ≡ self.old.under }
+        ensures* lends { sem 𝓛 (LendsUnder D.row A.row D.Disk A.Allocator self.entry result) }
+    {
+        &mut self.under
+    }
+}
+
+impl<'d, D: Disk, A: Allocator> SwapperOver<&'d mut D, A> {
+    ghost use Rattle.std.specs.Borrow.{sem};
+    ghost use Rattle.swapper_kernel.specs.Lending.{LendsBehind};
+
+    /// Empty frames over a disk that is lent, 24 to 4,096. This takes all the memory that they ever have.
+    pub fn new(
+        alloc: A,
+        disk: &'d mut D,
+        layout: Layout,
+        frames: u32,
+    ) -> Result<Swapper<'d, D, A>, NoMemory>
+        requires layout { IsLayout layout }
+        requires least { 24 ≤ frames }
+        requires most { frames ≤ 4096 }
+        ensures under { IfOk result (λ s. s.under.now ≡ disk.old) }
+        ensures empty { IfOk result (λ s. s.pool ≡ replicate frames None) }
+        ensures layout { IfOk result (λ s. s.layout ≡ layout) }
+    {
+        let pool = FramePool::with_frames(alloc, frames)?;
+        Ok(SwapperOver {
+            under: disk,
+            pool,
+            layout,
+        })
+    }
+
+    /// The disk that is lent.
+    pub fn disk(&mut self) -> &mut D
+        ensures value { result.now ≡ self.old.under.now }
+        ensures* lends { sem 𝓛 (LendsBehind D.row A.row D.Disk A.Allocator self.entry result) }
+    {
+        self.under
+    }
+}
