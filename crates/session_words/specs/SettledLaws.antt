@@ -1,0 +1,50 @@
+-- What a disk tells of the machine that it and the frames over it stand for: the settled files, at every moment.
+use Rattle.std.specs.Prelude.{◌≡◌, ℕ, ◌≤◌, true, List, length, Some}
+use Rattle.labelled_disk.specs.declared.label.Wanted.{Wanted}
+use Rattle.labelled_disk.specs.declared.disk.DiskWrite.TheVariants as write
+use Rattle.labelled_disk.specs.Sectors.{Sector, AreSectors}
+use Rattle.labelled_disk.specs.State.{DiskState}
+use Rattle.labelled_disk.specs.Moment.{written, moment}
+use Rattle.labelled_disk.specs.Runs.{IsWriteInForm}
+use Rattle.frame_pool.specs.Frames.{Slots}
+use Rattle.flat_machine.specs.Machine.{Machine}
+use Rattle.session_words.specs.Volume.{Searches}
+use Rattle.swapper_kernel.specs.Differs.{Differs}
+use Rattle.session_words.specs.Parts.{MapMeaning, TablesMeaning, is_loose, is_loose_at}
+use Rattle.session_words.specs.StandsFor.{StandsFor, IsSettled, TellsSettled}
+
+-- a disk that has all of a machine but what is unforced tells its settled files
+abbrev pub SettledIsTold : Type 0
+SettledIsTold = (d : List Sector) (m : Machine) → IsSettled d m → TellsSettled d m
+
+-- whatever bytes stand in loose pages
+abbrev pub LooseMayDiffer : Type 0
+LooseMayDiffer = (d e : List Sector) (m : Machine) → IsSettled d m → Differs (is_loose_at m.unforced) d e → AreSectors e → IsSettled e m
+
+-- bytes may be written to a loose page
+abbrev pub LooseWritten : Type 0
+LooseWritten = (d : List Sector) (m : Machine) (sector : ℕ) (wanted : Wanted) (bytes : List ℕ) → IsSettled d m → is_loose m.unforced wanted.id wanted.page ≡ true
+    → IsWriteInForm (write.Page sector wanted bytes) → IsSettled (written (write.Page sector wanted bytes) d) m
+
+module _ (names_triple : MapMeaning) (spaces_of : TablesMeaning) where
+  -- the disk, without its frames, tells the settled files of the machine that both stand for
+  abbrev pub StandsIsSettled : Type 0
+  StandsIsSettled = (disk : DiskState) (slots : Slots) (m : Machine) (d : List Sector) → StandsFor names_triple spaces_of disk slots m → disk.contents ≡ Some d → AreSectors d → IsSettled d m
+
+  -- swapping leaves what both stand for
+  abbrev pub SwapStands : Type 0
+  SwapStands = (old new : DiskState) (before after : Slots) (m : Machine) → Searches old before new after → StandsFor names_triple spaces_of old before m → StandsFor names_triple spaces_of new after m
+
+  -- and at each moment of it the disk tells the settled files
+  abbrev pub SwapMoments : Type 0
+  SwapMoments = (old new : DiskState) (before after : Slots) (m : Machine) (d : List Sector) (swaps : Searches old before new after) → StandsFor names_triple spaces_of old before m
+      → old.contents ≡ Some d → AreSectors d → (k : ℕ) → k ≤ length swaps.makes.wrote.writes → IsSettled (moment d swaps.makes.wrote.writes k) m
+
+  -- what a session's calls cite of a stop
+  pub record SettledLaws : Type 0 where
+    pub told : SettledIsTold
+    pub differ : LooseMayDiffer
+    pub written : LooseWritten
+    pub stands : StandsIsSettled
+    pub swaps : SwapStands
+    pub moments : SwapMoments

@@ -1,0 +1,123 @@
+//! What the definitions say, as the contracts of functions that do nothing.
+ghost use Rattle.std.specs.Prelude.{◌≡◌, ℕ, Bool, true, List, Some, None};
+ghost use Rattle.labelled_disk.specs.Sectors.{Sector};
+ghost use Rattle.swapper_kernel.specs.Kinds.{Kind, SameBut};
+ghost use Rattle.session_words.specs.KindLaws.{Stays};
+ghost use Rattle.session_words.specs.Parts.{HasLabels, MapMeaning, Shape, Shapes, TablesMeaning};
+ghost use Rattle.session_words.specs.SettledLaws.{SettledLaws};
+ghost use Rattle.session_words.specs.CellLaws.{CellLaws};
+ghost use Rattle.session_words.specs.PlaceLaws.{PlaceLaws};
+ghost use Rattle.session_words.specs.StopLaws.{StopLaws};
+ghost use Rattle.session_words.specs.CallLaws.{CallLaws};
+ghost use Rattle.session_words.specs.StartLaws.{StartLaws};
+ghost use Rattle.session_words.specs.SizeLaws.{SizeLaws};
+ghost use Rattle.session_words.specs.CreateLaws.{CreateStands};
+ghost use Rattle.session_words.specs.MarkLaws.{MarkLaws};
+ghost use Rattle.session_words.specs.RunStops.{RunStops};
+ghost use Rattle.session_words.specs.OpenLaws.{Opened};
+ghost use Rattle.session_words.specs.CloseLaws.{Closed};
+ghost use Rattle.session_words.specs.DeleteLaws.{DeleteStands};
+ghost use Rattle.session_words.specs.GrowLaws.{GrowLaws};
+ghost use Rattle.session_words.specs.ChangeLaws.{ChangeLaws};
+ghost use Rattle.session_words.specs.FrameLaws.{FrameLaws};
+ghost use Rattle.session_words.specs.FreeLaws.{FreeLaws};
+ghost use Rattle.session_words.specs.Found.{AreShapes, IsFound};
+ghost use Rattle.swapper_kernel.specs.Stands.{labels_of};
+ghost use Rattle.labelled_disk.specs.File.{File};
+ghost use Rattle.labelled_disk.specs.FilesOn.{disk_file};
+
+/// Each part of what a session stands for stays where pages of other kinds change.
+pub fn parts_stay()
+    ensures { (names_triple : MapMeaning) (spaces_of : TablesMeaning) (m n : List Sector) (kinds : Kind → Bool) (same : SameBut kinds m n) → Stays names_triple spaces_of m n kinds same }
+{}
+
+/// Labels that are those of some files tell these files, and no others.
+pub fn labels_tell_files()
+    ensures found { (d : List Sector) (shapes : Shapes) → HasLabels (labels_of d) shapes → AreShapes shapes → (id : ℕ) (f : Shape) → shapes id ≡ Some f → (g : File) × IsFound d id f g }
+    ensures missing { (d : List Sector) (shapes : Shapes) → HasLabels (labels_of d) shapes → AreShapes shapes → (id : ℕ) → shapes id ≡ None → disk_file true d id ≡ None }
+{}
+
+/// The disk tells the settled files of the machine that it and its frames stand for, at each moment of swapping too.
+pub fn disk_tells_settled()
+    ensures { (names_triple : MapMeaning) (spaces_of : TablesMeaning) → SettledLaws names_triple spaces_of }
+{}
+
+/// A store and a kill change cells alone, and the pages of files alone.
+pub fn cells_alone()
+    ensures { (names_triple : MapMeaning) (spaces_of : TablesMeaning) → CellLaws names_triple spaces_of }
+{}
+
+/// What the parts become where one data sector gets another label.
+pub fn sector_relabelled()
+    ensures { PlaceLaws }
+{}
+
+/// A stop among the writes of a call is, but for bytes that no file rests on, one among its label writes alone.
+pub fn stops_between_writes()
+    ensures { StopLaws }
+{}
+
+/// Calls of the space tables and a force lead to the machine after them.
+pub fn calls_stand()
+    ensures { (names_triple : MapMeaning) (spaces_of : TablesMeaning) → CallLaws names_triple spaces_of }
+{}
+
+/// The labels of a sound volume are those of its files, and those of the space tables are made one by one.
+pub fn sound_labels_are_files()
+    ensures { StartLaws }
+{}
+
+/// A file that grows: labels, bits and triples together, and the machine after it.
+pub fn files_grow()
+    ensures { (names_triple : MapMeaning) (spaces_of : TablesMeaning) → GrowLaws names_triple spaces_of }
+{}
+
+/// A change of a frame's bytes is a store in the page of a file.
+pub fn bytes_change()
+    ensures { (names_triple : MapMeaning) (spaces_of : TablesMeaning) → ChangeLaws names_triple spaces_of }
+{}
+
+/// Which pages have frames, and over which sectors there is none.
+pub fn frames_are_known()
+    ensures { FrameLaws }
+{}
+
+/// A set of pages goes, whatever the order: what the parts become, and a file that is cut.
+pub fn pages_freed()
+    ensures { (names_triple : MapMeaning) (spaces_of : TablesMeaning) → FreeLaws names_triple spaces_of }
+{}
+
+/// A call that gives a file another size leads to the machine after it.
+pub fn files_resized()
+    ensures { (names_triple : MapMeaning) (spaces_of : TablesMeaning) → SizeLaws names_triple spaces_of }
+{}
+
+/// A creation leads to the machine after it.
+pub fn files_made()
+    ensures { (names_triple : MapMeaning) (spaces_of : TablesMeaning) → CreateStands names_triple spaces_of }
+{}
+
+/// A call that makes a file permanent or immutable leads to the machine after it.
+pub fn files_marked()
+    ensures { (names_triple : MapMeaning) (spaces_of : TablesMeaning) → MarkLaws names_triple spaces_of }
+{}
+
+/// At each moment of a call that writes labels, the disk tells the settled files of a machine.
+pub fn stops_tell_settled()
+    ensures { RunStops }
+{}
+
+/// A start leads to the machine of the permanent files.
+pub fn volume_opened()
+    ensures { (names_triple : MapMeaning) (spaces_of : TablesMeaning) → Opened names_triple spaces_of }
+{}
+
+/// Where a close has freed the tables and the temporary files, the volume can be opened, and its files are those of the machine after it.
+pub fn volume_closed()
+    ensures { (names_triple : MapMeaning) (spaces_of : TablesMeaning) → Closed names_triple spaces_of }
+{}
+
+/// A deletion leads to the machine after it.
+pub fn files_deleted()
+    ensures { (names_triple : MapMeaning) (spaces_of : TablesMeaning) → DeleteStands names_triple spaces_of }
+{}
