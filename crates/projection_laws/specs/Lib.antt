@@ -1,0 +1,10 @@
+pub mod Spaces
+pub mod Sight
+pub mod Edits
+pub mod Laws
+pub mod Slots
+pub mod Tests
+pub mod Stored
+pub mod One
+pub mod Worked
+pub mod Fits

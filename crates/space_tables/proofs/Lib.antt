@@ -1,0 +1,12 @@
+pub mod ReadBack
+pub mod Writes
+pub mod Entries
+pub mod InPart
+pub mod Right
+pub mod Passes
+pub mod Asks
+pub mod Changed
+pub mod Sets
+pub mod Begins
+pub mod Places
+pub mod Pieces

@@ -1,0 +1,116 @@
+use Rattle.std.proofs.Common.{rules, ◌≡◌, ◌≢◌, ℕ, ◌+◌, ◌<◌, ◌≤◌, List, [], ◌∷◌, length, Option, Some, None, inl, inr, refl, sym, ◌∙◌, ap, subst, arith}
+use Rattle.std.specs.Prelude.{slice_get, slice_set}
+use Rattle.std.proofs.lemmas.Option.{slice_get_within}
+use Rattle.projection_laws.specs.Spaces.{AreSpaces, MayBeAdded}
+use Rattle.flat_machine.specs.declared.space.Space.{Space}
+use Rattle.flat_machine.specs.Space.{space_at}
+use Rattle.flat_machine.specs.Refusal.{first_of, no_size}
+use Rattle.flat_machine.specs.Next.{put_space, first_page_for}
+use Rattle.projection_laws.specs.Slots.{listed}
+use Rattle.projection_laws.specs.Tests.{no_space, no_spaces, no_place, add_row, made}
+use Rattle.projection_laws.specs.Edits.{replaced, pieces}
+use Rattle.projection_laws.proofs.Passes.{add_passes}
+use Rattle.space_tables.specs.Form.{Breaks, BreaksAt, IsNearlyFull}
+use Rattle.space_tables.specs.Stored.{HoldTables, TellSpaces}
+use Rattle.space_tables.proofs.Right.{right_reads}
+use Rattle.space_tables.proofs.Passes.{still_hold}
+use Rattle.space_tables.proofs.Asks.{still_tell, refuses_with, refuses_by, from_memory, passed, stopped}
+use Rattle.space_tables.proofs.Pieces.{some_size, zero_size, all_taken, one_more, few_now, lowest_is, is_made, added, breaks_at, malformed_as, mem_as}
+use Rattle.space_tables.proofs.add.add.Goals as goal
+
+pub returns-in_err-existing-clause-answer : goal.returns-in_err-existing-clause-answer
+returns-in_err-existing-clause-answer g c = λ ss t.
+    let now = still_tell g.M.FlatMem.tells c.args.mem.now c.existing.new.mem c.existing.ensures.unchanged c.args.count ss t in
+    let m = c.in_err-existing.ensures.answer c.args.count ss t in
+    let k = refuses_with (TellSpaces (g.M.FlatMem.tells c.existing.new.mem) c.args.count ss) now (no_space ss c.args.parent)
+    (no_size c.args.pages ∷ no_spaces ss ∷ no_place ss c.args.parent c.args.pages c.args.first ∷ []) _ m in search (rules, k)
+
+pub returns-then-pages-eq0-clause-answer : goal.returns-then-pages-eq0-clause-answer
+returns-then-pages-eq0-clause-answer g c = λ ss t.
+    let now = still_tell g.M.FlatMem.tells c.args.mem.now c.existing.new.mem c.existing.ensures.unchanged c.args.count ss t in
+    let m = c.in_ok-existing.ensures.answer c.args.count ss t in
+    (passed _ _ m.0 ∙ stopped _ _ _ (zero_size c.args.pages c.if-pages-eq0.true), now)
+
+pub returns-in_err-handle-clause-answer : goal.returns-in_err-handle-clause-answer
+returns-in_err-handle-clause-answer g c = λ ss t.
+    let hold = still_hold g.M.FlatMem.tells c.args.mem.now c.existing.new.mem c.existing.ensures.unchanged t.slots t.xs t.hold in
+    let m = c.in_err-handle.ensures.free t.slots t.xs hold (right_reads t.slots t.xs t.right) in
+    let k = from_memory (TellSpaces (g.M.FlatMem.tells c.free_handle.new.mem) c.args.count ss) (first_of (add_row ss c.args.parent c.args.pages c.args.first)) _ m in search (rules, k)
+
+pub returns-in_default-clause-answer : goal.returns-in_default-clause-answer
+returns-in_default-clause-answer g c = λ ss t.
+    let now = still_tell g.M.FlatMem.tells c.args.mem.now c.existing.new.mem c.existing.ensures.unchanged c.args.count ss t in
+    let later = still_tell g.M.FlatMem.tells c.existing.new.mem c.free_handle.new.mem c.free_handle.ensures.unchanged c.args.count ss now in
+    let hold = still_hold g.M.FlatMem.tells c.args.mem.now c.existing.new.mem c.existing.ensures.unchanged t.slots t.xs t.hold in
+    let f = rw c.in_default.is at (c.in_ok-handle.ensures.free t.slots t.xs hold (right_reads t.slots t.xs t.right)) in
+    let m = c.in_ok-existing.ensures.answer c.args.count ss t in
+    let some : c.args.pages ≢ 0 = c.if-pages-eq0.false in
+    (passed _ _ m.0 ∙ passed _ _ (some_size c.args.pages some) ∙ stopped _ _ _ (all_taken (g.M.FlatMem.tells c.args.mem.now) c.args.count ss t f), later)
+
+pub returns-in_err-room-clause-answer : goal.returns-in_err-room-clause-answer
+returns-in_err-room-clause-answer g c = λ ss t.
+    let now = still_tell g.M.FlatMem.tells c.args.mem.now c.existing.new.mem c.existing.ensures.unchanged c.args.count ss t in
+    let later = still_tell g.M.FlatMem.tells c.existing.new.mem c.free_handle.new.mem c.free_handle.ensures.unchanged c.args.count ss now in
+    let last = still_tell g.M.FlatMem.tells c.free_handle.new.mem c.find_room.new.mem c.find_room.ensures.unchanged c.args.count ss later in
+    let hold1 = still_hold g.M.FlatMem.tells c.args.mem.now c.existing.new.mem c.existing.ensures.unchanged t.slots t.xs t.hold in
+    let hold2 = still_hold g.M.FlatMem.tells c.existing.new.mem c.free_handle.new.mem c.free_handle.ensures.unchanged t.slots t.xs hold1 in
+    let f = rw c.in-Some.is at (c.in_ok-handle.ensures.free t.slots t.xs hold1 (right_reads t.slots t.xs t.right)) in
+    let m = c.in_ok-existing.ensures.answer c.args.count ss t in
+    let some : c.args.pages ≢ 0 = c.if-pages-eq0.false in
+    let at = ap (λ (rs : List Space). space_at rs c.args.parent) t.spaces ∙ m.1 in
+    let e = rw t.spaces at (c.in_err-room.ensures.answer t.slots t.xs c.in_ok-existing.field-0 hold2 t.right t.counted at) in
+    let stays = TellSpaces (g.M.FlatMem.tells c.find_room.new.mem) c.args.count ss in
+    let row : first_of (add_row ss c.args.parent c.args.pages c.args.first) ≡ first_of (no_place ss c.args.parent c.args.pages c.args.first ∷ []) =
+    passed _ _ m.0 ∙ passed _ _ (some_size c.args.pages some) ∙ passed _ _ (one_more (g.M.FlatMem.tells c.args.mem.now) c.args.count ss t c.in-Some.handle f) in
+    let k = refuses_by stays _ _ _ row (refuses_with stays last (no_place ss c.args.parent c.args.pages c.args.first) [] _ e) in search (rules, k)
+
+pub returns-in_err-count-clause-answer : goal.returns-in_err-count-clause-answer
+returns-in_err-count-clause-answer g c = λ ss t.
+    let hold = still_hold g.M.FlatMem.tells c.args.mem.now c.existing.new.mem c.existing.ensures.unchanged t.slots t.xs t.hold in
+    let f = rw c.in-Some.is at (c.in_ok-handle.ensures.free t.slots t.xs hold (right_reads t.slots t.xs t.right)) in
+    let m = c.in_err-count.ensures.memory (few_now (g.M.FlatMem.tells c.args.mem.now) c.args.count ss t c.in-Some.handle f) in
+    let k = from_memory (TellSpaces (g.M.FlatMem.tells c.split.new.mem) c.args.count ss) (first_of (add_row ss c.args.parent c.args.pages c.args.first)) _ m in search (rules, k)
+
+pub returns-clause-answer : goal.returns-clause-answer
+returns-clause-answer g c = λ ss t.
+    let tells = g.M.FlatMem.tells c.args.mem.now in
+    let now = still_tell g.M.FlatMem.tells c.args.mem.now c.existing.new.mem c.existing.ensures.unchanged c.args.count ss t in
+    let later = still_tell g.M.FlatMem.tells c.existing.new.mem c.free_handle.new.mem c.free_handle.ensures.unchanged c.args.count ss now in
+    let last = still_tell g.M.FlatMem.tells c.free_handle.new.mem c.find_room.new.mem c.find_room.ensures.unchanged c.args.count ss later in
+    let hold1 = still_hold g.M.FlatMem.tells c.args.mem.now c.existing.new.mem c.existing.ensures.unchanged t.slots t.xs t.hold in
+    let hold2 = still_hold g.M.FlatMem.tells c.existing.new.mem c.free_handle.new.mem c.free_handle.ensures.unchanged t.slots t.xs hold1 in
+    let h = c.in-Some.handle in
+    let r = c.in_ok-room.room in
+    let f = rw c.in-Some.is at (c.in_ok-handle.ensures.free t.slots t.xs hold1 (right_reads t.slots t.xs t.right)) in
+    let m = c.in_ok-existing.ensures.answer c.args.count ss t in
+    let some : c.args.pages ≢ 0 = c.if-pages-eq0.false in
+    let at = ap (λ (rs : List Space). space_at rs c.args.parent) t.spaces ∙ m.1 in
+    let place = rw t.spaces at (c.in_ok-room.ensures.answer t.slots t.xs c.in_ok-existing.field-0 hold2 t.right t.counted at) in
+    let row : first_of (add_row ss c.args.parent c.args.pages c.args.first) ≡ None =
+    passed _ _ m.0 ∙ passed _ _ (some_size c.args.pages some) ∙ passed _ _ (one_more tells c.args.count ss t h f) ∙ passed _ [] place.0 in
+    let x : Space = record { handle = h; parent = c.args.parent; first = r.first; pages = c.args.pages; unit = c.first_unit.result; window = None } in
+    let lowest = lowest_is tells c.args.count ss t h f (omega (arith, slice_get_within t.slots h None f.1, t.hold.are.handles)) in
+    let is : x ≡ made ss c.args.parent c.args.pages c.args.first = is_made ss h c.args.parent c.args.pages r.first c.first_unit.result c.args.first lowest place.1.1 c.first_unit.ensures in
+    let pass = add_passes ss c.args.parent c.args.pages c.args.first (subst AreSpaces t.spaces t.right.spaces) row in
+    let may : MayBeAdded ss x pass.0 = subst (λ (y : Space). MayBeAdded ss y pass.0) (sym is) pass.2 in
+    let hold3 = still_hold g.M.FlatMem.tells c.free_handle.new.mem c.find_room.new.mem c.find_room.ensures.unchanged t.slots t.xs hold2 in
+    let cut = c.in_ok-count.ensures.split t.slots t.xs hold3 t.counted place.1.0 in
+    let hold = c.in_ok-put_slot.ensures.written t.slots (replaced t.xs r.index (pieces x r.interval)) (Some x) cut.0 c.space_bytes.ensures in
+    let new = added tells (g.M.FlatMem.tells c.put_slot.new.mem) c.args.count c.in_ok-count.count ss t x pass.0 r.index r.interval may f.1 place.1.0 c.in_ok-room.ensures.form.2
+    (omega (arith, c.in_ok-room.ensures.form.3, some)) hold cut.1 in
+    (row, (subst (λ (y : Space). TellSpaces (g.M.FlatMem.tells c.put_slot.new.mem) c.in_ok-count.count (put_space y ss)) is new, lowest, place.1.1))
+
+pub returns-in_err-count-clause-cause : goal.returns-in_err-count-clause-cause
+returns-in_err-count-clause-cause g c =
+    let near = g.met.M.FlatMem.beside_through _ _ _ c.existing.ensures.kept c.free_handle.ensures.kept in
+    let kept = g.met.M.FlatMem.beside_through _ _ _ near c.find_room.ensures.kept in
+    let m = mem_as (g.M.FlatMem.accounted c.find_room.new.mem c.split.new.mem) (g.M.FlatMem.accounted c.args.mem.now c.split.new.mem)
+    (λ x k. g.met.M.FlatMem.accounted_wider _ _ _ _ x kept c.split.ensures.kept (g.met.M.FlatMem.beside_itself c.split.new.mem) k) _ c.in_err-count.ensures.cause in search (rules, m)
+
+pub returns-in_err-put_slot-clause-cause : goal.returns-in_err-put_slot-clause-cause
+returns-in_err-put_slot-clause-cause g c =
+    let near = g.met.M.FlatMem.beside_through _ _ _ c.existing.ensures.kept c.free_handle.ensures.kept in
+    let far = g.met.M.FlatMem.beside_through _ _ _ near c.find_room.ensures.kept in
+    let kept = g.met.M.FlatMem.beside_through _ _ _ far c.split.ensures.kept in
+    let m = mem_as (g.M.FlatMem.accounted c.split.new.mem c.put_slot.new.mem) (g.M.FlatMem.accounted c.args.mem.now c.put_slot.new.mem)
+    (λ x k. g.met.M.FlatMem.accounted_wider _ _ _ _ x kept c.put_slot.ensures.kept (g.met.M.FlatMem.beside_itself c.put_slot.new.mem) k) _ c.in_err-put_slot.ensures.cause in search (rules, m)

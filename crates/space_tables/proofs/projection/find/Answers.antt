@@ -1,0 +1,54 @@
+use Rattle.std.proofs.Common.{rules, ◌≡◌, ℕ, ◌+◌, ◌*◌, ◌<◌, ◌≤◌, ◌∙◌, ap, List, length, Some, Ok, inl, inr, arith, refl, sym}
+use Rattle.std.proofs.lemmas.Bool.{true≢false}
+use Rattle.record_table.specs.declared.look.Look.TheVariants.{Entry, Before, Count}
+use Rattle.flat_mem.specs.Memory.{part}
+use Rattle.space_tables.proofs.Entries.{length-entries}
+use Rattle.std.specs.Prelude.{slice_get}
+use Rattle.projection_laws.specs.Sight.{Interval}
+use Rattle.projection_laws.specs.Stored.{interval_in}
+use Rattle.space_tables.specs.Form.{interval_record, is_interval_record, has_page}
+use Rattle.space_tables.proofs.ReadBack.{interval_read, none_of, some_of, there}
+use Rattle.space_tables.proofs.Right.{right_reads, entry_is, entry_holds, some_found}
+use Rattle.space_tables.proofs.projection.find.Goals as goal
+use Rattle.space_tables.proofs.projection.find.Goals.{in_default-via-in-Some+else-has_page, in_default-via-in_default}
+
+pub returns-in-Ok-Before-clause-found : goal.returns-in-Ok-Before-clause-found
+returns-in-Ok-Before-clause-found g c = λ slots xs h r long inside.
+    some_found h.bytes slots xs h.are r c.args.count c.args.page c.requires.few long inside c.look_up_record.new.into (rw c.in-Ok-Before.field-0-is at (c.in-Ok-Before.ensures.answer h.bytes h.told))
+
+pub returns-in-Ok-Before-clause-malformed : goal.returns-in-Ok-Before-clause-malformed
+returns-in-Ok-Before-clause-malformed g c = λ b told. inr (inr (refl, c.in-Ok-Before.ensures.before b told (ap Ok c.in-Ok-Before.field-0-is) c.requires.some))
+
+pub returns-in-Some-clause-found : goal.returns-in-Some-clause-found
+returns-in-Some-clause-found g c = λ slots xs h r long inside.
+    let i = c.in-Ok-Entry.index in
+    let within : i < c.args.count = rw c.in-Ok-Entry.field-0-is at c.in-Ok-Entry.ensures.form in
+    let is = entry_is h.bytes c.look_up_record.new.into _ c.args.count i c.requires.few (rw c.in-Ok-Entry.field-0-is at (c.in-Ok-Entry.ensures.answer h.bytes h.told)) within in
+    let below : i < length xs = omega (arith, within, long) in
+    let read = interval_read h.bytes slots xs h.are (right_reads slots xs r) i c.look_up_record.new.into below is in
+    cc (read, c.in-Some.ensures.interval)
+
+pub returns-in_default-clause-found : goal.returns-in_default-clause-found
+returns-in_default-clause-found g c = λ slots xs h r long inside.
+    let i = c.in-Ok-Entry.index in
+    let within : i < c.args.count = rw c.in-Ok-Entry.field-0-is at c.in-Ok-Entry.ensures.form in
+    let answer = rw c.in-Ok-Entry.field-0-is at (c.in-Ok-Entry.ensures.answer h.bytes h.told) in
+    let is = entry_is h.bytes c.look_up_record.new.into _ c.args.count i c.requires.few answer within in
+    let below : i < length xs = omega (arith, within, long) in
+    let read = interval_read h.bytes slots xs h.are (right_reads slots xs r) i c.look_up_record.new.into below is in
+    elim c.in_default.branch [
+      | in_default-via-in-Some+else-has_page w ↦
+          let at : slice_get xs i ≡ Some w.in-Some.interval = cc (read, w.in-Some.ensures.interval) in
+          absurd (true≢false (sym (entry_holds h.bytes slots xs h.are r c.args.count c.args.page c.requires.few long inside c.look_up_record.new.into i w.in-Some.interval answer at) ∙ sym w.has_page.ensures ∙ w.if-has_page.false))
+      | in_default-via-in_default w ↦ there xs i below (w.in_default.ensures.interval ∙ read)
+    ]
+
+pub returns-in_default-clause-malformed : goal.returns-in_default-clause-malformed
+returns-in_default-clause-malformed g c = λ b told.
+    let i = c.in-Ok-Entry.index in
+    let within : i < c.args.count = rw c.in-Ok-Entry.field-0-is at c.in-Ok-Entry.ensures.form in
+    let is = entry_is b c.look_up_record.new.into _ c.args.count i c.requires.few (rw c.in-Ok-Entry.field-0-is at (c.in-Ok-Entry.ensures.answer b told)) within in
+    elim c.in_default.branch [
+      | in_default-via-in-Some+else-has_page w ↦ inr (inl (i, record { on = refl; misses = ap (λ (r : List ℕ). has_page (interval_in r) c.args.page) (sym is) ∙ ap (λ (y : Interval). has_page y c.args.page) (sym (some_of _ _ _ w.in-Some.ensures.interval)) ∙ sym w.has_page.ensures ∙ w.if-has_page.false }))
+      | in_default-via-in_default w ↦ inl (inr (i, record { on = refl; breaks = ap is_interval_record (sym is) ∙ none_of _ _ w.in_default.ensures.interval }))
+    ]

@@ -1,0 +1,21 @@
+use Rattle.std.proofs.Common.{◌≡◌, ℕ, ◌+◌, ◌*◌, ◌≤◌, length, arith}
+use Rattle.std.proofs.lemmas.Result.{on_ok_weaker}
+use Rattle.flat_mem.specs.Memory.{overwritten}
+use Rattle.projection_laws.specs.Stored.{bytes_of}
+use Rattle.space_tables.proofs.Writes.{interval_written}
+use Rattle.space_tables.proofs.records.put_interval.Goals as goal
+
+pub returns-clause-written : goal.returns-clause-written
+returns-clause-written g c = λ slots xs h below.
+    let long : 49152 ≤ length h.bytes = rw (g.met.M.FlatMem.told_length c.args.mem.now h.bytes h.told) c.requires.size in
+    on_ok_weaker c.store.result
+    (λ (told : g.M.FlatMem.tells c.store.new.mem (overwritten h.bytes (32 * (512 + c.args.index)) (bytes_of c.args.interval.now))). record {
+      bytes = overwritten h.bytes (32 * (512 + c.args.index)) (bytes_of c.args.interval.now);
+      told = told;
+      are = interval_written h.bytes slots xs h.are long c.args.index c.args.interval.now below c.requires.inside;
+    })
+    (rw c.interval_bytes.ensures at (c.store.ensures.written h.bytes h.told))
+
+pub returns-clause-told : goal.returns-clause-told
+returns-clause-told g c = λ b h.
+    on_ok_weaker c.store.result (λ (told : g.M.FlatMem.tells c.store.new.mem (overwritten b (32 * (512 + c.args.index)) c.interval_bytes.result)). record { bytes = overwritten b (32 * (512 + c.args.index)) c.interval_bytes.result; told = told }) (c.store.ensures.written b h)

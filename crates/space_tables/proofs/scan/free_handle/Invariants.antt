@@ -1,0 +1,19 @@
+use Rattle.std.proofs.Common.{◌≡◌, ℕ, ◌+◌, ◌-◌, ◌*◌, ◌≤◌, List, Option}
+use Rattle.flat_machine.specs.declared.space.Space.{Space}
+use Rattle.projection_laws.specs.Sight.{Interval}
+use Rattle.space_tables.specs.Stored.{HoldTables, AreReadable}
+use Rattle.space_tables.specs.Scan.{AreTaken}
+use Rattle.space_tables.proofs.scan.free_handle.Given as goal
+
+abbrev pub invariant-scan : goal.invariant-scan
+invariant-scan g l = record {
+  above : 1 ≤ l.handle;
+  within : l.handle ≤ 512;
+  taken : (slots : List (Option Space)) (xs : List Interval) → HoldTables (g.M.FlatMem.tells l.initial.mem) slots xs → AreReadable slots xs → AreTaken slots l.handle;
+  unchanged : (b : List ℕ) → g.M.FlatMem.tells l.initial.mem b → g.M.FlatMem.tells l.mem b;
+  kept : g.M.FlatMem.beside l.initial.mem l.mem;
+  cost : g.M.FlatMem.spent l.mem ≤ g.M.FlatMem.spent l.initial.mem + (l.handle - 1) * g.M.FlatMem.cost;
+}
+
+abbrev pub decreases-scan : goal.decreases-scan
+decreases-scan g l = 512 - l.handle

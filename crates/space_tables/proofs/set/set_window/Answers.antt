@@ -1,0 +1,43 @@
+use Rattle.std.proofs.Common.{rules, ◌≡◌, ◌≤◌, ℕ, List, map, Some, sym, ◌∙◌, ap, subst, arith}
+use Rattle.std.specs.Prelude.{slice_set}
+use Rattle.flat_machine.specs.declared.space.Space.{Space}
+use Rattle.flat_machine.specs.Next.{set_window}
+use Rattle.projection_laws.specs.Edits.{reshown_in, through}
+use Rattle.projection_laws.specs.Tests.{no_space}
+use Rattle.space_tables.specs.Stored.{HoldTables, TellSpaces}
+use Rattle.space_tables.proofs.Right.{right_reads}
+use Rattle.space_tables.proofs.Passes.{still_hold}
+use Rattle.space_tables.proofs.Asks.{broken_between, broken_later, memory_alone, matches_from, space_is}
+use Rattle.space_tables.proofs.Sets.{window_set_at, counts, same_space}
+use Rattle.space_tables.proofs.set.set_window.Goals as goal
+
+pub returns-in_err-found-clause-done : goal.returns-in_err-found-clause-done
+returns-in_err-found-clause-done g c = λ ss x t may own fits.
+    let m = c.in_err-found.ensures.answer c.args.count ss t in
+    let k = memory_alone (no_space ss c.args.handle) _ (rw own at (space_is ss x.handle x may.there)) m in search (rules, k)
+
+pub returns-clause-done : goal.returns-clause-done
+returns-clause-done g c = λ ss x t may own fits.
+    let m = c.in_ok-found.ensures.answer c.args.count ss t in
+    let s = c.in_ok-found.found in
+    let w = c.args.window in
+    let same : s ≡ x = same_space ss c.args.handle s x m.1 may.there own in
+    let few : s.handle ≤ 511 = omega (arith, c.in_ok-found.ensures.form.1, c.in_ok-found.ensures.form.2) in
+    let hold = c.in_ok-put_slot.ensures.written t.slots t.xs (Some (record s { window = w })) (still_hold g.M.FlatMem.tells c.args.mem.now c.existing.new.mem c.existing.ensures.unchanged t.slots t.xs t.hold) c.space_bytes.ensures in
+    let done = c.rewrite.ensures.changed (slice_set t.slots c.args.handle (Some (record s { window = w }))) t.xs hold t.counted (right_reads t.slots t.xs t.right).intervals (counts s w (rw same fits)) few in
+    matches_from c.rewrite.result (HoldTables (g.M.FlatMem.tells c.rewrite.new.mem) (slice_set t.slots c.args.handle (Some (record s { window = w }))) (map (reshown_in s (through s w)) t.xs))
+    (TellSpaces (g.M.FlatMem.tells c.rewrite.new.mem) c.args.count (set_window c.args.handle w ss))
+    (λ h. window_set_at (g.M.FlatMem.tells c.args.mem.now) (g.M.FlatMem.tells c.rewrite.new.mem) c.args.count ss t x w c.args.handle own may fits
+    (subst (λ (q : Space). HoldTables (g.M.FlatMem.tells c.rewrite.new.mem) (slice_set t.slots c.args.handle (Some (record q { window = w }))) (map (reshown_in q (through q w)) t.xs)) same h)) done
+
+pub returns-in_err-found-clause-malformed : goal.returns-in_err-found-clause-malformed
+returns-in_err-found-clause-malformed g c = λ b h.
+    let m = broken_between g.M.FlatMem.tells g.M.FlatMem.beside c.args.mem.now c.args.mem.now c.existing.new.mem (g.met.M.FlatMem.beside_itself c.args.mem.now) c.existing.ensures.kept b h _ (c.in_err-found.ensures.malformed b h) in
+    search (rules, m)
+
+pub returns-clause-malformed : goal.returns-clause-malformed
+returns-clause-malformed g c = λ b h.
+    let at = c.in_ok-put_slot.ensures.told b (c.existing.ensures.unchanged b h) in
+    let kept = g.met.M.FlatMem.beside_through _ _ _ c.existing.ensures.kept c.put_slot.ensures.kept in
+    broken_later g.M.FlatMem.tells g.M.FlatMem.beside c.args.mem.now c.put_slot.new.mem c.rewrite.new.mem kept (λ m k. g.met.M.FlatMem.beside_through _ _ _ kept k) c.rewrite.result
+    (c.rewrite.ensures.malformed at.bytes at.told)

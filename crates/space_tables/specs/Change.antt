@@ -1,0 +1,33 @@
+-- What a change of a space makes of the intervals.
+use Rattle.std.specs.Prelude.{ℕ, ◌+◌, ◌^◌, ◌≤◌, Bool, ◌==◌, List, ◌++◌, take, drop, Option, Some, None}
+use Rattle.flat_machine.specs.declared.space.Space.{Space}
+use Rattle.flat_machine.specs.Space.{holds}
+use Rattle.projection_laws.specs.Sight.{Interval}
+use Rattle.projection_laws.specs.Edits.{reshown_in, refitted, through}
+use Rattle.space_tables.specs.declared.change.Change.{Change}
+use Rattle.space_tables.specs.declared.change.Change.TheVariants.{Unit as Fit, Window as Show}
+
+-- the interval is changed
+abbrev pub touches : Change → Interval → Bool
+touches (Fit handle unit) i = i.space == handle
+touches (Show x window) i = holds x i.first
+
+-- the interval after the change
+abbrev pub changed : Change → Interval → Interval
+changed (Fit handle unit) i = refitted handle unit i
+changed (Show x window) i = reshown_in x (through x window) i
+
+-- the pages that a window shows are counted in 32 bits
+abbrev pub Counts : Change → Type 0
+Counts (Fit handle unit) = Unit {0}
+Counts (Show x None) = Unit {0}
+Counts (Show x (Some w)) = w.first + x.pages ≤ 2 ^ 32
+
+-- the handle fits its field
+abbrev pub HasSmallHandle : Change → Type 0
+HasSmallHandle (Fit handle unit) = Unit {0}
+HasSmallHandle (Show x window) = x.handle ≤ 511
+
+-- these come in at an index
+abbrev pub put_in : List Interval → ℕ → List Interval → List Interval
+put_in xs at new = take at xs ++ (new ++ drop at xs)

@@ -1,0 +1,165 @@
+//! The projection as a table in its pages of the memory: a look-up, and intervals put in and taken out.
+ghost use Rattle.std.specs.Prelude.{◌≡◌, ℕ, ◌+◌, ◌*◌, ◌-◌, ◌<◌, ◌≤◌, true, false, List, length, Option, Some, Ok, Err, ◌≢◌, IfOk, IfErr, OnOk, MatchResult, slice_get, insert, remove};
+ghost use Rattle.std.specs.Int.{w32, to_be_bytes};
+ghost use Rattle.flat_machine.specs.declared.space.Space.{Space};
+ghost use Rattle.flat_machine.specs.Space.{root_pages};
+ghost use Rattle.flat_mem.specs.Memory.{part};
+ghost use Rattle.flat_mem.specs.Order.{at_most};
+ghost use Rattle.record_table.specs.Table.{entries, pages_of};
+ghost use Rattle.record_table.specs.Look.{IsAnswer, IsWithin};
+ghost use Rattle.record_table.specs.declared.look.Count.TheVariants.{Given};
+ghost use Rattle.record_table.specs.declared.look.Look.TheVariants.{Before};
+ghost use Rattle.record_table.specs.Edits.{IfMem as IfTableMem};
+ghost use Rattle.projection_laws.specs.Sight.{Interval};
+ghost use Rattle.projection_laws.specs.Stored.{bytes_of};
+ghost use Rattle.space_tables.specs.Form.{in_form, has_page, BreaksFor};
+ghost use Rattle.space_tables.specs.Answer.{FromMemory, NotRefused, IfMem, IfMalformed};
+ghost use Rattle.space_tables.specs.Stored.{HoldTables, AreRight};
+
+use crate::SpaceError;
+use crate::code::{Record, interval_bytes, read_interval};
+use flat_mem::{FlatMem, Part, TableError};
+use record_table::{Count, Look, RecordTable, look_up};
+use swap_units::Interval;
+
+// Looks up the last record whose first page is at most a page.
+fn look_up_record<M: FlatMem>(
+    mem: &mut M,
+    count: u32,
+    page: u32,
+    into: &mut Record,
+) -> Result<Look, M::Error>
+    requires size { 49152 ≤ M.size mem.old }
+    requires few { count ≤ 1023 }
+    ensures answer { (w : List ℕ) → M.tells mem.old w
+        → IfOk result (IsAnswer 4 (entries 32 (part w 16384 32768) count) count (to_be_bytes w32 page) into.new) }
+    ensures before { (w : List ℕ) → M.tells mem.old w → result ≡ Ok Before → 0 < count → at_most (part w 16384 4) (to_be_bytes w32 page) ≡ false }
+    ensures form { IfOk result (IsWithin (Given count) count) }
+    ensures unchanged { (w : List ℕ) → M.tells mem.old w → M.tells mem.new w }
+    ensures kept { M.beside mem.old mem.new }
+    ensures cause { IfErr result (λ e. M.accounted mem.old mem.new e) }
+    ensures cost { M.spent mem.new ≤ M.spent mem.old + 7 * M.cost }
+{
+    let mut projection = Part::of(mem, 32, 64);
+    let key = page.to_be_bytes();
+    look_up(&mut projection, Count::Given(count), count, &key, into)
+}
+
+/// The interval that holds a page of the root, and its index.
+pub fn find<M: FlatMem>(
+    mem: &mut M,
+    count: u32,
+    page: u32,
+) -> Result<(u32, Interval), SpaceError<M::Error>>
+    requires size { 49152 ≤ M.size mem.old }
+    requires some { 1 ≤ count }
+    requires few { count ≤ 1023 }
+    ensures found { (slots : List (Option Space)) (xs : List Interval) → HoldTables (M.tells mem.old) slots xs → AreRight slots xs
+        → length xs ≡ count → page < root_pages → MatchResult result (λ at. slice_get xs at.0 ≡ Some at.1) FromMemory }
+    ensures form { IfOk result (λ at. (at.0 < count) × (in_form at.1 ≡ true) × (has_page at.1 page ≡ true)) }
+    ensures malformed { (b : List ℕ) → M.tells mem.old b → IfErr result (IfMalformed (BreaksFor page b)) }
+    ensures refused { IfErr result NotRefused }
+    ensures unchanged { (b : List ℕ) → M.tells mem.old b → M.tells mem.new b }
+    ensures kept { M.beside mem.old mem.new }
+    ensures cause { IfErr result (IfMem (M.accounted mem.old mem.new)) }
+    ensures cost { M.spent mem.new ≤ M.spent mem.old + 7 * M.cost }
+{
+    let mut record = [0; 32];
+    let index = match look_up_record(mem, count, page, &mut record) {
+        Ok(Look::Entry(index)) => index,
+        Ok(Look::Before) => return Err(SpaceError::Malformed { page: 32 }),
+        Ok(Look::Count(_)) => unreachable!(),
+        Err(error) => return Err(SpaceError::Mem(error)),
+    };
+    match read_interval(&record) {
+        Some(interval) if has_page(&interval, page) => Ok((index, interval)),
+        _ => Err(SpaceError::Malformed {
+            page: 32 + index / 16,
+        }),
+    }
+}
+
+fn has_page(interval: &Interval, page: u32) -> bool
+    requires { in_form interval.now ≡ true }
+    ensures { result ≡ has_page interval.now page }
+{
+    interval.first <= page && page < interval.first + interval.pages
+}
+
+// Puts a record at an index, and moves those from there on one place up.
+fn insert_record<M: FlatMem>(
+    mem: &mut M,
+    count: u32,
+    at: u32,
+    record: &Record,
+) -> Result<(), TableError<M::Error>>
+    requires size { 49152 ≤ M.size mem.old }
+    requires order { at ≤ count }
+    requires few { count ≤ 1022 }
+    ensures inserted { (slots : List (Option Space)) (xs : List Interval) (x : Interval) → HoldTables (M.tells mem.old) slots xs → length xs ≡ count → record.now ≡ bytes_of x
+        → OnOk result (HoldTables (M.tells mem.new) slots (insert xs at x)) }
+    ensures room { result ≢ Err TableError.Full }
+    ensures kept { M.beside mem.old mem.new }
+    ensures cause { IfErr result (IfTableMem (M.accounted mem.old mem.new)) }
+    ensures cost { M.spent mem.new ≤ M.spent mem.old + 128 * M.cost }
+{
+    let mut table = RecordTable::<_, 32, 4>::over(Part::of(mem, 32, 64), count);
+    table.insert_at(at, record)
+}
+
+/// Puts an interval at an index, and moves those from there on one place up.
+pub fn insert<M: FlatMem>(
+    mem: &mut M,
+    count: u32,
+    at: u32,
+    interval: &Interval,
+) -> Result<(), SpaceError<M::Error>>
+    requires size { 49152 ≤ M.size mem.old }
+    requires order { at ≤ count }
+    requires few { count ≤ 1022 }
+    ensures inserted { (slots : List (Option Space)) (xs : List Interval) → HoldTables (M.tells mem.old) slots xs → length xs ≡ count
+        → OnOk result (HoldTables (M.tells mem.new) slots (insert xs at interval.now)) }
+    ensures memory { IfErr result FromMemory }
+    ensures kept { M.beside mem.old mem.new }
+    ensures cause { IfErr result (IfMem (M.accounted mem.old mem.new)) }
+    ensures cost { M.spent mem.new ≤ M.spent mem.old + 128 * M.cost }
+{
+    match insert_record(mem, count, at, &interval_bytes(interval)) {
+        Ok(()) => Ok(()),
+        Err(TableError::Full) => Err(SpaceError::Malformed { page: 32 }),
+        Err(TableError::Mem(error)) => Err(SpaceError::Mem(error)),
+    }
+}
+
+// Takes the record at an index out, and moves those behind it one place down.
+fn remove_record<M: FlatMem>(mem: &mut M, count: u32, at: u32) -> Result<(), M::Error>
+    requires size { 49152 ≤ M.size mem.old }
+    requires order { at < count }
+    requires few { count ≤ 1023 }
+    ensures removed { (slots : List (Option Space)) (xs : List Interval) → HoldTables (M.tells mem.old) slots xs → length xs ≡ count
+        → OnOk result (HoldTables (M.tells mem.new) slots (remove xs at)) }
+    ensures kept { M.beside mem.old mem.new }
+    ensures cause { IfErr result (λ e. M.accounted mem.old mem.new e) }
+    ensures cost { M.spent mem.new ≤ M.spent mem.old + 128 * M.cost }
+{
+    let mut table = RecordTable::<_, 32, 4>::over(Part::of(mem, 32, 64), count);
+    table.remove(at)
+}
+
+/// Takes the interval at an index out, and moves those behind it one place down.
+pub fn remove<M: FlatMem>(mem: &mut M, count: u32, at: u32) -> Result<(), SpaceError<M::Error>>
+    requires size { 49152 ≤ M.size mem.old }
+    requires order { at < count }
+    requires few { count ≤ 1023 }
+    ensures removed { (slots : List (Option Space)) (xs : List Interval) → HoldTables (M.tells mem.old) slots xs → length xs ≡ count
+        → OnOk result (HoldTables (M.tells mem.new) slots (remove xs at)) }
+    ensures memory { IfErr result FromMemory }
+    ensures kept { M.beside mem.old mem.new }
+    ensures cause { IfErr result (IfMem (M.accounted mem.old mem.new)) }
+    ensures cost { M.spent mem.new ≤ M.spent mem.old + 128 * M.cost }
+{
+    match remove_record(mem, count, at) {
+        Ok(()) => Ok(()),
+        Err(error) => Err(SpaceError::Mem(error)),
+    }
+}

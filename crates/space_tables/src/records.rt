@@ -1,0 +1,137 @@
+//! Records of the tables in a memory, read and written by their index.
+ghost use Rattle.std.specs.Prelude.{◌≡◌, ℕ, ◌+◌, ◌*◌, ◌-◌, ◌<◌, ◌≤◌, true, List, length, Option, Some, None, IfOk, IfErr, IfSome, OnOk, OnErr, MatchResult, slice_get, slice_set, insert, remove};
+ghost use Rattle.flat_machine.specs.declared.space.Space.{Space};
+ghost use Rattle.flat_mem.specs.Memory.{part, overwritten};
+ghost use Rattle.projection_laws.specs.Sight.{Interval};
+ghost use Rattle.projection_laws.specs.Stored.{slot_bytes};
+ghost use Rattle.space_tables.specs.Form.{in_form, space_in_form, BreaksSlot, BreaksInterval};
+ghost use Rattle.space_tables.specs.Answer.{FromMemory, NotRefused, IfMem, IfMalformed};
+ghost use Rattle.space_tables.specs.Stored.{HoldTables, AreReadable, IsReadable, TellsSome};
+
+use crate::SpaceError;
+use crate::code::{Record, interval_bytes, read_interval, read_slot};
+use flat_machine::Space;
+use flat_mem::FlatMem;
+use swap_units::Interval;
+
+// Reads a record: the hierarchy has those below 512, and the projection those from there on.
+fn load<M: FlatMem>(mem: &mut M, index: u32, into: &mut Record) -> Result<(), SpaceError<M::Error>>
+    requires size { 49152 ≤ M.size mem.old }
+    requires inside { index < 1536 }
+    ensures read { (b : List ℕ) → M.tells mem.old b → OnOk result (into.new ≡ part b (32 * index) 32) }
+    ensures memory { IfErr result FromMemory }
+    ensures unchanged { (b : List ℕ) → M.tells mem.old b → M.tells mem.new b }
+    ensures kept { M.beside mem.old mem.new }
+    ensures cause { IfErr result (IfMem (M.accounted mem.old mem.new)) }
+    ensures cost { M.spent mem.new ≤ M.spent mem.old + M.cost }
+{
+    match mem.read(32 * u64::from(index), into) {
+        Ok(()) => Ok(()),
+        Err(error) => Err(SpaceError::Mem(error)),
+    }
+}
+
+/// Writes a record.
+pub fn store<M: FlatMem>(
+    mem: &mut M,
+    index: u32,
+    record: &Record,
+) -> Result<(), SpaceError<M::Error>>
+    requires size { 49152 ≤ M.size mem.old }
+    requires inside { index < 1536 }
+    ensures written { (b : List ℕ) → M.tells mem.old b → OnOk result (M.tells mem.new (overwritten b (32 * index) record.now)) }
+    ensures memory { IfErr result FromMemory }
+    ensures unchanged { (b : List ℕ) → M.tells mem.old b → OnErr result (M.tells mem.new b) }
+    ensures kept { M.beside mem.old mem.new }
+    ensures cause { IfErr result (IfMem (M.accounted mem.old mem.new)) }
+    ensures cost { M.spent mem.new ≤ M.spent mem.old + M.cost }
+{
+    match mem.write(32 * u64::from(index), record) {
+        Ok(()) => Ok(()),
+        Err(error) => Err(SpaceError::Mem(error)),
+    }
+}
+
+/// The space of a handle, or none.
+pub fn slot<M: FlatMem>(mem: &mut M, handle: u32) -> Result<Option<Space>, SpaceError<M::Error>>
+    requires size { 49152 ≤ M.size mem.old }
+    requires inside { handle < 512 }
+    ensures slot { (slots : List (Option Space)) (xs : List Interval) → HoldTables (M.tells mem.old) slots xs → AreReadable slots xs
+        → MatchResult result (λ o. slice_get slots handle ≡ Some o) FromMemory }
+    ensures form { IfOk result (λ o. IfSome o (λ s. (space_in_form s ≡ true) × (s.handle ≡ handle))) }
+    ensures malformed { (b : List ℕ) → M.tells mem.old b → IfErr result (IfMalformed (λ page. BreaksSlot b page handle)) }
+    ensures refused { IfErr result NotRefused }
+    ensures unchanged { (b : List ℕ) → M.tells mem.old b → M.tells mem.new b }
+    ensures kept { M.beside mem.old mem.new }
+    ensures cause { IfErr result (IfMem (M.accounted mem.old mem.new)) }
+    ensures cost { M.spent mem.new ≤ M.spent mem.old + M.cost }
+{
+    let mut record = [0; 32];
+    load(mem, handle, &mut record)?;
+    match read_slot(handle, &record) {
+        Some(slot) => Ok(slot),
+        None => Err(SpaceError::Malformed { page: handle / 16 }),
+    }
+}
+
+/// The interval at an index.
+pub fn interval<M: FlatMem>(mem: &mut M, index: u32) -> Result<Interval, SpaceError<M::Error>>
+    requires size { 49152 ≤ M.size mem.old }
+    requires inside { index < 1024 }
+    ensures interval { (slots : List (Option Space)) (xs : List Interval) (x : Interval) → HoldTables (M.tells mem.old) slots xs
+        → slice_get xs index ≡ Some x → IsReadable x → MatchResult result (λ y. y ≡ x) FromMemory }
+    ensures form { IfOk result (λ x. in_form x ≡ true) }
+    ensures malformed { (b : List ℕ) → M.tells mem.old b → IfErr result (IfMalformed (λ page. BreaksInterval b page index)) }
+    ensures refused { IfErr result NotRefused }
+    ensures unchanged { (b : List ℕ) → M.tells mem.old b → M.tells mem.new b }
+    ensures kept { M.beside mem.old mem.new }
+    ensures cause { IfErr result (IfMem (M.accounted mem.old mem.new)) }
+    ensures cost { M.spent mem.new ≤ M.spent mem.old + M.cost }
+{
+    let mut record = [0; 32];
+    load(mem, 512 + index, &mut record)?;
+    match read_interval(&record) {
+        Some(interval) => Ok(interval),
+        None => Err(SpaceError::Malformed {
+            page: 32 + index / 16,
+        }),
+    }
+}
+
+/// Writes the record of a handle: a space, or 32 zeros for none.
+pub fn put_slot<M: FlatMem>(
+    mem: &mut M,
+    handle: u32,
+    record: &Record,
+) -> Result<(), SpaceError<M::Error>>
+    requires size { 49152 ≤ M.size mem.old }
+    requires inside { handle < 512 }
+    ensures written { (slots : List (Option Space)) (xs : List Interval) (o : Option Space) → HoldTables (M.tells mem.old) slots xs → record.now ≡ slot_bytes o
+        → OnOk result (HoldTables (M.tells mem.new) (slice_set slots handle o) xs) }
+    ensures told { (b : List ℕ) → M.tells mem.old b → OnOk result (TellsSome (M.tells mem.new)) }
+    ensures memory { IfErr result FromMemory }
+    ensures kept { M.beside mem.old mem.new }
+    ensures cause { IfErr result (IfMem (M.accounted mem.old mem.new)) }
+    ensures cost { M.spent mem.new ≤ M.spent mem.old + M.cost }
+{
+    store(mem, handle, record)
+}
+
+/// Writes an interval over that at an index.
+pub fn put_interval<M: FlatMem>(
+    mem: &mut M,
+    index: u32,
+    interval: &Interval,
+) -> Result<(), SpaceError<M::Error>>
+    requires size { 49152 ≤ M.size mem.old }
+    requires inside { index < 1024 }
+    ensures written { (slots : List (Option Space)) (xs : List Interval) → HoldTables (M.tells mem.old) slots xs
+        → index < length xs → OnOk result (HoldTables (M.tells mem.new) slots (slice_set xs index interval.now)) }
+    ensures told { (b : List ℕ) → M.tells mem.old b → OnOk result (TellsSome (M.tells mem.new)) }
+    ensures memory { IfErr result FromMemory }
+    ensures kept { M.beside mem.old mem.new }
+    ensures cause { IfErr result (IfMem (M.accounted mem.old mem.new)) }
+    ensures cost { M.spent mem.new ≤ M.spent mem.old + M.cost }
+{
+    store(mem, 512 + index, &interval_bytes(interval))
+}

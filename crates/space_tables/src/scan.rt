@@ -1,0 +1,131 @@
+//! Passes over the hierarchy.
+ghost use Rattle.std.specs.Prelude.{◌≡◌, ◌≢◌, ℕ, ◌+◌, ◌*◌, ◌<◌, ◌≤◌, true, List, Option, Some, None, IfOk, IfErr, IfSome, MatchResult, slice_get, find};
+ghost use Rattle.flat_machine.specs.declared.space.Space.{Space};
+ghost use Rattle.flat_machine.specs.Space.{end, overlap};
+ghost use Rattle.projection_laws.specs.Sight.{Interval};
+ghost use Rattle.projection_laws.specs.Slots.{listed};
+ghost use Rattle.space_tables.specs.Form.{space_in_form, Breaks};
+ghost use Rattle.space_tables.specs.Answer.{FromMemory, NotRefused, IfMem, IfMalformed};
+ghost use Rattle.space_tables.specs.Stored.{HoldTables, AreReadable};
+ghost use Rattle.space_tables.specs.Scan.{passes, kept, IsLowestFree};
+
+use crate::SpaceError;
+use crate::records::slot;
+use flat_machine::{Space, Window};
+use flat_mem::FlatMem;
+use labelled_disk::FileId;
+
+/// Which space is looked for.
+#[derive(Clone, Copy, Debug)]
+pub enum Test {
+    /// A child of the space with this handle.
+    ChildOf(u32),
+    /// A mapped space that shares a page with this one.
+    OnPath(Space),
+    /// A space with a window on this file, or with a writable one.
+    Shows(FileId, bool),
+}
+
+fn end_of(s: &Space) -> u64
+    ensures { result ≡ end s.now }
+{
+    u64::from(s.first) + u64::from(s.pages)
+}
+
+fn overlap(s: &Space, t: &Space) -> bool
+    ensures { result ≡ overlap s.now t.now }
+{
+    u64::from(s.first) < end_of(t) && u64::from(t.first) < end_of(s)
+}
+
+fn passes(test: &Test, s: &Space) -> bool
+    ensures { result ≡ passes test.now s.now }
+{
+    match test {
+        Test::ChildOf(parent) => s.handle != 0 && s.parent == *parent,
+        Test::OnPath(t) => s.window.is_some() && overlap(t, s),
+        Test::Shows(id, writable_only) => match s.window {
+            Some(window) => window.file == *id && (!*writable_only || window.writable),
+            None => false,
+        },
+    }
+}
+
+// The space of a handle, if it passes the test.
+fn passing<M: FlatMem>(
+    mem: &mut M,
+    handle: u32,
+    test: &Test,
+) -> Result<Option<Space>, SpaceError<M::Error>>
+    requires size { 49152 ≤ M.size mem.old }
+    requires inside { handle < 512 }
+    ensures found { (slots : List (Option Space)) (xs : List Interval) → HoldTables (M.tells mem.old) slots xs → AreReadable slots xs
+        → MatchResult result (λ o. (p : Option Space) × (slice_get slots handle ≡ Some p) × (o ≡ kept (passes test.now) p)) FromMemory }
+    ensures form { IfOk result (λ o. IfSome o (λ s. (space_in_form s ≡ true) × (passes test.now s ≡ true) × (s.handle < 512))) }
+    ensures malformed { (b : List ℕ) → M.tells mem.old b → IfErr result (IfMalformed (Breaks b)) }
+    ensures refused { IfErr result NotRefused }
+    ensures unchanged { (b : List ℕ) → M.tells mem.old b → M.tells mem.new b }
+    ensures kept { M.beside mem.old mem.new }
+    ensures cause { IfErr result (IfMem (M.accounted mem.old mem.new)) }
+    ensures cost { M.spent mem.new ≤ M.spent mem.old + M.cost }
+{
+    match slot(mem, handle)? {
+        Some(space) => {
+            if passes(test, &space) {
+                Ok(Some(space))
+            } else {
+                Ok(None)
+            }
+        }
+        None => Ok(None),
+    }
+}
+
+/// The first space, in rising handles, that passes the test.
+pub fn find_space<M: FlatMem>(
+    mem: &mut M,
+    test: &Test,
+) -> Result<Option<Space>, SpaceError<M::Error>>
+    requires size { 49152 ≤ M.size mem.old }
+    ensures found { (slots : List (Option Space)) (xs : List Interval) → HoldTables (M.tells mem.old) slots xs → AreReadable slots xs
+        → MatchResult result (λ o. o ≡ find (passes test.now) (listed slots)) FromMemory }
+    ensures form { IfOk result (λ o. IfSome o (λ s. (space_in_form s ≡ true) × (passes test.now s ≡ true) × (s.handle < 512))) }
+    ensures malformed { (b : List ℕ) → M.tells mem.old b → IfErr result (IfMalformed (Breaks b)) }
+    ensures refused { IfErr result NotRefused }
+    ensures unchanged { (b : List ℕ) → M.tells mem.old b → M.tells mem.new b }
+    ensures kept { M.beside mem.old mem.new }
+    ensures cause { IfErr result (IfMem (M.accounted mem.old mem.new)) }
+    ensures cost { M.spent mem.new ≤ M.spent mem.old + 512 * M.cost }
+{
+    let mut handle = 0;
+    'scan: while handle < 512 {
+        if let Some(space) = passing(mem, handle, test)? {
+            return Ok(Some(space));
+        }
+        handle += 1;
+    }
+    Ok(None)
+}
+
+/// The lowest handle from 1 on that no space has.
+pub fn free_handle<M: FlatMem>(mem: &mut M) -> Result<Option<u32>, SpaceError<M::Error>>
+    requires size { 49152 ≤ M.size mem.old }
+    ensures free { (slots : List (Option Space)) (xs : List Interval) → HoldTables (M.tells mem.old) slots xs → AreReadable slots xs
+        → MatchResult result (IsLowestFree slots) FromMemory }
+    ensures form { IfOk result (λ o. IfSome o (λ h. (1 ≤ h) × (h < 512))) }
+    ensures malformed { (b : List ℕ) → M.tells mem.old b → IfErr result (IfMalformed (Breaks b)) }
+    ensures refused { IfErr result NotRefused }
+    ensures unchanged { (b : List ℕ) → M.tells mem.old b → M.tells mem.new b }
+    ensures kept { M.beside mem.old mem.new }
+    ensures cause { IfErr result (IfMem (M.accounted mem.old mem.new)) }
+    ensures cost { M.spent mem.new ≤ M.spent mem.old + 511 * M.cost }
+{
+    let mut handle = 1;
+    'scan: while handle < 512 {
+        if let None = slot(mem, handle)? {
+            return Ok(Some(handle));
+        }
+        handle += 1;
+    }
+    Ok(None)
+}

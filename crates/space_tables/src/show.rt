@@ -1,0 +1,39 @@
+//! Which space shows a file.
+ghost use Rattle.std.specs.Prelude.{◌≡◌, ℕ, ◌+◌, ◌*◌, ◌≤◌, List, Option, IfOk, IfErr, IfSome};
+ghost use Rattle.flat_machine.specs.declared.space.Space.{Space};
+ghost use Rattle.space_tables.specs.Form.{Breaks};
+ghost use Rattle.space_tables.specs.Answer.{FromMemory, NotRefused, IfMem, IfMalformed};
+ghost use Rattle.space_tables.specs.Shows.{window_of, shows, IsFirstWith};
+ghost use Rattle.space_tables.specs.Stored.{TellSpaces};
+
+use crate::SpaceError;
+use crate::scan::{Test, find_space};
+use crate::shown::{Shown, shown_in};
+use flat_mem::FlatMem;
+use labelled_disk::FileId;
+
+/// The first space that shows a file, by its handle, and what it shows.
+pub fn showing<M: FlatMem>(
+    mem: &mut M,
+    id: FileId,
+    writable_only: bool,
+) -> Result<Option<(u32, Shown)>, SpaceError<M::Error>>
+    requires size { 49152 ≤ M.size mem.old }
+    ensures answer { (count : ℕ) (ss : List Space) → TellSpaces (M.tells mem.old) count ss → IfOk result (IsFirstWith (shows id writable_only) ss) }
+    ensures right { (count : ℕ) (ss : List Space) → TellSpaces (M.tells mem.old) count ss → IfErr result FromMemory }
+    ensures form { IfOk result (λ o. IfSome o (λ at. 16 ≤ at.1.id)) }
+    ensures malformed { (b : List ℕ) → M.tells mem.old b → IfErr result (IfMalformed (Breaks b)) }
+    ensures refused { IfErr result NotRefused }
+    ensures unchanged { (b : List ℕ) → M.tells mem.old b → M.tells mem.new b }
+    ensures kept { M.beside mem.old mem.new }
+    ensures cause { IfErr result (IfMem (M.accounted mem.old mem.new)) }
+    ensures cost { M.spent mem.new ≤ M.spent mem.old + 512 * M.cost }
+{
+    let Some(found) = find_space(mem, &Test::Shows(id, writable_only))? else {
+        return Ok(None);
+    };
+    match found.window {
+        Some(window) => Ok(Some((found.handle, shown_in(window)))),
+        None => Ok(None),
+    }
+}
