@@ -1,0 +1,5 @@
+mod RunLemmas
+pub mod Outcomes
+pub mod Lent
+pub mod MapLemmas
+pub mod MarkLemmas

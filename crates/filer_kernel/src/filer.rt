@@ -1,0 +1,70 @@
+//! A swapper, and the runs that were found last.
+ghost use Rattle.std.specs.Prelude.{◌≡◌, ℕ, []};
+
+use crate::CachedRuns;
+use labelled_disk::Disk;
+use std::alloc::Allocator;
+use swapper_kernel::SwapperOver;
+
+/// A swapper that is held by value, and the runs of files that were found last. Every call that moves sectors asks that
+/// the disk has as many sectors as the layout: a disk or a swapper that was lent might be another one.
+#[derive(Drop)]
+pub struct FilerOver<D: Disk, A: Allocator> {
+    pub(crate) swapper: SwapperOver<D, A>,
+    pub(crate) runs: CachedRuns,
+}
+
+/// A filer whose disk is lent.
+pub type Filer<'d, D, A> = FilerOver<&'d mut D, A>;
+
+impl<D: Disk, A: Allocator> FilerOver<D, A> {
+    ghost use Rattle.filer_kernel.specs.Cached.{runs_of};
+
+    /// A filer with no run.
+    pub fn over(swapper: SwapperOver<D, A>) -> FilerOver<D, A>
+        ensures swapper { result.swapper ≡ swapper }
+        ensures runs { (n : ℕ) → runs_of n result.runs ≡ [] }
+    {
+        let layout = swapper.layout();
+        FilerOver {
+            swapper,
+            runs: CachedRuns::new(layout.sectors),
+        }
+    }
+
+    /// Gives up the runs.
+    pub fn into_swapper(self) -> SwapperOver<D, A>
+        ensures { result ≡ self.swapper }
+    {
+        let FilerOver { swapper, runs: _ } = self;
+        swapper
+    }
+
+    /// Gives up the runs and the frames. What is dirty is lost.
+    pub fn into_disk(self) -> D
+        ensures { result ≡ self.swapper.under }
+    {
+        self.into_swapper().into_disk()
+    }
+}
+
+impl<D: Disk, A: Allocator> FilerOver<D, A> {
+    ghost use Rattle.std.specs.Borrow.{sem};
+    ghost use Rattle.filer_kernel.specs.Lending.{LendsSwapper, LendsUnder};
+
+    /// The swapper.
+    pub fn swapper_over(&mut self) -> &mut SwapperOver<D, A>
+        ensures value { result.now ≡ self.old.swapper }
+        ensures* lends { sem 𝓛 (LendsSwapper D.row A.row D.Disk A.Allocator self.entry result) }
+    {
+        &mut self.swapper
+    }
+
+    /// The disk, as it is held.
+    pub fn disk_over(&mut self) -> &mut D
+        ensures value { result.now ≡ self.old.swapper.under }
+        ensures* lends { sem 𝓛 (LendsUnder D.row A.row D.Disk A.Allocator self.entry result) }
+    {
+        self.swapper.disk_over()
+    }
+}

@@ -1,0 +1,92 @@
+//! Sectors that are taken and given back, in the allocation map.
+ghost use Rattle.std.specs.Prelude.{◌≡◌, ℕ, ◌+◌, ◌*◌, ◌≤◌, ◌<◌, true, false, List, IfOk, IfErr, OnOk, Err};
+ghost use Rattle.labelled_disk.specs.Sectors.{Sector};
+ghost use Rattle.labelled_disk.specs.declared.evidence.Halt.TheVariants as halt;
+ghost use Rattle.alloc_map.specs.Runs.{IsDataRun, IfMem};
+ghost use Rattle.swapper_kernel.specs.declared.manager.Manager.TheVariants.{AllocationMap};
+ghost use Rattle.swapper_kernel.specs.Maps.{IsMapHome};
+ghost use Rattle.swapper_kernel.specs.Homes.{AreNamed};
+ghost use Rattle.swapper_kernel.specs.Stands.{Stands};
+ghost use Rattle.swapper_kernel.specs.Halts.{Halts};
+ghost use Rattle.swapper_kernel.specs.Window.{Beside};
+ghost use Rattle.filer_kernel.specs.Becomes.{Becomes};
+ghost use Rattle.filer_kernel.specs.Marks.{Marks, BitsAre, marked, AreAll, IsLowestRun, free_sectors};
+
+use crate::FilerOver;
+use alloc_map::{AllocError, AllocMap};
+use labelled_disk::{Disk, Halt};
+use std::alloc::Allocator;
+use swapper_kernel::{Manager, Window0Over};
+
+impl<D: Disk, A: Allocator> FilerOver<D, A> {
+    /// How many data sectors are free.
+    pub fn free_count(&mut self) -> Result<u32, Halt>
+        requires size { (D.state self.old.swapper.under).sectors ≡ self.old.swapper.layout.sectors }
+        ensures count { (m : List Sector) (marks : Marks) → Stands (D.state self.old.swapper.under) self.old.swapper.pool m → BitsAre self.old.swapper.layout marks m → IfOk result (λ n. n ≡ free_sectors self.old.swapper.layout marks) }
+        ensures sound { (m : List Sector) → Stands (D.state self.old.swapper.under) self.old.swapper.pool m → AreNamed m (IsMapHome AllocationMap self.old.swapper.layout) → IfErr result (λ e. e ≡ halt.Disk) }
+        ensures same { (m : List Sector) (marks : Marks) → Stands (D.state self.old.swapper.under) self.old.swapper.pool m → BitsAre self.old.swapper.layout marks m → Stands (D.state self.new.swapper.under) self.new.swapper.pool m }
+        ensures cause { IfErr result (Halts (IsMapHome AllocationMap self.old.swapper.layout) (D.state self.old.swapper.under) self.old.swapper.pool (D.state self.new.swapper.under)) }
+        ensures kept { Beside AllocationMap (D.state self.old.swapper.under) self.old.swapper.pool self.old.swapper.layout (D.state self.new.swapper.under) self.new.swapper.pool self.new.swapper.layout }
+        ensures runs { self.new.runs ≡ self.old.runs }
+        ensures cost { (D.state self.new.swapper.under).transfers ≤ (D.state self.old.swapper.under).transfers + 2 * self.old.swapper.layout.vam }
+    {
+        let layout = self.swapper.layout();
+        let mut map = AllocMap::<Window0Over<D, A>>::over(
+            self.swapper.window0(Manager::AllocationMap),
+            layout.first,
+            layout.sectors,
+        );
+        map.free_count()
+    }
+
+    /// Takes the lowest free data sector and as many free ones directly after it as there are, at most `most` together.
+    ///
+    /// Gives the first sector and how many were taken. After a halt some of the free data sectors may be marked.
+    pub fn take(&mut self, most: u32) -> Result<(u32, u32), AllocError<Halt>>
+        requires size { (D.state self.old.swapper.under).sectors ≡ self.old.swapper.layout.sectors }
+        requires some { 1 ≤ most }
+        ensures lowest { (m : List Sector) (marks : Marks) → Stands (D.state self.old.swapper.under) self.old.swapper.pool m → BitsAre self.old.swapper.layout marks m → IfOk result (IsLowestRun self.old.swapper.layout marks most) }
+        ensures taken { (m : List Sector) (marks : Marks) → Stands (D.state self.old.swapper.under) self.old.swapper.pool m → BitsAre self.old.swapper.layout marks m
+            → IfOk result (λ run. Becomes AllocationMap self.old.swapper.layout m (BitsAre self.old.swapper.layout (marked true run.0 run.1 marks)) (D.state self.new.swapper.under) self.new.swapper.pool) }
+        ensures no_room { (m : List Sector) (marks : Marks) → Stands (D.state self.old.swapper.under) self.old.swapper.pool m → BitsAre self.old.swapper.layout marks m
+            → result ≡ Err AllocError.NoRoom → AreAll true marks self.old.swapper.layout.first self.old.swapper.layout.sectors }
+        ensures sound { (m : List Sector) → Stands (D.state self.old.swapper.under) self.old.swapper.pool m → AreNamed m (IsMapHome AllocationMap self.old.swapper.layout) → IfErr result (IfMem (λ e. e ≡ halt.Disk)) }
+        ensures same { (m : List Sector) (marks : Marks) → Stands (D.state self.old.swapper.under) self.old.swapper.pool m → BitsAre self.old.swapper.layout marks m
+            → result ≡ Err AllocError.NoRoom → Stands (D.state self.new.swapper.under) self.new.swapper.pool m }
+        ensures form { IfOk result (IsDataRun self.old.swapper.layout.first self.old.swapper.layout.sectors most) }
+        ensures cause { IfErr result (IfMem (Halts (IsMapHome AllocationMap self.old.swapper.layout) (D.state self.old.swapper.under) self.old.swapper.pool (D.state self.new.swapper.under))) }
+        ensures kept { Beside AllocationMap (D.state self.old.swapper.under) self.old.swapper.pool self.old.swapper.layout (D.state self.new.swapper.under) self.new.swapper.pool self.new.swapper.layout }
+        ensures runs { self.new.runs ≡ self.old.runs }
+        ensures cost { (D.state self.new.swapper.under).transfers ≤ (D.state self.old.swapper.under).transfers + 8 * self.old.swapper.layout.vam }
+    {
+        let layout = self.swapper.layout();
+        let mut map = AllocMap::<Window0Over<D, A>>::over(
+            self.swapper.window0(Manager::AllocationMap),
+            layout.first,
+            layout.sectors,
+        );
+        map.take(most)
+    }
+
+    /// Marks data sectors free. After a halt which of them are marked is open.
+    pub fn give(&mut self, sector: u32, pages: u32) -> Result<(), Halt>
+        requires size { (D.state self.old.swapper.under).sectors ≡ self.old.swapper.layout.sectors }
+        requires data { self.old.swapper.layout.first ≤ sector }
+        requires inside { sector + pages ≤ self.old.swapper.layout.sectors }
+        ensures given { (m : List Sector) (marks : Marks) → Stands (D.state self.old.swapper.under) self.old.swapper.pool m → BitsAre self.old.swapper.layout marks m
+            → OnOk result (Becomes AllocationMap self.old.swapper.layout m (BitsAre self.old.swapper.layout (marked false sector pages marks)) (D.state self.new.swapper.under) self.new.swapper.pool) }
+        ensures sound { (m : List Sector) → Stands (D.state self.old.swapper.under) self.old.swapper.pool m → AreNamed m (IsMapHome AllocationMap self.old.swapper.layout) → IfErr result (λ e. e ≡ halt.Disk) }
+        ensures cause { IfErr result (Halts (IsMapHome AllocationMap self.old.swapper.layout) (D.state self.old.swapper.under) self.old.swapper.pool (D.state self.new.swapper.under)) }
+        ensures kept { Beside AllocationMap (D.state self.old.swapper.under) self.old.swapper.pool self.old.swapper.layout (D.state self.new.swapper.under) self.new.swapper.pool self.new.swapper.layout }
+        ensures runs { self.new.runs ≡ self.old.runs }
+        ensures cost { (D.state self.new.swapper.under).transfers ≤ (D.state self.old.swapper.under).transfers + 4 * self.old.swapper.layout.vam }
+    {
+        let layout = self.swapper.layout();
+        let mut map = AllocMap::<Window0Over<D, A>>::over(
+            self.swapper.window0(Manager::AllocationMap),
+            layout.first,
+            layout.sectors,
+        );
+        map.give(sector, pages)
+    }
+}
