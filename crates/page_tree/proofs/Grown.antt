@@ -4,13 +4,14 @@ use Rattle.std.proofs.lemmas.Nat.{mul-le, div-add-mod', mod_below}
 use Rattle.std.proofs.lemmas.List.{length-map}
 use Rattle.flat_mem.specs.Memory.{overwritten}
 use Rattle.page_tree.specs.Keys.{Item, IsRising}
-use Rattle.page_tree.specs.Page.{page_at, IsWidths, leaf_room, record_item, IsPageOf, IsInner, IsLeaf, count_in, root_in, top_in, free_in, levels_in}
+use Rattle.page_tree.specs.Page.{page_at, IsWidths, leaf_room, record_item, IsPageOf, IsInner, IsLeaf, count_in, root_in, top_in, free_in, levels_in, IsBlank}
 use Rattle.page_tree.specs.Tree.{Node, node_at, items_of, heads, rows, frees, IsSettled, IsFilled, IsTree}
 use Rattle.page_tree.specs.Change.{with_level}
 use Rattle.page_tree.specs.Carry.{IsCarry}
 use Rattle.page_tree.specs.Open.{IsOpen, IsTaken}
 use Rattle.page_tree.specs.Put.{capacity_of}
 use Rattle.page_tree.specs.Climb.{child_item, IsClimb, IsClosed, IsHead}
+use Rattle.page_tree.proofs.Head.{blank_zeros}
 use Rattle.page_tree.proofs.Levels.{length-heads}
 use Rattle.page_tree.proofs.Once.{page_same, page_other, chain_kept, level_same}
 use Rattle.page_tree.proofs.Inner.{links_fit}
@@ -22,8 +23,8 @@ use Rattle.page_tree.proofs.StepLaws.{free_within}
 
 -- the header that was written makes the whole a tree again
 pub closed_tree : (e k pages : ℕ) (c : List ℕ) (records : List (List ℕ)) (levels root first top : ℕ) (head : List ℕ) → IsClosed e k pages c records levels root first top → 1 ≤ levels → levels ≤ 6 → 512 ≤ length c → length head ≡ 512
-    → IsHead head (length records) root top first levels → length records ≤ capacity_of e pages → IsTree e k pages (overwritten c (512 * 0) head) records
-closed_tree e k pages c records levels root first top head closed some few size long is capacity = record {
+    → IsHead head (length records) root top first levels → IsBlank head → length records ≤ capacity_of e pages → IsTree e k pages (overwritten c (512 * 0) head) records
+closed_tree e k pages c records levels root first top head closed some few size long is blank capacity = record {
   levels = levels;
   nodes = closed.nodes;
   free = closed.free;
@@ -39,6 +40,7 @@ closed_tree e k pages c records levels root first top head closed some few size 
     free_is = ap free_in here ∙ is.free_is;
     top_is = ap top_in here ∙ is.top_is;
     top_below = closed.top_below;
+    rest = subst IsBlank (sym here) blank;
   };
   tower = record {
     none = λ none. absurd (omega (arith, none, some));
@@ -154,8 +156,8 @@ first_closed e k pages b r nodes free first top opened top_below size new above 
     settled (suc l) below = absurd (omega (arith, below))
 
 -- under a header of zeros there is a tree without records
-pub headed_tree : (e k pages : ℕ) (b : List ℕ) → 1 ≤ pages → IsHead (page_at b 0) 0 0 0 0 0 → IsTree e k pages b []
-headed_tree e k pages b some is = record {
+pub headed_tree : (e k pages : ℕ) (b : List ℕ) → 1 ≤ pages → IsHead (page_at b 0) 0 0 0 0 0 → IsBlank (page_at b 0) → IsTree e k pages b []
+headed_tree e k pages b some is blank = record {
   levels = 0;
   nodes = λ l. [];
   free = [];
@@ -171,6 +173,7 @@ headed_tree e k pages b some is = record {
     free_is = is.free_is;
     top_is = is.top_is;
     top_below = omega (arith, some);
+    rest = blank;
   };
   tower = record {
     none = λ none. refl;
@@ -189,12 +192,14 @@ headed_tree e k pages b some is = record {
   capacity = omega arith;
 }
 
-pub empty_tree : (e k pages : ℕ) (b head : List ℕ) → 512 ≤ length b → length head ≡ 512 → 1 ≤ pages → IsHead head 0 0 0 0 0 → IsTree e k pages (overwritten b (512 * 0) head) []
-empty_tree e k pages b head size long some is = headed_tree e k pages (overwritten b (512 * 0) head) some (subst (λ (x : List ℕ). IsHead x 0 0 0 0 0) (sym (page_same b head 0 long (omega (arith, size)))) is)
+pub empty_tree : (e k pages : ℕ) (b head : List ℕ) → 512 ≤ length b → length head ≡ 512 → 1 ≤ pages → IsHead head 0 0 0 0 0 → IsBlank head → IsTree e k pages (overwritten b (512 * 0) head) []
+empty_tree e k pages b head size long some is blank =
+    let here : page_at (overwritten b (512 * 0) head) 0 ≡ head = page_same b head 0 long (omega (arith, size)) in
+    headed_tree e k pages (overwritten b (512 * 0) head) some (subst (λ (x : List ℕ). IsHead x 0 0 0 0 0) (sym here) is) (subst IsBlank (sym here) blank)
 
 zero_head : IsHead (replicate 512 0) 0 0 0 0 0
 zero_head = record { count_is = refl; root_is = refl; top_is = refl; free_is = refl; levels_is = refl }
 
 -- so a page of zeros is the header of the tree without records
 pub zero_tree : (e k pages : ℕ) (b : List ℕ) → 1 ≤ pages → page_at b 0 ≡ replicate 512 0 → IsTree e k pages b []
-zero_tree e k pages b some zeros = headed_tree e k pages b some (subst (λ (x : List ℕ). IsHead x 0 0 0 0 0) (sym zeros) zero_head)
+zero_tree e k pages b some zeros = headed_tree e k pages b some (subst (λ (x : List ℕ). IsHead x 0 0 0 0 0) (sym zeros) zero_head) (subst IsBlank (sym zeros) blank_zeros)

@@ -42,8 +42,16 @@ pub mod Listed
 pub mod MetLaws
 pub mod FormLaws
 pub mod WayLaws
+pub mod MendingLaws
 pub mod Listing
 pub mod WalkLaws
+mod Threads
+mod WalkedLaws
+mod PlacedLaws
+mod CountLaws
+mod CountedLaws
+mod LeavesLaws
+mod Unbroken
 mod Neighbours
 mod Evened
 mod Freed

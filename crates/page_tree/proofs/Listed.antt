@@ -1,5 +1,5 @@
 -- What a memory tells of its tree, from one state to the next.
-use Rattle.std.proofs.Common.{◌≡◌, ℕ, ◌<◌, ◌/◌, Bool, true, false, List, [], length, map, take, insert, remove, slice_set, arith, ap, subst}
+use Rattle.std.proofs.Common.{◌≡◌, ℕ, ◌<◌, ◌/◌, Bool, true, false, List, [], length, map, insert, remove, slice_set, arith, ap, subst}
 use Rattle.std.proofs.lemmas.List.{length-map, get_or-map}
 use Rattle.std.proofs.lemmas.List.Edits.{length-insert}
 use Rattle.flat_mem.specs.Order.{key_at, IsRising}
@@ -9,6 +9,7 @@ use Rattle.page_tree.specs.Tree.{IsTree}
 use Rattle.page_tree.specs.Put.{IsPut, FullOr}
 use Rattle.page_tree.specs.Tells.{TellsTree, IsInserted, IsFull, IsTakenOut, IsPutOver}
 use Rattle.page_tree.specs.Removed.{IsRemoved, IsReplaced}
+use Rattle.page_tree.specs.Placed.{IsOutAt, IsSetAt}
 use Rattle.page_tree.specs.declared.error.TreeError.{TreeError}
 use Rattle.page_tree.specs.declared.error.TreeError.TheVariants.{Full, Malformed, Mem}
 
@@ -47,6 +48,14 @@ module _ (e k s s' : ℕ) (tells : List ℕ → Type 0) (xs : List (List ℕ)) (
   pub lists_out : (b key : List ℕ) (found : Bool) → IsTree e k (s / 512) b xs → IsRemoved e k (s / 512) tells b xs key found → IsTakenOut k (TellsTree e k (s' / 512) tells) xs key found
   lists_out b key true tree out = (out.0, out.1, lists_tree e k (s' / 512) tells out.2 (remove xs out.0) out.3 (subst (λ (n : ℕ). IsTree e k (n / 512) out.2 (remove xs out.0)) same out.4))
   lists_out b key false tree out = (out.0, lists_tree e k (s' / 512) tells b xs out.1 (subst (λ (n : ℕ). IsTree e k (n / 512) b xs) same tree))
+
+  -- after a removal by index
+  pub lists_out_at : (i : ℕ) → IsOutAt e k (s / 512) tells xs i → TellsTree e k (s' / 512) tells (remove xs i)
+  lists_out_at i out = lists_tree e k (s' / 512) tells out.0 (remove xs i) out.1 (subst (λ (n : ℕ). IsTree e k (n / 512) out.0 (remove xs i)) same out.2)
+
+  -- after a replacement by index
+  pub lists_set_at : (i : ℕ) (entry : List ℕ) → IsSetAt e k (s / 512) tells xs i entry → TellsTree e k (s' / 512) tells (slice_set xs i entry)
+  lists_set_at i entry set = lists_tree e k (s' / 512) tells set.0 (slice_set xs i entry) set.1 (subst (λ (n : ℕ). IsTree e k (n / 512) set.0 (slice_set xs i entry)) same set.2)
 
   -- after a replacement
   pub lists_over : (b entry : List ℕ) (found : Bool) → IsTree e k (s / 512) b xs → IsReplaced e k (s / 512) tells b xs entry found → IsPutOver k (TellsTree e k (s' / 512) tells) xs entry found

@@ -5,6 +5,7 @@ use Rattle.page_tree.specs.Page.{page_at, filled, key_room, key_at, link_at, IsI
 use Rattle.page_tree.specs.Tree.{Node, node_at, items_of, before, heads, uses}
 use Rattle.page_tree.specs.Owed.{swapped}
 use Rattle.page_tree.specs.Thin.{IsPending, IsPair}
+use Rattle.page_tree.specs.Mending.{AreNotAbove}
 use Rattle.page_tree.proofs.Changed.{used_once, apart}
 use Rattle.page_tree.proofs.Descent.{within_shared, rows_above}
 use Rattle.page_tree.proofs.Levels.{item_of_page, page_fits, before_more, length-heads, heads_page, heads_behind}
@@ -54,6 +55,12 @@ module _ (e k pages : ℕ) (b : List ℕ) (records : List (List ℕ)) (levels le
 
   pub up_not_at : get_or paths (level + 1) 0 ≢ at
   up_not_at h = up_apart home home_in (h ∙ pending.mend.path.here)
+
+  -- nor is any page of the path above
+  pub path_apart : (l : ℕ) → level < l → l ≤ levels → (i : ℕ) → i < length (pending.mend.nodes level) → get_or paths l 0 ≢ (node_at (pending.mend.nodes level) i).page
+  path_apart l above l_most i below h =
+      apart levels nodes once l (pending.mend.place l) level i (omega (arith, above)) l_most some most (pending.mend.path.inside l (omega (arith, above)) l_most) below (λ (same : l ≡ level). absurd (omega (arith, same, above)))
+      (sym (pending.mend.path.page l above l_most) ∙ h)
 
   listed : items_of (nodes (level + 1)) ≡ heads (nodes level)
   listed = pending.mend.owed.listed level under (λ (h : level + 1 ≡ level). absurd (omega (arith, h))) ∙ rows_above k records nodes level (omega (arith, some))
@@ -114,6 +121,10 @@ module _ (e k pages : ℕ) (b : List ℕ) (records : List (List ℕ)) (levels le
           subst (λ (x : List ℕ). IsPageOf e k level x (node_at (nodes level) (before (nodes (level + 1)) q + s)).items)
           (sym (is ∙ pending.others (link_at k above s) beside_in.0 beside_apart ∙ ap (page_at pending.was) (child_link s s_in)))
           (pending.mend.opened.stored level (before (nodes (level + 1)) q + s) some most (child_in s s_in))
+
+      pub not_above : AreNotAbove paths level levels at (link_at k above s)
+      not_above l l_above l_most =
+          ((λ (h : get_or paths l 0 ≡ at). path_apart l l_above l_most home home_in (h ∙ pending.mend.path.here)), (λ (h : get_or paths l 0 ≡ link_at k above s). path_apart l l_above l_most (before (nodes (level + 1)) q + s) (child_in s s_in) (h ∙ child_link s s_in)))
 
       pub up_not_beside : get_or paths (level + 1) 0 ≢ link_at k above s
       up_not_beside h = up_apart (before (nodes (level + 1)) q + s) (child_in s s_in) (h ∙ child_link s s_in)

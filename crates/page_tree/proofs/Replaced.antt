@@ -9,7 +9,7 @@ use Rattle.flat_mem.specs.Memory.{overwritten}
 use Rattle.flat_mem.specs.Parts.{length-overwritten, part-overwritten_same, part-overwritten_below, part-overwritten_above}
 use Rattle.flat_mem.specs.Order.{key_at, entry_at}
 use Rattle.page_tree.specs.Keys.{Item, no_item, item_at, at_most, IsRising}
-use Rattle.page_tree.specs.Page.{leaf_room, record_at, record_item, IsLeaf}
+use Rattle.page_tree.specs.Page.{leaf_room, filled, record_at, record_item, IsLeaf}
 use Rattle.page_tree.specs.Tree.{before}
 use Rattle.page_tree.specs.Change.{splice, without}
 use Rattle.page_tree.specs.Owed.{swapped, IsOwed}
@@ -20,18 +20,16 @@ use Rattle.page_tree.proofs.Cells.{kind_kept}
 use Rattle.page_tree.proofs.Changed.{length-splice}
 use Rattle.page_tree.proofs.InnerNamed.{spliced_here, spliced_other}
 use Rattle.page_tree.proofs.Swapped.{swapped_one, map_swapped}
-use Rattle.page_tree.specs.Page.{IsWidths, page_at, IsEnough}
+use Rattle.page_tree.specs.Page.{IsWidths, page_at, IsBlank, IsEnough}
 use Rattle.page_tree.specs.Tree.{node_at, IsChain, IsShared, IsTower, IsTree}
-use Rattle.page_tree.specs.Path.{IsReached}
 use Rattle.page_tree.specs.Put.{capacity_of}
 use Rattle.page_tree.specs.Climb.{IsHead, IsClosed}
-use Rattle.page_tree.specs.Removed.{IsLastOf, IsLastHere}
 use Rattle.page_tree.specs.Thin.{IsPending}
 use Rattle.page_tree.proofs.Owed.{begin_owed, begin_lack}
 use Rattle.page_tree.proofs.MendEnds.{map_without, rising_without}
 use Rattle.page_tree.proofs.Order.{at_most_itself}
-use Rattle.page_tree.proofs.Descent.{leaf, rooted}
-use Rattle.page_tree.proofs.Found.{found_last}
+use Rattle.page_tree.proofs.Descent.{rooted}
+use Rattle.page_tree.proofs.PlacedLaws.{placed_leaf, placed_below, placed_record}
 use Rattle.page_tree.proofs.Neighbours.{page_of_leaf}
 use Rattle.page_tree.proofs.Once.{page_other}
 use Rattle.page_tree.proofs.Noted.{pending_closed}
@@ -162,9 +160,9 @@ standing e k pages b records count root top first levels tree is some = record {
 }
 
 -- the header as it is fits what was done
-pub tree_still : (e k pages : ℕ) (c : List ℕ) (records : List (List ℕ)) (levels root first top : ℕ) → IsClosed e k pages c records levels root first top → 1 ≤ levels → levels ≤ 6 → IsHead (page_at c 0) (length records) root top first levels → length records ≤ capacity_of e pages
+pub tree_still : (e k pages : ℕ) (c : List ℕ) (records : List (List ℕ)) (levels root first top : ℕ) → IsClosed e k pages c records levels root first top → 1 ≤ levels → levels ≤ 6 → IsHead (page_at c 0) (length records) root top first levels → IsBlank (page_at c 0) → length records ≤ capacity_of e pages
     → IsTree e k pages c records
-tree_still e k pages c records levels root first top closed some few is capacity = record {
+tree_still e k pages c records levels root first top closed some few is blank capacity = record {
   levels = levels;
   nodes = closed.nodes;
   free = closed.free;
@@ -180,6 +178,7 @@ tree_still e k pages c records levels root first top closed some few is capacity
     free_is = is.free_is;
     top_is = is.top_is;
     top_below = closed.top_below;
+    rest = blank;
   };
   tower = record {
     none = λ none. absurd (omega (arith, none, some));
@@ -195,24 +194,24 @@ tree_still e k pages c records levels root first top closed some few is capacity
 
 -- a record of the leaf is another with the same key: what is to be written
 module _ (e k pages : ℕ) (b : List ℕ) (records : List (List ℕ)) (levels root first top : ℕ) (here : IsStanding e k pages b records levels root first top) (widths : IsWidths e k) (some : 0 < levels)
-    (key page paths index : List ℕ) (at : ℕ) (reached : IsReached b levels here.nodes key page paths index at) (place : ℕ) (last : IsLastHere e k page key place) (long : length page ≡ 512) where
+    (page paths index : List ℕ) (at : ℕ) (home : ℕ → ℕ) (path : IsPath here.nodes levels 1 paths index at home) (read : page ≡ page_at b (node_at (here.nodes 1) (home 1)).page) (place : ℕ) (place_here : place < filled page) (long : length page ≡ 512) where
   abbrev pos : ℕ
-  pos = before (here.nodes 1) (reached.place 1) + place
+  pos = before (here.nodes 1) (home 1) + place
 
   abbrev xs : List Item
-  xs = (node_at (here.nodes 1) (reached.place 1)).items
+  xs = (node_at (here.nodes 1) (home 1)).items
 
   tower : IsTower e k b records levels here.nodes
   tower = here.rooted.tower
 
   leaf_here : IsLeaf e k page xs
-  leaf_here = leaf e k b records levels here.nodes tower some key page paths index at reached
+  leaf_here = placed_leaf e k b records levels here.nodes tower some page paths index at home path read
 
   place_in : place < length xs
-  place_in = omega (arith, last.below, leaf_here.count)
+  place_in = omega (arith, place_here, leaf_here.count)
 
-  pub set_last : IsLastOf k records key (before (here.nodes 1) (reached.place 1) + place)
-  set_last = found_last e k b records levels here.nodes tower some key page paths index at reached place last
+  pos_below : before (here.nodes 1) (home 1) + place < length records
+  pos_below = placed_below e k b records levels here.nodes tower some page paths index at home path read place place_here
 
   rises : (q r : ℕ) → q ≤ r → r < length records → at_most (key_at k records q) (key_at k records r) ≡ true
   rises q r order inside =
@@ -220,15 +219,15 @@ module _ (e k pages : ℕ) (b : List ℕ) (records : List (List ℕ)) (levels ro
       ∙ ap (λ (x : Item). at_most (key_at k records q) x.key) (get_or-map (record_item k) records r [] no_item inside))
       ∙ tower.rising q r order (omega (arith, inside, length-map records (record_item k)))
 
-  pub set_pending : (entry : List ℕ) → length entry ≡ e → take k entry ≡ key
-      → IsPending e k pages b (slice_set records (before (here.nodes 1) (reached.place 1) + place) entry) levels 1 paths index at (overwritten page (8 + e * place) entry) root first top
+  pub set_pending : (entry : List ℕ) → length entry ≡ e → take k entry ≡ take k (record_at e page place)
+      → IsPending e k pages b (slice_set records (before (here.nodes 1) (home 1) + place) entry) levels 1 paths index at (overwritten page (8 + e * place) entry) root first top
   set_pending entry width same = record {
     was = b;
     slot = place;
     less = 1;
     its = record_item k entry ∷ [];
-    mend = begin_set e k pages b records levels root first top here paths index at reached.place reached.path pos place entry set_last.below refl
-        (λ (q : ℕ) (less : q < pos). ap (at_most (key_at k records q)) key_same ∙ rises q pos (omega (arith, less)) set_last.below)
+    mend = begin_set e k pages b records levels root first top here paths index at home path pos place entry pos_below refl
+        (λ (q : ℕ) (less : q < pos). ap (at_most (key_at k records q)) key_same ∙ rises q pos (omega (arith, less)) pos_below)
         (λ (q : ℕ) (more : pos < q) (inside : q < length records). ap (λ (x : List ℕ). at_most x (key_at k records q)) key_same ∙ rises pos q (omega (arith, more)) inside)
         (at_most_itself (take k entry));
     inside = omega (arith, place_in);
@@ -240,13 +239,13 @@ module _ (e k pages : ℕ) (b : List ℕ) (records : List (List ℕ)) (levels ro
   }
     where
       key_same : take k entry ≡ key_at k records pos
-      key_same = same ∙ sym set_last.holds
+      key_same = same ∙ ap (λ (x : Item). x.key) (placed_record e k b records levels here.nodes tower some page paths index at home path read place place_here)
 
       swapped_is : swapped xs place 1 (record_item k entry ∷ []) ≡ splice xs place (record_item k entry ∷ [])
       swapped_is = swapped_one xs place (record_item k entry ∷ []) place_in
 
-      leaf_key : (item_at xs place).key ≡ key
-      leaf_key = ap (λ (x : Item). x.key) (leaf_here.lists place place_in) ∙ last.holds
+      leaf_key : (item_at xs place).key ≡ take k (record_at e page place)
+      leaf_key = ap (λ (x : Item). x.key) (leaf_here.lists place place_in)
 
       first_same : (item_at (splice xs place (record_item k entry ∷ [])) 0).key ≡ (item_at xs 0).key
       first_same = elim (cases_eq 0 place) [
@@ -256,18 +255,19 @@ module _ (e k pages : ℕ) (b : List ℕ) (records : List (List ℕ)) (levels ro
 
       enough_one : 1 < levels → IsEnough e k 1 (length (swapped xs place 1 (record_item k entry ∷ [])) + 1)
       enough_one under =
-          let was = tower.filled 1 (reached.place 1) (omega arith) under (reached.path.inside 1 (omega arith) (omega (arith, some))) in
+          let was = tower.filled 1 (home 1) (omega arith) under (path.inside 1 (omega arith) (omega (arith, some))) in
           record {
             leaf = λ one. omega (arith, was.leaf refl, ap length swapped_is, length-splice xs place (record_item k entry ∷ []) place_in);
             inner = λ above. absurd (omega (arith, above));
           }
 
-  pub set_tree : (entry : List ℕ) → length entry ≡ e → take k entry ≡ key → levels ≤ 6 → 512 * pages ≤ length b → IsHead (page_at b 0) (length records) root top first levels → length records ≤ capacity_of e pages
-      → IsTree e k pages (overwritten b (512 * at) (overwritten page (8 + e * place) entry)) (slice_set records (before (here.nodes 1) (reached.place 1) + place) entry)
-  set_tree entry width same few size head capacity =
+  pub set_tree : (entry : List ℕ) → length entry ≡ e → take k entry ≡ take k (record_at e page place) → levels ≤ 6 → 512 * pages ≤ length b → IsHead (page_at b 0) (length records) root top first levels → IsBlank (page_at b 0) → length records ≤ capacity_of e pages
+      → IsTree e k pages (overwritten b (512 * at) (overwritten page (8 + e * place) entry)) (slice_set records (before (here.nodes 1) (home 1) + place) entry)
+  set_tree entry width same few size head blank capacity =
       tree_still e k pages (overwritten b (512 * at) new) (slice_set records pos entry) levels root first top closed (omega (arith, some)) few
       (subst (λ (n : ℕ). IsHead (page_at (overwritten b (512 * at) new) 0) n root top first levels) (sym long_set)
       (subst (λ (x : List ℕ). IsHead x (length records) root top first levels) (sym (page_other b new at 0 long_new fits_at (λ (h : 0 ≡ at). absurd (omega (arith, h, at_in.0))))) head))
+      (subst IsBlank (sym (page_other b new at 0 long_new fits_at (λ (h : 0 ≡ at). absurd (omega (arith, h, at_in.0))))) blank)
       (omega (arith, capacity, long_set))
     where
       new : List ℕ
@@ -284,8 +284,8 @@ module _ (e k pages : ℕ) (b : List ℕ) (records : List (List ℕ)) (levels ro
 
       at_in : (1 ≤ at) × (at < pages)
       at_in =
-          let within = here.rooted.within 1 (reached.place 1) (omega arith) (omega (arith, some)) (reached.path.inside 1 (omega arith) (omega (arith, some))) in
-          (omega (arith, within.0, reached.path.here), omega (arith, within.1, reached.path.here))
+          let within = here.rooted.within 1 (home 1) (omega arith) (omega (arith, some)) (path.inside 1 (omega arith) (omega (arith, some))) in
+          (omega (arith, within.0, path.here), omega (arith, within.1, path.here))
 
       fits_at : 512 * at + 512 ≤ length b
       fits_at = omega (arith, at_in.1, size)
@@ -297,7 +297,7 @@ module _ (e k pages : ℕ) (b : List ℕ) (records : List (List ℕ)) (levels ro
       closed = pending_closed e k pages b (slice_set records pos entry) levels 1 paths index at new root first top pending (omega arith) (omega (arith, some)) size long_new
           (λ (under : 1 < levels). (
             λ (one : 1 ≡ 1). record {
-              leaf = λ low. omega (arith, (tower.filled 1 (reached.place 1) (omega arith) under (reached.path.inside 1 (omega arith) (omega (arith, some)))).leaf refl, set_leaf.count, length-splice xs place (record_item k entry ∷ []) place_in);
+              leaf = λ low. omega (arith, (tower.filled 1 (home 1) (omega arith) under (path.inside 1 (omega arith) (omega (arith, some)))).leaf refl, set_leaf.count, length-splice xs place (record_item k entry ∷ []) place_in);
               inner = λ above. absurd (omega (arith, above));
             },
             λ (above : 1 < 1). absurd (omega (arith, above)),

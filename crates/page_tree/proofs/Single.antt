@@ -6,13 +6,13 @@ use Rattle.flat_mem.specs.Memory.{overwritten}
 use Rattle.page_tree.specs.Page.{IsWidths, page_at, kind_of, next_in, filled, record_item, IsLeaf}
 use Rattle.page_tree.specs.Tree.{node_at, IsTree}
 use Rattle.page_tree.specs.Open.{IsOpen}
-use Rattle.page_tree.specs.Path.{IsReached}
+use Rattle.page_tree.specs.Path.{IsPath}
 use Rattle.page_tree.specs.Removed.{IsLastOf, NoneOf}
 use Rattle.page_tree.specs.Standing.{IsStanding}
 use Rattle.page_tree.specs.Out.{IsBare, IsOut}
 use Rattle.page_tree.specs.Climb.{IsClosed}
 use Rattle.page_tree.proofs.Once.{page_same, page_other}
-use Rattle.page_tree.proofs.Descent.{leaf}
+use Rattle.page_tree.proofs.PlacedLaws.{placed_leaf}
 use Rattle.page_tree.proofs.MendEnds.{items_one}
 use Rattle.page_tree.proofs.Neighbours.{leaf_room_least}
 use Rattle.page_tree.proofs.PairOpen.{open_shrink}
@@ -24,14 +24,14 @@ one_gone (x ∷ []) (suc i) one below = absurd (omega (arith, below))
 one_gone (x ∷ y ∷ xs) i one below = absurd (omega (arith, one))
 
 module _ (e k pages : ℕ) (b : List ℕ) (records : List (List ℕ)) (levels root first top : ℕ) (here : IsStanding e k pages b records levels root first top) (widths : IsWidths e k) (some : 0 < levels)
-    (key page paths index : List ℕ) (at : ℕ) (reached : IsReached b levels here.nodes key page paths index at) (one : filled page ≡ 1) where
-  leaf_here : IsLeaf e k page (node_at (here.nodes 1) (reached.place 1)).items
-  leaf_here = leaf e k b records levels here.nodes here.rooted.tower some key page paths index at reached
+    (page paths index : List ℕ) (at : ℕ) (home : ℕ → ℕ) (path : IsPath here.nodes levels 1 paths index at home) (read : page ≡ page_at b (node_at (here.nodes 1) (home 1)).page) (one : filled page ≡ 1) where
+  leaf_here : IsLeaf e k page (node_at (here.nodes 1) (home 1)).items
+  leaf_here = placed_leaf e k b records levels here.nodes here.rooted.tower some page paths index at home path read
 
   pub single_level : levels ≤ 1
   single_level = elim (cases_lt 1 levels) [
     | inl more ↦
-        let was = here.rooted.tower.filled 1 (reached.place 1) (omega arith) more (reached.path.inside 1 (omega arith) (omega (arith, some))) in
+        let was = here.rooted.tower.filled 1 (home 1) (omega arith) more (path.inside 1 (omega arith) (omega (arith, some))) in
         absurd (omega (arith, was.leaf refl, leaf_here.count, one, (leaf_room_least e widths.entry_least widths.entry_most).0))
     | inr not ↦ omega (arith, not)
   ]
@@ -42,11 +42,11 @@ module _ (e k pages : ℕ) (b : List ℕ) (records : List (List ℕ)) (levels ro
   tops : length (here.nodes 1) ≡ 1
   tops = ap (λ (l : ℕ). length (here.nodes l)) (sym is_one) ∙ here.rooted.one
 
-  at_first : reached.place 1 ≡ 0
-  at_first = ap reached.place (sym is_one) ∙ reached.path.top
+  at_first : home 1 ≡ 0
+  at_first = ap home (sym is_one) ∙ path.top
 
   at_is : at ≡ (node_at (here.nodes levels) 0).page
-  at_is = reached.path.here ∙ ap (λ (i : ℕ). (node_at (here.nodes 1) i).page) at_first ∙ ap (λ (l : ℕ). (node_at (here.nodes l) 0).page) (sym is_one)
+  at_is = path.here ∙ ap (λ (i : ℕ). (node_at (here.nodes 1) i).page) at_first ∙ ap (λ (l : ℕ). (node_at (here.nodes l) 0).page) (sym is_one)
 
   alone : length records ≡ 1
   alone =

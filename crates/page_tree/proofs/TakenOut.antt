@@ -8,13 +8,11 @@ use Rattle.page_tree.specs.Tree.{node_at, before}
 use Rattle.page_tree.specs.Change.{without}
 use Rattle.page_tree.specs.Copied.{leaf_without}
 use Rattle.page_tree.specs.Owed.{swapped, IsOwed}
-use Rattle.page_tree.specs.Path.{IsReached}
+use Rattle.page_tree.specs.Path.{IsPath}
 use Rattle.page_tree.specs.Named.{IsKept}
-use Rattle.page_tree.specs.Removed.{IsLastHere}
 use Rattle.page_tree.specs.Standing.{IsStanding}
 use Rattle.page_tree.specs.Thin.{IsPending}
-use Rattle.page_tree.proofs.Descent.{leaf}
-use Rattle.page_tree.proofs.Found.{found_below}
+use Rattle.page_tree.proofs.PlacedLaws.{placed_leaf, placed_below}
 use Rattle.page_tree.proofs.Less.{leaf_less, length-without, without_below}
 use Rattle.page_tree.proofs.Swapped.{swapped_one}
 use Rattle.page_tree.proofs.Owed.{begin_lack}
@@ -38,31 +36,31 @@ dup_removed (a ∷ b ∷ xs) (suc p) below =
 
 -- a record behind the first of its leaf, or one of the first leaf
 module _ (e k pages : ℕ) (b : List ℕ) (records : List (List ℕ)) (levels root first top : ℕ) (here : IsStanding e k pages b records levels root first top) (widths : IsWidths e k) (some : 0 < levels)
-    (key page paths index : List ℕ) (at : ℕ) (reached : IsReached b levels here.nodes key page paths index at) (place : ℕ) (last : IsLastHere e k page key place) (long : length page ≡ 512) (two : 2 ≤ filled page) where
+    (page paths index : List ℕ) (at : ℕ) (home : ℕ → ℕ) (path : IsPath here.nodes levels 1 paths index at home) (read : page ≡ page_at b (node_at (here.nodes 1) (home 1)).page) (place : ℕ) (inside : place < filled page) (long : length page ≡ 512) (two : 2 ≤ filled page) where
   abbrev xs : List Item
-  xs = (node_at (here.nodes 1) (reached.place 1)).items
+  xs = (node_at (here.nodes 1) (home 1)).items
 
   leaf_here : IsLeaf e k page xs
-  leaf_here = leaf e k b records levels here.nodes here.rooted.tower some key page paths index at reached
+  leaf_here = placed_leaf e k b records levels here.nodes here.rooted.tower some page paths index at home path read
 
   place_in : place < length xs
-  place_in = omega (arith, last.below, leaf_here.count)
+  place_in = omega (arith, inside, leaf_here.count)
 
   swapped_is : swapped xs place 1 [] ≡ without xs place
   swapped_is = swapped_one xs place [] place_in
 
-  pub out_pending : (0 < place) ⊎ (reached.place 1 ≡ 0)
-      → IsPending e k pages b (remove records (before (here.nodes 1) (reached.place 1) + place)) levels 1 paths index at (leaf_without e page (filled page) place) root first top
+  pub out_pending : (0 < place) ⊎ (home 1 ≡ 0)
+      → IsPending e k pages b (remove records (before (here.nodes 1) (home 1) + place)) levels 1 paths index at (leaf_without e page (filled page) place) root first top
   out_pending head = record {
     was = b;
     slot = place;
     less = 1;
     its = [];
-    mend = begin_out e k pages b records levels root first top here paths index at reached.place reached.path (before (here.nodes 1) (reached.place 1) + place) place
-        (found_below e k b records levels here.nodes here.rooted.tower some key page paths index at reached place last.below) refl;
+    mend = begin_out e k pages b records levels root first top here paths index at home path (before (here.nodes 1) (home 1) + place) place
+        (placed_below e k b records levels here.nodes here.rooted.tower some page paths index at home path read place inside) refl;
     inside = omega (arith, place_in);
     bytes = page_of_leaf e k 1 (leaf_without e page (filled page) place) (swapped xs place 1 []) refl
-        (subst (IsLeaf e k (leaf_without e page (filled page) place)) (sym swapped_is) (leaf_less e k page xs (filled page) place (omega (arith, widths.entry_least)) leaf_here long refl last.below two));
+        (subst (IsLeaf e k (leaf_without e page (filled page) place)) (sym swapped_is) (leaf_less e k page xs (filled page) place (omega (arith, widths.entry_least)) leaf_here long refl inside two));
     keeps = elim head [
       | inl behind ↦ inr (ap (λ (ys : List Item). (item_at ys 0).key) swapped_is ∙ ap (λ (x : Item). x.key) (without_below xs place 0 place_in behind))
       | inr first_leaf ↦ inl first_leaf
@@ -73,7 +71,7 @@ module _ (e k pages : ℕ) (b : List ℕ) (records : List (List ℕ)) (levels ro
     where
       almost_one : 1 < levels → IsEnough e k 1 (length (swapped xs place 1 []) + 1)
       almost_one under =
-          let was = here.rooted.tower.filled 1 (reached.place 1) (omega arith) under (reached.path.inside 1 (omega arith) (omega (arith, some))) in
+          let was = here.rooted.tower.filled 1 (home 1) (omega arith) under (path.inside 1 (omega arith) (omega (arith, some))) in
           record {
             leaf = λ one. omega (arith, was.leaf refl, ap length swapped_is, length-without xs place place_in);
             inner = λ above. absurd (omega (arith, above));

@@ -33,6 +33,12 @@ IfMemory P Full = Unit {0}
 IfMemory P (Malformed page) = Unit {0}
 IfMemory P (Mem error) = P error
 
+-- an index that the tree does not have is a break of page 0; the memory may fail too
+abbrev pub IsPast : {X : Type 0} → TreeError X → Type 0
+IsPast Full = ⊥
+IsPast (Malformed page) = page ≡ 0
+IsPast (Mem error) = Unit {0}
+
 -- what holds where the tree is found full
 abbrev pub IfFull : {X : Type 0} → Type 0 → TreeError X → Type 0
 IfFull P Full = P

@@ -1,7 +1,9 @@
 -- What breaks the form of a tree, by the way in which it is met.
-use Rattle.std.specs.Prelude.{◌≡◌, ◌≢◌, ℕ, ◌+◌, ◌<◌, ◌≤◌, ◌⊎◌, List}
+use Rattle.std.specs.Prelude.{◌≡◌, ◌≢◌, ℕ, ◌+◌, ◌<◌, ◌≤◌, ◌⊎◌, List, length}
 use Rattle.page_tree.specs.Page.{page_at, kind_of, filled, leaf_room, key_room, link_at, count_in, root_in, top_in, free_in, levels_in, next_in}
 use Rattle.page_tree.specs.Put.{capacity_of}
+use Rattle.page_tree.specs.Neighbours.{IsThin}
+use Rattle.page_tree.specs.Leaves.{leaves_in, records_in}
 use Rattle.page_tree.specs.declared.error.TreeError.{TreeError}
 use Rattle.page_tree.specs.declared.error.TreeError.TheVariants.{Full, Malformed, Mem}
 
@@ -67,6 +69,14 @@ pub data Breaks (e k pages : ℕ) (b : List ℕ) (page : ℕ) : Type 0 where
   none_left : (n : ℕ) → page ≡ 0 → Frees b n 0 → pages + n ≤ top_in (page_at b 0) + 6 → Breaks e k pages b page
   -- it is full on level 6, so that one more record would need a seventh
   seventh : Meets k b 6 page → filled (page_at b page) ≡ key_room k → Breaks e k pages b page
+  -- it stands below the root, and is filled less than half
+  thin : (l : ℕ) → Meets k b l page → 1 ≤ l → l < levels_in (page_at b 0) → IsThin e k l (filled (page_at b page)) → Breaks e k pages b page
+  -- it is the header, and counts no record where there is a level
+  uncounted : page ≡ 0 → 0 < levels_in (page_at b 0) → count_in (page_at b 0) ≡ 0 → Breaks e k pages b page
+  -- it is the header, and counts more records than stand in the leaves
+  few : page ≡ 0 → records_in b (leaves_in k b) < count_in (page_at b 0) → Breaks e k pages b page
+  -- it is the header, and the tree that it names has no fewer leaves than the memory has pages
+  crowded : page ≡ 0 → pages ≤ length (leaves_in k b) → Breaks e k pages b page
 
 -- a fact of the page that is named
 abbrev pub IfMalformed : {X : Type 0} → (ℕ → Type 0) → TreeError X → Type 0

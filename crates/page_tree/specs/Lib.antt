@@ -12,9 +12,12 @@ pub mod Head
 pub mod Owed
 pub mod Copied
 pub mod Mend
+pub mod Leaves
 pub mod Broken
 pub mod Met
+pub mod Walked
 pub mod Way
+pub mod Mending
 pub mod Tells
 pub mod PageTree
 pub mod Neighbours
@@ -23,3 +26,4 @@ pub mod Removed
 pub mod Standing
 pub mod Named
 pub mod Out
+pub mod Placed

@@ -154,6 +154,7 @@ pub fn insert<M: FlatMem, const E: usize, const K: usize>(
     requires some_pages { 9 * 512 ≤ M.size mem.old }
     ensures answer { (b : List ℕ) → M.tells mem.old b → (records : List (List ℕ)) → IsTree E K (M.size mem.old / 512) b records → MatchResult result (λ _. IsPut E K (M.size mem.old / 512) (M.tells mem.new) records entry.now) (FullOr E (M.size mem.old / 512) (M.tells mem.new) b records) }
     ensures full { (b : List ℕ) → M.tells mem.old b → IfErr result (IfFull (capacity_of E (M.size mem.old / 512) ≤ count_in (page_at b 0))) }
+    ensures full_same { (b : List ℕ) → M.tells mem.old b → IfErr result (IfFull (M.tells mem.new b)) }
     ensures broken { (b : List ℕ) → M.tells mem.old b → IfErr result (IfMalformed (Breaks E K (M.size mem.old / 512) b)) }
     ensures kept { M.beside mem.old mem.new }
     ensures cause { IfErr result (IfMemory (M.accounted mem.old mem.new)) }

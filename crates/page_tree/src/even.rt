@@ -4,6 +4,8 @@ ghost use Rattle.page_tree.specs.Page.{IsWidths, filled};
 ghost use Rattle.page_tree.specs.Answer.{FromMemory, IfMem};
 ghost use Rattle.page_tree.specs.Neighbours.{IsBalanced, IsLean};
 ghost use Rattle.page_tree.specs.Thin.{IsPair, IsEvened, IsGiven};
+ghost use Rattle.page_tree.specs.Broken.{Meets};
+ghost use Rattle.page_tree.specs.Mending.{IsMending, AreNotAbove};
 
 use crate::balance::{balance_inners, balance_leaves};
 use crate::edits::set_free;
@@ -89,6 +91,7 @@ pub fn even_out<M: FlatMem, const E: usize, const K: usize>(
     requires right_inside { right_at < M.size mem.old / 512 }
     ensures even { (b : List ℕ) → M.tells mem.old b → (records : List (List ℕ)) (levels : ℕ) (paths index : List ℕ) (slot : ℕ) → IsPair E K (M.size mem.old / 512) b records levels level paths index left_at right_at slot left.old right.old key.old header.old.root header.old.free header.old.top → 1 ≤ level
         → MatchResult result (IsEvened E K (M.size mem.old / 512) (M.tells mem.new) b records levels level paths index left_at right_at slot key.new header.old.root header.new.free header.old.top) FromMemory }
+    ensures on { (root levels : ℕ) (paths index b c : List ℕ) → M.tells mem.old c → IsMending K b c levels level root paths index → 1 ≤ level → Meets K b level left_at → Meets K b level right_at → AreNotAbove paths level levels left_at right_at → MatchResult result (λ _. (d : List ℕ) × M.tells mem.new d × IsMending K b d levels (level + 1) root paths index) FromMemory }
     ensures count { header.new.count ≡ header.old.count }
     ensures root { header.new.root ≡ header.old.root }
     ensures top { header.new.top ≡ header.old.top }

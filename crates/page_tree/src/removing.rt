@@ -1,11 +1,12 @@
 // A removal by its key, from the header on.
 ghost use Rattle.std.specs.Prelude.{◌≡◌, ℕ, ◌+◌, ◌*◌, ◌/◌, ◌^◌, ◌<◌, ◌≤◌, List, false, IfOk, IfErr, MatchResult};
-ghost use Rattle.page_tree.specs.Page.{IsWidths, page_at};
+ghost use Rattle.page_tree.specs.Page.{IsWidths, page_at, levels_in};
 ghost use Rattle.page_tree.specs.Tree.{IsTree};
 ghost use Rattle.page_tree.specs.Answer.{FromMemory, IfMem, CanBegin};
 ghost use Rattle.page_tree.specs.Climb.{IsHead};
 ghost use Rattle.page_tree.specs.Removed.{IsRemoved};
 ghost use Rattle.page_tree.specs.Out.{IsOut};
+ghost use Rattle.page_tree.specs.Broken.{Meets, Breaks, IfMalformed};
 
 use crate::error::TreeError;
 use crate::even::give_page;
@@ -33,6 +34,7 @@ fn remove_in<M: FlatMem, const E: usize, const K: usize>(
     requires begins { CanBegin (M.size mem.old / 512) header.old.levels header.old.root }
     ensures out { (b : List ℕ) → M.tells mem.old b → (records : List (List ℕ)) → IsTree E K (M.size mem.old / 512) b records → IsHead (page_at b 0) header.old.count header.old.root header.old.top header.old.free header.old.levels
         → MatchResult result (IsOut E K (M.size mem.old / 512) (M.tells mem.new) b records key.now header.new.levels header.new.root header.new.free header.new.top) FromMemory }
+    ensures broken { (b : List ℕ) → M.tells mem.old b → header.old.levels ≡ levels_in (page_at b 0) → Meets K b header.old.levels header.old.root → IfErr result (IfMalformed (Breaks E K (M.size mem.old / 512) b)) }
     ensures few { header.new.levels ≤ 6 }
     ensures count { header.new.count ≡ header.old.count }
     ensures absent { (b : List ℕ) → M.tells mem.old b → IfOk result (λ found. found ≡ false → M.tells mem.new b) }
@@ -84,6 +86,7 @@ pub fn remove_key<M: FlatMem, const E: usize, const K: usize>(
     requires small { M.size mem.old ≤ 2 ^ 27 }
     requires some_pages { 9 * 512 ≤ M.size mem.old }
     ensures answer { (b : List ℕ) → M.tells mem.old b → (records : List (List ℕ)) → IsTree E K (M.size mem.old / 512) b records → MatchResult result (IsRemoved E K (M.size mem.old / 512) (M.tells mem.new) b records key.now) FromMemory }
+    ensures broken { (b : List ℕ) → M.tells mem.old b → IfErr result (IfMalformed (Breaks E K (M.size mem.old / 512) b)) }
     ensures absent { (b : List ℕ) → M.tells mem.old b → IfOk result (λ found. found ≡ false → M.tells mem.new b) }
     ensures kept { M.beside mem.old mem.new }
     ensures cause { IfErr result (IfMem (M.accounted mem.old mem.new)) }

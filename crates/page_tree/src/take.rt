@@ -1,5 +1,6 @@
 // Pages that are free, and the header.
 ghost use Rattle.std.specs.Prelude.{◌≡◌, ℕ, ◌+◌, ◌*◌, ◌/◌, ◌^◌, ◌<◌, ◌≤◌, List, [], length, IfOk, IfErr, MatchResult};
+ghost use Rattle.page_tree.specs.Page.{IsBlank};
 ghost use Rattle.page_tree.specs.Head.{with_header};
 ghost use Rattle.page_tree.specs.Tree.{Node, IsTree};
 ghost use Rattle.page_tree.specs.Put.{capacity_of};
@@ -77,9 +78,9 @@ pub fn finish<M: FlatMem>(
 ) -> Result<(), TreeError<M::Error>>
     requires some_pages { 9 * 512 ≤ M.size mem.old }
     requires few { header.levels ≤ 6 }
-    ensures tree { (e k : ℕ) (c : List ℕ) → M.tells mem.old c → (records : List (List ℕ)) → IsClosed e k (M.size mem.old / 512) c records header.levels header.root header.free header.top → 1 ≤ header.levels → header.count ≡ length records → length records ≤ capacity_of e (M.size mem.old / 512) → MatchResult result (λ _. (x : List ℕ) × M.tells mem.new x × IsTree e k (M.size mem.old / 512) x records) FromMemory }
+    ensures tree { (e k : ℕ) (c : List ℕ) → M.tells mem.old c → (records : List (List ℕ)) → IsClosed e k (M.size mem.old / 512) c records header.levels header.root header.free header.top → 1 ≤ header.levels → IsBlank page.old → header.count ≡ length records → length records ≤ capacity_of e (M.size mem.old / 512) → MatchResult result (λ _. (x : List ℕ) × M.tells mem.new x × IsTree e k (M.size mem.old / 512) x records) FromMemory }
     ensures memory { IfErr result FromMemory }
-    ensures empty { (e k : ℕ) (c : List ℕ) → M.tells mem.old c → (nodes : ℕ → List Node) (free : List ℕ) → IsOpen e k c 0 nodes free header.free header.top → header.levels ≡ 0 → header.root ≡ 0 → header.count ≡ 0 → header.top < M.size mem.old / 512 → MatchResult result (λ _. (x : List ℕ) × M.tells mem.new x × IsTree e k (M.size mem.old / 512) x []) FromMemory }
+    ensures empty { (e k : ℕ) (c : List ℕ) → M.tells mem.old c → (nodes : ℕ → List Node) (free : List ℕ) → IsOpen e k c 0 nodes free header.free header.top → header.levels ≡ 0 → IsBlank page.old → header.root ≡ 0 → header.count ≡ 0 → header.top < M.size mem.old / 512 → MatchResult result (λ _. (x : List ℕ) × M.tells mem.new x × IsTree e k (M.size mem.old / 512) x []) FromMemory }
     ensures kept { M.beside mem.old mem.new }
     ensures cause { IfErr result (IfMem (M.accounted mem.old mem.new)) }
     ensures cost { M.spent mem.new ≤ M.spent mem.old + M.cost }
@@ -108,7 +109,7 @@ pub fn begin<M: FlatMem, const E: usize, const K: usize>(
 
 fn write_empty<M: FlatMem>(mem: &mut M, page: &mut Page) -> Result<(), TreeError<M::Error>>
     requires some_pages { 9 * 512 ≤ M.size mem.old }
-    ensures empty { (e k : ℕ) (b : List ℕ) → M.tells mem.old b → MatchResult result (λ _. (x : List ℕ) × M.tells mem.new x × IsTree e k (M.size mem.old / 512) x []) FromMemory }
+    ensures empty { (e k : ℕ) (b : List ℕ) → M.tells mem.old b → IsBlank page.old → MatchResult result (λ _. (x : List ℕ) × M.tells mem.new x × IsTree e k (M.size mem.old / 512) x []) FromMemory }
     ensures memory { IfErr result FromMemory }
     ensures kept { M.beside mem.old mem.new }
     ensures cause { IfErr result (IfMem (M.accounted mem.old mem.new)) }

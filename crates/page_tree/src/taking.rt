@@ -1,12 +1,13 @@
 // A record is taken out of its leaf and out of the levels.
-ghost use Rattle.std.specs.Prelude.{◌≡◌, ℕ, ◌+◌, ◌*◌, ◌/◌, ◌^◌, ◌<◌, ◌≤◌, ◌⊎◌, List, remove, IfErr, MatchResult};
-ghost use Rattle.page_tree.specs.Page.{IsWidths, filled, leaf_room};
-ghost use Rattle.page_tree.specs.Tree.{before};
-ghost use Rattle.page_tree.specs.Path.{IsReached};
+ghost use Rattle.std.specs.Prelude.{◌≡◌, ℕ, ◌+◌, ◌*◌, ◌/◌, ◌^◌, ◌<◌, ◌≤◌, ◌⊎◌, List, get_or, remove, IfErr, MatchResult};
+ghost use Rattle.page_tree.specs.Page.{IsWidths, page_at, filled, leaf_room, levels_in};
+ghost use Rattle.page_tree.specs.Tree.{node_at, before};
+ghost use Rattle.page_tree.specs.Path.{IsPath};
 ghost use Rattle.page_tree.specs.Answer.{FromMemory, IfMem};
 ghost use Rattle.page_tree.specs.Climb.{TellsClosed};
-ghost use Rattle.page_tree.specs.Removed.{IsLastHere};
 ghost use Rattle.page_tree.specs.Standing.{IsStanding};
+ghost use Rattle.page_tree.specs.Broken.{Meets, Breaks, IfMalformed};
+ghost use Rattle.page_tree.specs.Met.{IsMetPath};
 
 use crate::edits::{record_of, remove_record};
 use crate::error::TreeError;
@@ -31,13 +32,15 @@ pub fn take_later<M: FlatMem, const E: usize, const K: usize>(
     requires some { 1 ≤ header.old.levels }
     requires few { header.old.levels ≤ 6 }
     requires inside { at < M.size mem.old / 512 }
+    requires path { (l : ℕ) → 1 < l → l ≤ header.old.levels → get_or path.now.pages l 0 < M.size mem.old / 512 }
     requires counts { count ≡ filled page.old }
     requires two { 2 ≤ count }
     requires most { count ≤ leaf_room E }
     requires below { place < count }
     requires behind { 0 < place }
-    ensures out { (b : List ℕ) → M.tells mem.old b → (records : List (List ℕ)) (here : IsStanding E K (M.size mem.old / 512) b records header.old.levels header.old.root header.old.free header.old.top) (key : List ℕ) (reached : IsReached b header.old.levels here.nodes key page.old path.now.pages path.now.index at) → IsLastHere E K page.old key place
-        → MatchResult result (λ _. TellsClosed E K (M.size mem.old / 512) (M.tells mem.new) (remove records (before (here.nodes 1) (reached.place 1) + place)) header.new.levels header.new.root header.new.free header.new.top) FromMemory }
+    ensures out { (b : List ℕ) → M.tells mem.old b → (records : List (List ℕ)) (here : IsStanding E K (M.size mem.old / 512) b records header.old.levels header.old.root header.old.free header.old.top) (home : ℕ → ℕ) → IsPath here.nodes header.old.levels 1 path.now.pages path.now.index at home → page.old ≡ page_at b (node_at (here.nodes 1) (home 1)).page
+        → MatchResult result (λ _. TellsClosed E K (M.size mem.old / 512) (M.tells mem.new) (remove records (before (here.nodes 1) (home 1) + place)) header.new.levels header.new.root header.new.free header.new.top) FromMemory }
+    ensures broken { (root : ℕ) (b : List ℕ) → M.tells mem.old b → header.old.levels ≡ levels_in (page_at b 0) → IsMetPath K b header.old.levels 1 root path.now.pages path.now.index → Meets K b 1 at → IfErr result (IfMalformed (Breaks E K (M.size mem.old / 512) b)) }
     ensures levels { header.new.levels ≤ header.old.levels }
     ensures count { header.new.count ≡ header.old.count }
     ensures kept { M.beside mem.old mem.new }
@@ -69,11 +72,13 @@ pub fn take_first<M: FlatMem, const E: usize, const K: usize>(
     requires some { 1 ≤ header.old.levels }
     requires few { header.old.levels ≤ 6 }
     requires inside { at < M.size mem.old / 512 }
+    requires path { (l : ℕ) → 1 < l → l ≤ header.old.levels → get_or path.now.pages l 0 < M.size mem.old / 512 }
     requires counts { count ≡ filled page.old }
     requires two { 2 ≤ count }
     requires most { count ≤ leaf_room E }
-    ensures out { (b : List ℕ) → M.tells mem.old b → (records : List (List ℕ)) (here : IsStanding E K (M.size mem.old / 512) b records header.old.levels header.old.root header.old.free header.old.top) (sought : List ℕ) (reached : IsReached b header.old.levels here.nodes sought page.old path.now.pages path.now.index at) → IsLastHere E K page.old sought 0
-        → MatchResult result (λ _. TellsClosed E K (M.size mem.old / 512) (M.tells mem.new) (remove records (before (here.nodes 1) (reached.place 1) + 0)) header.new.levels header.new.root header.new.free header.new.top) FromMemory }
+    ensures out { (b : List ℕ) → M.tells mem.old b → (records : List (List ℕ)) (here : IsStanding E K (M.size mem.old / 512) b records header.old.levels header.old.root header.old.free header.old.top) (home : ℕ → ℕ) → IsPath here.nodes header.old.levels 1 path.now.pages path.now.index at home → page.old ≡ page_at b (node_at (here.nodes 1) (home 1)).page
+        → MatchResult result (λ _. TellsClosed E K (M.size mem.old / 512) (M.tells mem.new) (remove records (before (here.nodes 1) (home 1) + 0)) header.new.levels header.new.root header.new.free header.new.top) FromMemory }
+    ensures broken { (root : ℕ) (b : List ℕ) → M.tells mem.old b → header.old.levels ≡ levels_in (page_at b 0) → IsMetPath K b header.old.levels 1 root path.now.pages path.now.index → Meets K b 1 at → IfErr result (IfMalformed (Breaks E K (M.size mem.old / 512) b)) }
     ensures levels { header.new.levels ≤ header.old.levels }
     ensures count { header.new.count ≡ header.old.count }
     ensures kept { M.beside mem.old mem.new }

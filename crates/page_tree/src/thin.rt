@@ -1,6 +1,8 @@
 // A removal on its way up: pages that may be too thin.
-ghost use Rattle.std.specs.Prelude.{◌≡◌, ℕ, ◌+◌, ◌-◌, ◌*◌, ◌/◌, ◌^◌, ◌<◌, ◌≤◌, List, length, Bool, true, false, IfOk, IfErr, OnOk, MatchResult};
+ghost use Rattle.std.specs.Prelude.{◌≡◌, ℕ, ◌+◌, ◌-◌, ◌*◌, ◌/◌, ◌^◌, ◌<◌, ◌≤◌, List, length, get_or, Bool, true, false, IfOk, IfErr, OnOk, MatchResult};
 ghost use Rattle.page_tree.specs.Page.{IsWidths, filled, link_at};
+ghost use Rattle.page_tree.specs.Broken.{Meets, Breaks, IfMalformed};
+ghost use Rattle.page_tree.specs.Mending.{IsMending, IsBesideOf, IsMetAgain, MendsOn};
 ghost use Rattle.page_tree.specs.Answer.{FromMemory, IfMem};
 ghost use Rattle.page_tree.specs.Climb.{TellsClosed};
 ghost use Rattle.page_tree.specs.Neighbours.{IsThin, IsAmple};
@@ -32,6 +34,30 @@ fn second_of(index: usize) -> usize
     ensures { IsSecond index result }
 {
     if index == 0 { 1 } else { index }
+}
+
+// The child beside child `index` that evens it out.
+fn beside_of(index: usize) -> usize
+    ensures { IsBesideOf index result }
+{
+    if index == 0 { 1 } else { index - 1 }
+}
+
+// Which of two pages of level `level` stands further up the path, if one does.
+fn met_again(path: &Path, level: u32, levels: u32, at: u32, beside: u32) -> Option<u32>
+    requires under { level < levels }
+    requires few { levels ≤ 6 }
+    ensures { IsMetAgain path.now.pages level levels at beside result }
+{
+    let mut up = level + 1;
+    'up: while up <= levels {
+        let page = path.pages[up as usize];
+        if page == at || page == beside {
+            return Some(page);
+        }
+        up += 1;
+    }
+    None
 }
 
 // The root has one child left, which is the root now.
@@ -81,8 +107,11 @@ fn mend_thin<M: FlatMem, const E: usize, const K: usize>(
     requires few { header.old.levels ≤ 6 }
     requires thin { IsThin E K level (filled page.old) }
     requires inside { at.old < M.size mem.old / 512 }
+    requires path { (l : ℕ) → 1 < l → l ≤ header.old.levels → get_or path.now.pages l 0 < M.size mem.old / 512 }
     ensures mended { (b : List ℕ) → M.tells mem.old b → (records : List (List ℕ)) → IsPending E K (M.size mem.old / 512) b records header.old.levels level path.now.pages path.now.index at.old page.old header.old.root header.old.free header.old.top
         → MatchResult result (IsMended E K (M.size mem.old / 512) (M.tells mem.new) records header.old.levels (level + 1) path.now.pages path.now.index at.new page.new header.old.root header.new.free header.new.top header.new.levels header.new.root) FromMemory }
+    ensures on { (root : ℕ) (b c : List ℕ) → M.tells mem.old c → IsMending K b c header.old.levels level root path.now.pages path.now.index → Meets K b level at.old → MatchResult result (MendsOn K (M.tells mem.new) b header.old.levels (level + 1) root path.now.pages path.now.index) (IfMalformed (Breaks E K (M.size mem.old / 512) b)) }
+    ensures up { IfOk result (λ done. done ≡ false → at.new ≡ get_or path.now.pages (level + 1) 0) }
     ensures same_levels { IfOk result (λ done. done ≡ false → header.new.levels ≡ header.old.levels) }
     ensures same_root { IfOk result (λ done. done ≡ false → header.new.root ≡ header.old.root) }
     ensures levels { header.new.levels ≤ header.old.levels }
@@ -100,6 +129,11 @@ fn mend_thin<M: FlatMem, const E: usize, const K: usize>(
     let count = filled_of(above);
     let index = path.index[level as usize + 1] as usize;
     let slot = second_of(index);
+    let beside = link_of::<K>(above, beside_of(index));
+    match met_again(path, level, header.levels, *at, beside) {
+        Some(page) => return Err(TreeError::Malformed { page }),
+        None => (),
+    }
     let joined = match mend_beside::<M, E, K>(
         mem, header, level, index, slot, *at, page, up, above, other, key,
     ) {
@@ -138,8 +172,11 @@ fn mend_up<M: FlatMem, const E: usize, const K: usize>(
     requires under { level < header.old.levels }
     requires few { header.old.levels ≤ 6 }
     requires inside { at.old < M.size mem.old / 512 }
+    requires path { (l : ℕ) → 1 < l → l ≤ header.old.levels → get_or path.now.pages l 0 < M.size mem.old / 512 }
     ensures mended { (b : List ℕ) → M.tells mem.old b → (records : List (List ℕ)) → IsPending E K (M.size mem.old / 512) b records header.old.levels level path.now.pages path.now.index at.old page.old header.old.root header.old.free header.old.top
         → MatchResult result (IsMended E K (M.size mem.old / 512) (M.tells mem.new) records header.old.levels (level + 1) path.now.pages path.now.index at.new page.new header.old.root header.new.free header.new.top header.new.levels header.new.root) FromMemory }
+    ensures on { (root : ℕ) (b c : List ℕ) → M.tells mem.old c → IsMending K b c header.old.levels level root path.now.pages path.now.index → Meets K b level at.old → MatchResult result (MendsOn K (M.tells mem.new) b header.old.levels (level + 1) root path.now.pages path.now.index) (IfMalformed (Breaks E K (M.size mem.old / 512) b)) }
+    ensures up { IfOk result (λ done. done ≡ false → at.new ≡ get_or path.now.pages (level + 1) 0) }
     ensures same_levels { IfOk result (λ done. done ≡ false → header.new.levels ≡ header.old.levels) }
     ensures same_root { IfOk result (λ done. done ≡ false → header.new.root ≡ header.old.root) }
     ensures levels { header.new.levels ≤ header.old.levels }
@@ -180,8 +217,10 @@ pub fn mend<M: FlatMem, const E: usize, const K: usize>(
     requires some { 1 ≤ header.old.levels }
     requires few { header.old.levels ≤ 6 }
     requires inside { at < M.size mem.old / 512 }
+    requires path { (l : ℕ) → 1 < l → l ≤ header.old.levels → get_or path.now.pages l 0 < M.size mem.old / 512 }
     ensures mended { (b : List ℕ) → M.tells mem.old b → (records : List (List ℕ)) → IsPending E K (M.size mem.old / 512) b records header.old.levels 1 path.now.pages path.now.index at page.old header.old.root header.old.free header.old.top
         → MatchResult result (λ _. TellsClosed E K (M.size mem.old / 512) (M.tells mem.new) records header.new.levels header.new.root header.new.free header.new.top) FromMemory }
+    ensures broken { (root : ℕ) (b c : List ℕ) → M.tells mem.old c → IsMending K b c header.old.levels 1 root path.now.pages path.now.index → Meets K b 1 at → IfErr result (IfMalformed (Breaks E K (M.size mem.old / 512) b)) }
     ensures levels { header.new.levels ≤ header.old.levels }
     ensures count { header.new.count ≡ header.old.count }
     ensures kept { M.beside mem.old mem.new }

@@ -1,13 +1,17 @@
 //! The tree.
-ghost use Rattle.std.specs.Prelude.{◌≡◌, ℕ, ◌+◌, ◌*◌, ◌/◌, ◌^◌, ◌≤◌, List, [], length, take, false, IfOk, IfErr, IfSome, MatchResult, is_some, replicate};
-ghost use Rattle.page_tree.specs.Answer.{IsLastEntry, IsNextEntry, FromMemory, IfMem, IfMemory, IfFull};
+ghost use Rattle.std.specs.Prelude.{◌≡◌, ℕ, ◌+◌, ◌*◌, ◌/◌, ◌^◌, ◌<◌, ◌≤◌, ◌⊎◌, List, [], length, take, remove, slice_set, false, IfOk, IfErr, IfSome, MatchResult, is_some, replicate};
+ghost use Rattle.flat_mem.specs.Order.{entry_at, key_at, IsFound};
+ghost use Rattle.page_tree.specs.Answer.{IsLastEntry, IsNextEntry, FromMemory, IfMem, IfMemory, IfFull, IsPast};
 ghost use Rattle.page_tree.specs.Page.{IsWidths, page_at, count_in};
 ghost use Rattle.page_tree.specs.Put.{capacity_of};
 ghost use Rattle.page_tree.specs.Broken.{Breaks, IfMalformed};
 ghost use Rattle.page_tree.specs.Tells.{IsInserted, IsFull, IsTakenOut, IsPutOver, StandsIn};
 
 use crate::error::TreeError;
-use crate::{adding, after, look, removing, replacing, take};
+use crate::{
+    adding, after, by_index, edit_by_index, last_at_most, look, out_by_index, removing, replacing,
+    take,
+};
 use flat_mem::FlatMem;
 
 /// A sorted list of entries of `E` bytes, whose first `K` bytes are the key, kept as a tree of pages.
@@ -158,6 +162,7 @@ impl<M: FlatMem, const E: usize, const K: usize> PageTree<M, E, K> {
     pub fn insert(&mut self, entry: &[u8; E]) -> Result<(), TreeError<M::Error>>
         ensures inserted { (xs : List (List ℕ)) → Lists self.old xs → MatchResult result (λ _. IsInserted E K (M.size (tree_memory self.old) / 512) (Lists self.new) xs entry.now) (IsFull E (M.size (tree_memory self.old) / 512) (Lists self.new) xs) }
         ensures full { (b : List ℕ) → M.tells (tree_memory self.old) b → IfErr result (IfFull (capacity_of E (M.size (tree_memory self.old) / 512) ≤ count_in (page_at b 0))) }
+        ensures full_same { (b : List ℕ) → M.tells (tree_memory self.old) b → IfErr result (IfFull (M.tells (tree_memory self.new) b)) }
         ensures malformed { (b : List ℕ) → M.tells (tree_memory self.old) b → IfErr result (IfMalformed (Breaks E K (M.size (tree_memory self.old) / 512) b)) }
         ensures cause { IfErr result (IfMemory (M.accounted (tree_memory self.old) (tree_memory self.new))) }
         ensures kept { M.beside (tree_memory self.old) (tree_memory self.new) }
@@ -170,6 +175,7 @@ impl<M: FlatMem, const E: usize, const K: usize> PageTree<M, E, K> {
     pub fn remove_key(&mut self, key: &[u8; K]) -> Result<bool, TreeError<M::Error>>
         ensures removed { (xs : List (List ℕ)) → Lists self.old xs → MatchResult result (IsTakenOut K (Lists self.new) xs key.now) FromMemory }
         ensures absent { (b : List ℕ) → M.tells (tree_memory self.old) b → IfOk result (λ found. found ≡ false → M.tells (tree_memory self.new) b) }
+        ensures malformed { (b : List ℕ) → M.tells (tree_memory self.old) b → IfErr result (IfMalformed (Breaks E K (M.size (tree_memory self.old) / 512) b)) }
         ensures cause { IfErr result (IfMem (M.accounted (tree_memory self.old) (tree_memory self.new))) }
         ensures kept { M.beside (tree_memory self.old) (tree_memory self.new) }
         ensures cost { M.spent (tree_memory self.new) ≤ M.spent (tree_memory self.old) + 36 * M.cost }
@@ -187,5 +193,58 @@ impl<M: FlatMem, const E: usize, const K: usize> PageTree<M, E, K> {
         ensures cost { M.spent (tree_memory self.new) ≤ M.spent (tree_memory self.old) + 8 * M.cost }
     {
         replacing::replace_key::<M, E, K>(&mut self.mem, entry)
+    }
+
+    /// Gives in `into` the entry of this index, found leaf by leaf.
+    pub fn nth(&mut self, index: u32, into: &mut [u8; E]) -> Result<(), TreeError<M::Error>>
+        ensures entry { (xs : List (List ℕ)) → Lists self.old xs → index < length xs → MatchResult result (λ _. into.new ≡ entry_at xs index) FromMemory }
+        ensures past { (xs : List (List ℕ)) → Lists self.old xs → length xs ≤ index → MatchResult result (λ _. ⊥) IsPast }
+        ensures malformed { (b : List ℕ) → M.tells (tree_memory self.old) b → IfErr result (IfMalformed (λ page. Breaks E K (M.size (tree_memory self.old) / 512) b page ⊎ ((page ≡ 0) × (count_in (page_at b 0) ≤ index)))) }
+        ensures cause { IfErr result (IfMem (M.accounted (tree_memory self.old) (tree_memory self.new))) }
+        ensures same_list { (xs : List (List ℕ)) → Lists self.old xs → Lists self.new xs }
+        ensures same_bytes { (b : List ℕ) → M.tells (tree_memory self.old) b → M.tells (tree_memory self.new) b }
+        ensures kept { M.beside (tree_memory self.old) (tree_memory self.new) }
+        ensures cost { M.spent (tree_memory self.new) ≤ M.spent (tree_memory self.old) + 12 * (M.size (tree_memory self.old) / 512) * M.cost }
+    {
+        by_index::nth::<M, E, K>(&mut self.mem, index, into)
+    }
+
+    /// Finds the index of the last entry whose key is at most `key`, leaf by leaf.
+    pub fn find_last_at_most(&mut self, key: &[u8; K]) -> Result<Option<u32>, TreeError<M::Error>>
+        ensures found { (xs : List (List ℕ)) → Lists self.old xs → MatchResult result (IsFound K xs key.now) FromMemory }
+        ensures malformed { (b : List ℕ) → M.tells (tree_memory self.old) b → IfErr result (IfMalformed (Breaks E K (M.size (tree_memory self.old) / 512) b)) }
+        ensures cause { IfErr result (IfMem (M.accounted (tree_memory self.old) (tree_memory self.new))) }
+        ensures same_list { (xs : List (List ℕ)) → Lists self.old xs → Lists self.new xs }
+        ensures same_bytes { (b : List ℕ) → M.tells (tree_memory self.old) b → M.tells (tree_memory self.new) b }
+        ensures kept { M.beside (tree_memory self.old) (tree_memory self.new) }
+        ensures cost { M.spent (tree_memory self.new) ≤ M.spent (tree_memory self.old) + 12 * (M.size (tree_memory self.old) / 512) * M.cost }
+    {
+        last_at_most::find_last_at_most::<M, E, K>(&mut self.mem, key)
+    }
+
+    /// Writes an entry over the one of this index, whose key is the same.
+    pub fn replace(&mut self, index: u32, entry: &[u8; E]) -> Result<(), TreeError<M::Error>>
+        ensures replaced { (xs : List (List ℕ)) → Lists self.old xs → index < length xs → take K entry.now ≡ key_at K xs index → MatchResult result (λ _. Lists self.new (slice_set xs index entry.now)) FromMemory }
+        ensures past { (xs : List (List ℕ)) → Lists self.old xs → length xs ≤ index → MatchResult result (λ _. ⊥) IsPast }
+        ensures past_same { (b : List ℕ) → M.tells (tree_memory self.old) b → count_in (page_at b 0) ≤ index → M.tells (tree_memory self.new) b }
+        ensures malformed { (b : List ℕ) → M.tells (tree_memory self.old) b → IfErr result (IfMalformed (λ page. Breaks E K (M.size (tree_memory self.old) / 512) b page ⊎ ((page ≡ 0) × (count_in (page_at b 0) ≤ index)))) }
+        ensures cause { IfErr result (IfMem (M.accounted (tree_memory self.old) (tree_memory self.new))) }
+        ensures kept { M.beside (tree_memory self.old) (tree_memory self.new) }
+        ensures cost { M.spent (tree_memory self.new) ≤ M.spent (tree_memory self.old) + 12 * (M.size (tree_memory self.old) / 512) * M.cost }
+    {
+        edit_by_index::replace::<M, E, K>(&mut self.mem, index, entry)
+    }
+
+    /// Takes out the entry of this index.
+    pub fn remove(&mut self, index: u32) -> Result<(), TreeError<M::Error>>
+        ensures removed { (xs : List (List ℕ)) → Lists self.old xs → index < length xs → MatchResult result (λ _. Lists self.new (remove xs index)) FromMemory }
+        ensures past { (xs : List (List ℕ)) → Lists self.old xs → length xs ≤ index → MatchResult result (λ _. ⊥) IsPast }
+        ensures past_same { (b : List ℕ) → M.tells (tree_memory self.old) b → count_in (page_at b 0) ≤ index → M.tells (tree_memory self.new) b }
+        ensures malformed { (b : List ℕ) → M.tells (tree_memory self.old) b → IfErr result (IfMalformed (λ page. Breaks E K (M.size (tree_memory self.old) / 512) b page ⊎ ((page ≡ 0) × (count_in (page_at b 0) ≤ index)))) }
+        ensures cause { IfErr result (IfMem (M.accounted (tree_memory self.old) (tree_memory self.new))) }
+        ensures kept { M.beside (tree_memory self.old) (tree_memory self.new) }
+        ensures cost { M.spent (tree_memory self.new) ≤ M.spent (tree_memory self.old) + 15 * (M.size (tree_memory self.old) / 512) * M.cost }
+    {
+        out_by_index::remove::<M, E, K>(&mut self.mem, index)
     }
 }

@@ -6,6 +6,7 @@ ghost use Rattle.page_tree.specs.Path.{IsPath, IsLed, IsLedOn, Turns, leaf_from}
 ghost use Rattle.page_tree.specs.Answer.{FromMemory, IfMem};
 ghost use Rattle.page_tree.specs.Broken.{IsInnerForm, IsLeafForm, Meets, Breaks, IfMalformed};
 ghost use Rattle.page_tree.specs.Met.{IsMetPath};
+ghost use Rattle.page_tree.specs.Walked.{IsThread, IsLedDown, IsLastUntil, IsWalked, IsWalkedOn};
 
 use crate::error::TreeError;
 use crate::look::Path;
@@ -84,6 +85,8 @@ pub fn go_down<M: FlatMem, const E: usize, const K: usize>(
     requires inside { at < M.size mem.old / 512 }
     ensures leaf { (b : List ℕ) → M.tells mem.old b → (records : List (List ℕ)) (levels root : ℕ) (nodes : ℕ → List Node) (home : ℕ → ℕ) → IsRooted E K (M.size mem.old / 512) b records levels root nodes → level ≤ levels → IsPath nodes levels level path.old.pages path.old.index at home → (1 < level → place < length (node_at (nodes level) (home level)).items) → MatchResult result (λ leaf. IsLed b levels nodes page.new path.new.pages path.new.index leaf (leaf_from nodes level (home level) place)) FromMemory }
     ensures met { (b : List ℕ) → M.tells mem.old b → (levels root : ℕ) → level ≤ levels → Meets K b level at → IsMetPath K b levels level root path.old.pages path.old.index → (1 < level → place ≤ filled (page_at b at)) → (level ≡ levels → at ≡ root) → MatchResult result (λ leaf. Meets K b 1 leaf × IsMetPath K b levels 1 root path.new.pages path.new.index) (IfMalformed (Breaks E K (M.size mem.old / 512) b)) }
+    ensures thread { (b : List ℕ) → M.tells mem.old b → (levels root : ℕ) → level ≤ levels → IsThread K b levels level root path.old.pages path.old.index at → IfOk result (IsThread K b levels 1 root path.new.pages path.new.index) }
+    ensures down { IfOk result (λ _. IsLedDown level at place path.old.pages path.old.index path.new.pages path.new.index) }
     ensures path { (levels : ℕ) → ((n : ℕ) → level < n → n ≤ levels → get_or path.old.pages n 0 < M.size mem.old / 512) → IfOk result (λ _. (n : ℕ) → 1 < n → n ≤ levels → get_or path.new.pages n 0 < M.size mem.old / 512) }
     ensures inside { IfOk result (λ leaf. leaf < M.size mem.old / 512) }
     ensures form { IfOk result (λ _. IsLeafForm E page.new) }
@@ -136,6 +139,7 @@ fn turning_level<M: FlatMem, const K: usize>(
     requires path { (n : ℕ) → 1 < n → n ≤ levels → get_or path.now.pages n 0 < M.size mem.old / 512 }
     ensures turn { (b : List ℕ) → M.tells mem.old b → (e : ℕ) (records : List (List ℕ)) (root at : ℕ) (nodes : ℕ → List Node) (home : ℕ → ℕ) → IsRooted e K (M.size mem.old / 512) b records levels root nodes → IsPath nodes levels 1 path.now.pages path.now.index at home → MatchResult result (Turns nodes levels path.now.index home) FromMemory }
     ensures met { (b : List ℕ) → M.tells mem.old b → (e root : ℕ) → IsMetPath K b levels 1 root path.now.pages path.now.index → MatchResult result (λ found. IfSome found (λ level. get_or path.now.index level 0 + 1 ≤ filled (page_at b (get_or path.now.pages level 0)))) (IfMalformed (Breaks e K (M.size mem.old / 512) b)) }
+    ensures last { (b : List ℕ) → M.tells mem.old b → (root : ℕ) → IsMetPath K b levels 1 root path.now.pages path.now.index → IfOk result (IsLastUntil b levels path.now.pages path.now.index) }
     ensures form { IfOk result (λ found. IfSome found (λ level. (2 ≤ level) × (level ≤ levels))) }
     ensures unchanged { (b : List ℕ) → M.tells mem.old b → M.tells mem.new b }
     ensures kept { M.beside mem.old mem.new }
@@ -172,7 +176,9 @@ pub fn next_leaf<M: FlatMem, const E: usize, const K: usize>(
     requires path { (n : ℕ) → 1 < n → n ≤ levels → get_or path.old.pages n 0 < M.size mem.old / 512 }
     ensures leaf { (b : List ℕ) → M.tells mem.old b → (records : List (List ℕ)) (root at : ℕ) (nodes : ℕ → List Node) (home : ℕ → ℕ) → IsRooted E K (M.size mem.old / 512) b records levels root nodes → IsPath nodes levels 1 path.old.pages path.old.index at home → MatchResult result (IsLedOn b levels nodes page.new path.new.pages path.new.index (home 1)) FromMemory }
     ensures met { (b : List ℕ) → M.tells mem.old b → (root : ℕ) → IsMetPath K b levels 1 root path.old.pages path.old.index → MatchResult result (λ _. IsMetPath K b levels 1 root path.new.pages path.new.index) (IfMalformed (Breaks E K (M.size mem.old / 512) b)) }
+    ensures walked { (b : List ℕ) → M.tells mem.old b → (root at : ℕ) (passed : List ℕ) → IsWalked K b levels root path.old.pages path.old.index at passed → MatchResult result (IsWalkedOn K b levels root path.new.pages path.new.index at passed) (IfMalformed (Breaks E K (M.size mem.old / 512) b)) }
     ensures path { IfOk result (λ _. (n : ℕ) → 1 < n → n ≤ levels → get_or path.new.pages n 0 < M.size mem.old / 512) }
+    ensures inside { IfOk result (λ found. IfSome found (λ leaf. leaf < M.size mem.old / 512)) }
     ensures form { IfOk result (λ found. IfSome found (λ _. IsLeafForm E page.new)) }
     ensures read { (b : List ℕ) → M.tells mem.old b → IfOk result (λ found. IfSome found (λ leaf. page.new ≡ page_at b leaf)) }
     ensures unchanged { (b : List ℕ) → M.tells mem.old b → M.tells mem.new b }

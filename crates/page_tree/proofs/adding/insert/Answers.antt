@@ -1,5 +1,6 @@
 use Rattle.std.proofs.Common.{◌≡◌, ℕ, ◌+◌, ◌/◌, ◌<◌, ◌≤◌, length, insert, arith, refl, sym, ◌∙◌, subst}
 use Rattle.std.proofs.lemmas.List.Edits.{length-insert}
+use Rattle.page_tree.specs.Page.{IsBlank}
 use Rattle.page_tree.specs.Tree.{IsTree}
 use Rattle.page_tree.specs.Put.{capacity_of}
 use Rattle.page_tree.proofs.Low.{full_or}
@@ -36,7 +37,7 @@ returns-in-Err-finish-clause-answer g c = λ b h records tree.
     let closed = closed_moved g.row.E g.row.K _ _ put_now.now (insert records put_now.at c.args.entry.now) _ _ _ _ c.put_in.new.header.free c.put_in.new.header.top size_put refl refl put_now.closed in
     let room_put = subst (λ (s : ℕ). length records < capacity_of g.row.E (s / 512)) size_put room_now in
     full_or g.row.E (g.M.FlatMem.size c.args.mem.now / 512) (g.M.FlatMem.tells c.finish.new.mem) b records c.in-Err-finish.error
-    (c.in-Err-finish.ensures.tree g.row.E g.row.K put_now.now put_now.told (insert records put_now.at c.args.entry.now) closed put_now.some (omega (arith, long, c.put_in.ensures.count, is.count_is, tree.header.count_is)) (omega (arith, long, room_put)))
+    (c.in-Err-finish.ensures.tree g.row.E g.row.K put_now.now put_now.told (insert records put_now.at c.args.entry.now) closed put_now.some (subst IsBlank (sym (c.in-Ok.ensures.read b h)) tree.header.rest) (omega (arith, long, c.put_in.ensures.count, is.count_is, tree.header.count_is)) (omega (arith, long, room_put)))
 
 pub returns-clause-answer : goal.returns-clause-answer
 returns-clause-answer g c = λ b h records tree.
@@ -51,7 +52,7 @@ returns-clause-answer g c = λ b h records tree.
     let long : length (insert records put_now.at c.args.entry.now) ≡ length records + 1 = length-insert records put_now.at c.args.entry.now put_now.behind.within in
     let closed = closed_moved g.row.E g.row.K _ _ put_now.now (insert records put_now.at c.args.entry.now) _ _ _ _ c.put_in.new.header.free c.put_in.new.header.top size_put refl refl put_now.closed in
     let room_put = subst (λ (s : ℕ). length records < capacity_of g.row.E (s / 512)) size_put room_now in
-    let whole = c.in-Ok-finish.ensures.tree g.row.E g.row.K put_now.now put_now.told (insert records put_now.at c.args.entry.now) closed put_now.some (omega (arith, long, c.put_in.ensures.count, is.count_is, tree.header.count_is)) (omega (arith, long, room_put)) in
+    let whole = c.in-Ok-finish.ensures.tree g.row.E g.row.K put_now.now put_now.told (insert records put_now.at c.args.entry.now) closed put_now.some (subst IsBlank (sym (c.in-Ok.ensures.read b h)) tree.header.rest) (omega (arith, long, c.put_in.ensures.count, is.count_is, tree.header.count_is)) (omega (arith, long, room_put)) in
     record {
       now = whole.0;
       told = whole.1;
@@ -94,3 +95,15 @@ pub returns-in-Err-finish-clause-cause : goal.returns-in-Err-finish-clause-cause
 returns-in-Err-finish-clause-cause g c =
     memory_wider _ _ c.in-Err-finish.error
     (λ x from. g.met.M.FlatMem.accounted_wider _ _ _ _ x (g.met.M.FlatMem.beside_through _ _ _ c.read_header.ensures.kept c.put_in.ensures.kept) c.finish.ensures.kept (g.met.M.FlatMem.beside_itself _) from) c.in-Err-finish.ensures.cause
+
+pub returns-in-Err-clause-full_same : goal.returns-in-Err-clause-full_same
+returns-in-Err-clause-full_same g c = λ b h. never_full _ _ c.in-Err.error c.in-Err.ensures.cause
+
+pub returns-then-header-capacity-clause-full_same : goal.returns-then-header-capacity-clause-full_same
+returns-then-header-capacity-clause-full_same g c = λ b h. c.read_header.ensures.unchanged b h
+
+pub returns-in-Err-put_in-clause-full_same : goal.returns-in-Err-put_in-clause-full_same
+returns-in-Err-put_in-clause-full_same g c = λ b h. never_full _ _ c.in-Err-put_in.error c.in-Err-put_in.ensures.cause
+
+pub returns-in-Err-finish-clause-full_same : goal.returns-in-Err-finish-clause-full_same
+returns-in-Err-finish-clause-full_same g c = λ b h. never_full _ _ c.in-Err-finish.error c.in-Err-finish.ensures.cause

@@ -5,6 +5,10 @@ use Rattle.page_tree.proofs.Neighbours.{lean_first, lean_second}
 use Rattle.page_tree.proofs.Paired.{up_in, up_not_at, up_not_beside, at_link, beside_in, beside_bytes, pair_left, pair_right}
 use Rattle.page_tree.proofs.ToNote.{to_note}
 use Rattle.page_tree.proofs.WalkLaws.{mem_wider}
+use Rattle.page_tree.specs.Broken.{Breaks}
+use Rattle.page_tree.specs.Mending.{AreNotAbove}
+use Rattle.page_tree.proofs.WayLaws.{from_memory}
+use Rattle.page_tree.proofs.MendingLaws.{up_met, up_form, child_of_like, not_above_turned}
 use Rattle.page_tree.proofs.beside.mend_beside.Goals as goal
 
 pub even_out-requires : goal.even_out-requires
@@ -99,3 +103,51 @@ returns-in-Err-even_out-2-clause-evened g c = λ b h records paths indexes pendi
 pub returns-in-Err-even_out-2-clause-cause : goal.returns-in-Err-even_out-2-clause-cause
 returns-in-Err-even_out-2-clause-cause g c =
     mem_wider _ _ c.in-Err-even_out-2.error (λ x from. g.met.M.FlatMem.accounted_wider _ _ _ _ x c.load_beside-2.ensures.kept c.even_out-2.ensures.kept (g.met.M.FlatMem.beside_itself _) from) c.in-Err-even_out-2.ensures.cause
+
+pub returns-in-Err-clause-on : goal.returns-in-Err-clause-on
+returns-in-Err-clause-on g c = λ root beside paths indexes b d h mending under up_is like at_met beside_is apart.
+    let met = up_met g.row.K b d c.args.header.now.levels c.args.level root paths indexes mending c.requires.some under c.args.up up_is in
+    let form = up_form g.row.K b d c.args.header.now.levels c.args.level root paths indexes mending c.requires.some under c.args.up up_is in
+    c.in-Err.ensures.broken root c.args.header.now.levels paths indexes b d h mending met form like c.requires.children
+
+pub returns-in-Err-load_beside-clause-on : goal.returns-in-Err-load_beside-clause-on
+returns-in-Err-load_beside-clause-on g c = λ root beside paths indexes b d h mending under up_is like at_met beside_is apart.
+    let met = up_met g.row.K b d c.args.header.now.levels c.args.level root paths indexes mending c.requires.some under c.args.up up_is in
+    let form = up_form g.row.K b d c.args.header.now.levels c.args.level root paths indexes mending c.requires.some under c.args.up up_is in
+    c.in-Err-load_beside.ensures.broken root c.args.header.now.levels paths indexes b d h mending met form like (omega (arith, c.requires.child))
+
+pub returns-in-Ok-even_out-clause-on : goal.returns-in-Ok-even_out-clause-on
+returns-in-Ok-even_out-clause-on g c = λ root beside paths indexes b d h mending under up_is like at_met beside_is apart.
+    let met = up_met g.row.K b d c.args.header.now.levels c.args.level root paths indexes mending c.requires.some under c.args.up up_is in
+    let form = up_form g.row.K b d c.args.header.now.levels c.args.level root paths indexes mending c.requires.some under c.args.up up_is in
+    let right_met = child_of_like g.row.K b c.args.level c.args.up c.args.above.now 1 c.in-Ok.right_at c.requires.some met form like c.requires.children c.in-Ok.ensures.there.0 in
+    let right_is : link_at g.row.K c.args.above.now beside ≡ c.in-Ok.right_at = ap (link_at g.row.K c.args.above.now) (beside_is.at_first c.if-index-eq0.true) ∙ sym c.in-Ok.ensures.there.0 in
+    let apart_now = subst (AreNotAbove paths c.args.level c.args.header.now.levels c.args.at) right_is apart in
+    c.in-Ok-even_out.ensures.on root c.args.header.now.levels paths indexes b d (c.load_beside.ensures.unchanged d h) mending c.requires.some at_met right_met apart_now
+
+pub returns-in-Err-even_out-clause-on : goal.returns-in-Err-even_out-clause-on
+returns-in-Err-even_out-clause-on g c = λ root beside paths indexes b d h mending under up_is like at_met beside_is apart.
+    let met = up_met g.row.K b d c.args.header.now.levels c.args.level root paths indexes mending c.requires.some under c.args.up up_is in
+    let form = up_form g.row.K b d c.args.header.now.levels c.args.level root paths indexes mending c.requires.some under c.args.up up_is in
+    let right_met = child_of_like g.row.K b c.args.level c.args.up c.args.above.now 1 c.in-Ok.right_at c.requires.some met form like c.requires.children c.in-Ok.ensures.there.0 in
+    let right_is : link_at g.row.K c.args.above.now beside ≡ c.in-Ok.right_at = ap (link_at g.row.K c.args.above.now) (beside_is.at_first c.if-index-eq0.true) ∙ sym c.in-Ok.ensures.there.0 in
+    let apart_now = subst (AreNotAbove paths c.args.level c.args.header.now.levels c.args.at) right_is apart in
+    from_memory (Breaks g.row.E g.row.K (g.M.FlatMem.size c.args.mem.now / 512) b) c.in-Err-even_out.error (c.in-Err-even_out.ensures.on root c.args.header.now.levels paths indexes b d (c.load_beside.ensures.unchanged d h) mending c.requires.some at_met right_met apart_now)
+
+pub returns-in-Ok-even_out-2-clause-on : goal.returns-in-Ok-even_out-2-clause-on
+returns-in-Ok-even_out-2-clause-on g c = λ root beside paths indexes b d h mending under up_is like at_met beside_is apart.
+    let met = up_met g.row.K b d c.args.header.now.levels c.args.level root paths indexes mending c.requires.some under c.args.up up_is in
+    let form = up_form g.row.K b d c.args.header.now.levels c.args.level root paths indexes mending c.requires.some under c.args.up up_is in
+    let left_met = child_of_like g.row.K b c.args.level c.args.up c.args.above.now (c.args.index - 1) c.in-Ok-load_beside.left_at c.requires.some met form like (omega (arith, c.requires.child)) c.in-Ok-load_beside.ensures.there.0 in
+    let left_is : link_at g.row.K c.args.above.now beside ≡ c.in-Ok-load_beside.left_at = ap (link_at g.row.K c.args.above.now) (beside_is.behind (omega (arith, c.if-index-eq0.false))) ∙ sym c.in-Ok-load_beside.ensures.there.0 in
+    let apart_now = not_above_turned paths c.args.level c.args.header.now.levels c.args.at c.in-Ok-load_beside.left_at (subst (AreNotAbove paths c.args.level c.args.header.now.levels c.args.at) left_is apart) in
+    c.in-Ok-even_out-2.ensures.on root c.args.header.now.levels paths indexes b d (c.load_beside-2.ensures.unchanged d h) mending c.requires.some left_met at_met apart_now
+
+pub returns-in-Err-even_out-2-clause-on : goal.returns-in-Err-even_out-2-clause-on
+returns-in-Err-even_out-2-clause-on g c = λ root beside paths indexes b d h mending under up_is like at_met beside_is apart.
+    let met = up_met g.row.K b d c.args.header.now.levels c.args.level root paths indexes mending c.requires.some under c.args.up up_is in
+    let form = up_form g.row.K b d c.args.header.now.levels c.args.level root paths indexes mending c.requires.some under c.args.up up_is in
+    let left_met = child_of_like g.row.K b c.args.level c.args.up c.args.above.now (c.args.index - 1) c.in-Ok-load_beside.left_at c.requires.some met form like (omega (arith, c.requires.child)) c.in-Ok-load_beside.ensures.there.0 in
+    let left_is : link_at g.row.K c.args.above.now beside ≡ c.in-Ok-load_beside.left_at = ap (link_at g.row.K c.args.above.now) (beside_is.behind (omega (arith, c.if-index-eq0.false))) ∙ sym c.in-Ok-load_beside.ensures.there.0 in
+    let apart_now = not_above_turned paths c.args.level c.args.header.now.levels c.args.at c.in-Ok-load_beside.left_at (subst (AreNotAbove paths c.args.level c.args.header.now.levels c.args.at) left_is apart) in
+    from_memory (Breaks g.row.E g.row.K (g.M.FlatMem.size c.args.mem.now / 512) b) c.in-Err-even_out-2.error (c.in-Err-even_out-2.ensures.on root c.args.header.now.levels paths indexes b d (c.load_beside-2.ensures.unchanged d h) mending c.requires.some left_met at_met apart_now)

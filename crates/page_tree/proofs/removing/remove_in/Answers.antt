@@ -3,11 +3,16 @@ use Rattle.std.proofs.lemmas.Nat.{mul-le}
 use Rattle.flat_mem.specs.Memory.{overwritten}
 use Rattle.page_tree.specs.Tree.{before, IsTree, IsRooted}
 use Rattle.page_tree.specs.Climb.{IsClosed}
-use Rattle.page_tree.specs.Removed.{IsLastOf, IsLastHere}
+use Rattle.page_tree.specs.Removed.{IsLastOf}
 use Rattle.page_tree.proofs.Found.{found_none, found_last}
 use Rattle.page_tree.proofs.Replaced.{standing}
 use Rattle.page_tree.proofs.Single.{single_level, single_bare, bare_at}
 use Rattle.std.proofs.lemmas.Bool.{false≢true}
+use Rattle.page_tree.specs.Page.{filled}
+use Rattle.page_tree.specs.Broken.{Breaks}
+use Rattle.page_tree.proofs.Neighbours.{leaf_room_least}
+use Rattle.page_tree.proofs.WayLaws.{from_memory}
+use Rattle.page_tree.proofs.MendingLaws.{single_thin}
 use Rattle.page_tree.proofs.removing.remove_in.Goals as goal
 
 pub returns-in-Err-clause-out : goal.returns-in-Err-clause-out
@@ -35,7 +40,7 @@ returns-then-header-gt1-clause-out g c = λ b h records tree is.
     let reached = c.in-Ok.ensures.leaf b h records here.nodes here.rooted in
     let told = c.descend.ensures.unchanged b h in
     let size = g.met.M.FlatMem.same_size _ _ c.descend.ensures.kept in
-    let low = single_level g.row.E g.row.K (g.M.FlatMem.size c.args.mem.now / 512) b records c.args.header.now.levels c.args.header.now.root c.args.header.now.free c.args.header.now.top here c.requires.widths some c.args.key.now c.descend.new.page c.descend.new.path.pages c.descend.new.path.index c.in-Ok.at reached (sym c.filled_of-count.ensures ∙ c.if-count-eq1.true) in
+    let low = single_level g.row.E g.row.K (g.M.FlatMem.size c.args.mem.now / 512) b records c.args.header.now.levels c.args.header.now.root c.args.header.now.free c.args.header.now.top here c.requires.widths some c.descend.new.page c.descend.new.path.pages c.descend.new.path.index c.in-Ok.at reached.place reached.path reached.bytes (sym c.filled_of-count.ensures ∙ c.if-count-eq1.true) in
     absurd (omega (arith, low, c.if-header-gt1.true))
 
 pub returns-in-Ok-give_page-clause-out : goal.returns-in-Ok-give_page-clause-out
@@ -48,7 +53,7 @@ returns-in-Ok-give_page-clause-out g c = λ b h records tree is.
     let last = found_last g.row.E g.row.K b records c.args.header.now.levels here.nodes here.rooted.tower some c.args.key.now c.descend.new.page c.descend.new.path.pages c.descend.new.path.index c.in-Ok.at reached c.in-Some.place c.in-Some.ensures in
     let given = c.in-Ok-give_page.ensures.given b told in
     let long : 512 * (g.M.FlatMem.size c.args.mem.now / 512) ≤ length b = omega (arith, g.met.M.FlatMem.told_length c.args.mem.now b h) in
-    let bare = single_bare g.row.E g.row.K (g.M.FlatMem.size c.args.mem.now / 512) b records c.args.header.now.levels c.args.header.now.root c.args.header.now.free c.args.header.now.top here c.requires.widths some c.args.key.now c.descend.new.page c.descend.new.path.pages c.descend.new.path.index c.in-Ok.at reached (sym c.filled_of-count.ensures ∙ c.if-count-eq1.true)
+    let bare = single_bare g.row.E g.row.K (g.M.FlatMem.size c.args.mem.now / 512) b records c.args.header.now.levels c.args.header.now.root c.args.header.now.free c.args.header.now.top here c.requires.widths some c.descend.new.page c.descend.new.path.pages c.descend.new.path.index c.in-Ok.at reached.place reached.path reached.bytes (sym c.filled_of-count.ensures ∙ c.if-count-eq1.true)
     (before (here.nodes 1) (reached.place 1) + c.in-Some.place) last.below given.0 given.1 given.2 given.3 long in (
       before (here.nodes 1) (reached.place 1) + c.in-Some.place,
       last,
@@ -68,8 +73,7 @@ returns-in-Ok-take_first-clause-out g c = λ b h records tree is.
     let told = c.descend.ensures.unchanged b h in
     let size = g.met.M.FlatMem.same_size _ _ c.descend.ensures.kept in
     let last = found_last g.row.E g.row.K b records c.args.header.now.levels here.nodes here.rooted.tower some c.args.key.now c.descend.new.page c.descend.new.path.pages c.descend.new.path.index c.in-Ok.at reached c.in-Some.place c.in-Some.ensures in
-    let last_zero = subst (IsLastHere g.row.E g.row.K c.descend.new.page c.args.key.now) c.if-place-eq0.true c.in-Some.ensures in
-    let done = c.in-Ok-take_first.ensures.out b told records here c.args.key.now reached last_zero in
+    let done = c.in-Ok-take_first.ensures.out b told records here reached.place reached.path reached.bytes in
     let place_zero : before (here.nodes 1) (reached.place 1) + c.in-Some.place ≡ before (here.nodes 1) (reached.place 1) + 0 = ap (λ (i : ℕ). before (here.nodes 1) (reached.place 1) + i) c.if-place-eq0.true in (
       before (here.nodes 1) (reached.place 1) + 0,
       subst (IsLastOf g.row.K records c.args.key.now) place_zero last,
@@ -85,8 +89,7 @@ returns-in-Err-take_first-clause-out g c = λ b h records tree is.
     let reached = c.in-Ok.ensures.leaf b h records here.nodes (subst (λ (s : ℕ). IsRooted g.row.E g.row.K (s / 512) b records c.args.header.now.levels c.args.header.now.root here.nodes) (sym (g.met.M.FlatMem.same_size _ _ c.descend.ensures.kept)) here.rooted) in
     let told = c.descend.ensures.unchanged b h in
     let size = g.met.M.FlatMem.same_size _ _ c.descend.ensures.kept in
-    let last_zero = subst (IsLastHere g.row.E g.row.K c.descend.new.page c.args.key.now) c.if-place-eq0.true c.in-Some.ensures in
-    c.in-Err-take_first.ensures.out b told records here c.args.key.now reached last_zero
+    c.in-Err-take_first.ensures.out b told records here reached.place reached.path reached.bytes
 
 pub returns-in-Err-take_later-clause-out : goal.returns-in-Err-take_later-clause-out
 returns-in-Err-take_later-clause-out g c = λ b h records tree is.
@@ -95,7 +98,7 @@ returns-in-Err-take_later-clause-out g c = λ b h records tree is.
     let reached = c.in-Ok.ensures.leaf b h records here.nodes (subst (λ (s : ℕ). IsRooted g.row.E g.row.K (s / 512) b records c.args.header.now.levels c.args.header.now.root here.nodes) (sym (g.met.M.FlatMem.same_size _ _ c.descend.ensures.kept)) here.rooted) in
     let told = c.descend.ensures.unchanged b h in
     let size = g.met.M.FlatMem.same_size _ _ c.descend.ensures.kept in
-    c.in-Err-take_later.ensures.out b told records here c.args.key.now reached c.in-Some.ensures
+    c.in-Err-take_later.ensures.out b told records here reached.place reached.path reached.bytes
 
 pub returns-clause-out : goal.returns-clause-out
 returns-clause-out g c = λ b h records tree is.
@@ -105,7 +108,7 @@ returns-clause-out g c = λ b h records tree is.
     let told = c.descend.ensures.unchanged b h in
     let size = g.met.M.FlatMem.same_size _ _ c.descend.ensures.kept in
     let last = found_last g.row.E g.row.K b records c.args.header.now.levels here.nodes here.rooted.tower some c.args.key.now c.descend.new.page c.descend.new.path.pages c.descend.new.path.index c.in-Ok.at reached c.in-Some.place c.in-Some.ensures in
-    let done = c.in-Ok-take_later.ensures.out b told records here c.args.key.now reached c.in-Some.ensures in (
+    let done = c.in-Ok-take_later.ensures.out b told records here reached.place reached.path reached.bytes in (
       before (here.nodes 1) (reached.place 1) + c.in-Some.place,
       last,
       done.0,
@@ -124,3 +127,24 @@ returns-in-Ok-take_first-clause-absent g c = λ b h same. absurd (false≢true (
 
 pub returns-clause-absent : goal.returns-clause-absent
 returns-clause-absent g c = λ b h same. absurd (false≢true (sym same))
+
+pub returns-then-header-gt1-clause-broken : goal.returns-then-header-gt1-clause-broken
+returns-then-header-gt1-clause-broken g c = λ b h levels_is top.
+    let met = c.in-Ok.ensures.met b h top in
+    let read = c.in-Ok.ensures.read b h in
+    single_thin g.row.E g.row.K (g.M.FlatMem.size c.args.mem.now / 512) b c.args.header.now.levels c.in-Ok.at met.0 levels_is c.if-header-gt1.true (omega (arith, ap filled (sym read.0), c.if-count-eq1.true, c.filled_of-count.ensures)) (leaf_room_least g.row.E c.requires.widths.entry_least c.requires.widths.entry_most).0
+
+pub returns-in-Err-take_first-clause-broken : goal.returns-in-Err-take_first-clause-broken
+returns-in-Err-take_first-clause-broken g c = λ b h levels_is top.
+    let met = c.in-Ok.ensures.met b h top in
+    let size = g.met.M.FlatMem.same_size _ _ c.descend.ensures.kept in
+    rw size (c.in-Err-take_first.ensures.broken c.args.header.now.root b (c.descend.ensures.unchanged b h) levels_is met.1 met.0)
+
+pub returns-in-Err-take_later-clause-broken : goal.returns-in-Err-take_later-clause-broken
+returns-in-Err-take_later-clause-broken g c = λ b h levels_is top.
+    let met = c.in-Ok.ensures.met b h top in
+    let size = g.met.M.FlatMem.same_size _ _ c.descend.ensures.kept in
+    rw size (c.in-Err-take_later.ensures.broken c.args.header.now.root b (c.descend.ensures.unchanged b h) levels_is met.1 met.0)
+
+pub returns-in-Err-give_page-clause-broken : goal.returns-in-Err-give_page-clause-broken
+returns-in-Err-give_page-clause-broken g c = λ b h levels_is top. from_memory (Breaks g.row.E g.row.K (g.M.FlatMem.size c.args.mem.now / 512) b) c.in-Err-give_page.error (c.in-Err-give_page.ensures.given b (c.descend.ensures.unchanged b h))

@@ -1,10 +1,13 @@
-use Rattle.std.proofs.Common.{◌≡◌, inl, inr, ℕ, ◌+◌, ◌-◌, ◌/◌, ◌<◌, ◌≤◌, List, length, remove, arith, sym, ◌∙◌, ap, subst}
+use Rattle.std.proofs.Common.{◌≡◌, inl, inr, ℕ, ◌+◌, ◌-◌, ◌/◌, ◌<◌, ◌≤◌, List, length, remove, refl, arith, sym, ◌∙◌, ap, subst}
 use Rattle.std.proofs.lemmas.List.Edits.{length-remove}
+use Rattle.page_tree.specs.Page.{IsBlank}
 use Rattle.page_tree.specs.Tree.{IsTree}
 use Rattle.page_tree.specs.Put.{capacity_of}
 use Rattle.page_tree.specs.Climb.{IsClosed}
 use Rattle.page_tree.proofs.Single.{out_true, out_false, empty_told}
 use Rattle.std.proofs.lemmas.Bool.{false≢true}
+use Rattle.page_tree.specs.Broken.{Meets, Breaks}
+use Rattle.page_tree.proofs.WayLaws.{from_memory}
 use Rattle.page_tree.proofs.removing.remove_key.Goals as goal
 
 pub returns-then-header-eq0-clause-answer : goal.returns-then-header-eq0-clause-answer
@@ -50,8 +53,8 @@ returns-in-Err-finish-clause-answer g c = λ b h records tree.
     let room = subst (λ (s : ℕ). length records ≤ capacity_of g.row.E (s / 512)) (size ∙ size_in) tree.capacity in
     let count_now : c.remove_in.new.header.count - 1 ≡ length (remove records gone.0) = omega (arith, less, count) in
     elim gone.4 [
-      | inl some ↦ c.in-Err-finish.ensures.tree g.row.E g.row.K gone.2 gone.3 (remove records gone.0) (subst (λ (s : ℕ). IsClosed g.row.E g.row.K (s / 512) gone.2 (remove records gone.0) c.remove_in.new.header.levels c.remove_in.new.header.root c.remove_in.new.header.free c.remove_in.new.header.top) size_in some.1) some.0 count_now (omega (arith, room, less))
-      | inr bare ↦ c.in-Err-finish.ensures.empty g.row.E g.row.K gone.2 gone.3 bare.nodes bare.free bare.opened bare.none bare.no_root (count_now ∙ ap length bare.empty) (subst (λ (s : ℕ). c.remove_in.new.header.top < s / 512) size_in bare.top_below)
+      | inl some ↦ c.in-Err-finish.ensures.tree g.row.E g.row.K gone.2 gone.3 (remove records gone.0) (subst (λ (s : ℕ). IsClosed g.row.E g.row.K (s / 512) gone.2 (remove records gone.0) c.remove_in.new.header.levels c.remove_in.new.header.root c.remove_in.new.header.free c.remove_in.new.header.top) size_in some.1) some.0 (subst IsBlank (sym (c.in-Ok.ensures.read b h)) tree.header.rest) count_now (omega (arith, room, less))
+      | inr bare ↦ c.in-Err-finish.ensures.empty g.row.E g.row.K gone.2 gone.3 bare.nodes bare.free bare.opened bare.none (subst IsBlank (sym (c.in-Ok.ensures.read b h)) tree.header.rest) bare.no_root (count_now ∙ ap length bare.empty) (subst (λ (s : ℕ). c.remove_in.new.header.top < s / 512) size_in bare.top_below)
     ]
 
 pub returns-clause-answer : goal.returns-clause-answer
@@ -67,8 +70,8 @@ returns-clause-answer g c = λ b h records tree.
     let room = subst (λ (s : ℕ). length records ≤ capacity_of g.row.E (s / 512)) (size ∙ size_in) tree.capacity in
     let count_now : c.remove_in.new.header.count - 1 ≡ length (remove records gone.0) = omega (arith, less, count) in
     let whole : (x : List ℕ) × g.M.FlatMem.tells c.finish.new.mem x × IsTree g.row.E g.row.K (g.M.FlatMem.size c.remove_in.new.mem / 512) x (remove records gone.0) = elim gone.4 [
-      | inl some ↦ c.in-Ok-finish.ensures.tree g.row.E g.row.K gone.2 gone.3 (remove records gone.0) (subst (λ (s : ℕ). IsClosed g.row.E g.row.K (s / 512) gone.2 (remove records gone.0) c.remove_in.new.header.levels c.remove_in.new.header.root c.remove_in.new.header.free c.remove_in.new.header.top) size_in some.1) some.0 count_now (omega (arith, room, less))
-      | inr bare ↦ empty_told g.row.E g.row.K (g.M.FlatMem.size c.remove_in.new.mem / 512) (g.M.FlatMem.tells c.finish.new.mem) (remove records gone.0) (sym bare.empty) (c.in-Ok-finish.ensures.empty g.row.E g.row.K gone.2 gone.3 bare.nodes bare.free bare.opened bare.none bare.no_root (count_now ∙ ap length bare.empty) (subst (λ (s : ℕ). c.remove_in.new.header.top < s / 512) size_in bare.top_below))
+      | inl some ↦ c.in-Ok-finish.ensures.tree g.row.E g.row.K gone.2 gone.3 (remove records gone.0) (subst (λ (s : ℕ). IsClosed g.row.E g.row.K (s / 512) gone.2 (remove records gone.0) c.remove_in.new.header.levels c.remove_in.new.header.root c.remove_in.new.header.free c.remove_in.new.header.top) size_in some.1) some.0 (subst IsBlank (sym (c.in-Ok.ensures.read b h)) tree.header.rest) count_now (omega (arith, room, less))
+      | inr bare ↦ empty_told g.row.E g.row.K (g.M.FlatMem.size c.remove_in.new.mem / 512) (g.M.FlatMem.tells c.finish.new.mem) (remove records gone.0) (sym bare.empty) (c.in-Ok-finish.ensures.empty g.row.E g.row.K gone.2 gone.3 bare.nodes bare.free bare.opened bare.none (subst IsBlank (sym (c.in-Ok.ensures.read b h)) tree.header.rest) bare.no_root (count_now ∙ ap length bare.empty) (subst (λ (s : ℕ). c.remove_in.new.header.top < s / 512) size_in bare.top_below))
     ] in (
       gone.0,
       gone.1,
@@ -85,3 +88,17 @@ returns-then-not-found-clause-absent g c = λ b h same. c.in-Ok-remove_in.ensure
 
 pub returns-clause-absent : goal.returns-clause-absent
 returns-clause-absent g c = λ b h same. absurd (false≢true (sym same))
+
+pub returns-in-Err-remove_in-clause-broken : goal.returns-in-Err-remove_in-clause-broken
+returns-in-Err-remove_in-clause-broken g c = λ b h.
+    let is = c.in-Ok.ensures.header b h in
+    let size = g.met.M.FlatMem.same_size _ _ c.read_header.ensures.kept in
+    rw size (c.in-Err-remove_in.ensures.broken b (c.read_header.ensures.unchanged b h) is.0 (Meets.root _ _ is.0 is.1))
+
+pub returns-then-header-eq0-2-clause-broken : goal.returns-then-header-eq0-2-clause-broken
+returns-then-header-eq0-2-clause-broken g c = λ b h.
+    let is = c.in-Ok.ensures.fields b h in
+    Breaks.uncounted refl (omega (arith, is.levels_is, c.if-header-eq0.false)) (is.count_is ∙ sym c.remove_in.ensures.count ∙ c.if-header-eq0-2.true)
+
+pub returns-in-Err-finish-clause-broken : goal.returns-in-Err-finish-clause-broken
+returns-in-Err-finish-clause-broken g c = λ b h. from_memory (Breaks g.row.E g.row.K (g.M.FlatMem.size c.args.mem.now / 512) b) c.in-Err-finish.error c.in-Err-finish.ensures.memory

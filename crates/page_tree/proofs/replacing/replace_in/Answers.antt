@@ -5,8 +5,8 @@ use Rattle.page_tree.specs.Page.{page_at}
 use Rattle.page_tree.specs.Tree.{before, IsTree}
 use Rattle.page_tree.specs.Climb.{IsHead}
 use Rattle.page_tree.specs.Removed.{IsLastOf, NoneOf}
-use Rattle.page_tree.proofs.Found.{found_none}
-use Rattle.page_tree.proofs.Replaced.{standing, set_last, set_tree}
+use Rattle.page_tree.proofs.Found.{found_none, found_last}
+use Rattle.page_tree.proofs.Replaced.{standing, set_tree}
 use Rattle.std.proofs.lemmas.Bool.{false≢true}
 use Rattle.page_tree.proofs.WayLaws.{from_memory}
 use Rattle.page_tree.proofs.replacing.replace_in.Goals as goal
@@ -34,11 +34,10 @@ returns-in-Ok-store-clause-replaced g c = λ b h records tree is.
     let size : 512 * (g.M.FlatMem.size c.args.mem.now / 512) ≤ length b = omega (arith, g.met.M.FlatMem.told_length c.args.mem.now b h) in
     let head : IsHead (page_at b 0) (length records) c.args.header.root c.args.header.top c.args.header.free c.args.header.levels =
     subst (λ (n : ℕ). IsHead (page_at b 0) n c.args.header.root c.args.header.top c.args.header.free c.args.header.levels) (sym is.count_is ∙ tree.header.count_is) is in
-    let last = set_last g.row.E g.row.K (g.M.FlatMem.size c.args.mem.now / 512) b records c.args.header.levels c.args.header.root c.args.header.free c.args.header.top here c.requires.widths some
-    c.args.key.now c.descend.new.page c.descend.new.path.pages c.descend.new.path.index c.in-Ok.at reached c.in-Some.place c.in-Some.ensures c.descend.array_long in
+    let last = found_last g.row.E g.row.K b records c.args.header.levels here.nodes here.rooted.tower some c.args.key.now c.descend.new.page c.descend.new.path.pages c.descend.new.path.index c.in-Ok.at reached c.in-Some.place c.in-Some.ensures in
     let done = set_tree g.row.E g.row.K (g.M.FlatMem.size c.args.mem.now / 512) b records c.args.header.levels c.args.header.root c.args.header.free c.args.header.top here c.requires.widths some
-    c.args.key.now c.descend.new.page c.descend.new.path.pages c.descend.new.path.index c.in-Ok.at reached c.in-Some.place c.in-Some.ensures c.descend.array_long
-    c.args.entry.now c.told-entry (sym c.requires.same) c.requires.begins.levels_most size head tree.capacity in (
+    c.descend.new.page c.descend.new.path.pages c.descend.new.path.index c.in-Ok.at reached.place reached.path reached.bytes c.in-Some.place c.in-Some.ensures.below c.descend.array_long
+    c.args.entry.now c.told-entry (sym c.requires.same ∙ sym c.in-Some.ensures.holds) c.requires.begins.levels_most size head tree.header.rest tree.capacity in (
       before (here.nodes 1) (reached.place 1) + c.in-Some.place,
       subst (λ (x : List ℕ). IsLastOf g.row.K records x (before (here.nodes 1) (reached.place 1) + c.in-Some.place)) c.requires.same last,
       overwritten b (512 * c.in-Ok.at) c.set_record.new.page,

@@ -3,6 +3,10 @@ use Rattle.flat_mem.specs.Memory.{overwritten}
 use Rattle.page_tree.specs.Climb.{IsClosed}
 use Rattle.page_tree.proofs.Noted.{pending_closed, paid_up}
 use Rattle.page_tree.proofs.ToNote.{pending_moved, mended_done, mended_more}
+use Rattle.page_tree.specs.Broken.{Meets, Breaks}
+use Rattle.page_tree.specs.Mending.{IsMending}
+use Rattle.page_tree.proofs.WayLaws.{from_memory}
+use Rattle.page_tree.proofs.MendingLaws.{mends_on}
 use Rattle.page_tree.proofs.thin.mend.Goals as goal
 
 pub returns-then-done-clause-mended : goal.returns-then-done-clause-mended
@@ -41,6 +45,15 @@ up-preserved g c = record {
         more.1,
         pending_moved g.row.E g.row.K _ _ more.0 records _ _ (c.up.level + 1) c.args.path.now.pages c.args.path.now.index c.mend_up.new.at c.mend_up.new.page _ _ c.mend_up.new.header.free c.mend_up.new.header.top (sym size) c.up.invariant.levels c.up.invariant.root more.2,
       );
+  way = λ root b d h mending at_met.
+      let was = c.up.invariant.way root b d h mending at_met in
+      let mending_now = subst (λ (n : ℕ). IsMending g.row.K b was.0 n c.up.level root c.args.path.now.pages c.args.path.now.index) (sym c.up.invariant.levels) was.2 in
+      let on = mends_on g.row.K (g.M.FlatMem.tells c.mend_up.new.mem) b c.up.header.levels (c.up.level + 1) root c.args.path.now.pages c.args.path.now.index c.in-Ok.done c.if-done.false (c.in-Ok.ensures.on root b was.0 was.1 mending_now was.3) in (
+        on.0,
+        on.1,
+        subst (λ (n : ℕ). IsMending g.row.K b on.0 n (c.up.level + 1) root c.args.path.now.pages c.args.path.now.index) c.up.invariant.levels on.2,
+        subst (Meets g.row.K b (c.up.level + 1)) (sym (c.in-Ok.ensures.up c.if-done.false)) (was.2.met.met (c.up.level + 1) (omega (arith, c.up.invariant.order.0)) (omega (arith, c.up-test.true, c.up.invariant.levels))),
+      );
   long = c.mend_up.array_long;
   kept = g.met.M.FlatMem.beside_through _ _ _ c.up.invariant.kept c.mend_up.ensures.kept;
   cost = paid_up (g.M.FlatMem.spent c.up.mem) (g.M.FlatMem.spent c.mend_up.new.mem) (g.M.FlatMem.spent c.args.mem.now) g.M.FlatMem.cost c.up.level (omega (arith, c.up-test.true, c.up.invariant.levels, c.requires.few)) c.mend_up.ensures.cost c.up.invariant.cost;
@@ -61,3 +74,13 @@ returns-in-Ok-store-clause-mended g c = λ b h records pending.
       omega (arith, c.up.invariant.order),
       omega (arith, c.up.invariant.levels, c.requires.few),
     )
+
+pub returns-in-Err-clause-broken : goal.returns-in-Err-clause-broken
+returns-in-Err-clause-broken g c = λ root b d h mending at_met.
+    let was = c.up.invariant.way root b d h mending at_met in
+    let size = g.met.M.FlatMem.same_size _ _ c.up.invariant.kept in
+    let mending_now = subst (λ (n : ℕ). IsMending g.row.K b was.0 n c.up.level root c.args.path.now.pages c.args.path.now.index) (sym c.up.invariant.levels) was.2 in
+    rw size (c.in-Err.ensures.on root b was.0 was.1 mending_now was.3)
+
+pub returns-in-Err-store-clause-broken : goal.returns-in-Err-store-clause-broken
+returns-in-Err-store-clause-broken g c = λ root b d h mending at_met. from_memory (Breaks g.row.E g.row.K (g.M.FlatMem.size c.args.mem.now / 512) b) c.in-Err-store.error c.in-Err-store.ensures.memory

@@ -1,4 +1,4 @@
-use Rattle.std.proofs.Common.{◌≡◌, ℕ, ◌+◌, ◌*◌, ◌/◌, ◌≤◌, [], ◌∷◌, length, get_or, refl, arith, sym, ◌∙◌, ap, subst}
+use Rattle.std.proofs.Common.{rules, ◌≡◌, ℕ, ◌+◌, ◌*◌, ◌/◌, ◌^◌, ◌<◌, ◌≤◌, [], ◌∷◌, length, get_or, refl, arith, sym, ◌∙◌, ap, subst}
 use Rattle.flat_mem.specs.Memory.{overwritten}
 use Rattle.page_tree.specs.Page.{page_at, filled, link_at}
 use Rattle.page_tree.specs.Climb.{child_item}
@@ -7,6 +7,11 @@ use Rattle.page_tree.specs.Thin.{IsPending}
 use Rattle.page_tree.proofs.Noted.{note_out, note_named, root_gone}
 use Rattle.page_tree.proofs.ToNote.{noted_joined, noted_shifted, pending_at, closed_at, root_level, second_in}
 use Rattle.page_tree.proofs.WalkLaws.{mem_wider}
+use Rattle.page_tree.specs.Broken.{Breaks}
+use Rattle.page_tree.specs.Mending.{AreNotAbove}
+use Rattle.page_tree.proofs.Paired.{not_above}
+use Rattle.page_tree.proofs.WayLaws.{from_memory}
+use Rattle.page_tree.proofs.MendingLaws.{up_met, up_form, child_of_like, again_broken, none_again, beside_inside}
 use Rattle.page_tree.proofs.thin.mend_thin.Goals as goal
 
 pub returns-in-Err-clause-mended : goal.returns-in-Err-clause-mended
@@ -98,3 +103,60 @@ returns-clause-mended g c = λ b h records pending.
 
 pub returns-clause-kept : goal.returns-clause-kept
 returns-clause-kept g c = g.met.M.FlatMem.beside_through _ _ _ c.load_above.ensures.kept c.mend_beside.ensures.kept
+
+pub mend_beside-requires : goal.mend_beside-requires
+mend_beside-requires g c =
+    let size = g.met.M.FlatMem.same_size _ _ c.load_above.ensures.kept in
+    let small : g.M.FlatMem.size c.load_above.new.mem ≤ 2 ^ 27 = rw (← size) c.requires.small in
+    let inside : c.args.at.now < g.M.FlatMem.size c.load_above.new.mem / 512 = rw (← size) c.requires.inside in
+    ((search rules), (c.requires.widths, (small, (c.requires.some, (c.requires.thin, (c.second_of-slot.ensures, (c.in-Ok.ensures.form.2, (c.in-Ok.ensures.form.0, (c.in-Ok.ensures.form.1, inside)))))))))
+
+pub returns-in-Err-clause-on : goal.returns-in-Err-clause-on
+returns-in-Err-clause-on g c = λ root b d h mending at_met. c.in-Err.ensures.broken g.row.E root b d h mending
+
+pub returns-in-Some-clause-mended : goal.returns-in-Some-clause-mended
+returns-in-Some-clause-mended g c = λ b h records pending.
+    let above_is : c.load_above.new.above ≡ page_at b (get_or c.args.path.now.pages (c.args.level + 1) 0) = c.in-Ok.ensures.read b h ∙ ap (page_at b) c.in-Ok.ensures.there.0 in
+    let beside = beside_inside (get_or c.args.path.now.index (c.args.level + 1) 0) c.beside_of.result (filled c.load_above.new.above) c.beside_of.ensures c.in-Ok.ensures.form.0 c.in-Ok.ensures.form.2 in
+    let apart = not_above g.row.E g.row.K (g.M.FlatMem.size c.args.mem.now / 512) b records c.args.header.now.levels c.args.level c.args.path.now.pages c.args.path.now.index c.args.at.now c.args.page.now c.args.header.now.root c.args.header.now.free c.args.header.now.top pending c.requires.some c.requires.under
+    c.load_above.new.above above_is c.beside_of.result beside.0 beside.1 in
+    none_again c.args.path.now.pages c.args.level c.args.header.now.levels c.args.at.now c.link_of-beside.result c.in-Some.page (subst (AreNotAbove c.args.path.now.pages c.args.level c.args.header.now.levels c.args.at.now) (sym c.link_of-beside.ensures) apart) c.in-Some.ensures
+
+pub returns-in-Some-clause-on : goal.returns-in-Some-clause-on
+returns-in-Some-clause-on g c = λ root b d h mending at_met.
+    let like = c.in-Ok.ensures.like root b d h mending in
+    let met = up_met g.row.K b d c.args.header.now.levels c.args.level root c.args.path.now.pages c.args.path.now.index mending c.requires.some c.requires.under c.in-Ok.up c.in-Ok.ensures.there.0 in
+    let form = up_form g.row.K b d c.args.header.now.levels c.args.level root c.args.path.now.pages c.args.path.now.index mending c.requires.some c.requires.under c.in-Ok.up c.in-Ok.ensures.there.0 in
+    let beside = beside_inside (get_or c.args.path.now.index (c.args.level + 1) 0) c.beside_of.result (filled c.load_above.new.above) c.beside_of.ensures c.in-Ok.ensures.form.0 c.in-Ok.ensures.form.2 in
+    let beside_met = child_of_like g.row.K b c.args.level c.in-Ok.up c.load_above.new.above c.beside_of.result c.link_of-beside.result c.requires.some met form like beside.0 c.link_of-beside.ensures in
+    again_broken g.row.E g.row.K (g.M.FlatMem.size c.args.mem.now / 512) b d c.args.header.now.levels c.args.level root c.args.path.now.pages c.args.path.now.index mending c.requires.some c.args.at.now c.link_of-beside.result c.in-Some.page at_met beside_met c.in-Some.ensures
+
+pub returns-in-Err-mend_beside-clause-on : goal.returns-in-Err-mend_beside-clause-on
+returns-in-Err-mend_beside-clause-on g c = λ root b d h mending at_met.
+    let like = c.in-Ok.ensures.like root b d h mending in
+    let linked : link_at g.row.K c.load_above.new.above c.beside_of.result ≡ c.link_of-beside.result = sym c.link_of-beside.ensures in
+    let apart = subst (AreNotAbove c.args.path.now.pages c.args.level c.args.header.now.levels c.args.at.now) (sym linked) c.in-None.ensures in
+    let size = g.met.M.FlatMem.same_size _ _ c.load_above.ensures.kept in
+    rw size (c.in-Err-mend_beside.ensures.on root c.beside_of.result c.args.path.now.pages c.args.path.now.index b d (c.load_above.ensures.unchanged d h) mending c.requires.under c.in-Ok.ensures.there.0 like at_met c.beside_of.ensures apart)
+
+pub returns-then-not-joined-clause-on : goal.returns-then-not-joined-clause-on
+returns-then-not-joined-clause-on g c = λ root b d h mending at_met.
+    let like = c.in-Ok.ensures.like root b d h mending in
+    let linked : link_at g.row.K c.load_above.new.above c.beside_of.result ≡ c.link_of-beside.result = sym c.link_of-beside.ensures in
+    let apart = subst (AreNotAbove c.args.path.now.pages c.args.level c.args.header.now.levels c.args.at.now) (sym linked) c.in-None.ensures in
+    c.in-Ok-mend_beside.ensures.on root c.beside_of.result c.args.path.now.pages c.args.path.now.index b d (c.load_above.ensures.unchanged d h) mending c.requires.under c.in-Ok.ensures.there.0 like at_met c.beside_of.ensures apart
+
+pub returns-in-Err-drop_root-clause-on : goal.returns-in-Err-drop_root-clause-on
+returns-in-Err-drop_root-clause-on g c = λ root b d h mending at_met.
+    let like = c.in-Ok.ensures.like root b d h mending in
+    let linked : link_at g.row.K c.load_above.new.above c.beside_of.result ≡ c.link_of-beside.result = sym c.link_of-beside.ensures in
+    let apart = subst (AreNotAbove c.args.path.now.pages c.args.level c.args.header.now.levels c.args.at.now) (sym linked) c.in-None.ensures in
+    let mended = c.in-Ok-mend_beside.ensures.on root c.beside_of.result c.args.path.now.pages c.args.path.now.index b d (c.load_above.ensures.unchanged d h) mending c.requires.under c.in-Ok.ensures.there.0 like at_met c.beside_of.ensures apart in
+    from_memory (Breaks g.row.E g.row.K (g.M.FlatMem.size c.args.mem.now / 512) b) c.in-Err-drop_root.error (c.in-Err-drop_root.ensures.given mended.0 mended.1)
+
+pub returns-clause-on : goal.returns-clause-on
+returns-clause-on g c = λ root b d h mending at_met.
+    let like = c.in-Ok.ensures.like root b d h mending in
+    let linked : link_at g.row.K c.load_above.new.above c.beside_of.result ≡ c.link_of-beside.result = sym c.link_of-beside.ensures in
+    let apart = subst (AreNotAbove c.args.path.now.pages c.args.level c.args.header.now.levels c.args.at.now) (sym linked) c.in-None.ensures in
+    c.in-Ok-mend_beside.ensures.on root c.beside_of.result c.args.path.now.pages c.args.path.now.index b d (c.load_above.ensures.unchanged d h) mending c.requires.under c.in-Ok.ensures.there.0 like at_met c.beside_of.ensures apart

@@ -6,6 +6,8 @@ use Rattle.page_tree.specs.Broken.{IsInnerForm}
 use Rattle.page_tree.proofs.Descent.{affords, path_down, place_at_down, none_empty}
 use Rattle.page_tree.proofs.MetLaws.{met_child, met_down, met_end, path_inside, link_broken}
 use Rattle.page_tree.proofs.WalkLaws.{inner_is_form, inner_at, child_below, child_link, leaf_step, led_to, leaf_of_path}
+use Rattle.page_tree.specs.Walked.{IsThread}
+use Rattle.page_tree.proofs.Threads.{thread_down, coming_from, come_down, come_to}
 use Rattle.page_tree.proofs.walk.go_down.Goals as goal
 
 pub down-init : goal.down-init
@@ -15,6 +17,8 @@ down-init g c = record {
   unchanged = λ b h. h;
   led = λ b h records levels root nodes home rooted most path fits. (home, path, fits, refl);
   met = λ b h levels root most met path fits top. (met, path, fits, top);
+  thread = λ b h levels root most thread. thread;
+  coming = coming_from c.args.level c.args.at c.args.place c.args.path.now.pages c.args.path.now.index;
   path = λ levels inside. inside;
   kept = g.met.M.FlatMem.beside_itself _;
   cost = omega arith;
@@ -57,6 +61,13 @@ down-preserved g c = record {
         λ above. omega arith,
         λ same. absurd (omega (arith, same, c.down-test.true, here)),
       );
+  thread = λ b h levels root most thread.
+      let was = c.down.invariant.thread b h levels root most thread in
+      let read = c.in-Ok.ensures.read b (c.down.invariant.unchanged b h) in
+      thread_down g.row.K b levels c.down.level (c.down.level - 1) root c.down.path.pages c.down.path.index c.down.at c.down.place c.link_of-child.result was (omega (arith, c.down-test.true)) (omega (arith, c.down.invariant.order.1, most)) (search rules) (search rules)
+      (c.link_of-child.ensures ∙ ap (λ (x : List ℕ). link_at g.row.K x c.down.place) read);
+  coming = come_down c.args.level c.args.at c.args.place c.args.path.now.pages c.args.path.now.index c.down.level (c.down.level - 1) c.down.at c.down.place c.link_of-child.result c.down.path.pages c.down.path.index (omega (arith, c.down-test.true)) c.down.invariant.order.1 (search rules) (search rules)
+      c.down.invariant.coming;
   path = λ levels inside. path_inside c.down.level (c.down.level - 1) levels _ c.down.at c.down.path.pages (omega (arith, c.down-test.true)) c.down.invariant.inside (search rules) (c.down.invariant.path levels inside);
   kept = g.met.M.FlatMem.beside_through _ _ _ c.down.invariant.kept c.read_inner.ensures.kept;
   cost = affords _ _ _ _ c.down.level (c.down.level - 1) (omega (arith, c.down-test.true)) c.read_inner.ensures.cost c.down.invariant.cost;
@@ -137,3 +148,13 @@ returns-clause-met g c = λ b h levels root most met path fits top.
     let was = c.down.invariant.met b h levels root most met path fits top in
     let one : c.down.level ≡ 1 = omega (arith, c.down-test.false, c.down.invariant.order.0) in
     met_end g.row.K b levels c.down.level root _ _ c.down.at one was.0 was.1
+
+pub returns-clause-thread : goal.returns-clause-thread
+returns-clause-thread g c = λ b h levels root most thread.
+    let one : c.down.level ≡ 1 = omega (arith, c.down-test.false, c.down.invariant.order.0) in
+    subst (λ (m : ℕ). IsThread g.row.K b levels m root c.down.path.pages c.down.path.index c.down.at) one (c.down.invariant.thread b h levels root most thread)
+
+pub returns-clause-down : goal.returns-clause-down
+returns-clause-down g c =
+    let one : c.down.level ≡ 1 = omega (arith, c.down-test.false, c.down.invariant.order.0) in
+    come_to c.args.level c.args.at c.args.place c.args.path.now.pages c.args.path.now.index c.down.level c.down.at c.down.place c.down.path.pages c.down.path.index one c.down.invariant.coming

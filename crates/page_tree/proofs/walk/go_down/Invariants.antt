@@ -4,6 +4,8 @@ use Rattle.page_tree.specs.Tree.{Node, node_at, IsRooted}
 use Rattle.page_tree.specs.Path.{IsPath, leaf_from}
 use Rattle.page_tree.specs.Broken.{Meets}
 use Rattle.page_tree.specs.Met.{IsMetPath}
+use Rattle.page_tree.specs.Walked.{IsThread}
+use Rattle.page_tree.proofs.Threads.{IsComing}
 use Rattle.page_tree.proofs.walk.go_down.Given as goal
 
 abbrev pub invariant-down : goal.invariant-down
@@ -18,6 +20,9 @@ invariant-down g l = record {
   met : (b : List ℕ) → g.M.FlatMem.tells l.initial.mem b → (levels root : ℕ) → l.initial.level ≤ levels → Meets g.row.K b l.initial.level l.initial.at → IsMetPath g.row.K b levels l.initial.level root l.initial.path.pages l.initial.path.index
       → (1 < l.initial.level → l.initial.place ≤ filled (page_at b l.initial.at)) → (l.initial.level ≡ levels → l.initial.at ≡ root)
       → Meets g.row.K b l.level l.at × IsMetPath g.row.K b levels l.level root l.path.pages l.path.index × (1 < l.level → l.place ≤ filled (page_at b l.at)) × (l.level ≡ levels → l.at ≡ root);
+  thread : (b : List ℕ) → g.M.FlatMem.tells l.initial.mem b → (levels root : ℕ) → l.initial.level ≤ levels → IsThread g.row.K b levels l.initial.level root l.initial.path.pages l.initial.path.index l.initial.at
+      → IsThread g.row.K b levels l.level root l.path.pages l.path.index l.at;
+  coming : IsComing l.initial.level l.initial.at l.initial.place l.initial.path.pages l.initial.path.index l.level l.at l.place l.path.pages l.path.index;
   path : (levels : ℕ) → ((n : ℕ) → l.initial.level < n → n ≤ levels → get_or l.initial.path.pages n 0 < g.M.FlatMem.size l.initial.mem / 512)
       → (n : ℕ) → l.level < n → n ≤ levels → get_or l.path.pages n 0 < g.M.FlatMem.size l.initial.mem / 512;
   kept : g.M.FlatMem.beside l.initial.mem l.mem;

@@ -1,6 +1,8 @@
 use Rattle.std.proofs.Common.{ℕ, ◌+◌, ◌/◌, ◌<◌, get_or, arith, ◌∙◌, ap, subst}
 use Rattle.page_tree.specs.Tree.{IsRooted}
 use Rattle.page_tree.proofs.WalkLaws.{path_cut, met_cut, leads_behind, none_behind, led_moved}
+use Rattle.page_tree.proofs.Threads.{thread_cut}
+use Rattle.page_tree.proofs.WalkedLaws.{all_walked, walked_on}
 use Rattle.page_tree.proofs.walk.next_leaf.Goals as goal
 
 pub returns-in-Err-clause-leaf : goal.returns-in-Err-clause-leaf
@@ -57,3 +59,28 @@ returns-clause-path g c =
     let form = rw c.in-Some.is at c.in-Ok.ensures.form in
     let size = g.met.M.FlatMem.same_size _ _ c.turning_level.ensures.kept in
     rw size (c.in-Ok-go_down.ensures.path c.args.levels (λ n from most. rw (← size) (c.requires.path n (omega (arith, from, form.0)) most)))
+
+pub returns-in-Err-clause-walked : goal.returns-in-Err-clause-walked
+returns-in-Err-clause-walked g c = λ b h root at passed walked. c.in-Err.ensures.met b h g.row.E root walked.path
+
+pub returns-in-None-clause-walked : goal.returns-in-None-clause-walked
+returns-in-None-clause-walked g c = λ b h root at passed walked.
+    all_walked g.row.K b c.args.levels root c.args.path.now.pages c.args.path.now.index at passed c.requires.some walked (rw c.in-None.is at (c.in-Ok.ensures.last b h root walked.path))
+
+pub returns-in-Err-go_down-clause-walked : goal.returns-in-Err-go_down-clause-walked
+returns-in-Err-go_down-clause-walked g c = λ b h root at passed walked. returns-in-Err-go_down-clause-met g c b h root walked.path
+
+pub returns-clause-walked : goal.returns-clause-walked
+returns-clause-walked g c = λ b h root at passed walked.
+    let form = rw c.in-Some.is at c.in-Ok.ensures.form in
+    let fits = rw c.in-Some.is at (c.in-Ok.ensures.met b h g.row.E root walked.path) in
+    let last = rw c.in-Some.is at (c.in-Ok.ensures.last b h root walked.path) in
+    let above : 1 < c.in-Some.level = omega (arith, form.0) in
+    let told = c.turning_level.ensures.unchanged b h in
+    let met = c.in-Ok-go_down.ensures.met b told c.args.levels root form.1 (walked.path.met c.in-Some.level above form.1) (met_cut g.row.K b c.args.levels 1 c.in-Some.level root _ _ above walked.path) (λ above. fits)
+    (λ same. ap (λ (i : ℕ). get_or c.args.path.now.pages i 0) same ∙ walked.path.top (omega (arith, above, form.1))) in
+    let thread = c.in-Ok-go_down.ensures.thread b told c.args.levels root form.1 (thread_cut g.row.K b c.args.levels root c.args.path.now.pages c.args.path.now.index at c.in-Some.level above walked.thread form.1) in
+    walked_on g.row.K b c.args.levels root c.args.path.now.pages c.args.path.now.index c.go_down.new.path.pages c.go_down.new.path.index at c.in-Ok-go_down.leaf c.in-Some.level passed form.0 form.1 walked last c.in-Ok-go_down.ensures.down met.0 met.1 thread
+
+pub returns-clause-inside : goal.returns-clause-inside
+returns-clause-inside g c = omega (arith, c.in-Ok-go_down.ensures.inside, g.met.M.FlatMem.same_size _ _ c.turning_level.ensures.kept)

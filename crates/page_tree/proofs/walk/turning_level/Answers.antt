@@ -1,6 +1,6 @@
 use Rattle.std.proofs.Common.{inl, inr, ◌≡◌, ℕ, ◌+◌, ◌-◌, ◌/◌, length, get_or, arith, sym, ap, subst}
 use Rattle.std.proofs.lemmas.Bool.{cases_eq}
-use Rattle.page_tree.specs.Page.{filled}
+use Rattle.page_tree.specs.Page.{page_at, filled}
 use Rattle.page_tree.specs.Tree.{node_at}
 use Rattle.page_tree.proofs.WayLaws.{spends, spends_most}
 use Rattle.page_tree.proofs.WalkLaws.{inner_is_form, path_page}
@@ -46,6 +46,14 @@ up-preserved g c = record {
         subst (λ (i : ℕ). get_or c.args.path.now.index i 0 + 1 ≡ length (node_at (nodes i) (home i)).items) (sym same) here
     | inr other ↦ c.up.invariant.last b h e records root at nodes home rooted path n above (omega (arith, less, other))
   ];
+  full = λ b h root path n above less. elim (cases_eq n c.up.level) [
+    | inl same ↦
+        let read = c.in-Ok.ensures.read b (c.up.invariant.unchanged b h) in
+        let chosen = path.chosen c.up.level (omega (arith, c.up.invariant.order.0)) (omega (arith, c.up-test.true)) in
+        let here : get_or c.args.path.now.index c.up.level 0 ≡ filled (page_at b (get_or c.args.path.now.pages c.up.level 0)) = omega (arith, ap filled read, c.in-Ok.ensures.form.0, c.if-place-count.false, chosen) in
+        subst (λ (i : ℕ). get_or c.args.path.now.index i 0 ≡ filled (page_at b (get_or c.args.path.now.pages i 0))) (sym same) here
+    | inr other ↦ c.up.invariant.full b h root path n above (omega (arith, less, other))
+  ];
   kept = g.met.M.FlatMem.beside_through _ _ _ c.up.invariant.kept c.read_inner.ensures.kept;
   cost = spends _ _ _ g.M.FlatMem.cost (c.up.level - 2) (c.up.level + 1 - 2) (omega (arith, c.up.invariant.order.0)) c.up.invariant.cost c.read_inner.ensures.cost;
 }
@@ -61,3 +69,9 @@ returns-in-Err-clause-cost g c = spends_most _ _ g.M.FlatMem.cost (c.up.level - 
 
 pub returns-then-place-count-clause-cost : goal.returns-then-place-count-clause-cost
 returns-then-place-count-clause-cost g c = spends_most _ _ g.M.FlatMem.cost (c.up.level - 2 + 1) (omega (arith, c.up-test.true, c.up.invariant.order, c.requires.most)) (spends _ _ _ g.M.FlatMem.cost (c.up.level - 2) (c.up.level - 2 + 1) (omega arith) c.up.invariant.cost c.read_inner.ensures.cost)
+
+pub returns-then-place-count-clause-last : goal.returns-then-place-count-clause-last
+returns-then-place-count-clause-last g c = λ b h root path. c.up.invariant.full b h root path
+
+pub returns-clause-last : goal.returns-clause-last
+returns-clause-last g c = λ b h root path l above below. c.up.invariant.full b h root path l above (omega (arith, below, c.up-test.false))

@@ -1,0 +1,57 @@
+use Rattle.std.proofs.Common.{inl, inr, ℕ, ◌/◌, arith, refl, sym, ◌∙◌, subst}
+use Rattle.page_tree.specs.Tree.{IsTree}
+use Rattle.page_tree.specs.Placed.{IsSetAt}
+use Rattle.page_tree.proofs.CountLaws.{past_memory, broken_or, none_at, bare_broken, walk_spends}
+use Rattle.page_tree.proofs.edit_by_index.replace.Goals as goal
+
+pub returns-in-Err-clause-answer : goal.returns-in-Err-clause-answer
+returns-in-Err-clause-answer g c = λ b h records tree below same. c.in-Err.ensures.well b h records tree
+
+pub returns-in-Err-clause-past : goal.returns-in-Err-clause-past
+returns-in-Err-clause-past g c = λ b h records tree past. past_memory c.in-Err.error (c.in-Err.ensures.well b h records tree)
+
+pub returns-in-Err-clause-broken : goal.returns-in-Err-clause-broken
+returns-in-Err-clause-broken g c = λ b h. broken_or _ _ c.in-Err.error (c.in-Err.ensures.broken b h)
+
+pub returns-then-index-header-clause-answer : goal.returns-then-index-header-clause-answer
+returns-then-index-header-clause-answer g c = λ b h records tree below same. absurd (omega (arith, below, (c.in-Ok.ensures.fields b h).count_is, tree.header.count_is, c.if-index-header.true))
+
+pub returns-then-index-header-clause-broken : goal.returns-then-index-header-clause-broken
+returns-then-index-header-clause-broken g c = λ b h. inr (refl, omega (arith, (c.in-Ok.ensures.fields b h).count_is, c.if-index-header.true))
+
+pub returns-then-header-eq0-clause-answer : goal.returns-then-header-eq0-clause-answer
+returns-then-header-eq0-clause-answer g c = λ b h records tree below same. absurd (none_at g.row.E g.row.K _ b records c.in-Ok.header.levels c.args.index tree (c.in-Ok.ensures.fields b h).levels_is c.if-header-eq0.true below)
+
+pub returns-then-header-eq0-clause-broken : goal.returns-then-header-eq0-clause-broken
+returns-then-header-eq0-clause-broken g c = λ b h.
+    let is = c.in-Ok.ensures.fields b h in
+    inl (bare_broken g.row.E g.row.K _ b c.in-Ok.header.count c.args.index (is.levels_is ∙ c.if-header-eq0.true) is.count_is (omega (arith, c.if-index-header.false)))
+
+pub returns-in-Ok-set_in-clause-answer : goal.returns-in-Ok-set_in-clause-answer
+returns-in-Ok-set_in-clause-answer g c = λ b h records tree below same.
+    let size = g.met.M.FlatMem.same_size _ _ c.read_header.ensures.kept in
+    let tree_now = subst (λ (s : ℕ). IsTree g.row.E g.row.K (s / 512) b records) size tree in
+    let done = c.in-Ok-set_in.ensures.set b (c.read_header.ensures.unchanged b h) records tree_now (c.in-Ok.ensures.fields b h) below same in
+    subst (λ (s : ℕ). IsSetAt g.row.E g.row.K (s / 512) (g.M.FlatMem.tells c.set_in.new.mem) records c.args.index c.args.entry.now) (sym size) done
+
+pub returns-in-Err-set_in-clause-answer : goal.returns-in-Err-set_in-clause-answer
+returns-in-Err-set_in-clause-answer g c = λ b h records tree below same.
+    let tree_now = subst (λ (s : ℕ). IsTree g.row.E g.row.K (s / 512) b records) (g.met.M.FlatMem.same_size _ _ c.read_header.ensures.kept) tree in
+    c.in-Err-set_in.ensures.set b (c.read_header.ensures.unchanged b h) records tree_now (c.in-Ok.ensures.fields b h) below same
+
+pub returns-in-Ok-set_in-clause-past : goal.returns-in-Ok-set_in-clause-past
+returns-in-Ok-set_in-clause-past g c = λ b h records tree past. absurd (omega (arith, past, (c.in-Ok.ensures.fields b h).count_is, tree.header.count_is, c.if-index-header.false))
+
+pub returns-in-Err-set_in-clause-past : goal.returns-in-Err-set_in-clause-past
+returns-in-Err-set_in-clause-past g c = λ b h records tree past. absurd (omega (arith, past, (c.in-Ok.ensures.fields b h).count_is, tree.header.count_is, c.if-index-header.false))
+
+pub returns-in-Err-set_in-clause-broken : goal.returns-in-Err-set_in-clause-broken
+returns-in-Err-set_in-clause-broken g c = λ b h.
+    broken_or _ _ c.in-Err-set_in.error
+    (rw (g.met.M.FlatMem.same_size _ _ c.read_header.ensures.kept) (c.in-Err-set_in.ensures.broken b (c.read_header.ensures.unchanged b h) (c.in-Ok.ensures.fields b h) (omega (arith, c.if-index-header.false))))
+
+pub returns-in-Ok-set_in-clause-cost : goal.returns-in-Ok-set_in-clause-cost
+returns-in-Ok-set_in-clause-cost g c = walk_spends _ _ _ _ _ 7 12 g.M.FlatMem.cost c.read_header.ensures.cost c.set_in.ensures.cost (g.met.M.FlatMem.same_size _ _ c.read_header.ensures.kept) (omega (arith, c.requires.some_pages))
+
+pub returns-in-Err-set_in-clause-cost : goal.returns-in-Err-set_in-clause-cost
+returns-in-Err-set_in-clause-cost g c = walk_spends _ _ _ _ _ 7 12 g.M.FlatMem.cost c.read_header.ensures.cost c.set_in.ensures.cost (g.met.M.FlatMem.same_size _ _ c.read_header.ensures.kept) (omega (arith, c.requires.some_pages))

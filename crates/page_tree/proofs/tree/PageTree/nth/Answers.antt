@@ -1,0 +1,11 @@
+use Rattle.page_tree.proofs.Listed.{lists_kept}
+use Rattle.page_tree.proofs.tree.PageTree.nth.Goals as goal
+
+pub returns-clause-entry : goal.returns-clause-entry
+returns-clause-entry g c = λ xs lists below. c.nth.ensures.answer lists.bytes lists.told xs lists.tree below
+
+pub returns-clause-past : goal.returns-clause-past
+returns-clause-past g c = λ xs lists past. c.nth.ensures.past lists.bytes lists.told xs lists.tree past
+
+pub returns-clause-same_list : goal.returns-clause-same_list
+returns-clause-same_list g c = λ xs lists. lists_kept g.row.E g.row.K _ _ _ _ xs (g.met.M.FlatMem.same_size _ _ c.nth.ensures.kept) c.nth.ensures.unchanged lists

@@ -1,0 +1,11 @@
+use Rattle.page_tree.proofs.Listed.{lists_set_at}
+use Rattle.page_tree.proofs.Moved.{match_weaker}
+use Rattle.page_tree.proofs.tree.PageTree.replace.Goals as goal
+
+pub returns-clause-replaced : goal.returns-clause-replaced
+returns-clause-replaced g c = λ xs lists below same.
+    let size = g.met.M.FlatMem.same_size _ _ c.replace.ensures.kept in
+    match_weaker c.replace.result _ _ _ _ (λ _ done. lists_set_at g.row.E g.row.K _ _ _ xs size c.args.index c.args.entry.now done) (λ why from. from) (c.replace.ensures.answer lists.bytes lists.told xs lists.tree below same)
+
+pub returns-clause-past : goal.returns-clause-past
+returns-clause-past g c = λ xs lists past. c.replace.ensures.past lists.bytes lists.told xs lists.tree past
