@@ -3,7 +3,7 @@ use Rattle.std.proofs.Common.{◌≡◌, ◌≢◌, ◌⊎◌, inl, inr, ℕ, �
 use Rattle.std.proofs.lemmas.Bool.{cases_lt, false≢true, eqb-true, eq-eqb, leb-true, le-leb}
 use Rattle.std.proofs.lemmas.List.{length-map, map-set, length-set}
 use Rattle.std.proofs.lemmas.List.Edits.{length-remove}
-use Rattle.std.proofs.Math.Nat.{add-mul}
+use Rattle.std.proofs.Math.Nat.{add-mul, mul_assoc}
 use Rattle.std.proofs.lemmas.Nat.{mul-le}
 use Rattle.flat_mem.specs.Order.{IsRising, key_at}
 use Rattle.file_map.specs.declared.run.Run.{Run}
@@ -288,3 +288,9 @@ cut_paid cost left most spent after start some paid had =
 
 pub begin_paid : (cost left most start : ℕ) → left ≤ most → start + left * cost ≤ start + most * cost
 begin_paid cost left most start few = omega (arith, mul-le left cost most cost few (omega arith))
+
+-- in accesses of a tree
+pub cut_spent : (most c before after : ℕ) → after ≤ before + c + most * (7 * c + 8 * c + 36 * c) → after ≤ before + (1 + most * (7 + 8 + 36)) * c
+cut_spent most c before after paid =
+    let each : most * (7 * c + 8 * c + 36 * c) ≡ most * 51 * c = ap (λ (x : ℕ). most * x) (omega arith) ∙ sym (mul_assoc most 51 c) in
+    omega (arith, paid, each)

@@ -7,7 +7,7 @@ use Rattle.page_tree.specs.declared.error.TreeError.TheVariants.{Full as TreeFul
 use Rattle.file_map.specs.declared.error.MapError.{MapError}
 use Rattle.file_map.specs.declared.error.MapError.TheVariants.{Full, Malformed, Mem}
 use Rattle.file_map.specs.Entries.{Sight, Entry, Count, Broken, IsOwn as IsOwnTree, IsCause as IsCauseTree}
-use Rattle.file_map.specs.Cause.{of_tree, IsCause, IsOwn, IsFullOr}
+use Rattle.file_map.specs.Cause.{of_tree, IsCause, IsOwn, IsFullOr, IfFull}
 
 pub passed : {T E : Type 0} (r : Result T E) (P : T → Type 0) (Q : E → Type 0) (e : E) → IsErr r → IsErrAnd r (λ x. x ≡ e) → Q e → MatchResult r P Q
 passed (Ok x) P Q e is_err is q = absurd is
@@ -44,3 +44,13 @@ cause_wider n full whole shows earlier accounted wider (Malformed page) k h f is
   ]
 ]
 cause_wider n full whole shows earlier accounted wider (Mem error) k h f is = f error is
+
+pub err_weaker : {T E : Type 0} (r : Result T E) (P Q : E → Type 0) → IfErr r P → ((e : E) → P e → Q e) → IfErr r Q
+err_weaker (Ok x) P Q is h = tt
+err_weaker (Err e) P Q is h = h e is
+
+-- an error that is not `Full`
+pub if_not_full : {X : Type 0} (n : ℕ) (full : Type 0) (shows : Sight → Type 0) (accounted : X → Type 0) (e : MapError X) (P : Type 0) → (full → ⊥) → IsCause n full shows accounted e → IfFull P e
+if_not_full n full shows accounted Full P none is = absurd (none is)
+if_not_full n full shows accounted (Malformed page) P none is = tt
+if_not_full n full shows accounted (Mem error) P none is = tt

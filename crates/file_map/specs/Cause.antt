@@ -37,6 +37,12 @@ IsFullOr full stays Full = full × stays
 IsFullOr full stays (Malformed page) = ⊥
 IsFullOr full stays (Mem error) = Unit {0}
 
+-- what holds where the map is full
+abbrev pub IfFull : {X : Type 0} → Type 0 → MapError X → Type 0
+IfFull P Full = P
+IfFull P (Malformed page) = Unit {0}
+IfFull P (Mem error) = Unit {0}
+
 -- the error is the memory's own
 abbrev pub IsOwn : {X : Type 0} → MapError X → Type 0
 IsOwn Full = ⊥

@@ -6,4 +6,5 @@ pub mod Searches
 pub mod Edits
 pub mod Shown
 pub mod Map
+pub mod InSectors
 pub mod Laws

@@ -41,6 +41,9 @@ pub trait SearchedEntries {
     /// What it tells, whatever its form is, shows this.
     ghost shows: { Self → Sight → Type 0 };
 
+    /// It tells these bytes.
+    ghost told: { Self → List ℕ → Type 0 };
+
     /// How many entries there are.
     fn count(&mut self) -> Result<u32, TreeError<Self::Error>>
         ensures count { (n : ℕ) → counts self.old n → IfOk result (λ count. count ≡ n) }
@@ -49,6 +52,7 @@ pub trait SearchedEntries {
         ensures same { (xs : List (List ℕ)) → lists self.old xs → lists self.new xs }
         ensures same_count { (n : ℕ) → counts self.old n → counts self.new n }
         ensures same_sights { (sight : Sight) → shows self.new sight → shows self.old sight }
+        ensures same_bytes { (b : List ℕ) → told self.old b → told self.new b }
         ensures kept { beside self.old self.new }
         ensures cause { IfErr result (IsCause ⊥ (shows self.old) (accounted self.old self.new)) }
         ensures cost { spent self.new ≤ spent self.old + count_cost };
@@ -64,6 +68,7 @@ pub trait SearchedEntries {
         ensures same { (xs : List (List ℕ)) → lists self.old xs → lists self.new xs }
         ensures same_count { (n : ℕ) → counts self.old n → counts self.new n }
         ensures same_sights { (sight : Sight) → shows self.new sight → shows self.old sight }
+        ensures same_bytes { (b : List ℕ) → told self.old b → told self.new b }
         ensures kept { beside self.old self.new }
         ensures cause { IfErr result (IsCause ⊥ (shows self.old) (accounted self.old self.new)) }
         ensures cost { spent self.new ≤ spent self.old + look_cost };
@@ -79,6 +84,7 @@ pub trait SearchedEntries {
         ensures same { (xs : List (List ℕ)) → lists self.old xs → lists self.new xs }
         ensures same_count { (n : ℕ) → counts self.old n → counts self.new n }
         ensures same_sights { (sight : Sight) → shows self.new sight → shows self.old sight }
+        ensures same_bytes { (b : List ℕ) → told self.old b → told self.new b }
         ensures kept { beside self.old self.new }
         ensures cause { IfErr result (IsCause ⊥ (shows self.old) (accounted self.old self.new)) }
         ensures cost { spent self.new ≤ spent self.old + after_cost };
@@ -88,6 +94,8 @@ pub trait SearchedEntries {
     ghost counted: { (t : Self) (xs : List (List ℕ)) → lists t xs → counts t (length xs) };
 
     ghost counted_once: { (t : Self) (n m : ℕ) → counts t n → counts t m → n ≡ m };
+
+    ghost counted_told: { (t : Self) (b : List ℕ) → told t b → (n : ℕ) × counts t n };
 
     ghost same_room: { (a b : Self) → beside a b → room a ≡ room b };
 

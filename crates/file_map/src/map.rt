@@ -1,15 +1,15 @@
 //! The map.
-ghost use Rattle.std.specs.Prelude.{◌≡◌, ℕ, ◌+◌, ◌*◌, ◌<◌, ◌≤◌, true, List, replicate, IfOk, IfErr, IfSome, MatchResult};
+ghost use Rattle.std.specs.Prelude.{◌≡◌, ℕ, ◌+◌, ◌*◌, ◌/◌, ◌<◌, ◌≤◌, true, List, replicate, IfOk, IfErr, IfSome, MatchResult};
 ghost use Rattle.page_tree.specs.Page.{page_at};
 ghost use Rattle.labelled_disk.specs.Layout.{IsCount, vfm};
 ghost use Rattle.file_map.specs.Run.{IsRun, holds, run_bytes};
-ghost use Rattle.file_map.specs.FileMap.{Triples, IsFound, IsSize, IsNext, IsNew, no_triples, with_run, most_records};
+ghost use Rattle.file_map.specs.FileMap.{Triples, IsFound, IsSize, IsNext, IsNew, no_triples, with_run, without_from, most_records};
 ghost use Rattle.file_map.specs.Entries.{Entry};
-ghost use Rattle.file_map.specs.Cause.{IsCause, IsOwn, IsFullOr, IsMost};
+ghost use Rattle.file_map.specs.Cause.{IsCause, IsOwn, IsFullOr, IsMost, IfFull};
 
 use crate::error::MapError;
 use crate::run::Run;
-use crate::{add, reads};
+use crate::{add, cut, reads};
 use flat_mem::FlatMem;
 use labelled_disk::FileId;
 use page_tree::PageTree;
@@ -26,7 +26,7 @@ pub struct FileMap<M: FlatMem> {
 }
 
 impl<M: FlatMem> FileMap<M> {
-    ghost use Rattle.file_map.specs.Map.{map_memory, map_sectors, Names, Counts, Shows};
+    ghost use Rattle.file_map.specs.Map.{map_memory, map_sectors, Names, Counts, Shows, ShownBy};
 
     /// The map of a volume of so many sectors, in a memory of the pages that the volume's layout gives it.
     pub fn over(mem: M, sectors: u32) -> FileMap<M>
@@ -48,6 +48,7 @@ impl<M: FlatMem> FileMap<M> {
         ensures read { IfOk result (λ found. IfSome found (λ run. (at : ℕ) × Shows self.old (Entry at (run_bytes run)))) }
         ensures same { (named : Triples) → Names self.old named → Names self.new named }
         ensures same_count { (n : ℕ) → Counts self.old n → Counts self.new n }
+        ensures same_bytes { (b : List ℕ) → M.tells (map_memory self.old) b → M.tells (map_memory self.new) b }
         ensures sectors { map_sectors self.new ≡ map_sectors self.old }
         ensures kept { M.beside (map_memory self.old) (map_memory self.new) }
         ensures cause { IfErr result (IsCause (map_sectors self.old) ⊥ (Shows self.old) (M.accounted (map_memory self.old) (map_memory self.new))) }
@@ -62,6 +63,7 @@ impl<M: FlatMem> FileMap<M> {
         ensures size { (named : Triples) → Names self.old named → MatchResult result (IsSize named id) IsOwn }
         ensures same { (named : Triples) → Names self.old named → Names self.new named }
         ensures same_count { (n : ℕ) → Counts self.old n → Counts self.new n }
+        ensures same_bytes { (b : List ℕ) → M.tells (map_memory self.old) b → M.tells (map_memory self.new) b }
         ensures sectors { map_sectors self.new ≡ map_sectors self.old }
         ensures kept { M.beside (map_memory self.old) (map_memory self.new) }
         ensures cause { IfErr result (IsCause (map_sectors self.old) ⊥ (Shows self.old) (M.accounted (map_memory self.old) (map_memory self.new))) }
@@ -77,6 +79,7 @@ impl<M: FlatMem> FileMap<M> {
         ensures above { IfOk result (λ found. IfSome found (λ next. (id < next) × (16 ≤ next))) }
         ensures same { (named : Triples) → Names self.old named → Names self.new named }
         ensures same_count { (n : ℕ) → Counts self.old n → Counts self.new n }
+        ensures same_bytes { (b : List ℕ) → M.tells (map_memory self.old) b → M.tells (map_memory self.new) b }
         ensures sectors { map_sectors self.new ≡ map_sectors self.old }
         ensures kept { M.beside (map_memory self.old) (map_memory self.new) }
         ensures cause { IfErr result (IsCause (map_sectors self.old) ⊥ (Shows self.old) (M.accounted (map_memory self.old) (map_memory self.new))) }
@@ -92,6 +95,7 @@ impl<M: FlatMem> FileMap<M> {
     pub fn add(&mut self, run: Run) -> Result<(), MapError<M::Error>>
         requires { IsRun (map_sectors self.old) run }
         ensures added { (named : Triples) → Names self.old named → IsNew named run → MatchResult result (λ _. Names self.new (with_run named run)) (IsFullOr (Counts self.old (most_records (map_sectors self.old))) (Names self.new named)) }
+        ensures full_same { (b : List ℕ) → M.tells (map_memory self.old) b → IfErr result (IfFull (M.tells (map_memory self.new) b)) }
         ensures room { (n : ℕ) → Counts self.old n → IfOk result (λ _. n < most_records (map_sectors self.old)) }
         ensures sectors { map_sectors self.new ≡ map_sectors self.old }
         ensures kept { M.beside (map_memory self.old) (map_memory self.new) }
@@ -100,5 +104,17 @@ impl<M: FlatMem> FileMap<M> {
     {
         let mut tree = PageTree::<&mut M, 24, 12>::over(&mut self.mem);
         add::add(&mut tree, self.sectors, run)
+    }
+
+    /// Takes the pages of the file from one on out of the map, the leader among them.
+    pub fn cut(&mut self, id: FileId, from: u32) -> Result<(), MapError<M::Error>>
+        ensures cut { (named : Triples) → Names self.old named → MatchResult result (λ _. Names self.new (without_from named id from)) IsOwn }
+        ensures sectors { map_sectors self.new ≡ map_sectors self.old }
+        ensures kept { M.beside (map_memory self.old) (map_memory self.new) }
+        ensures cause { IfErr result (λ error. (m : M) × M.beside (map_memory self.old) m × M.beside m (map_memory self.new) × IsCause (map_sectors self.old) ⊥ (ShownBy (M.tells m) (M.size m / 512)) (M.accounted (map_memory self.old) (map_memory self.new)) error) }
+        ensures cost { M.spent (map_memory self.new) ≤ M.spent (map_memory self.old) + (1 + most_records (map_sectors self.old) * (7 + 8 + 36)) * M.cost }
+    {
+        let mut tree = PageTree::<&mut M, 24, 12>::over(&mut self.mem);
+        cut::cut(&mut tree, self.sectors, id, from)
     }
 }

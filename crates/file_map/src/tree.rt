@@ -1,11 +1,11 @@
 //! A tree of pages is a sorted list of entries.
 ghost use Rattle.std.specs.Prelude.{◌≡◌, ℕ, ◌*◌, ◌/◌, List};
-ghost use Rattle.std.proofs.Common.{sym, ap};
+ghost use Rattle.std.proofs.Common.{refl, sym, ap};
 ghost use Rattle.page_tree.specs.Page.{page_at, count_in};
 ghost use Rattle.page_tree.specs.Put.{capacity_of};
 ghost use Rattle.file_map.specs.Shown.{IsShown, counted_same};
 
-use crate::entries::{SearchedEntries, SortedEntries};
+use crate::entries::{CutEntries, SearchedEntries, SortedEntries};
 use crate::run::{Key, Record};
 use flat_mem::FlatMem;
 use page_tree::{PageTree, TreeError};
@@ -35,11 +35,15 @@ impl<'m, M: FlatMem> SearchedEntries for PageTree<&'m mut M, 24, 12> {
 
     ghost shows = { λ t sight. (b : List ℕ) → M.tells (tree_memory t).now b → IsShown (M.size (tree_memory t).now / 512) b sight };
 
+    ghost told = { λ t b. M.tells (tree_memory t).now b };
+
     ghost rising = { λ t xs h. h.rising };
 
     ghost counted = { λ t xs h. (h.bytes, h.told, sym h.tree.header.count_is) };
 
     ghost counted_once = { λ t n m h k. counted_same n m h.0 k.0 (M.told_once _ _ _ h.1 k.1) h.2 k.2 };
+
+    ghost counted_told = { λ t b h. (count_in (page_at b 0), (b, h, refl)) };
 
     ghost same_room = { λ a b h. ap (λ (n : ℕ). capacity_of 24 (n / 512)) (M.same_size _ _ h.1) };
 
@@ -81,5 +85,13 @@ impl<'m, M: FlatMem> SortedEntries for PageTree<&'m mut M, 24, 12> {
 
     fn replace_key(&mut self, entry: &Record) -> Result<bool, TreeError<M::Error>> {
         self.replace_key(entry)
+    }
+}
+
+impl<'m, M: FlatMem> CutEntries for PageTree<&'m mut M, 24, 12> {
+    ghost remove_cost = { 36 * M.cost };
+
+    fn remove_key(&mut self, key: &Key) -> Result<bool, TreeError<M::Error>> {
+        self.remove_key(key)
     }
 }

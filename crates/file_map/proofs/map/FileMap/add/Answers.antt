@@ -25,3 +25,8 @@ pub returns-clause-cause : goal.returns-clause-cause
 returns-clause-cause g c =
     let here : (tree_memory c.over-tree.result).now ≡ c.args.self.now.mem = λ i. (c.over-tree.ensures.memory i).now in
     subst (λ m. IfErr c.add.result (IsCause c.args.self.now.sectors (IsMost c.args.self.now.sectors (λ n. (b : List ℕ) × g.M.FlatMem.tells m b × (n ≡ count_in (page_at b 0)))) (λ sight. (b : List ℕ) → g.M.FlatMem.tells m b → IsShown (g.M.FlatMem.size m / 512) b sight) (g.M.FlatMem.accounted m (tree_memory c.add.new.entries).now))) here c.add.ensures.cause
+
+pub returns-clause-full_same : goal.returns-clause-full_same
+returns-clause-full_same g c = λ b h.
+    let here : (tree_memory c.over-tree.result).now ≡ c.args.self.now.mem = λ i. (c.over-tree.ensures.memory i).now in
+    c.add.ensures.full_same b (subst (λ m. g.M.FlatMem.tells m b) (sym here) h)
