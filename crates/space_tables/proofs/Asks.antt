@@ -21,7 +21,7 @@ use Rattle.projection_laws.proofs.TellLemmas.{intervals_tell}
 use Rattle.space_tables.specs.declared.error.SpaceError.{SpaceError}
 use Rattle.space_tables.specs.declared.error.SpaceError.TheVariants.{Refused, Malformed, Mem}
 use Rattle.space_tables.specs.Answer.{FromMemory, IfMalformed, Refuses, Answers, Replies}
-use Rattle.space_tables.specs.Form.{has_page, Breaks, BreaksBetween}
+use Rattle.space_tables.specs.Form.{has_page, interval_record, is_interval_record, BreaksInterval, BreaksProjection, Breaks}
 use Rattle.space_tables.specs.Stored.{HoldTables, TellSpaces}
 
 -- ---- tests in a row
@@ -149,15 +149,17 @@ place_replies ss h page s inner at inside (Err (Mem error)) a = tt
 
 -- ---- where a page is malformed
 
-module _ {M X : Type 0} (tells : M → List ℕ → Type 0) (beside : M → M → Type 0) where
-  pub broken_between : (old mem new : M) → beside old mem → beside mem new → (b : List ℕ) → tells mem b → (e : SpaceError X) → IfMalformed (Breaks b) e → IfMalformed (BreaksBetween tells beside old new) e
-  broken_between old mem new before after b told (Refused word) h = tt
-  broken_between old mem new before after b told (Malformed page) h = record { mem = mem; before = before; after = after; bytes = b; told = told; breaks = h }
-  broken_between old mem new before after b told (Mem error) h = tt
+module _ {X : Type 0} (count : ℕ) (b bytes : List ℕ) where
+  -- a record that is still as it was breaks its form before
+  pub broken_still : (k : ℕ) → interval_record bytes k ≡ interval_record b k → (e : SpaceError X) → IfMalformed (λ page. BreaksInterval count bytes page k) e → IfMalformed (BreaksProjection count b) e
+  broken_still k same (Refused word) h = tt
+  broken_still k same (Malformed page) h = (k, record { counted = h.counted; on = h.on; breaks = ap is_interval_record (sym same) ∙ h.breaks })
+  broken_still k same (Mem error) h = tt
 
-  -- the same from an earlier state on
-  pub broken_later : {T : Type 0} (first old new : M) → beside first old → ((m : M) → beside old m → beside first m) → (r : Result T (SpaceError X)) → IfErr r (IfMalformed (BreaksBetween tells beside old new)) → IfErr r (IfMalformed (BreaksBetween tells beside first new))
-  broken_later first old new kept through (Ok v) h = tt
-  broken_later first old new kept through (Err (Refused word)) h = tt
-  broken_later first old new kept through (Err (Malformed page)) h = record { mem = h.mem; before = through h.mem h.before; after = h.after; bytes = h.bytes; told = h.told; breaks = h.breaks }
-  broken_later first old new kept through (Err (Mem error)) h = tt
+  -- where all are as they were
+  pub broken_before : {T : Type 0} → ((k : ℕ) → 0 ≤ k → interval_record bytes k ≡ interval_record b k) → (r : Result T (SpaceError X)) → IfErr r (IfMalformed (BreaksProjection count bytes)) → IfErr r (IfMalformed (Breaks count b))
+  broken_before same (Ok v) h = tt
+  broken_before same (Err (Refused word)) h = tt
+  broken_before same (Err (Malformed page)) h =
+      inr (h.0, record { counted = h.1.counted; on = h.1.on; breaks = ap is_interval_record (sym (same h.0 (omega arith))) ∙ h.1.breaks })
+  broken_before same (Err (Mem error)) h = tt

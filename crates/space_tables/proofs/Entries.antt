@@ -5,7 +5,7 @@ use Rattle.std.specs.List.{insert, remove}
 use Rattle.std.proofs.lemmas.List.FromFn.{fill_by_all, length-map-range_with_len, get_or-map-range_with_len}
 use Rattle.std.proofs.lemmas.Option.{slice_get-map, get_or_from_slice_get, slice_get_within}
 use Rattle.flat_mem.specs.Memory.{part}
-use Rattle.flat_mem.specs.Order.{entry_at}
+use Rattle.flat_mem.specs.Order.{entry_at, key_at}
 use Rattle.flat_mem.specs.Parts.{part-part}
 use Rattle.flat_mem.specs.Part.{IsSameBeside, TellsPart, IsKept}
 use Rattle.flat_mem.specs.PartLaws.{others_kept}
@@ -14,7 +14,7 @@ use Rattle.record_table.specs.Table.{place, entry, entries, TellsEntries}
 use Rattle.flat_machine.specs.declared.space.Space.{Space}
 use Rattle.projection_laws.specs.Sight.{Interval}
 use Rattle.projection_laws.specs.Stored.{bytes_of}
-use Rattle.space_tables.specs.Form.{slot_record, interval_record}
+use Rattle.space_tables.specs.Form.{slot_record, interval_record, key_in}
 use Rattle.space_tables.specs.Stored.{AreTables}
 use Rattle.space_tables.proofs.ReadBack.{get_or_at}
 
@@ -30,6 +30,13 @@ length-entries b n = length-map-range_with_len (entry 32 b) 0 n
 
 pub entry_of : (b : List ℕ) (n i : ℕ) → i < n → entry_at (entries 32 b n) i ≡ entry 32 b i
 entry_of b n i below = get_or-map-range_with_len (entry 32 b) 0 n i i [] below (omega arith)
+
+key_is : (b : List ℕ) (k : ℕ) → take 4 (interval_record b k) ≡ key_in b k
+key_is b k = let at : 32 * (512 + k) + 0 ≡ 32 * (512 + k) = omega arith in part-part b (32 * (512 + k)) 32 0 4 (omega arith) ∙ ap (λ (n : ℕ). part b n 4) at
+
+-- the key of an entry is that of the interval
+pub key_of : (b : List ℕ) (n i : ℕ) → i < n → n ≤ 1024 → key_at 4 (entries 32 (part b 16384 32768) n) i ≡ key_in b i
+key_of b n i below few = ap (take 4) (entry_of (part b 16384 32768) n i below ∙ record_is b i (omega (arith, below, few))) ∙ key_is b i
 
 length-bytes : (xs : List Interval) → length (map bytes_of xs) ≡ length xs
 length-bytes [] = refl

@@ -10,3 +10,5 @@ pub mod Sets
 pub mod Begins
 pub mod Places
 pub mod Pieces
+pub mod Rejoined
+pub mod Removes

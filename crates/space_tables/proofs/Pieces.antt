@@ -1,6 +1,6 @@
 -- The parts of an interval are put in the place of it, and the tables with a space more.
-use Rattle.std.proofs.Common.{◌≡◌, ◌≢◌, ◌⊎◌, inl, inr, ℕ, zero, suc, ◌+◌, ◌*◌, ◌<◌, ◌≤◌, Bool, true, false, List, [], ◌∷◌, ◌++◌, take, drop, length, Option, Some, None, refl, sym, ◌∙◌, ap, subst, arith, ◌==◌}
-use Rattle.std.specs.Prelude.{slice_get, slice_set, not, nat_lt, IfErr, min}
+use Rattle.std.proofs.Common.{◌≡◌, ◌≢◌, ◌⊎◌, inl, inr, ℕ, zero, suc, ◌+◌, ◌-◌, ◌*◌, ◌<◌, ◌≤◌, Bool, true, false, List, [], ◌∷◌, ◌++◌, take, drop, length, Option, Some, None, refl, sym, ◌∙◌, ap, subst, arith, ◌==◌}
+use Rattle.std.specs.Prelude.{slice_get, slice_set, not, nat_lt, if◌then◌else◌, Result, Ok, Err, IfErr, min}
 use Rattle.std.specs.List.{list_any}
 use Rattle.std.specs.Bool.{then_some}
 use Rattle.std.proofs.lemmas.Option.{same_Some, none-some, slice_get_past}
@@ -8,7 +8,7 @@ use Rattle.std.proofs.lemmas.Bool.{cases_eq, cases_lt}
 use Rattle.std.proofs.lemmas.Bool.Decides.{nat_tests}
 use Rattle.flat_machine.specs.declared.call.Refusal.TheVariants as why
 use Rattle.flat_machine.specs.declared.space.Space.{Space}
-use Rattle.flat_machine.specs.Space.{root, space_at}
+use Rattle.flat_machine.specs.Space.{root, space_at, end}
 use Rattle.flat_machine.specs.Refusal.{no_size}
 use Rattle.flat_machine.specs.Next.{put_space, is_unused, lowest_unused, first_page_for}
 use Rattle.flat_machine.proofs.Lists.{find_in, in_any}
@@ -16,7 +16,7 @@ use Rattle.projection_laws.specs.Sight.{Interval, end_of}
 use Rattle.projection_laws.specs.Slots.{listed, AreNumbered}
 use Rattle.projection_laws.specs.Spaces.{MayBeAdded}
 use Rattle.projection_laws.specs.Tests.{no_spaces, made}
-use Rattle.projection_laws.specs.Edits.{replaced, pieces}
+use Rattle.projection_laws.specs.Edits.{some_pages, replaced, pieces, cut}
 use Rattle.projection_laws.proofs.SlotLemmas.{slot_free, slot_written}
 use Rattle.projection_laws.proofs.Added.{added_splits}
 use Rattle.projection_laws.proofs.Counts.{few_intervals}
@@ -24,7 +24,6 @@ use Rattle.projection_laws.proofs.FitLemmas.{windows_stay_fit}
 use Rattle.space_tables.specs.declared.error.SpaceError.{SpaceError}
 use Rattle.space_tables.specs.declared.error.SpaceError.TheVariants.{Refused, Malformed, Mem}
 use Rattle.space_tables.specs.Answer.{IfMem, IfMalformed}
-use Rattle.space_tables.specs.Form.{Breaks, BreaksAt, IsNearlyFull}
 use Rattle.space_tables.specs.Change.{put_in}
 use Rattle.space_tables.specs.Scan.{AreTaken, IsLowestFree}
 use Rattle.space_tables.specs.Stored.{HoldTables, AreRight, TellSpaces}
@@ -51,6 +50,35 @@ put_none [] zero = refl
 put_none [] (suc k) = refl
 put_none (x ∷ xs) zero = refl
 put_none (x ∷ xs) (suc k) = ap (λ (ws : List Interval). x ∷ ws) (put_none xs k)
+
+-- ---- how many parts there are
+
+one_part : (i : Interval) → i.pages ≢ 0 → length (some_pages i) ≡ 1
+one_part i n = let t : (i.pages == 0) ≡ false = grind (arith, nat_tests) in ap (λ (b : Bool). length (if b then [] else i ∷ [])) t
+
+around_mid : (fs bs : List Interval) (m : Interval) → length (fs ++ (m ∷ bs)) ≡ length fs + length bs + 1
+around_mid [] bs m = omega arith
+around_mid (f ∷ fs) bs m = let l = around_mid fs bs m in omega (arith, l)
+
+-- so many parts more than one
+pub parts_more : (x : Space) (i : Interval) (m : ℕ) → m ≤ 2 → (x.first - i.first ≡ 0 → m ≤ 1) → (end_of i - end x ≡ 0 → m ≤ 1) → (x.first - i.first ≡ 0 → end_of i - end x ≡ 0 → m ≡ 0)
+    → m + 1 ≤ length (pieces x i)
+parts_more x i m two front back none = by (cases_eq (x.first - i.first) 0) (cases_eq (end_of i - end x) 0)
+  where
+    f : Interval
+    f = cut i i.first (x.first - i.first)
+
+    k : Interval
+    k = cut i (end x) (end_of i - end x)
+
+    long : length (pieces x i) ≡ length (some_pages f) + length (some_pages k) + 1
+    long = around_mid (some_pages f) (some_pages k) _
+
+    by : (x.first - i.first ≡ 0) ⊎ (x.first - i.first ≢ 0) → (end_of i - end x ≡ 0) ⊎ (end_of i - end x ≢ 0) → m + 1 ≤ length (pieces x i)
+    by (inl a) (inl d) = let l = long in let n = none a d in omega (arith, l, n)
+    by (inl a) (inr d) = let l = long in let o = one_part k d in let n = front a in omega (arith, l, o, n)
+    by (inr a) (inl d) = let l = long in let o = one_part f a in let n = back d in omega (arith, l, o, n)
+    by (inr a) (inr d) = let l = long in let o = one_part f a in let p = one_part k d in omega (arith, l, o, p, two)
 
 -- ---- how many spaces there are
 
@@ -148,10 +176,6 @@ added tells now n m ss t x p k i may free e low high hold long =
 
 -- ---- where a page is malformed
 
-pub breaks_at : (first : Option ℕ) (b : List ℕ) (page : ℕ) → Breaks b page → BreaksAt first b page
-breaks_at None b page h = h
-breaks_at (Some asked) b page h = inl h
-
 pub malformed_as : {X : Type 0} (P Q : ℕ → Type 0) → ((page : ℕ) → P page → Q page) → (e : SpaceError X) → IfMalformed P e → IfMalformed Q e
 malformed_as P Q f (Refused word) h = tt
 malformed_as P Q f (Malformed page) h = f page h
@@ -161,3 +185,7 @@ pub mem_as : {X : Type 0} (P Q : X → Type 0) → ((x : X) → P x → Q x) →
 mem_as P Q f (Refused word) h = tt
 mem_as P Q f (Malformed page) h = tt
 mem_as P Q f (Mem error) h = f error h
+
+pub errs_as : {T X : Type 0} (r : Result T (SpaceError X)) (P Q : X → Type 0) → ((x : X) → P x → Q x) → IfErr r (IfMem P) → IfErr r (IfMem Q)
+errs_as (Ok v) P Q f h = tt
+errs_as (Err e) P Q f h = mem_as P Q f e h

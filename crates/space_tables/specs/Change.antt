@@ -1,5 +1,6 @@
 -- What a change of a space makes of the intervals.
-use Rattle.std.specs.Prelude.{ℕ, ◌+◌, ◌^◌, ◌≤◌, Bool, ◌==◌, List, ◌++◌, take, drop, Option, Some, None}
+use Rattle.std.specs.Prelude.{ℕ, zero, suc, ◌+◌, ◌^◌, ◌≤◌, Bool, ◌==◌, List, ◌++◌, take, drop, Option, Some, None, slice_get}
+use Rattle.std.specs.Option.{option_map_or}
 use Rattle.flat_machine.specs.declared.space.Space.{Space}
 use Rattle.flat_machine.specs.Space.{holds}
 use Rattle.projection_laws.specs.Sight.{Interval}
@@ -31,3 +32,12 @@ HasSmallHandle (Show x window) = x.handle ≤ 511
 -- these come in at an index
 abbrev pub put_in : List Interval → ℕ → List Interval → List Interval
 put_in xs at new = take at xs ++ (new ++ drop at xs)
+
+-- the interval before an index, or none
+abbrev pub one_before : List Interval → ℕ → Option Interval
+one_before xs zero = None
+one_before xs (suc k) = slice_get xs k
+
+-- how many pages an interval has, or 0 where there is none
+abbrev pub pages_in : Option Interval → ℕ
+pages_in x = option_map_or (λ i. i.pages) x 0

@@ -1,13 +1,15 @@
 -- The form of the records of the tables, and when a page breaks it.
-use Rattle.std.specs.Prelude.{◌≡◌, ◌⊎◌, ℕ, ◌+◌, ◌*◌, ◌/◌, ◌^◌, ◌<◌, ◌≤◌, Bool, true, false, ◌&&◌, ◌||◌, ◌==◌, nat_le, nat_lt, List, Option, None, Some}
+use Rattle.std.specs.Prelude.{◌≡◌, ◌⊎◌, ℕ, ◌+◌, ◌*◌, ◌/◌, ◌^◌, ◌<◌, ◌≤◌, Bool, true, false, ◌&&◌, ◌||◌, ◌==◌, nat_le, nat_lt, List, length, Option, None, Some}
+use Rattle.std.specs.Option.{option_map_or}
 use Rattle.flat_machine.specs.declared.space.Space.{Space}
 use Rattle.flat_machine.specs.declared.space.Window.{Window}
-use Rattle.flat_machine.specs.Space.{root_pages}
+use Rattle.flat_machine.specs.Space.{root_pages, end}
 use Rattle.std.specs.Int.{w32, to_be_bytes}
 use Rattle.flat_mem.specs.Memory.{part}
 use Rattle.flat_mem.specs.Order.{at_most}
 use Rattle.record_table.specs.Field.{field}
 use Rattle.projection_laws.specs.Sight.{Interval, end_of}
+use Rattle.projection_laws.specs.Edits.{pieces}
 use Rattle.projection_laws.specs.Stored.{interval_in, space_in}
 
 -- record h of the hierarchy, and record k of the projection
@@ -16,6 +18,18 @@ slot_record b h = part b (32 * h) 32
 
 abbrev pub interval_record : List ℕ → ℕ → List ℕ
 interval_record b k = part b (32 * (512 + k)) 32
+
+-- the first page of the space in the record of a handle
+abbrev pub first_in_slot : List ℕ → ℕ → ℕ
+first_in_slot b h = (space_in h (slot_record b h)).first
+
+-- the key of interval k: the bytes of its first page
+abbrev pub key_in : List ℕ → ℕ → List ℕ
+key_in b k = part b (32 * (512 + k)) 4
+
+-- the interval is one that stands in a record of a projection with so many
+abbrev pub IsRecorded : ℕ → List ℕ → Interval → Type 0
+IsRecorded count b x = (k : ℕ) × (k < count) × (x ≡ interval_in (interval_record b k))
 
 -- a run of pages has a page, and lies in the root
 abbrev pub lies_in_root : ℕ → ℕ → Bool
@@ -65,38 +79,64 @@ pub record BreaksSlot (b : List ℕ) (page h : ℕ) : Type 0 where
   pub on : page ≡ h / 16
   pub breaks : is_slot_record (slot_record b h) ≡ false
 
--- The page of the projection that has this record breaks its form there.
-pub record BreaksInterval (b : List ℕ) (page k : ℕ) : Type 0 where
+-- The page that has this record, one of so many of the projection, breaks its form there.
+pub record BreaksInterval (count : ℕ) (b : List ℕ) (page k : ℕ) : Type 0 where
+  pub counted : k < count
   pub on : page ≡ 32 + k / 16
   pub breaks : is_interval_record (interval_record b k) ≡ false
 
--- The page has the record that was looked up for a page of the root, and it is no interval that has it.
-pub record Misses (b : List ℕ) (page k asked : ℕ) : Type 0 where
+-- The page has the record where the search for a page of the root ended: its key is at most that page, and the next one's, if there
+-- is one, is above it. It is no interval that has the page.
+pub record Misses (count : ℕ) (b : List ℕ) (page k asked : ℕ) : Type 0 where
+  pub counted : k < count
   pub on : page ≡ 32 + k / 16
+  pub begins : at_most (key_in b k) (to_be_bytes w32 asked) ≡ true
+  pub ends : k + 1 < count → at_most (key_in b (k + 1)) (to_be_bytes w32 asked) ≡ false
   pub misses : has_page (interval_in (interval_record b k)) asked ≡ false
 
--- a page breaks its form
-abbrev pub Breaks : List ℕ → ℕ → Type 0
-Breaks b page = ((h : ℕ) × BreaksSlot b page h) ⊎ ((k : ℕ) × BreaksInterval b page k)
+-- The page has the first record, whose key is above the page that was looked up.
+pub record BeginsBehind (b : List ℕ) (page asked : ℕ) : Type 0 where
+  pub on : page ≡ 32
+  pub behind : at_most (key_in b 0) (to_be_bytes w32 asked) ≡ false
 
--- a page breaks its form, or has no interval for the page that was looked up: also where the first record's key is above it
-abbrev pub BreaksFor : ℕ → List ℕ → ℕ → Type 0
-BreaksFor asked b page = Breaks b page ⊎ (((k : ℕ) × Misses b page k asked) ⊎ ((page ≡ 32) × (at_most (part b 16384 4) (to_be_bytes w32 asked) ≡ false)))
+-- a page of the hierarchy breaks its form
+abbrev pub BreaksHierarchy : List ℕ → ℕ → Type 0
+BreaksHierarchy b page = (h : ℕ) × BreaksSlot b page h
 
--- a page breaks its form, or has no interval for the page that is given, if one is
-abbrev pub BreaksAt : Option ℕ → List ℕ → ℕ → Type 0
-BreaksAt None b page = Breaks b page
-BreaksAt (Some asked) b page = BreaksFor asked b page
+-- a page of a projection of so many records breaks its form
+abbrev pub BreaksProjection : ℕ → List ℕ → ℕ → Type 0
+BreaksProjection count b page = (k : ℕ) × BreaksInterval count b page k
 
--- the page is the first of the projection, which has so many intervals that a space more may make too many
-abbrev pub IsNearlyFull : ℕ → ℕ → Type 0
-IsNearlyFull count page = (page ≡ 32) × (1022 ≤ count)
+-- a page of either breaks its form
+abbrev pub Breaks : ℕ → List ℕ → ℕ → Type 0
+Breaks count b page = BreaksHierarchy b page ⊎ BreaksProjection count b page
 
--- Between two states there is one that tells bytes in which a page breaks its form. What stands beside is kept up to it, and from it on.
-pub record BreaksBetween {M : Type 0} (tells : M → List ℕ → Type 0) (beside : M → M → Type 0) (old new : M) (page : ℕ) : Type 0 where
-  pub mem : M
-  pub before : beside old mem
-  pub after : beside mem new
-  pub bytes : List ℕ
-  pub told : tells mem bytes
-  pub breaks : Breaks bytes page
+-- a page of the projection breaks its form, or has no interval for the page that was looked up
+abbrev pub BreaksLookUp : ℕ → ℕ → List ℕ → ℕ → Type 0
+BreaksLookUp asked count b page = BreaksProjection count b page ⊎ (((k : ℕ) × Misses count b page k asked) ⊎ BeginsBehind b page asked)
+
+-- so does a page of either
+abbrev pub BreaksFor : ℕ → ℕ → List ℕ → ℕ → Type 0
+BreaksFor asked count b page = BreaksHierarchy b page ⊎ BreaksLookUp asked count b page
+
+-- a page of the projection breaks its form, or has no interval for the page that is given, if one is
+abbrev pub BreaksAt : Option ℕ → ℕ → List ℕ → ℕ → Type 0
+BreaksAt None count b page = BreaksProjection count b page
+BreaksAt (Some asked) count b page = BreaksLookUp asked count b page
+
+-- The page is the first of the projection: the parts of an interval around a space, in the place of the interval itself, would
+-- make more than 1,023 intervals of so many.
+abbrev pub IsOverfull : ℕ → Space → Interval → ℕ → Type 0
+IsOverfull count x i page = (page ≡ 32) × (1024 < count + length (pieces x i))
+
+-- A space of so many pages, at the given first page or at the first one of a gap, would come into an interval of its parent, one
+-- of so many that were read, and make too many of them.
+pub record MakesTooMany (count : ℕ) (b : List ℕ) (parent pages : ℕ) (first : Option ℕ) (page : ℕ) : Type 0 where
+  pub space : Space
+  pub interval : Interval
+  pub recorded : IsRecorded count b interval
+  pub own : interval.space ≡ parent
+  pub long : space.pages ≡ pages
+  pub placed : space.first ≡ option_map_or (λ p. p) first interval.first
+  pub inside : (interval.first ≤ space.first) × (end space ≤ end_of interval)
+  pub overfull : IsOverfull count space interval page

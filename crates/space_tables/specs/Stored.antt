@@ -46,7 +46,8 @@ pub record TellSpaces (tells : List ℕ → Type 0) (count : ℕ) (ss : List Spa
   pub counted : length xs ≡ count
   pub spaces : listed slots ≡ ss
 
--- a memory tells some bytes
-pub record TellsSome (tells : List ℕ → Type 0) : Type 0 where
+-- A memory tells bytes, and the records of the projection from an index on are those of others.
+pub record TellsRest (tells : List ℕ → Type 0) (b : List ℕ) (from : ℕ) : Type 0 where
   pub bytes : List ℕ
   pub told : tells bytes
+  pub rest : (k : ℕ) → from ≤ k → interval_record bytes k ≡ interval_record b k

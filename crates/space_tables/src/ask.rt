@@ -4,7 +4,8 @@ ghost use Rattle.flat_machine.specs.declared.space.Space.{Space};
 ghost use Rattle.flat_machine.specs.Space.{space_at, innermost};
 ghost use Rattle.flat_machine.specs.Refusal.{first_of, past_root};
 ghost use Rattle.projection_laws.specs.Tests.{no_space, map_row};
-ghost use Rattle.space_tables.specs.Form.{space_in_form, Breaks, BreaksFor};
+ghost use Rattle.projection_laws.specs.Stored.{slot_in};
+ghost use Rattle.space_tables.specs.Form.{slot_record, space_in_form, BreaksSlot, BreaksHierarchy, BreaksFor};
 ghost use Rattle.space_tables.specs.Answer.{IfMem, IfMalformed, Replies};
 ghost use Rattle.space_tables.specs.Stored.{TellSpaces};
 
@@ -22,8 +23,9 @@ pub fn existing<M: FlatMem>(mem: &mut M, handle: u32) -> Result<Space, SpaceErro
     requires size { 49152 ≤ M.size mem.old }
     ensures answer { (count : ℕ) (ss : List Space) → TellSpaces (M.tells mem.old) count ss
         → Replies (no_space ss handle) (λ s. space_at ss handle ≡ Some s) result }
+    ensures read { (b : List ℕ) → M.tells mem.old b → IfOk result (λ s. slot_in handle (slot_record b handle) ≡ Some s) }
     ensures form { IfOk result (λ s. (space_in_form s ≡ true) × (s.handle ≡ handle) × (handle < 512)) }
-    ensures malformed { (b : List ℕ) → M.tells mem.old b → IfErr result (IfMalformed (Breaks b)) }
+    ensures malformed { (b : List ℕ) → M.tells mem.old b → IfErr result (IfMalformed (λ page. BreaksSlot b page handle)) }
     ensures unchanged { (b : List ℕ) → M.tells mem.old b → M.tells mem.new b }
     ensures kept { M.beside mem.old mem.new }
     ensures cause { IfErr result (IfMem (M.accounted mem.old mem.new)) }
@@ -46,7 +48,7 @@ pub fn place<M: FlatMem>(mem: &mut M, count: u32, page: u32) -> Result<Space, Sp
     ensures answer { (ss : List Space) → TellSpaces (M.tells mem.old) count ss
         → Replies (first_of (past_root page ∷ [])) (λ s. innermost ss page ≡ Some s) result }
     ensures form { IfOk result (λ s. space_in_form s ≡ true) }
-    ensures malformed { (b : List ℕ) → M.tells mem.old b → IfErr result (IfMalformed (BreaksFor page b)) }
+    ensures malformed { (b : List ℕ) → M.tells mem.old b → IfErr result (IfMalformed (BreaksFor page count b)) }
     ensures unchanged { (b : List ℕ) → M.tells mem.old b → M.tells mem.new b }
     ensures kept { M.beside mem.old mem.new }
     ensures cause { IfErr result (IfMem (M.accounted mem.old mem.new)) }
@@ -64,8 +66,9 @@ pub fn unmapped<M: FlatMem>(mem: &mut M, handle: u32) -> Result<Space, SpaceErro
     requires size { 49152 ≤ M.size mem.old }
     ensures answer { (count : ℕ) (ss : List Space) → TellSpaces (M.tells mem.old) count ss
         → Replies (first_of (map_row ss handle)) (λ s. space_at ss handle ≡ Some s) result }
+    ensures read { (b : List ℕ) → M.tells mem.old b → IfOk result (λ s. slot_in handle (slot_record b handle) ≡ Some s) }
     ensures form { IfOk result (λ s. space_in_form s ≡ true) }
-    ensures malformed { (b : List ℕ) → M.tells mem.old b → IfErr result (IfMalformed (Breaks b)) }
+    ensures malformed { (b : List ℕ) → M.tells mem.old b → IfErr result (IfMalformed (BreaksHierarchy b)) }
     ensures unchanged { (b : List ℕ) → M.tells mem.old b → M.tells mem.new b }
     ensures kept { M.beside mem.old mem.new }
     ensures cause { IfErr result (IfMem (M.accounted mem.old mem.new)) }

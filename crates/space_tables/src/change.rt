@@ -2,9 +2,9 @@
 ghost use Rattle.std.specs.Prelude.{◌≡◌, ℕ, ◌+◌, ◌*◌, ◌<◌, ◌≤◌, true, List, length, map, Option, Some, IfErr, IfSome, OnOk, MatchResult, slice_get, slice_set};
 ghost use Rattle.flat_machine.specs.declared.space.Space.{Space};
 ghost use Rattle.projection_laws.specs.Sight.{Interval, mode_of};
-ghost use Rattle.space_tables.specs.Form.{Breaks, BreaksBetween};
+ghost use Rattle.space_tables.specs.Form.{BreaksInterval, BreaksProjection};
 ghost use Rattle.space_tables.specs.Answer.{FromMemory, NotRefused, IfMem, IfMalformed};
-ghost use Rattle.space_tables.specs.Stored.{HoldTables, IsReadable, TellsSome};
+ghost use Rattle.space_tables.specs.Stored.{HoldTables, IsReadable, TellsRest};
 ghost use Rattle.space_tables.specs.Change.{touches, changed, Counts, HasSmallHandle};
 
 use crate::SpaceError;
@@ -70,8 +70,8 @@ fn rewrite_at<M: FlatMem>(
     ensures changed { (slots : List (Option Space)) (xs : List Interval) (x : Interval) → HoldTables (M.tells mem.old) slots xs
         → slice_get xs index ≡ Some x → IsReadable x → Counts change.now → HasSmallHandle change.now
         → MatchResult result (λ _. HoldTables (M.tells mem.new) slots (slice_set xs index (changed change.now x))) FromMemory }
-    ensures told { (b : List ℕ) → M.tells mem.old b → OnOk result (TellsSome (M.tells mem.new)) }
-    ensures malformed { (b : List ℕ) → M.tells mem.old b → IfErr result (IfMalformed (Breaks b)) }
+    ensures rest { (b : List ℕ) → M.tells mem.old b → OnOk result (TellsRest (M.tells mem.new) b (index + 1)) }
+    ensures malformed { (b : List ℕ) (count : ℕ) → M.tells mem.old b → index < count → IfErr result (IfMalformed (λ page. BreaksInterval count b page index)) }
     ensures refused { IfErr result NotRefused }
     ensures kept { M.beside mem.old mem.new }
     ensures cause { IfErr result (IfMem (M.accounted mem.old mem.new)) }
@@ -85,7 +85,7 @@ fn rewrite_at<M: FlatMem>(
     }
 }
 
-/// Changes the intervals.
+/// Changes the intervals. Each is read before it is written.
 pub fn rewrite<M: FlatMem>(
     mem: &mut M,
     count: u32,
@@ -96,7 +96,7 @@ pub fn rewrite<M: FlatMem>(
     ensures changed { (slots : List (Option Space)) (xs : List Interval) → HoldTables (M.tells mem.old) slots xs
         → length xs ≡ count → ((k : ℕ) (x : Interval) → slice_get xs k ≡ Some x → IsReadable x) → Counts change.now → HasSmallHandle change.now
         → MatchResult result (λ _. HoldTables (M.tells mem.new) slots (map (changed change.now) xs)) FromMemory }
-    ensures malformed { (b : List ℕ) → M.tells mem.old b → IfErr result (IfMalformed (BreaksBetween M.tells M.beside mem.old mem.new)) }
+    ensures malformed { (b : List ℕ) → M.tells mem.old b → IfErr result (IfMalformed (BreaksProjection count b)) }
     ensures refused { IfErr result NotRefused }
     ensures kept { M.beside mem.old mem.new }
     ensures cause { IfErr result (IfMem (M.accounted mem.old mem.new)) }

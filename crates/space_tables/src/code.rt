@@ -45,29 +45,29 @@ fn in_form(x: &Interval) -> bool
         && x.start <= x.first
 }
 
-fn decoded(record: &Record) -> Interval
-    ensures { result ≡ interval_in record.now }
+fn decoded(bytes: &Record) -> Interval
+    ensures { result ≡ interval_in bytes.now }
 {
     Interval {
-        first: field!(u32, record, 0),
-        pages: field!(u32, record, 4),
-        space: field!(u16, record, 8),
-        unit: record[10],
-        mode: record[11],
-        start: field!(u32, record, 12),
-        id: field!(u64, record, 16),
-        page: field!(u32, record, 24),
-        mapped: field!(u16, record, 28),
+        first: field!(u32, bytes, 0),
+        pages: field!(u32, bytes, 4),
+        space: field!(u16, bytes, 8),
+        unit: bytes[10],
+        mode: bytes[11],
+        start: field!(u32, bytes, 12),
+        id: field!(u64, bytes, 16),
+        page: field!(u32, bytes, 24),
+        mapped: field!(u16, bytes, 28),
     }
 }
 
 /// The interval in a record, or None where the record breaks its form.
-pub fn read_interval(record: &Record) -> Option<Interval>
-    ensures interval { result ≡ (if is_interval_record record.now then Some (interval_in record.now) else None) }
+pub fn read_interval(bytes: &Record) -> Option<Interval>
+    ensures interval { result ≡ (if is_interval_record bytes.now then Some (interval_in bytes.now) else None) }
     ensures form { IfSome result (λ x. in_form x ≡ true) }
 {
-    let interval = decoded(record);
-    if in_form(&interval) && field!(u16, record, 30) == 0 {
+    let interval = decoded(bytes);
+    if in_form(&interval) && field!(u16, bytes, 30) == 0 {
         Some(interval)
     } else {
         None
@@ -78,17 +78,17 @@ pub fn read_interval(record: &Record) -> Option<Interval>
 pub fn interval_bytes(x: &Interval) -> Record
     ensures { result ≡ bytes_of x.now }
 {
-    let mut record = [0; 32];
-    field!(u32, record, 0 => x.first);
-    field!(u32, record, 4 => x.pages);
-    field!(u16, record, 8 => x.space);
-    record[10] = x.unit;
-    record[11] = x.mode;
-    field!(u32, record, 12 => x.start);
-    field!(u64, record, 16 => x.id);
-    field!(u32, record, 24 => x.page);
-    field!(u16, record, 28 => x.mapped);
-    record
+    let mut bytes = [0; 32];
+    field!(u32, bytes, 0 => x.first);
+    field!(u32, bytes, 4 => x.pages);
+    field!(u16, bytes, 8 => x.space);
+    bytes[10] = x.unit;
+    bytes[11] = x.mode;
+    field!(u32, bytes, 12 => x.start);
+    field!(u64, bytes, 16 => x.id);
+    field!(u32, bytes, 24 => x.page);
+    field!(u16, bytes, 28 => x.mapped);
+    bytes
 }
 
 /// 1 read-only, 2 writable, 3 anonymous and read-only, 4 anonymous and writable.
@@ -117,16 +117,16 @@ fn window_in(mode: u8, id: FileId, page: u32) -> Option<Window>
     })
 }
 
-fn space_in(handle: u32, record: &Record) -> Space
-    ensures { result ≡ space_in handle record.now }
+fn space_in(handle: u32, bytes: &Record) -> Space
+    ensures { result ≡ space_in handle bytes.now }
 {
     Space {
         handle,
-        parent: field!(u16, record, 4).into(),
-        first: field!(u32, record, 8),
-        pages: field!(u32, record, 12),
-        unit: record[1],
-        window: window_in(record[2], field!(u64, record, 16), field!(u32, record, 24)),
+        parent: field!(u16, bytes, 4).into(),
+        first: field!(u32, bytes, 8),
+        pages: field!(u32, bytes, 12),
+        unit: bytes[1],
+        window: window_in(bytes[2], field!(u64, bytes, 16), field!(u32, bytes, 24)),
     }
 }
 
@@ -140,26 +140,26 @@ fn space_in_form(s: &Space) -> bool
     lies_in_root(s.first, s.pages) && is_unit(s.unit) && s.parent <= 511 && shown
 }
 
-fn has_plain_bytes(record: &Record) -> bool
-    ensures { result ≡ has_plain_bytes record.now }
+fn has_plain_bytes(bytes: &Record) -> bool
+    ensures { result ≡ has_plain_bytes bytes.now }
 {
-    record[0] == 1
-        && record[2] <= 4
-        && record[3] == 0
-        && field!(u16, record, 6) == 0
-        && field!(u32, record, 28) == 0
+    bytes[0] == 1
+        && bytes[2] <= 4
+        && bytes[3] == 0
+        && field!(u16, bytes, 6) == 0
+        && field!(u32, bytes, 28) == 0
 }
 
 /// The space in the record of a handle, or none there. The outer None means that the record breaks its form.
-pub fn read_slot(handle: u32, record: &Record) -> Option<Option<Space>>
-    ensures slot { result ≡ (if is_slot_record record.now then Some (slot_in handle record.now) else None) }
+pub fn read_slot(handle: u32, bytes: &Record) -> Option<Option<Space>>
+    ensures slot { result ≡ (if is_slot_record bytes.now then Some (slot_in handle bytes.now) else None) }
     ensures form { IfSome result (λ o. IfSome o (λ s. (space_in_form s ≡ true) × (s.handle ≡ handle))) }
 {
-    if record[0] == 0 {
+    if bytes[0] == 0 {
         return Some(None);
     }
-    let space = space_in(handle, record);
-    if has_plain_bytes(record) && space_in_form(&space) {
+    let space = space_in(handle, bytes);
+    if has_plain_bytes(bytes) && space_in_form(&space) {
         Some(Some(space))
     } else {
         None
@@ -171,16 +171,16 @@ pub fn space_bytes(s: &Space) -> Record
     requires { s.now.parent ≤ 511 }
     ensures { result ≡ slot_bytes (Some s.now) }
 {
-    let mut record = [0; 32];
-    record[0] = 1;
-    record[1] = s.unit;
-    field!(u16, record, 4 => s.parent as u16);
-    field!(u32, record, 8 => s.first);
-    field!(u32, record, 12 => s.pages);
+    let mut bytes = [0; 32];
+    bytes[0] = 1;
+    bytes[1] = s.unit;
+    field!(u16, bytes, 4 => s.parent as u16);
+    field!(u32, bytes, 8 => s.first);
+    field!(u32, bytes, 12 => s.pages);
     if let Some(window) = &s.window {
-        record[2] = mode_of(window);
-        field!(u64, record, 16 => window.file);
-        field!(u32, record, 24 => window.first);
+        bytes[2] = mode_of(window);
+        field!(u64, bytes, 16 => window.file);
+        field!(u32, bytes, 24 => window.first);
     }
-    record
+    bytes
 }

@@ -6,13 +6,13 @@ ghost use Rattle.flat_machine.specs.Space.{root_pages};
 ghost use Rattle.flat_mem.specs.Memory.{part};
 ghost use Rattle.flat_mem.specs.Order.{at_most};
 ghost use Rattle.record_table.specs.Table.{entries, pages_of};
-ghost use Rattle.record_table.specs.Look.{IsAnswer, IsWithin};
+ghost use Rattle.record_table.specs.Look.{IsAnswer, IsWithin, TurnsAt};
 ghost use Rattle.record_table.specs.declared.look.Count.TheVariants.{Given};
 ghost use Rattle.record_table.specs.declared.look.Look.TheVariants.{Before};
 ghost use Rattle.record_table.specs.Edits.{IfMem as IfTableMem};
 ghost use Rattle.projection_laws.specs.Sight.{Interval};
-ghost use Rattle.projection_laws.specs.Stored.{bytes_of};
-ghost use Rattle.space_tables.specs.Form.{in_form, has_page, BreaksFor};
+ghost use Rattle.projection_laws.specs.Stored.{bytes_of, interval_in};
+ghost use Rattle.space_tables.specs.Form.{interval_record, in_form, has_page, BreaksLookUp};
 ghost use Rattle.space_tables.specs.Answer.{FromMemory, NotRefused, IfMem, IfMalformed};
 ghost use Rattle.space_tables.specs.Stored.{HoldTables, AreRight};
 
@@ -34,6 +34,7 @@ fn look_up_record<M: FlatMem>(
     ensures answer { (w : List ℕ) → M.tells mem.old w
         → IfOk result (IsAnswer 4 (entries 32 (part w 16384 32768) count) count (to_be_bytes w32 page) into.new) }
     ensures before { (w : List ℕ) → M.tells mem.old w → result ≡ Ok Before → 0 < count → at_most (part w 16384 4) (to_be_bytes w32 page) ≡ false }
+    ensures turn { (w : List ℕ) → M.tells mem.old w → IfOk result (TurnsAt 4 (entries 32 (part w 16384 32768) count) (to_be_bytes w32 page)) }
     ensures form { IfOk result (IsWithin (Given count) count) }
     ensures unchanged { (w : List ℕ) → M.tells mem.old w → M.tells mem.new w }
     ensures kept { M.beside mem.old mem.new }
@@ -57,21 +58,22 @@ pub fn find<M: FlatMem>(
     ensures found { (slots : List (Option Space)) (xs : List Interval) → HoldTables (M.tells mem.old) slots xs → AreRight slots xs
         → length xs ≡ count → page < root_pages → MatchResult result (λ at. slice_get xs at.0 ≡ Some at.1) FromMemory }
     ensures form { IfOk result (λ at. (at.0 < count) × (in_form at.1 ≡ true) × (has_page at.1 page ≡ true)) }
-    ensures malformed { (b : List ℕ) → M.tells mem.old b → IfErr result (IfMalformed (BreaksFor page b)) }
+    ensures read { (b : List ℕ) → M.tells mem.old b → IfOk result (λ at. at.1 ≡ interval_in (interval_record b at.0)) }
+    ensures malformed { (b : List ℕ) → M.tells mem.old b → IfErr result (IfMalformed (BreaksLookUp page count b)) }
     ensures refused { IfErr result NotRefused }
     ensures unchanged { (b : List ℕ) → M.tells mem.old b → M.tells mem.new b }
     ensures kept { M.beside mem.old mem.new }
     ensures cause { IfErr result (IfMem (M.accounted mem.old mem.new)) }
     ensures cost { M.spent mem.new ≤ M.spent mem.old + 7 * M.cost }
 {
-    let mut record = [0; 32];
-    let index = match look_up_record(mem, count, page, &mut record) {
+    let mut bytes = [0; 32];
+    let index = match look_up_record(mem, count, page, &mut bytes) {
         Ok(Look::Entry(index)) => index,
         Ok(Look::Before) => return Err(SpaceError::Malformed { page: 32 }),
         Ok(Look::Count(_)) => unreachable!(),
         Err(error) => return Err(SpaceError::Mem(error)),
     };
-    match read_interval(&record) {
+    match read_interval(&bytes) {
         Some(interval) if has_page(&interval, page) => Ok((index, interval)),
         _ => Err(SpaceError::Malformed {
             page: 32 + index / 16,
@@ -91,12 +93,12 @@ fn insert_record<M: FlatMem>(
     mem: &mut M,
     count: u32,
     at: u32,
-    record: &Record,
+    bytes: &Record,
 ) -> Result<(), TableError<M::Error>>
     requires size { 49152 ≤ M.size mem.old }
     requires order { at ≤ count }
     requires few { count ≤ 1022 }
-    ensures inserted { (slots : List (Option Space)) (xs : List Interval) (x : Interval) → HoldTables (M.tells mem.old) slots xs → length xs ≡ count → record.now ≡ bytes_of x
+    ensures inserted { (slots : List (Option Space)) (xs : List Interval) (x : Interval) → HoldTables (M.tells mem.old) slots xs → length xs ≡ count → bytes.now ≡ bytes_of x
         → OnOk result (HoldTables (M.tells mem.new) slots (insert xs at x)) }
     ensures room { result ≢ Err TableError.Full }
     ensures kept { M.beside mem.old mem.new }
@@ -104,7 +106,7 @@ fn insert_record<M: FlatMem>(
     ensures cost { M.spent mem.new ≤ M.spent mem.old + 128 * M.cost }
 {
     let mut table = RecordTable::<_, 32, 4>::over(Part::of(mem, 32, 64), count);
-    table.insert_at(at, record)
+    table.insert_at(at, bytes)
 }
 
 /// Puts an interval at an index, and moves those from there on one place up.

@@ -3,10 +3,10 @@ ghost use Rattle.std.specs.Prelude.{◌≡◌, ℕ, ◌+◌, ◌*◌, ◌-◌, �
 ghost use Rattle.flat_machine.specs.declared.space.Space.{Space};
 ghost use Rattle.flat_mem.specs.Memory.{part, overwritten};
 ghost use Rattle.projection_laws.specs.Sight.{Interval};
-ghost use Rattle.projection_laws.specs.Stored.{slot_bytes};
-ghost use Rattle.space_tables.specs.Form.{in_form, space_in_form, BreaksSlot, BreaksInterval};
+ghost use Rattle.projection_laws.specs.Stored.{interval_in, slot_bytes, slot_in};
+ghost use Rattle.space_tables.specs.Form.{slot_record, interval_record, in_form, space_in_form, BreaksSlot, BreaksInterval};
 ghost use Rattle.space_tables.specs.Answer.{FromMemory, NotRefused, IfMem, IfMalformed};
-ghost use Rattle.space_tables.specs.Stored.{HoldTables, AreReadable, IsReadable, TellsSome};
+ghost use Rattle.space_tables.specs.Stored.{HoldTables, AreReadable, IsReadable, TellsRest};
 
 use crate::SpaceError;
 use crate::code::{Record, interval_bytes, read_interval, read_slot};
@@ -35,18 +35,18 @@ fn load<M: FlatMem>(mem: &mut M, index: u32, into: &mut Record) -> Result<(), Sp
 pub fn store<M: FlatMem>(
     mem: &mut M,
     index: u32,
-    record: &Record,
+    bytes: &Record,
 ) -> Result<(), SpaceError<M::Error>>
     requires size { 49152 ≤ M.size mem.old }
     requires inside { index < 1536 }
-    ensures written { (b : List ℕ) → M.tells mem.old b → OnOk result (M.tells mem.new (overwritten b (32 * index) record.now)) }
+    ensures written { (b : List ℕ) → M.tells mem.old b → OnOk result (M.tells mem.new (overwritten b (32 * index) bytes.now)) }
     ensures memory { IfErr result FromMemory }
     ensures unchanged { (b : List ℕ) → M.tells mem.old b → OnErr result (M.tells mem.new b) }
     ensures kept { M.beside mem.old mem.new }
     ensures cause { IfErr result (IfMem (M.accounted mem.old mem.new)) }
     ensures cost { M.spent mem.new ≤ M.spent mem.old + M.cost }
 {
-    match mem.write(32 * u64::from(index), record) {
+    match mem.write(32 * u64::from(index), bytes) {
         Ok(()) => Ok(()),
         Err(error) => Err(SpaceError::Mem(error)),
     }
@@ -58,6 +58,7 @@ pub fn slot<M: FlatMem>(mem: &mut M, handle: u32) -> Result<Option<Space>, Space
     requires inside { handle < 512 }
     ensures slot { (slots : List (Option Space)) (xs : List Interval) → HoldTables (M.tells mem.old) slots xs → AreReadable slots xs
         → MatchResult result (λ o. slice_get slots handle ≡ Some o) FromMemory }
+    ensures read { (b : List ℕ) → M.tells mem.old b → IfOk result (λ o. o ≡ slot_in handle (slot_record b handle)) }
     ensures form { IfOk result (λ o. IfSome o (λ s. (space_in_form s ≡ true) × (s.handle ≡ handle))) }
     ensures malformed { (b : List ℕ) → M.tells mem.old b → IfErr result (IfMalformed (λ page. BreaksSlot b page handle)) }
     ensures refused { IfErr result NotRefused }
@@ -66,9 +67,9 @@ pub fn slot<M: FlatMem>(mem: &mut M, handle: u32) -> Result<Option<Space>, Space
     ensures cause { IfErr result (IfMem (M.accounted mem.old mem.new)) }
     ensures cost { M.spent mem.new ≤ M.spent mem.old + M.cost }
 {
-    let mut record = [0; 32];
-    load(mem, handle, &mut record)?;
-    match read_slot(handle, &record) {
+    let mut bytes = [0; 32];
+    load(mem, handle, &mut bytes)?;
+    match read_slot(handle, &bytes) {
         Some(slot) => Ok(slot),
         None => Err(SpaceError::Malformed { page: handle / 16 }),
     }
@@ -80,17 +81,18 @@ pub fn interval<M: FlatMem>(mem: &mut M, index: u32) -> Result<Interval, SpaceEr
     requires inside { index < 1024 }
     ensures interval { (slots : List (Option Space)) (xs : List Interval) (x : Interval) → HoldTables (M.tells mem.old) slots xs
         → slice_get xs index ≡ Some x → IsReadable x → MatchResult result (λ y. y ≡ x) FromMemory }
+    ensures read { (b : List ℕ) → M.tells mem.old b → IfOk result (λ x. x ≡ interval_in (interval_record b index)) }
     ensures form { IfOk result (λ x. in_form x ≡ true) }
-    ensures malformed { (b : List ℕ) → M.tells mem.old b → IfErr result (IfMalformed (λ page. BreaksInterval b page index)) }
+    ensures malformed { (b : List ℕ) (count : ℕ) → M.tells mem.old b → index < count → IfErr result (IfMalformed (λ page. BreaksInterval count b page index)) }
     ensures refused { IfErr result NotRefused }
     ensures unchanged { (b : List ℕ) → M.tells mem.old b → M.tells mem.new b }
     ensures kept { M.beside mem.old mem.new }
     ensures cause { IfErr result (IfMem (M.accounted mem.old mem.new)) }
     ensures cost { M.spent mem.new ≤ M.spent mem.old + M.cost }
 {
-    let mut record = [0; 32];
-    load(mem, 512 + index, &mut record)?;
-    match read_interval(&record) {
+    let mut bytes = [0; 32];
+    load(mem, 512 + index, &mut bytes)?;
+    match read_interval(&bytes) {
         Some(interval) => Ok(interval),
         None => Err(SpaceError::Malformed {
             page: 32 + index / 16,
@@ -102,19 +104,19 @@ pub fn interval<M: FlatMem>(mem: &mut M, index: u32) -> Result<Interval, SpaceEr
 pub fn put_slot<M: FlatMem>(
     mem: &mut M,
     handle: u32,
-    record: &Record,
+    bytes: &Record,
 ) -> Result<(), SpaceError<M::Error>>
     requires size { 49152 ≤ M.size mem.old }
     requires inside { handle < 512 }
-    ensures written { (slots : List (Option Space)) (xs : List Interval) (o : Option Space) → HoldTables (M.tells mem.old) slots xs → record.now ≡ slot_bytes o
+    ensures written { (slots : List (Option Space)) (xs : List Interval) (o : Option Space) → HoldTables (M.tells mem.old) slots xs → bytes.now ≡ slot_bytes o
         → OnOk result (HoldTables (M.tells mem.new) (slice_set slots handle o) xs) }
-    ensures told { (b : List ℕ) → M.tells mem.old b → OnOk result (TellsSome (M.tells mem.new)) }
+    ensures rest { (b : List ℕ) → M.tells mem.old b → OnOk result (TellsRest (M.tells mem.new) b 0) }
     ensures memory { IfErr result FromMemory }
     ensures kept { M.beside mem.old mem.new }
     ensures cause { IfErr result (IfMem (M.accounted mem.old mem.new)) }
     ensures cost { M.spent mem.new ≤ M.spent mem.old + M.cost }
 {
-    store(mem, handle, record)
+    store(mem, handle, bytes)
 }
 
 /// Writes an interval over that at an index.
@@ -127,7 +129,7 @@ pub fn put_interval<M: FlatMem>(
     requires inside { index < 1024 }
     ensures written { (slots : List (Option Space)) (xs : List Interval) → HoldTables (M.tells mem.old) slots xs
         → index < length xs → OnOk result (HoldTables (M.tells mem.new) slots (slice_set xs index interval.now)) }
-    ensures told { (b : List ℕ) → M.tells mem.old b → OnOk result (TellsSome (M.tells mem.new)) }
+    ensures rest { (b : List ℕ) → M.tells mem.old b → OnOk result (TellsRest (M.tells mem.new) b (index + 1)) }
     ensures memory { IfErr result FromMemory }
     ensures kept { M.beside mem.old mem.new }
     ensures cause { IfErr result (IfMem (M.accounted mem.old mem.new)) }

@@ -1,13 +1,15 @@
 //! Where a new space has room.
 ghost use Rattle.std.specs.Prelude.{◌≡◌, ℕ, ◌+◌, ◌*◌, ◌<◌, ◌≤◌, true, List, length, Option, Some, None, IfOk, IfErr, IfSome, MatchResult, slice_get, find};
+ghost use Rattle.std.specs.Option.{option_map_or};
 ghost use Rattle.flat_machine.specs.declared.space.Space.{Space};
 ghost use Rattle.flat_machine.specs.Space.{space_at};
 ghost use Rattle.flat_machine.specs.Next.{first_page_for};
 ghost use Rattle.projection_laws.specs.Laws.{is_gap};
 ghost use Rattle.projection_laws.specs.Sight.{Interval, end_of};
 ghost use Rattle.projection_laws.specs.Slots.{listed};
+ghost use Rattle.projection_laws.specs.Stored.{interval_in};
 ghost use Rattle.projection_laws.specs.Tests.{no_place};
-ghost use Rattle.space_tables.specs.Form.{in_form, Breaks, BreaksFor, BreaksAt};
+ghost use Rattle.space_tables.specs.Form.{interval_record, in_form, BreaksProjection, BreaksLookUp, BreaksAt};
 ghost use Rattle.space_tables.specs.Answer.{FromMemory, NotRefused, IfMem, IfMalformed, Replies};
 ghost use Rattle.space_tables.specs.Stored.{HoldTables, AreRight, IsReadable};
 ghost use Rattle.space_tables.specs.Scan.{ends_in, IsFirstGap};
@@ -45,7 +47,8 @@ fn find_gap<M: FlatMem>(
     ensures found { (slots : List (Option Space)) (xs : List Interval) → HoldTables (M.tells mem.old) slots xs → length xs ≡ count
         → ((k : ℕ) (x : Interval) → slice_get xs k ≡ Some x → IsReadable x) → MatchResult result (IsFirstGap parent pages xs) FromMemory }
     ensures form { IfOk result (λ o. IfSome o (λ r. (r.index < count) × (in_form r.interval ≡ true) × (is_gap parent pages r.interval ≡ true) × (r.first ≡ r.interval.first))) }
-    ensures malformed { (b : List ℕ) → M.tells mem.old b → IfErr result (IfMalformed (Breaks b)) }
+    ensures read { (b : List ℕ) → M.tells mem.old b → IfOk result (λ o. IfSome o (λ r. r.interval ≡ interval_in (interval_record b r.index))) }
+    ensures malformed { (b : List ℕ) → M.tells mem.old b → IfErr result (IfMalformed (BreaksProjection count b)) }
     ensures refused { IfErr result NotRefused }
     ensures unchanged { (b : List ℕ) → M.tells mem.old b → M.tells mem.new b }
     ensures kept { M.beside mem.old mem.new }
@@ -91,7 +94,10 @@ fn given_room<M: FlatMem>(
         → space_at (listed slots) parent ≡ Some p → Replies (no_place (listed slots) parent pages (Some first))
         (λ r. (slice_get xs r.index ≡ Some r.interval) × (r.first ≡ first)) result }
     ensures form { IfOk result (λ r. (r.index < count) × (in_form r.interval ≡ true) × (r.interval.first ≤ r.first) × (r.first + pages ≤ end_of r.interval)) }
-    ensures malformed { (b : List ℕ) → M.tells mem.old b → IfErr result (IfMalformed (BreaksFor first b)) }
+    ensures own { IfOk result (λ r. r.interval.space ≡ parent) }
+    ensures placed { IfOk result (λ r. r.first ≡ first) }
+    ensures read { (b : List ℕ) → M.tells mem.old b → IfOk result (λ r. r.interval ≡ interval_in (interval_record b r.index)) }
+    ensures malformed { (b : List ℕ) → M.tells mem.old b → IfErr result (IfMalformed (BreaksLookUp first count b)) }
     ensures unchanged { (b : List ℕ) → M.tells mem.old b → M.tells mem.new b }
     ensures kept { M.beside mem.old mem.new }
     ensures cause { IfErr result (IfMem (M.accounted mem.old mem.new)) }
@@ -128,7 +134,10 @@ pub fn find_room<M: FlatMem>(
         → space_at (listed slots) parent ≡ Some p → Replies (no_place (listed slots) parent pages first)
         (λ r. (slice_get xs r.index ≡ Some r.interval) × (r.first ≡ first_page_for (listed slots) parent pages first)) result }
     ensures form { IfOk result (λ r. (r.index < count) × (in_form r.interval ≡ true) × (r.interval.first ≤ r.first) × (r.first + pages ≤ end_of r.interval)) }
-    ensures malformed { (b : List ℕ) → M.tells mem.old b → IfErr result (IfMalformed (BreaksAt first b)) }
+    ensures own { IfOk result (λ r. r.interval.space ≡ parent) }
+    ensures placed { IfOk result (λ r. r.first ≡ option_map_or (λ p. p) first r.interval.first) }
+    ensures read { (b : List ℕ) → M.tells mem.old b → IfOk result (λ r. r.interval ≡ interval_in (interval_record b r.index)) }
+    ensures malformed { (b : List ℕ) → M.tells mem.old b → IfErr result (IfMalformed (BreaksAt first count b)) }
     ensures unchanged { (b : List ℕ) → M.tells mem.old b → M.tells mem.new b }
     ensures kept { M.beside mem.old mem.new }
     ensures cause { IfErr result (IfMem (M.accounted mem.old mem.new)) }

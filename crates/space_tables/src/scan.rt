@@ -4,7 +4,8 @@ ghost use Rattle.flat_machine.specs.declared.space.Space.{Space};
 ghost use Rattle.flat_machine.specs.Space.{end, overlap};
 ghost use Rattle.projection_laws.specs.Sight.{Interval};
 ghost use Rattle.projection_laws.specs.Slots.{listed};
-ghost use Rattle.space_tables.specs.Form.{space_in_form, Breaks};
+ghost use Rattle.projection_laws.specs.Stored.{slot_in};
+ghost use Rattle.space_tables.specs.Form.{slot_record, space_in_form, BreaksSlot, BreaksHierarchy};
 ghost use Rattle.space_tables.specs.Answer.{FromMemory, NotRefused, IfMem, IfMalformed};
 ghost use Rattle.space_tables.specs.Stored.{HoldTables, AreReadable};
 ghost use Rattle.space_tables.specs.Scan.{passes, kept, IsLowestFree};
@@ -61,8 +62,9 @@ fn passing<M: FlatMem>(
     requires inside { handle < 512 }
     ensures found { (slots : List (Option Space)) (xs : List Interval) → HoldTables (M.tells mem.old) slots xs → AreReadable slots xs
         → MatchResult result (λ o. (p : Option Space) × (slice_get slots handle ≡ Some p) × (o ≡ kept (passes test.now) p)) FromMemory }
+    ensures read { (b : List ℕ) → M.tells mem.old b → IfOk result (λ o. IfSome o (λ s. slot_in s.handle (slot_record b s.handle) ≡ Some s)) }
     ensures form { IfOk result (λ o. IfSome o (λ s. (space_in_form s ≡ true) × (passes test.now s ≡ true) × (s.handle < 512))) }
-    ensures malformed { (b : List ℕ) → M.tells mem.old b → IfErr result (IfMalformed (Breaks b)) }
+    ensures malformed { (b : List ℕ) → M.tells mem.old b → IfErr result (IfMalformed (λ page. BreaksSlot b page handle)) }
     ensures refused { IfErr result NotRefused }
     ensures unchanged { (b : List ℕ) → M.tells mem.old b → M.tells mem.new b }
     ensures kept { M.beside mem.old mem.new }
@@ -89,8 +91,9 @@ pub fn find_space<M: FlatMem>(
     requires size { 49152 ≤ M.size mem.old }
     ensures found { (slots : List (Option Space)) (xs : List Interval) → HoldTables (M.tells mem.old) slots xs → AreReadable slots xs
         → MatchResult result (λ o. o ≡ find (passes test.now) (listed slots)) FromMemory }
+    ensures read { (b : List ℕ) → M.tells mem.old b → IfOk result (λ o. IfSome o (λ s. slot_in s.handle (slot_record b s.handle) ≡ Some s)) }
     ensures form { IfOk result (λ o. IfSome o (λ s. (space_in_form s ≡ true) × (passes test.now s ≡ true) × (s.handle < 512))) }
-    ensures malformed { (b : List ℕ) → M.tells mem.old b → IfErr result (IfMalformed (Breaks b)) }
+    ensures malformed { (b : List ℕ) → M.tells mem.old b → IfErr result (IfMalformed (BreaksHierarchy b)) }
     ensures refused { IfErr result NotRefused }
     ensures unchanged { (b : List ℕ) → M.tells mem.old b → M.tells mem.new b }
     ensures kept { M.beside mem.old mem.new }
@@ -113,7 +116,7 @@ pub fn free_handle<M: FlatMem>(mem: &mut M) -> Result<Option<u32>, SpaceError<M:
     ensures free { (slots : List (Option Space)) (xs : List Interval) → HoldTables (M.tells mem.old) slots xs → AreReadable slots xs
         → MatchResult result (IsLowestFree slots) FromMemory }
     ensures form { IfOk result (λ o. IfSome o (λ h. (1 ≤ h) × (h < 512))) }
-    ensures malformed { (b : List ℕ) → M.tells mem.old b → IfErr result (IfMalformed (Breaks b)) }
+    ensures malformed { (b : List ℕ) → M.tells mem.old b → IfErr result (IfMalformed (BreaksHierarchy b)) }
     ensures refused { IfErr result NotRefused }
     ensures unchanged { (b : List ℕ) → M.tells mem.old b → M.tells mem.new b }
     ensures kept { M.beside mem.old mem.new }

@@ -6,7 +6,7 @@ ghost use Rattle.flat_machine.specs.Refusal.{first_of};
 ghost use Rattle.projection_laws.specs.Laws.{WindowFits};
 ghost use Rattle.projection_laws.specs.Spaces.{MayHaveWindow};
 ghost use Rattle.projection_laws.specs.Tests.{unit_row};
-ghost use Rattle.space_tables.specs.Form.{BreaksBetween};
+ghost use Rattle.space_tables.specs.Form.{Breaks};
 ghost use Rattle.space_tables.specs.Answer.{FromMemory, IfMem, IfMalformed, Answers};
 ghost use Rattle.space_tables.specs.Stored.{TellSpaces};
 
@@ -29,7 +29,7 @@ pub fn set_unit<M: FlatMem>(
     requires few { count ≤ 1023 }
     ensures answer { (ss : List Space) → TellSpaces (M.tells mem.old) count ss → Answers (first_of (unit_row ss handle unit))
         (λ _. TellSpaces (M.tells mem.new) count (change_space handle (λ s. record s { unit = unit }) ss)) (TellSpaces (M.tells mem.new) count ss) result }
-    ensures malformed { (b : List ℕ) → M.tells mem.old b → IfErr result (IfMalformed (BreaksBetween M.tells M.beside mem.old mem.new)) }
+    ensures malformed { (b : List ℕ) → M.tells mem.old b → IfErr result (IfMalformed (Breaks count b)) }
     ensures kept { M.beside mem.old mem.new }
     ensures cause { IfErr result (IfMem (M.accounted mem.old mem.new)) }
     ensures cost { M.spent mem.new ≤ M.spent mem.old + 2048 * M.cost }
@@ -57,7 +57,7 @@ pub fn set_window<M: FlatMem>(
     requires few { count ≤ 1023 }
     ensures done { (ss : List Space) (x : Space) → TellSpaces (M.tells mem.old) count ss → MayHaveWindow ss x → x.handle ≡ handle → IfSome window (WindowFits x.pages)
         → MatchResult result (λ _. TellSpaces (M.tells mem.new) count (set_window handle window ss)) FromMemory }
-    ensures malformed { (b : List ℕ) → M.tells mem.old b → IfErr result (IfMalformed (BreaksBetween M.tells M.beside mem.old mem.new)) }
+    ensures malformed { (b : List ℕ) → M.tells mem.old b → IfErr result (IfMalformed (Breaks count b)) }
     ensures kept { M.beside mem.old mem.new }
     ensures cause { IfErr result (IfMem (M.accounted mem.old mem.new)) }
     ensures cost { M.spent mem.new ≤ M.spent mem.old + 2048 * M.cost }

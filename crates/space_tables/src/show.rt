@@ -1,9 +1,9 @@
 //! Which space shows a file.
-ghost use Rattle.std.specs.Prelude.{◌≡◌, ℕ, ◌+◌, ◌*◌, ◌≤◌, List, Option, IfOk, IfErr, IfSome};
+ghost use Rattle.std.specs.Prelude.{◌≡◌, ℕ, ◌+◌, ◌*◌, ◌≤◌, true, List, Option, IfOk, IfErr, IfSome};
 ghost use Rattle.flat_machine.specs.declared.space.Space.{Space};
-ghost use Rattle.space_tables.specs.Form.{Breaks};
+ghost use Rattle.space_tables.specs.Form.{BreaksHierarchy};
 ghost use Rattle.space_tables.specs.Answer.{FromMemory, NotRefused, IfMem, IfMalformed};
-ghost use Rattle.space_tables.specs.Shows.{window_of, shows, IsFirstWith};
+ghost use Rattle.space_tables.specs.Shows.{window_of, shows, IsFirstWith, IsShownAt};
 ghost use Rattle.space_tables.specs.Stored.{TellSpaces};
 
 use crate::SpaceError;
@@ -21,8 +21,9 @@ pub fn showing<M: FlatMem>(
     requires size { 49152 ≤ M.size mem.old }
     ensures answer { (count : ℕ) (ss : List Space) → TellSpaces (M.tells mem.old) count ss → IfOk result (IsFirstWith (shows id writable_only) ss) }
     ensures right { (count : ℕ) (ss : List Space) → TellSpaces (M.tells mem.old) count ss → IfErr result FromMemory }
-    ensures form { IfOk result (λ o. IfSome o (λ at. 16 ≤ at.1.id)) }
-    ensures malformed { (b : List ℕ) → M.tells mem.old b → IfErr result (IfMalformed (Breaks b)) }
+    ensures form { IfOk result (λ o. IfSome o (λ at. (16 ≤ at.1.id) × (at.1.id ≡ id) × (writable_only ≡ true → at.1.writable ≡ true))) }
+    ensures read { (b : List ℕ) → M.tells mem.old b → IfOk result (λ o. IfSome o (λ at. IsShownAt b at.0 at.1)) }
+    ensures malformed { (b : List ℕ) → M.tells mem.old b → IfErr result (IfMalformed (BreaksHierarchy b)) }
     ensures refused { IfErr result NotRefused }
     ensures unchanged { (b : List ℕ) → M.tells mem.old b → M.tells mem.new b }
     ensures kept { M.beside mem.old mem.new }

@@ -4,7 +4,7 @@ ghost use Rattle.flat_machine.specs.declared.space.Space.{Space};
 ghost use Rattle.flat_machine.specs.Space.{end};
 ghost use Rattle.projection_laws.specs.Edits.{cut, inside, some_pages, pieces, replaced};
 ghost use Rattle.projection_laws.specs.Sight.{Interval, end_of};
-ghost use Rattle.space_tables.specs.Form.{in_form, IsNearlyFull};
+ghost use Rattle.space_tables.specs.Form.{in_form, IsOverfull};
 ghost use Rattle.space_tables.specs.Answer.{FromMemory, NotRefused, IfMem, IfMalformed};
 ghost use Rattle.space_tables.specs.Stored.{HoldTables};
 ghost use Rattle.space_tables.specs.Change.{put_in};
@@ -83,6 +83,9 @@ fn more(front: u32, back: u32) -> u32
     ensures front { front ≢ 0 → 1 ≤ result }
     ensures back { back ≢ 0 → 1 ≤ result }
     ensures both { front ≢ 0 → back ≢ 0 → 2 ≤ result }
+    ensures no_front { front ≡ 0 → result ≤ 1 }
+    ensures no_back { back ≡ 0 → result ≤ 1 }
+    ensures neither { front ≡ 0 → back ≡ 0 → result ≡ 0 }
 {
     u32::from(front != 0) + u32::from(back != 0)
 }
@@ -106,7 +109,7 @@ pub fn split<M: FlatMem>(
         → IfOk result (λ n. HoldTables (M.tells mem.new) slots (replaced xs index (pieces x.now i.now)) × (length (replaced xs index (pieces x.now i.now)) ≡ n)) }
     ensures memory { count ≤ 1021 → IfErr result FromMemory }
     ensures count { IfOk result (λ n. (1 ≤ n) × (n ≤ 1023)) }
-    ensures malformed { IfErr result (IfMalformed (IsNearlyFull count)) }
+    ensures malformed { IfErr result (IfMalformed (IsOverfull count x.now i.now)) }
     ensures refused { IfErr result NotRefused }
     ensures kept { M.beside mem.old mem.new }
     ensures cause { IfErr result (IfMem (M.accounted mem.old mem.new)) }

@@ -3,17 +3,18 @@ ghost use Rattle.std.specs.Prelude.{◌≡◌, ℕ, ◌+◌, ◌*◌, ◌<◌, �
 ghost use Rattle.flat_machine.specs.declared.space.Space.{Space};
 ghost use Rattle.flat_machine.specs.Space.{root, root_pages, space_at, innermost};
 ghost use Rattle.flat_machine.specs.Refusal.{first_of, past_root};
-ghost use Rattle.flat_machine.specs.Next.{put_space, change_space, set_window};
+ghost use Rattle.flat_machine.specs.Next.{put_space, without_space, change_space, set_window};
 ghost use Rattle.projection_laws.specs.Spaces.{MayHaveWindow};
 ghost use Rattle.projection_laws.specs.Laws.{WindowFits};
-ghost use Rattle.projection_laws.specs.Tests.{no_space, add_row, made, unit_row, map_row, window_row};
-ghost use Rattle.space_tables.specs.Form.{in_form, has_page, lies_in_root, Breaks, BreaksFor, BreaksAt, IsNearlyFull, BreaksBetween};
-ghost use Rattle.space_tables.specs.Shows.{window_of, shows, IsFirstWith};
+ghost use Rattle.projection_laws.specs.Tests.{no_space, add_row, made, remove_row, unit_row, map_row, window_row};
+ghost use Rattle.space_tables.specs.Form.{in_form, has_page, lies_in_root, first_in_slot, IsRecorded, Breaks, BreaksSlot, BreaksHierarchy, BreaksLookUp, BreaksFor, BreaksAt, MakesTooMany};
+ghost use Rattle.space_tables.specs.Shows.{window_of, shows, IsFirstWith, IsShownAt, IsRunAt};
 ghost use Rattle.space_tables.specs.Answer.{FromMemory, NotRefused, IfMem, IfMalformed, Answers, Replies};
 
 use crate::add::add;
 use crate::ask::{ROOT_PAGES, existing, place, unmapped};
 use crate::begin::begin;
+use crate::remove::remove;
 use crate::set::{set_unit, set_window};
 use crate::show::showing;
 use crate::shown::{Shown, shown_in, window_in};
@@ -79,7 +80,8 @@ impl<M: FlatMem> SpaceTables<M> {
         ensures right { (ss : List Space) → Tells self.old ss → IfErr result FromMemory }
         ensures none { IfOk result (λ o. (o ≡ None) ↔ (root_pages ≤ page)) }
         ensures form { IfOk result (λ o. IfSome o (λ x. (in_form x ≡ true) × (has_page x page ≡ true))) }
-        ensures malformed { (b : List ℕ) → M.tells (tables_memory self.old) b → IfErr result (IfMalformed (BreaksFor page b)) }
+        ensures read { (b : List ℕ) → M.tells (tables_memory self.old) b → IfOk result (λ o. IfSome o (IsRecorded (interval_count self.old) b)) }
+        ensures malformed { (b : List ℕ) → M.tells (tables_memory self.old) b → IfErr result (IfMalformed (BreaksLookUp page (interval_count self.old) b)) }
         ensures refused { IfErr result NotRefused }
         ensures cause { IfErr result (IfMem (M.accounted (tables_memory self.old) (tables_memory self.new))) }
         ensures unchanged { (b : List ℕ) → M.tells (tables_memory self.old) b → M.tells (tables_memory self.new) b }
@@ -99,7 +101,8 @@ impl<M: FlatMem> SpaceTables<M> {
         ensures answer { (ss : List Space) → Tells self.old ss
             → Replies (no_space ss space) (λ run. (s : Space) × (space_at ss space ≡ Some s) × (run ≡ (s.first, s.pages))) result }
         ensures form { IfOk result (λ run. lies_in_root run.0 run.1 ≡ true) }
-        ensures malformed { (b : List ℕ) → M.tells (tables_memory self.old) b → IfErr result (IfMalformed (Breaks b)) }
+        ensures read { (b : List ℕ) → M.tells (tables_memory self.old) b → IfOk result (IsRunAt b space) }
+        ensures malformed { (b : List ℕ) → M.tells (tables_memory self.old) b → IfErr result (IfMalformed (λ page. BreaksSlot b page space)) }
         ensures cause { IfErr result (IfMem (M.accounted (tables_memory self.old) (tables_memory self.new))) }
         ensures unchanged { (b : List ℕ) → M.tells (tables_memory self.old) b → M.tells (tables_memory self.new) b }
         ensures count { interval_count self.new ≡ interval_count self.old }
@@ -115,7 +118,7 @@ impl<M: FlatMem> SpaceTables<M> {
         ensures answer { (ss : List Space) → Tells self.old ss → Replies (first_of (past_root page ∷ []))
             (λ at. (s : Space) × (innermost ss page ≡ Some s) × (at ≡ (s.handle, s.first, s.pages))) result }
         ensures form { IfOk result (λ at. lies_in_root at.1 at.2 ≡ true) }
-        ensures malformed { (b : List ℕ) → M.tells (tables_memory self.old) b → IfErr result (IfMalformed (BreaksFor page b)) }
+        ensures malformed { (b : List ℕ) → M.tells (tables_memory self.old) b → IfErr result (IfMalformed (BreaksFor page (interval_count self.old) b)) }
         ensures cause { IfErr result (IfMem (M.accounted (tables_memory self.old) (tables_memory self.new))) }
         ensures unchanged { (b : List ℕ) → M.tells (tables_memory self.old) b → M.tells (tables_memory self.new) b }
         ensures count { interval_count self.new ≡ interval_count self.old }
@@ -131,7 +134,8 @@ impl<M: FlatMem> SpaceTables<M> {
         ensures answer { (ss : List Space) → Tells self.old ss
             → Replies (first_of (map_row ss space)) (λ run. (s : Space) × (space_at ss space ≡ Some s) × (run ≡ (s.first, s.pages))) result }
         ensures form { IfOk result (λ run. lies_in_root run.0 run.1 ≡ true) }
-        ensures malformed { (b : List ℕ) → M.tells (tables_memory self.old) b → IfErr result (IfMalformed (Breaks b)) }
+        ensures read { (b : List ℕ) → M.tells (tables_memory self.old) b → IfOk result (IsRunAt b space) }
+        ensures malformed { (b : List ℕ) → M.tells (tables_memory self.old) b → IfErr result (IfMalformed (BreaksHierarchy b)) }
         ensures cause { IfErr result (IfMem (M.accounted (tables_memory self.old) (tables_memory self.new))) }
         ensures unchanged { (b : List ℕ) → M.tells (tables_memory self.old) b → M.tells (tables_memory self.new) b }
         ensures count { interval_count self.new ≡ interval_count self.old }
@@ -147,7 +151,8 @@ impl<M: FlatMem> SpaceTables<M> {
         ensures answer { (ss : List Space) → Tells self.old ss → Replies (first_of (window_row ss space))
             (λ shown. (s : Space) × (space_at ss space ≡ Some s) × (s.window ≡ Some (window_of shown))) result }
         ensures form { IfOk result (λ shown. 16 ≤ shown.id) }
-        ensures malformed { (b : List ℕ) → M.tells (tables_memory self.old) b → IfErr result (IfMalformed (Breaks b)) }
+        ensures read { (b : List ℕ) → M.tells (tables_memory self.old) b → IfOk result (IsShownAt b space) }
+        ensures malformed { (b : List ℕ) → M.tells (tables_memory self.old) b → IfErr result (IfMalformed (λ page. BreaksSlot b page space)) }
         ensures cause { IfErr result (IfMem (M.accounted (tables_memory self.old) (tables_memory self.new))) }
         ensures unchanged { (b : List ℕ) → M.tells (tables_memory self.old) b → M.tells (tables_memory self.new) b }
         ensures count { interval_count self.new ≡ interval_count self.old }
@@ -169,8 +174,9 @@ impl<M: FlatMem> SpaceTables<M> {
     ) -> Result<Option<(u32, Shown)>, SpaceError<M::Error>>
         ensures answer { (ss : List Space) → Tells self.old ss → IfOk result (IsFirstWith (shows id writable_only) ss) }
         ensures right { (ss : List Space) → Tells self.old ss → IfErr result FromMemory }
-        ensures form { IfOk result (λ o. IfSome o (λ at. 16 ≤ at.1.id)) }
-        ensures malformed { (b : List ℕ) → M.tells (tables_memory self.old) b → IfErr result (IfMalformed (Breaks b)) }
+        ensures form { IfOk result (λ o. IfSome o (λ at. (16 ≤ at.1.id) × (at.1.id ≡ id) × (writable_only ≡ true → at.1.writable ≡ true))) }
+        ensures read { (b : List ℕ) → M.tells (tables_memory self.old) b → IfOk result (λ o. IfSome o (λ at. IsShownAt b at.0 at.1)) }
+        ensures malformed { (b : List ℕ) → M.tells (tables_memory self.old) b → IfErr result (IfMalformed (BreaksHierarchy b)) }
         ensures refused { IfErr result NotRefused }
         ensures cause { IfErr result (IfMem (M.accounted (tables_memory self.old) (tables_memory self.new))) }
         ensures unchanged { (b : List ℕ) → M.tells (tables_memory self.old) b → M.tells (tables_memory self.new) b }
@@ -194,7 +200,7 @@ impl<M: FlatMem> SpaceTables<M> {
             (Tells self.new ss) result }
         ensures form { IfOk result (λ at. lies_in_root at.1 pages ≡ true) }
         ensures malformed { (b : List ℕ) → M.tells (tables_memory self.old) b
-            → IfErr result (IfMalformed (λ page. BreaksAt first b page ⊎ IsNearlyFull (interval_count self.old) page)) }
+            → IfErr result (IfMalformed (λ page. BreaksHierarchy b page ⊎ (BreaksAt first (interval_count self.old) b page ⊎ MakesTooMany (interval_count self.old) b parent pages first page))) }
         ensures cause { IfErr result (IfMem (M.accounted (tables_memory self.old) (tables_memory self.new))) }
         ensures kept { M.beside (tables_memory self.old) (tables_memory self.new) }
         ensures cost { M.spent (tables_memory self.new) ≤ M.spent (tables_memory self.old) + 1793 * M.cost }
@@ -204,12 +210,25 @@ impl<M: FlatMem> SpaceTables<M> {
         Ok((handle, first))
     }
 
+    /// Removes a space that has no children and is not mapped.
+    pub fn remove(&mut self, space: u32) -> Result<(), SpaceError<M::Error>>
+        ensures answer { (ss : List Space) → Tells self.old ss → Answers (first_of (remove_row ss space))
+            (λ _. Tells self.new (without_space space ss)) (Tells self.new ss) result }
+        ensures malformed { (b : List ℕ) → M.tells (tables_memory self.old) b
+            → IfErr result (IfMalformed (BreaksFor (first_in_slot b space) (interval_count self.old) b)) }
+        ensures cause { IfErr result (IfMem (M.accounted (tables_memory self.old) (tables_memory self.new))) }
+        ensures kept { M.beside (tables_memory self.old) (tables_memory self.new) }
+        ensures cost { M.spent (tables_memory self.new) ≤ M.spent (tables_memory self.old) + 783 * M.cost }
+    {
+        self.intervals = remove(&mut self.mem, self.intervals, space)?;
+        Ok(())
+    }
+
     /// Gives a space another unit size, 1 to 16 pages.
     pub fn set_unit(&mut self, space: u32, unit: u32) -> Result<(), SpaceError<M::Error>>
         ensures answer { (ss : List Space) → Tells self.old ss → Answers (first_of (unit_row ss space unit))
             (λ _. Tells self.new (change_space space (λ s. record s { unit = unit }) ss)) (Tells self.new ss) result }
-        ensures malformed { (b : List ℕ) → M.tells (tables_memory self.old) b
-            → IfErr result (IfMalformed (BreaksBetween M.tells M.beside (tables_memory self.old) (tables_memory self.new))) }
+        ensures malformed { (b : List ℕ) → M.tells (tables_memory self.old) b → IfErr result (IfMalformed (Breaks (interval_count self.old) b)) }
         ensures cause { IfErr result (IfMem (M.accounted (tables_memory self.old) (tables_memory self.new))) }
         ensures count { interval_count self.new ≡ interval_count self.old }
         ensures kept { M.beside (tables_memory self.old) (tables_memory self.new) }
@@ -226,8 +245,7 @@ impl<M: FlatMem> SpaceTables<M> {
     ) -> Result<(), SpaceError<M::Error>>
         ensures done { (ss : List Space) (x : Space) → Tells self.old ss → MayHaveWindow ss x → x.handle ≡ space → IfSome shown (λ w. WindowFits x.pages (window_of w))
             → MatchResult result (λ _. Tells self.new (set_window space (option_map window_of shown) ss)) FromMemory }
-        ensures malformed { (b : List ℕ) → M.tells (tables_memory self.old) b
-            → IfErr result (IfMalformed (BreaksBetween M.tells M.beside (tables_memory self.old) (tables_memory self.new))) }
+        ensures malformed { (b : List ℕ) → M.tells (tables_memory self.old) b → IfErr result (IfMalformed (Breaks (interval_count self.old) b)) }
         ensures cause { IfErr result (IfMem (M.accounted (tables_memory self.old) (tables_memory self.new))) }
         ensures count { interval_count self.new ≡ interval_count self.old }
         ensures kept { M.beside (tables_memory self.old) (tables_memory self.new) }

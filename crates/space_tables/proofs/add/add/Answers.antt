@@ -1,4 +1,4 @@
-use Rattle.std.proofs.Common.{rules, ◌≡◌, ◌≢◌, ℕ, ◌+◌, ◌<◌, ◌≤◌, List, [], ◌∷◌, length, Option, Some, None, inl, inr, refl, sym, ◌∙◌, ap, subst, arith}
+use Rattle.std.proofs.Common.{rules, ◌≡◌, ◌≢◌, ◌⊎◌, ℕ, ◌+◌, ◌<◌, ◌≤◌, List, [], ◌∷◌, length, Option, Some, None, inl, inr, refl, sym, ◌∙◌, ap, subst, arith}
 use Rattle.std.specs.Prelude.{slice_get, slice_set}
 use Rattle.std.proofs.lemmas.Option.{slice_get_within}
 use Rattle.projection_laws.specs.Spaces.{AreSpaces, MayBeAdded}
@@ -10,12 +10,12 @@ use Rattle.projection_laws.specs.Slots.{listed}
 use Rattle.projection_laws.specs.Tests.{no_space, no_spaces, no_place, add_row, made}
 use Rattle.projection_laws.specs.Edits.{replaced, pieces}
 use Rattle.projection_laws.proofs.Passes.{add_passes}
-use Rattle.space_tables.specs.Form.{Breaks, BreaksAt, IsNearlyFull}
+use Rattle.space_tables.specs.Form.{BreaksHierarchy, BreaksAt, IsOverfull, MakesTooMany}
 use Rattle.space_tables.specs.Stored.{HoldTables, TellSpaces}
 use Rattle.space_tables.proofs.Right.{right_reads}
 use Rattle.space_tables.proofs.Passes.{still_hold}
 use Rattle.space_tables.proofs.Asks.{still_tell, refuses_with, refuses_by, from_memory, passed, stopped}
-use Rattle.space_tables.proofs.Pieces.{some_size, zero_size, all_taken, one_more, few_now, lowest_is, is_made, added, breaks_at, malformed_as, mem_as}
+use Rattle.space_tables.proofs.Pieces.{some_size, zero_size, all_taken, one_more, few_now, lowest_is, is_made, added, malformed_as, mem_as}
 use Rattle.space_tables.proofs.add.add.Goals as goal
 
 pub returns-in_err-existing-clause-answer : goal.returns-in_err-existing-clause-answer
@@ -114,3 +114,21 @@ returns-in_err-put_slot-clause-cause g c =
     let kept = g.met.M.FlatMem.beside_through _ _ _ far c.split.ensures.kept in
     let m = mem_as (g.M.FlatMem.accounted c.split.new.mem c.put_slot.new.mem) (g.M.FlatMem.accounted c.args.mem.now c.put_slot.new.mem)
     (λ x k. g.met.M.FlatMem.accounted_wider _ _ _ _ x kept c.put_slot.ensures.kept (g.met.M.FlatMem.beside_itself c.put_slot.new.mem) k) _ c.in_err-put_slot.ensures.cause in search (rules, m)
+
+pub returns-in_err-count-clause-malformed : goal.returns-in_err-count-clause-malformed
+returns-in_err-count-clause-malformed g c = λ b told.
+    let still = c.free_handle.ensures.unchanged b (c.existing.ensures.unchanged b told) in
+    let n = c.args.count in
+    let r = c.in_ok-room.room in
+    let x : Space = record { handle = c.in-Some.handle; parent = c.args.parent; first = r.first; pages = c.args.pages; unit = c.first_unit.result; window = None } in
+    let m = malformed_as (IsOverfull n x r.interval) (λ page. BreaksHierarchy b page ⊎ (BreaksAt c.args.first n b page ⊎ MakesTooMany n b c.args.parent c.args.pages c.args.first page))
+    (λ page h. inr (inr (record {
+      space = x;
+      interval = r.interval;
+      recorded = (r.index, c.in_ok-room.ensures.form.0, c.in_ok-room.ensures.read b still);
+      own = c.in_ok-room.ensures.own;
+      long = refl;
+      placed = c.in_ok-room.ensures.placed;
+      inside = (c.in_ok-room.ensures.form.2, c.in_ok-room.ensures.form.3);
+      overfull = h;
+    }))) _ c.in_err-count.ensures.malformed in search (rules, m)

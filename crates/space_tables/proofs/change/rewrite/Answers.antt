@@ -3,7 +3,7 @@ use Rattle.std.proofs.lemmas.Nat.{mul-le}
 use Rattle.space_tables.specs.Change.{changed}
 use Rattle.space_tables.proofs.ReadBack.{get_or_at}
 use Rattle.space_tables.proofs.Changed.{at_turn, turn, all_turned}
-use Rattle.space_tables.proofs.Asks.{broken_between}
+use Rattle.space_tables.proofs.Asks.{broken_still}
 use Rattle.space_tables.proofs.Passes.{paid_more, paid_all}
 use Rattle.space_tables.proofs.change.rewrite.Goals as goal
 
@@ -20,7 +20,10 @@ rewriting-preserved g c = record {
       let x = get_or_at xs c.rewriting.index (omega (arith, long, c.rewriting-test.true)) in
       let m = c.in_ok-rewrite_at.ensures.changed slots _ x.0 (c.rewriting.invariant.changed_so_far slots xs h long ok counts small) (at_turn (changed c.args.change.now) xs c.rewriting.index x.0 x.1) (ok c.rewriting.index x.0 x.1) counts small in
       rw (turn (changed c.args.change.now) xs c.rewriting.index x.0 x.1) at m;
-  told = λ b h. let at = c.rewriting.invariant.told b h in c.in_ok-rewrite_at.ensures.told at.bytes at.told;
+  rest = λ b h.
+      let at = c.rewriting.invariant.rest b h in
+      let now = c.in_ok-rewrite_at.ensures.rest at.bytes at.told in
+      record { bytes = now.bytes; told = now.told; rest = λ k behind. now.rest k behind ∙ at.rest k (omega (arith, behind)) };
   kept = g.met.M.FlatMem.beside_through _ _ _ c.rewriting.invariant.kept c.rewrite_at.ensures.kept;
   cost = paid_more c.rewriting.index (2 * g.M.FlatMem.cost) _ _ _ c.rewriting.invariant.cost c.rewrite_at.ensures.cost;
 }
@@ -39,6 +42,6 @@ returns-clause-cost g c =
 
 pub returns-in_err-rewrite_at-clause-malformed : goal.returns-in_err-rewrite_at-clause-malformed
 returns-in_err-rewrite_at-clause-malformed g c = λ b h.
-    let at = c.rewriting.invariant.told b h in
-    let m = broken_between g.M.FlatMem.tells g.M.FlatMem.beside c.args.mem.now c.rewriting.mem c.rewrite_at.new.mem c.rewriting.invariant.kept c.rewrite_at.ensures.kept at.bytes at.told _ (c.in_err-rewrite_at.ensures.malformed at.bytes at.told) in
+    let at = c.rewriting.invariant.rest b h in
+    let m = broken_still c.args.count b at.bytes c.rewriting.index (at.rest c.rewriting.index (omega arith)) _ (c.in_err-rewrite_at.ensures.malformed at.bytes c.args.count at.told (omega (arith, c.rewriting-test.true))) in
     search (rules, m)

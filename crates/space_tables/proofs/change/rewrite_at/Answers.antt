@@ -1,4 +1,4 @@
-use Rattle.std.proofs.Common.{rules, ◌≡◌, ℕ, ◌<◌, length, true, false, sym, ◌∙◌, ap}
+use Rattle.std.proofs.Common.{rules, ◌≡◌, ℕ, ◌<◌, length, true, false, refl, sym, ◌∙◌, ap}
 use Rattle.std.specs.Prelude.{slice_set}
 use Rattle.std.proofs.lemmas.Option.{slice_get_within}
 use Rattle.projection_laws.specs.Sight.{Interval}
@@ -26,3 +26,9 @@ returns-else-touches-clause-changed g c = λ slots xs x h e ok counts small.
     let same : c.in_ok-old.old ≡ x = c.in_ok-old.ensures.interval slots xs x h e ok in
     let is : changed c.args.change.now x ≡ x = rw same at (untouched c.args.change.now c.in_ok-old.old (sym c.if-touches.ensures)) in
     rw (is, set_same xs c.args.index x e) now
+
+pub returns-else-touches-clause-rest : goal.returns-else-touches-clause-rest
+returns-else-touches-clause-rest g c = λ b h. record { bytes = b; told = c.interval.ensures.unchanged b h; rest = λ k behind. refl }
+
+pub returns-in_err-old-clause-malformed : goal.returns-in_err-old-clause-malformed
+returns-in_err-old-clause-malformed g c = λ b count told below. let m = c.in_err-old.ensures.malformed b count told below in search (rules, m)

@@ -2,8 +2,10 @@ use Rattle.std.proofs.Common.{rules, ◌≡◌, ℕ, ◌+◌, ◌*◌, ◌<◌, 
 use Rattle.std.proofs.lemmas.Bool.{true≢false}
 use Rattle.record_table.specs.declared.look.Look.TheVariants.{Entry, Before, Count}
 use Rattle.flat_mem.specs.Memory.{part}
-use Rattle.space_tables.proofs.Entries.{length-entries}
+use Rattle.space_tables.proofs.Entries.{length-entries, key_of}
 use Rattle.std.specs.Prelude.{slice_get}
+use Rattle.std.specs.Int.{w32, to_be_bytes}
+use Rattle.flat_mem.specs.Order.{at_most}
 use Rattle.projection_laws.specs.Sight.{Interval}
 use Rattle.projection_laws.specs.Stored.{interval_in}
 use Rattle.space_tables.specs.Form.{interval_record, is_interval_record, has_page}
@@ -17,7 +19,7 @@ returns-in-Ok-Before-clause-found g c = λ slots xs h r long inside.
     some_found h.bytes slots xs h.are r c.args.count c.args.page c.requires.few long inside c.look_up_record.new.into (rw c.in-Ok-Before.field-0-is at (c.in-Ok-Before.ensures.answer h.bytes h.told))
 
 pub returns-in-Ok-Before-clause-malformed : goal.returns-in-Ok-Before-clause-malformed
-returns-in-Ok-Before-clause-malformed g c = λ b told. inr (inr (refl, c.in-Ok-Before.ensures.before b told (ap Ok c.in-Ok-Before.field-0-is) c.requires.some))
+returns-in-Ok-Before-clause-malformed g c = λ b told. inr (inr (record { on = refl; behind = c.in-Ok-Before.ensures.before b told (ap Ok c.in-Ok-Before.field-0-is) c.requires.some }))
 
 pub returns-in-Some-clause-found : goal.returns-in-Some-clause-found
 returns-in-Some-clause-found g c = λ slots xs h r long inside.
@@ -48,7 +50,26 @@ returns-in_default-clause-malformed g c = λ b told.
     let i = c.in-Ok-Entry.index in
     let within : i < c.args.count = rw c.in-Ok-Entry.field-0-is at c.in-Ok-Entry.ensures.form in
     let is = entry_is b c.look_up_record.new.into _ c.args.count i c.requires.few (rw c.in-Ok-Entry.field-0-is at (c.in-Ok-Entry.ensures.answer b told)) within in
+    let turn = rw c.in-Ok-Entry.field-0-is at (c.in-Ok-Entry.ensures.turn b told) in
+    let few : c.args.count ≤ 1024 = omega (arith, c.requires.few) in
+    let key = to_be_bytes w32 c.args.page in
     elim c.in_default.branch [
-      | in_default-via-in-Some+else-has_page w ↦ inr (inl (i, record { on = refl; misses = ap (λ (r : List ℕ). has_page (interval_in r) c.args.page) (sym is) ∙ ap (λ (y : Interval). has_page y c.args.page) (sym (some_of _ _ _ w.in-Some.ensures.interval)) ∙ sym w.has_page.ensures ∙ w.if-has_page.false }))
-      | in_default-via-in_default w ↦ inl (inr (i, record { on = refl; breaks = ap is_interval_record (sym is) ∙ none_of _ _ w.in_default.ensures.interval }))
+      | in_default-via-in-Some+else-has_page w ↦ inr (inl (
+        i,
+        record {
+          counted = within;
+          on = refl;
+          begins = ap (λ (x : List ℕ). at_most x key) (sym (key_of b c.args.count i within few)) ∙ turn.0;
+          ends = λ more. ap (λ (x : List ℕ). at_most x key) (sym (key_of b c.args.count (i + 1) more few)) ∙ turn.1 (omega (arith, more, length-entries (part b 16384 32768) c.args.count));
+          misses = ap (λ (r : List ℕ). has_page (interval_in r) c.args.page) (sym is) ∙ ap (λ (y : Interval). has_page y c.args.page) (sym (some_of _ _ _ w.in-Some.ensures.interval)) ∙ sym w.has_page.ensures ∙ w.if-has_page.false;
+        },
+      ))
+      | in_default-via-in_default w ↦ inl (i, record { counted = within; on = refl; breaks = ap is_interval_record (sym is) ∙ none_of _ _ w.in_default.ensures.interval })
     ]
+
+pub returns-in-Some-clause-read : goal.returns-in-Some-clause-read
+returns-in-Some-clause-read g c = λ b told.
+    let i = c.in-Ok-Entry.index in
+    let within : i < c.args.count = rw c.in-Ok-Entry.field-0-is at c.in-Ok-Entry.ensures.form in
+    let is = entry_is b c.look_up_record.new.into _ c.args.count i c.requires.few (rw c.in-Ok-Entry.field-0-is at (c.in-Ok-Entry.ensures.answer b told)) within in
+    some_of _ _ _ c.in-Some.ensures.interval ∙ ap interval_in is

@@ -26,11 +26,11 @@ returns-clause-inserted g c = λ slots xs x h same is.
       are = rw c.over-table.ensures.count refl;
     } in
     let count : table.count ≡ (if is_ok c.insert_at.result then n + 1 else n) = rw (← c.over-table.ensures.count) c.insert_at.ensures.count in
-    let moved : insert (entries 32 (part w 16384 32768) n) c.args.at c.args.record.now ≡ map bytes_of (insert xs c.args.at x) = rw (old, is) (map_insert xs c.args.at x (omega (arith, c.requires.order, same))) in
+    let moved : insert (entries 32 (part w 16384 32768) n) c.args.at c.args.bytes.now ≡ map bytes_of (insert xs c.args.at x) = rw (old, is) (map_insert xs c.args.at x (omega (arith, c.requires.order, same))) in
     lent (λ (m : g.row.M.Denot). OnOk c.insert_at.result (HoldTables (g.M.FlatMem.tells m) slots (insert xs c.args.at x))) _ table.mem.mem.now (search rules)
     (counted c.insert_at.result n table.count _ _ count
     (λ more done.
-    let whole = told_whole (λ (m : MutBor g.row.M.Denot) (b : List ℕ). g.M.FlatMem.tells m.now b) _ (λ m w v. g.met.M.FlatMem.told_once m.now w v) over.mem table.mem table.count w (insert (entries 32 (part w 16384 32768) n) c.args.at c.args.record.now)
+    let whole = told_whole (λ (m : MutBor g.row.M.Denot) (b : List ℕ). g.M.FlatMem.tells m.now b) _ (λ m w v. g.met.M.FlatMem.told_once m.now w v) over.mem table.mem table.count w (insert (entries 32 (part w 16384 32768) n) c.args.at c.args.bytes.now)
     first pages c.insert_at.ensures.kept before done in
     record {
       bytes = whole.0;

@@ -25,6 +25,14 @@ returns-clause-answer g c = λ w h.
     let answer = c.look_up.ensures.answer (part w (512 * 32) (512 * 64)) record { whole = w; told = before; inside = rw (is.first_is, is.pages_is) within; is = rw (is.first_is, is.pages_is) refl } in
     rw c.to_be_bytes-key.ensures at answer
 
+pub returns-clause-turn : goal.returns-clause-turn
+returns-clause-turn g c = λ w h.
+    let is = c.of-projection.ensures in
+    let before : g.M.FlatMem.tells c.of-projection.result.mem.now w = rw is.mem_is h in
+    let within : 512 * 32 + 512 * 64 ≤ length w = omega (arith, c.requires.size, g.met.M.FlatMem.told_length c.args.mem.now w h) in
+    let turn = c.look_up.ensures.turn (part w (512 * 32) (512 * 64)) record { whole = w; told = before; inside = rw (is.first_is, is.pages_is) within; is = rw (is.first_is, is.pages_is) refl } in
+    rw c.to_be_bytes-key.ensures at turn
+
 pub returns-clause-before : goal.returns-clause-before
 returns-clause-before g c = λ w h none some.
     let is = c.of-projection.ensures in

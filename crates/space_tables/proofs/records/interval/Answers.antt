@@ -1,6 +1,6 @@
 use Rattle.std.proofs.Common.{◌≡◌, ℕ, refl, sym, ◌∙◌, Some}
 use Rattle.std.proofs.lemmas.Option.{same_Some, none-some}
-use Rattle.space_tables.proofs.ReadBack.{one_read, none_of}
+use Rattle.space_tables.proofs.ReadBack.{one_read, none_of, some_of}
 use Rattle.space_tables.proofs.records.interval.Goals as goal
 
 pub returns-in-Some-clause-interval : goal.returns-in-Some-clause-interval
@@ -14,7 +14,11 @@ returns-in-None-clause-interval g c = λ slots xs x h e ok.
     none-some x (c.in-None.ensures.interval ∙ read)
 
 pub returns-in-None-clause-malformed : goal.returns-in-None-clause-malformed
-returns-in-None-clause-malformed g c = λ b told. record {
+returns-in-None-clause-malformed g c = λ b count told below. record {
+  counted = below;
   on = refl;
   breaks = rw (c.in_ok-load.ensures.read b told) at (none_of _ _ c.in-None.ensures.interval);
 }
+
+pub returns-in-Some-clause-read : goal.returns-in-Some-clause-read
+returns-in-Some-clause-read g c = λ b told. rw (c.in_ok-load.ensures.read b told) at (some_of _ _ _ c.in-Some.ensures.interval)

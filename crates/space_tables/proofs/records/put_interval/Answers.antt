@@ -1,8 +1,8 @@
-use Rattle.std.proofs.Common.{◌≡◌, ℕ, ◌+◌, ◌*◌, ◌≤◌, length, arith}
+use Rattle.std.proofs.Common.{◌≡◌, ℕ, ◌+◌, ◌*◌, ◌≤◌, ◌<◌, length, refl, arith}
 use Rattle.std.proofs.lemmas.Result.{on_ok_weaker}
 use Rattle.flat_mem.specs.Memory.{overwritten}
 use Rattle.projection_laws.specs.Stored.{bytes_of}
-use Rattle.space_tables.proofs.Writes.{interval_written}
+use Rattle.space_tables.proofs.Writes.{other, interval_written}
 use Rattle.space_tables.proofs.records.put_interval.Goals as goal
 
 pub returns-clause-written : goal.returns-clause-written
@@ -16,6 +16,13 @@ returns-clause-written g c = λ slots xs h below.
     })
     (rw c.interval_bytes.ensures at (c.store.ensures.written h.bytes h.told))
 
-pub returns-clause-told : goal.returns-clause-told
-returns-clause-told g c = λ b h.
-    on_ok_weaker c.store.result (λ (told : g.M.FlatMem.tells c.store.new.mem (overwritten b (32 * (512 + c.args.index)) c.interval_bytes.result)). record { bytes = overwritten b (32 * (512 + c.args.index)) c.interval_bytes.result; told = told }) (c.store.ensures.written b h)
+pub returns-clause-rest : goal.returns-clause-rest
+returns-clause-rest g c = λ b h.
+    let long : 49152 ≤ length b = rw (g.met.M.FlatMem.told_length c.args.mem.now b h) c.requires.size in
+    on_ok_weaker c.store.result
+    (λ (told : g.M.FlatMem.tells c.store.new.mem (overwritten b (32 * (512 + c.args.index)) (bytes_of c.args.interval.now))). record {
+      bytes = overwritten b (32 * (512 + c.args.index)) (bytes_of c.args.interval.now);
+      told = told;
+      rest = λ k behind. other b (bytes_of c.args.interval.now) (512 + c.args.index) (512 + k) refl (omega (arith, long, c.requires.inside)) (λ q. omega (arith, q, behind));
+    })
+    (rw c.interval_bytes.ensures at (c.store.ensures.written b h))

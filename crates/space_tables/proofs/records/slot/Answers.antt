@@ -1,5 +1,5 @@
 use Rattle.std.proofs.Common.{◌≡◌, ℕ, ◌<◌, length, refl, sym, ◌∙◌, Some, arith}
-use Rattle.space_tables.proofs.ReadBack.{slot_read, none_of, there}
+use Rattle.space_tables.proofs.ReadBack.{slot_read, none_of, some_of, there}
 use Rattle.space_tables.proofs.records.slot.Goals as goal
 
 pub returns-in-Some-clause-slot : goal.returns-in-Some-clause-slot
@@ -18,3 +18,6 @@ returns-in-None-clause-malformed g c = λ b told. record {
   on = refl;
   breaks = rw (c.in_ok-load.ensures.read b told) at (none_of _ _ c.in-None.ensures.slot);
 }
+
+pub returns-in-Some-clause-read : goal.returns-in-Some-clause-read
+returns-in-Some-clause-read g c = λ b told. rw (c.in_ok-load.ensures.read b told) at (some_of _ _ _ c.in-Some.ensures.slot)

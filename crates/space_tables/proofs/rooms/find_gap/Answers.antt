@@ -2,6 +2,8 @@ use Rattle.std.proofs.Common.{rules, ◌≡◌, ℕ, ◌+◌, ◌*◌, ◌≤◌
 use Rattle.std.proofs.lemmas.Nat.{mul-le}
 use Rattle.std.specs.Prelude.{slice_get}
 use Rattle.projection_laws.specs.Laws.{is_gap}
+use Rattle.space_tables.specs.Form.{BreaksInterval, BreaksProjection}
+use Rattle.space_tables.proofs.Pieces.{malformed_as}
 use Rattle.space_tables.proofs.ReadBack.{get_or_at}
 use Rattle.space_tables.proofs.Passes.{still_hold, paid_more, paid_all}
 use Rattle.space_tables.proofs.Places.{gap_here, gap_later, no_gap_left}
@@ -53,3 +55,11 @@ returns-clause-found g c = λ slots xs h long ok.
 
 pub returns-clause-cost : goal.returns-clause-cost
 returns-clause-cost g c = omega (arith, c.scan.invariant.cost, mul-le c.scan.index g.M.FlatMem.cost 1023 g.M.FlatMem.cost (omega (arith, c.scan.invariant.within, c.requires.few)) (omega arith))
+
+pub returns-in_err-x-clause-malformed : goal.returns-in_err-x-clause-malformed
+returns-in_err-x-clause-malformed g c = λ b told.
+    let m = malformed_as (λ page. BreaksInterval c.args.count b page c.scan.index) (BreaksProjection c.args.count b) (λ page h. (c.scan.index, h)) _
+    (c.in_err-x.ensures.malformed b c.args.count (c.scan.invariant.unchanged b told) (omega (arith, c.scan-test.true))) in search (rules, m)
+
+pub returns-then-is_gap-clause-read : goal.returns-then-is_gap-clause-read
+returns-then-is_gap-clause-read g c = λ b told. c.in_ok-x.ensures.read b (c.scan.invariant.unchanged b told)

@@ -8,7 +8,7 @@ use Rattle.projection_laws.specs.Tests.{no_space, unit_row}
 use Rattle.space_tables.specs.Stored.{HoldTables, TellSpaces}
 use Rattle.space_tables.proofs.Right.{right_reads}
 use Rattle.space_tables.proofs.Passes.{still_hold}
-use Rattle.space_tables.proofs.Asks.{broken_between, broken_later, still_tell, refuses_with, answers_from, passed, stopped, space_is, not_root, bad_unit, good_unit}
+use Rattle.space_tables.proofs.Asks.{broken_before, still_tell, refuses_with, answers_from, passed, stopped, space_is, not_root, bad_unit, good_unit}
 use Rattle.space_tables.proofs.Sets.{unit_set}
 use Rattle.space_tables.proofs.set.set_unit.Goals as goal
 use Rattle.space_tables.proofs.set.set_unit.Goals.{then-unit-eq0-via-then-unit-eq0, then-unit-eq0-via-else-unit-eq0+then-unit-gt16}
@@ -44,14 +44,7 @@ returns-clause-answer g c = λ ss t.
     (first_of (unit_row ss c.args.handle c.args.unit)) (passed _ _ m.0 ∙ passed _ _ (not_root c.args.handle apart) ∙ passed _ [] (good_unit c.args.unit some few))
     (unit_set (g.M.FlatMem.tells c.args.mem.now) (g.M.FlatMem.tells c.rewrite.new.mem) c.args.count ss t c.args.handle c.args.unit s m.1 apart (omega (arith, some)) few) done
 
-pub returns-in_err-found-clause-malformed : goal.returns-in_err-found-clause-malformed
-returns-in_err-found-clause-malformed g c = λ b h.
-    let m = broken_between g.M.FlatMem.tells g.M.FlatMem.beside c.args.mem.now c.args.mem.now c.existing.new.mem (g.met.M.FlatMem.beside_itself c.args.mem.now) c.existing.ensures.kept b h _ (c.in_err-found.ensures.malformed b h) in
-    search (rules, m)
-
 pub returns-clause-malformed : goal.returns-clause-malformed
 returns-clause-malformed g c = λ b h.
-    let at = c.in_ok-put_slot.ensures.told b (c.existing.ensures.unchanged b h) in
-    let kept = g.met.M.FlatMem.beside_through _ _ _ c.existing.ensures.kept c.put_slot.ensures.kept in
-    broken_later g.M.FlatMem.tells g.M.FlatMem.beside c.args.mem.now c.put_slot.new.mem c.rewrite.new.mem kept (λ m k. g.met.M.FlatMem.beside_through _ _ _ kept k) c.rewrite.result
-    (c.rewrite.ensures.malformed at.bytes at.told)
+    let at = c.in_ok-put_slot.ensures.rest b (c.existing.ensures.unchanged b h) in
+    broken_before c.args.count b at.bytes at.rest c.rewrite.result (c.rewrite.ensures.malformed at.bytes at.told)

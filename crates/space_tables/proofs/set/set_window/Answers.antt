@@ -7,7 +7,7 @@ use Rattle.projection_laws.specs.Tests.{no_space}
 use Rattle.space_tables.specs.Stored.{HoldTables, TellSpaces}
 use Rattle.space_tables.proofs.Right.{right_reads}
 use Rattle.space_tables.proofs.Passes.{still_hold}
-use Rattle.space_tables.proofs.Asks.{broken_between, broken_later, memory_alone, matches_from, space_is}
+use Rattle.space_tables.proofs.Asks.{broken_before, memory_alone, matches_from, space_is}
 use Rattle.space_tables.proofs.Sets.{window_set_at, counts, same_space}
 use Rattle.space_tables.proofs.set.set_window.Goals as goal
 
@@ -30,14 +30,7 @@ returns-clause-done g c = λ ss x t may own fits.
     (λ h. window_set_at (g.M.FlatMem.tells c.args.mem.now) (g.M.FlatMem.tells c.rewrite.new.mem) c.args.count ss t x w c.args.handle own may fits
     (subst (λ (q : Space). HoldTables (g.M.FlatMem.tells c.rewrite.new.mem) (slice_set t.slots c.args.handle (Some (record q { window = w }))) (map (reshown_in q (through q w)) t.xs)) same h)) done
 
-pub returns-in_err-found-clause-malformed : goal.returns-in_err-found-clause-malformed
-returns-in_err-found-clause-malformed g c = λ b h.
-    let m = broken_between g.M.FlatMem.tells g.M.FlatMem.beside c.args.mem.now c.args.mem.now c.existing.new.mem (g.met.M.FlatMem.beside_itself c.args.mem.now) c.existing.ensures.kept b h _ (c.in_err-found.ensures.malformed b h) in
-    search (rules, m)
-
 pub returns-clause-malformed : goal.returns-clause-malformed
 returns-clause-malformed g c = λ b h.
-    let at = c.in_ok-put_slot.ensures.told b (c.existing.ensures.unchanged b h) in
-    let kept = g.met.M.FlatMem.beside_through _ _ _ c.existing.ensures.kept c.put_slot.ensures.kept in
-    broken_later g.M.FlatMem.tells g.M.FlatMem.beside c.args.mem.now c.put_slot.new.mem c.rewrite.new.mem kept (λ m k. g.met.M.FlatMem.beside_through _ _ _ kept k) c.rewrite.result
-    (c.rewrite.ensures.malformed at.bytes at.told)
+    let at = c.in_ok-put_slot.ensures.rest b (c.existing.ensures.unchanged b h) in
+    broken_before c.args.count b at.bytes at.rest c.rewrite.result (c.rewrite.ensures.malformed at.bytes at.told)

@@ -5,11 +5,15 @@ use Rattle.flat_machine.specs.Space.{end}
 use Rattle.projection_laws.specs.Sight.{Interval, end_of}
 use Rattle.projection_laws.specs.Edits.{cut, inside, some_pages, pieces, replaced}
 use Rattle.space_tables.specs.Change.{put_in}
-use Rattle.space_tables.proofs.Pieces.{put_around}
+use Rattle.space_tables.proofs.Pieces.{put_around, parts_more}
 use Rattle.space_tables.proofs.split.split.Goals as goal
 
 pub returns-then-count-more-gt1023-clause-malformed : goal.returns-then-count-more-gt1023-clause-malformed
-returns-then-count-more-gt1023-clause-malformed g c = (refl, omega (arith, c.if-count-more-gt1023.true, c.more.ensures.most))
+returns-then-count-more-gt1023-clause-malformed g c =
+    let x = c.args.x.now in
+    let i = c.args.i.now in
+    let long = parts_more x i c.more.result c.more.ensures.most c.more.ensures.no_front c.more.ensures.no_back c.more.ensures.neither in
+    (refl, omega (arith, c.if-count-more-gt1023.true, long))
 
 pub returns-clause-split : goal.returns-clause-split
 returns-clause-split g c = λ slots xs h long there.

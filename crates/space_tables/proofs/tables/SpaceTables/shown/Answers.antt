@@ -1,4 +1,4 @@
-use Rattle.std.proofs.Common.{rules, ◌≡◌, [], ◌∷◌, Some, None, refl, ◌∙◌, ap}
+use Rattle.std.proofs.Common.{rules, ◌≡◌, [], ◌∷◌, Some, None, refl, sym, ◌∙◌, ap}
 use Rattle.projection_laws.specs.Tests.{no_space, not_mapped}
 use Rattle.space_tables.proofs.Asks.{refuses_first, passed, stopped, window_test}
 use Rattle.space_tables.proofs.tables.SpaceTables.shown.Goals as goal
@@ -17,3 +17,7 @@ pub returns-in-None-clause-answer : goal.returns-in-None-clause-answer
 returns-in-None-clause-answer g c = λ ss t.
     let m = c.in_ok-found.ensures.answer c.args.self.now.intervals ss t in
     (passed _ _ m.0 ∙ stopped _ [] _ (window_test ss c.args.space c.in_ok-found.found None m.1 c.in-None.is), tt)
+
+pub returns-in-Some-clause-read : goal.returns-in-Some-clause-read
+returns-in-Some-clause-read g c = λ b told.
+    record { space = c.in_ok-found.found; there = c.in_ok-found.ensures.read b told; window = c.in-Some.is ∙ ap Some (sym c.shown_in.ensures) }
