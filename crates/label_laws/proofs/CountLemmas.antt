@@ -281,19 +281,19 @@ ones : (files : List File) → sum_by (λ f. 1) files ≡ length files
 ones [] = refl
 ones (f ∷ files) = sum_by-cons (λ (g : File). 1) f files ∙ (let more = ones files in omega (arith, more))
 
-rooms : (files : List File) → total_room files ≡ length files + total_pages files
+pub rooms : (files : List File) → total_room files ≡ length files + total_pages files
 rooms [] = refl
 rooms (f ∷ files) = let more = rooms files in let a = sum_by-cons room_of f files in let b = sum_by-cons size f files in omega (arith, more, a, b)
 
 module _ (temps : Bool) where
-  files_count : (d : List Sector) → length (needed_leaders temps d) ≡ length (files_among temps d)
+  pub files_count : (d : List Sector) → length (needed_leaders temps d) ≡ length (files_among temps d)
   files_count d =
       ap (λ (l : List ℕ). length l)
       (places_same (λ i s. needs_place temps d i && eqb s.0.page leader_page) (any_of (leads_it temps d) (files_among temps d)) (first_data (length d)) (data_sectors d) (λ n j s is here. (parted temps d n j s is here).0))
       ∙ any_counts temps (first_data (length d)) (data_sectors d) (leads_it temps d) (λ f. 1) (files_among temps d) (laws.files_on_rise temps 0 0 d) (each_told temps d (λ f. length (places (of_file (leads_it temps d) f) (first_data (length d)) (data_sectors d)) ≡ 1) (λ f told. leader_counts temps d f told))
       ∙ ones (files_among temps d)
 
-  pages_counted : (d : List Sector) → length (needed_pages temps d) ≡ total_pages (files_among temps d)
+  pub pages_counted : (d : List Sector) → length (needed_pages temps d) ≡ total_pages (files_among temps d)
   pages_counted d =
       ap (λ (l : List ℕ). length l)
       (places_same (λ i s. needs_place temps d i && not (eqb s.0.page leader_page)) (any_of (λ f. is_below d (size f) f) (files_among temps d)) (first_data (length d)) (data_sectors d) (λ n j s is here. (parted temps d n j s is here).1))

@@ -20,5 +20,6 @@ mod TemporaryLemmas
 mod LabelWriteLemmas
 mod PlaceLemmas
 pub mod CountLemmas
+pub mod TakenLemmas
 pub mod PageLemmas
 pub mod StayLemmas

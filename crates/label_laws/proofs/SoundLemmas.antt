@@ -1,12 +1,11 @@
 -- What makes a volume sound.
-use Rattle.std.proofs.Common.{◌≡◌, ◌⊎◌, ℕ, ◌+◌, ◌≤◌, ◌<◌, ◌^◌, true, false, List, [], ◌∷◌, length, Some, sym, ◌∙◌, ap, subst, arith}
+use Rattle.std.proofs.Common.{◌≡◌, ◌⊎◌, ℕ, ◌≤◌, ◌<◌, ◌^◌, true, false, List, [], ◌∷◌, length, Some, sym, ◌∙◌, ap, subst, arith}
 use Rattle.std.specs.Prelude.{slice_get}
 use Rattle.labelled_disk.specs.Label.{is_free}
 use Rattle.labelled_disk.specs.Sectors.{Sector, AreSectors}
-use Rattle.labelled_disk.specs.Layout.{data_sectors, first_data, vam}
-use Rattle.labelled_disk.specs.FilesOn.{files_by}
+use Rattle.labelled_disk.specs.Layout.{data_sectors, first_data}
 use Rattle.labelled_disk.specs.Lowest.{is_needed}
-use Rattle.labelled_disk.specs.Root.{IsRoot, LabelsRight, page_in, number_at, short_at, serial_of, counter_of}
+use Rattle.labelled_disk.specs.Root.{IsRoot, LabelsRight, number_at, short_at, serial_of, counter_of}
 use Rattle.labelled_disk.specs.WriteLaws.{HasData}
 use Rattle.labelled_disk.proofs.Finds.{get_set_other}
 use Rattle.labelled_disk.proofs.WriteLemmas as writes
@@ -15,9 +14,10 @@ use Rattle.volume_root.specs.declared.root.Root.{Root}
 use Rattle.volume_root.specs.Flag.{with_flag}
 use Rattle.volume_root.specs.RootPage.{IsValidRoot, root_bytes, root_label}
 use Rattle.volume_root.specs.Sound.{Sound}
+use Rattle.volume_root.proofs.FileMapLemmas.{file_map_kept}
 use Rattle.volume_root.proofs.FlagLemmas.{flag_keeps_volume}
 use Rattle.volume_root.proofs.WrittenLemmas.{is_root, flag_of, flag_read, serial_read, counter_read}
-use Rattle.label_laws.specs.SoundParts.{IsSoundButFlag, SoundWhenClosed, SoundByRoom}
+use Rattle.label_laws.specs.SoundParts.{IsSoundButFlag, SoundWhenClosed, SoundByParts, SoundByRoom}
 use Rattle.label_laws.proofs.AssemblyLemmas.{right_by_room}
 use Rattle.label_laws.proofs.NeededLemmas.{needed_if_files}
 
@@ -32,10 +32,7 @@ module _ (s t : Sector) (rest : List Sector) where
     clean = flag;
     free_or_needed = subst (λ (xs : List Sector). (i : ℕ) (u : Sector) → slice_get xs i ≡ Some u → (is_free u.0 ≡ true) ⊎ (is_needed false xs i ≡ true)) (sym data_kept) parts.free_or_needed;
     bits = record { low = parts.bits.low; by_label = λ i u there. parts.bits.by_label i u (record { is_data = there.is_data; here = here i u there }); past = parts.bits.past };
-    file_map = record {
-      header = ap page_in (get_set_other (s ∷ rest) 0 (1 + vam (length (s ∷ rest))) t (λ e. omega (arith, e))) ∙ parts.file_map.header;
-      no_files = ap (λ (xs : List Sector). files_by false xs xs) data_kept ∙ parts.file_map.no_files;
-    };
+    file_map = file_map_kept s t rest parts.file_map;
   }
     where
       here : (i : ℕ) (u : Sector) → HasData (t ∷ rest) i u → slice_get (s ∷ rest) i ≡ Some u
@@ -67,6 +64,12 @@ sound_when_closed (s ∷ rest) parts = record {
   by_root = by_root s rest parts;
   by_flag = by_flag s rest parts;
 }
+
+pub sound_by_parts : SoundByParts
+sound_by_parts d = (
+  λ sound. (record { labels = sound.labels; free_or_needed = sound.free_or_needed; bits = sound.bits; file_map = sound.file_map }, sound.clean),
+  λ parts. record { labels = parts.0.labels; clean = parts.1; free_or_needed = parts.0.free_or_needed; bits = parts.0.bits; file_map = parts.0.file_map },
+)
 
 pub sound_by_room : SoundByRoom
 sound_by_room d parts =

@@ -28,6 +28,10 @@ places test i (s ∷ rest) = if test i s then i ∷ places test (i + 1) rest els
 abbrev pub data_places : (ℕ → Sector → Bool) → List Sector → List ℕ
 data_places test d = places test (first_data (length d)) (data_sectors d)
 
+-- the data sectors that are not free
+abbrev pub taken_sectors : List Sector → List ℕ
+taken_sectors d = data_places (λ i s. not (is_free s.0)) d
+
 module _ (temps : Bool) where
   -- a file needs data sector i
   abbrev pub needs_place : List Sector → ℕ → Bool
@@ -75,3 +79,7 @@ module _ (temps : Bool) where
     pub files : (d : List Sector) → length (needed_leaders d) ≡ length (files_among temps d)
     pub pages : (d : List Sector) → length (needed_pages d) ≡ total_pages (files_among temps d)
     pub room : (files : List File) → total_room files ≡ length files + total_pages files
+
+  -- where each data sector is free or needed, as many are taken as the files have pages and leaders
+  abbrev pub TakenByFiles : Type 0
+  TakenByFiles = (d : List Sector) → AreFreeOrNeeded temps d → length (taken_sectors d) ≡ total_room (files_among temps d)

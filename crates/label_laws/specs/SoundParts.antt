@@ -31,6 +31,10 @@ pub record SoundLaws (d : List Sector) : Type 0 where
 abbrev pub SoundWhenClosed : Type 0
 SoundWhenClosed = (d : List Sector) → IsSoundButFlag d → SoundLaws d
 
+-- a volume is sound exactly where it is so but for its clean flag, and the flag says that it was closed
+abbrev pub SoundByParts : Type 0
+SoundByParts = (d : List Sector) → (Sound d ↔ (IsSoundButFlag d × (short_at (root_page d) 10 ≡ 1)))
+
 -- all that a sound volume is, but that there is room for its files
 pub record IsSoundButRoom (d : List Sector) : Type 0 where
   pub has_root : IsRoot (length d) (slice_get d 0)

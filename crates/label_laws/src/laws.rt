@@ -4,13 +4,13 @@ ghost use Rattle.std.specs.Prelude.{ℕ, Bool, List};
 ghost use Rattle.label_laws.specs.AllPermanent.{NoTemporaryLaws, PermanentLaws, SeenByPermanent};
 ghost use Rattle.label_laws.specs.AnyDisk.{AnyDiskLaws, LeaderAdded};
 ghost use Rattle.label_laws.specs.Assembly.{RightByRoom};
-ghost use Rattle.label_laws.specs.Counts.{CountLaws, UnneededListLaws};
+ghost use Rattle.label_laws.specs.Counts.{CountLaws, TakenByFiles, UnneededListLaws};
 ghost use Rattle.label_laws.specs.LabelWrites.{LabelLaterLaws, LabelWritesAppended};
 ghost use Rattle.label_laws.specs.StayLaws.{StayLaws};
 ghost use Rattle.label_laws.specs.TemporaryRuns.{TemporaryRunLaws};
 ghost use Rattle.label_laws.specs.Quiet.{QuietAppended, QuietMoments};
 ghost use Rattle.label_laws.specs.Shape.{LabelsGiveShape, MixedShapes, PagesBySectors, SameByPages};
-ghost use Rattle.label_laws.specs.SoundParts.{SoundByRoom, SoundWhenClosed};
+ghost use Rattle.label_laws.specs.SoundParts.{SoundByParts, SoundByRoom, SoundWhenClosed};
 ghost use Rattle.label_laws.specs.LawfulOrders.{OrdersAreLawful};
 ghost use Rattle.label_laws.specs.LawfulRuns.{LawfulLaws, LaterLaws};
 ghost use Rattle.label_laws.specs.LawfulThere.{ThereLaws};
@@ -101,9 +101,10 @@ pub fn right_by_room()
     ensures { (temps : Bool) → RightByRoom temps }
 {}
 
-/// With a clean root, what is sound but for its clean flag is sound.
+/// What is sound but for its clean flag is sound exactly where the flag is set, and is so with a clean root.
 pub fn sound_when_closed()
     ensures closed { SoundWhenClosed }
+    ensures parts { SoundByParts }
     ensures by_room { SoundByRoom }
 {}
 
@@ -129,6 +130,7 @@ pub fn temporary_runs_are_unseen()
 pub fn needed_sectors_are_counted()
     ensures lists { (temps : Bool) → UnneededListLaws temps }
     ensures counts { (temps : Bool) → CountLaws temps }
+    ensures taken { (temps : Bool) → TakenByFiles temps }
 {}
 
 /// Runs of label writes that keep the permanent files, and right labels, at each moment.

@@ -9,7 +9,8 @@ use Rattle.std.proofs.lemmas.Option.{same_Some, none-some}
 use Rattle.labelled_disk.specs.Layout.{vam}
 use Rattle.labelled_disk.specs.Sectors.{Sector, AreSectors}
 use Rattle.labelled_disk.proofs.WriteLemmas.{get_drop}
-use Rattle.volume_root.specs.Sound.{map_bytes, is_used}
+use Rattle.alloc_map.specs.Bits.{is_used}
+use Rattle.volume_root.specs.Sound.{map_bytes}
 
 module _ (p : ℕ → Bool) where
   -- how many of n numbers, from this one on, pass
@@ -25,7 +26,7 @@ module _ (p : ℕ → Bool) where
   none_yet a n = let none : min a n - a ≡ 0 = omega arith in ap (passing a) none ∙ passing-zero a
 
   -- the first, and those behind it
-  passing-suc : (a n : ℕ) → passing a (suc n) ≡ cond (p a) 1 0 + passing (a + 1) n
+  pub passing-suc : (a n : ℕ) → passing a (suc n) ≡ cond (p a) 1 0 + passing (a + 1) n
   unfolding passing
   passing-suc a n = sum_by-cons (λ s. cond (p s) 1 0) a (range_with_len (a + 1) n)
 
@@ -109,6 +110,7 @@ page_byte (x ∷ xs) (suc k) j s whole here below =
 -- a bit of pages in a row
 pub page_bit : (n : ℕ) (xs : List Sector) (i k : ℕ) (s : Sector) → ((j : ℕ) (t : Sector) → slice_get xs j ≡ Some t → length t.1 ≡ 512) → slice_get xs k ≡ Some s → k < n → i / 4096 ≡ k
     → is_used (flat_map (λ (t : Sector). t.1) (take n xs)) i ≡ is_used s.1 (i % 4096)
+unfolding is_used
 page_bit n xs i k s whole here below page =
     let byte : i / 8 ≡ 512 * k + i % 4096 / 8 = omega (arith, page) in
     let bit : i % 8 ≡ i % 4096 % 8 = omega arith in

@@ -1,51 +1,48 @@
 -- Whose sectors the allocation map marks, on a sound volume and under both flags.
-use Rattle.std.proofs.Common.{◌≡◌, ℕ, ◌+◌, ◌-◌, ◌≤◌, ◌<◌, Bool, false, not, List, [], length, Some, None, inl, inr, refl, sym, ◌∙◌, ap, arith}
-use Rattle.std.specs.Prelude.{slice_get, count_by}
+use Rattle.std.proofs.Common.{◌≡◌, ℕ, suc, ◌+◌, ◌-◌, Bool, true, false, not, cond, List, [], ◌∷◌, length, Some, refl, sym, ◌∙◌, ap, arith}
+use Rattle.std.specs.Prelude.{slice_get, count_by, if◌then◌else◌}
 use Rattle.std.specs.List.{range_with_len}
-use Rattle.std.proofs.lemmas.Bool.{true≢false}
-use Rattle.std.proofs.lemmas.Option.{slice_get-get_or}
-use Rattle.labelled_disk.specs.File.{File, file_at, total_room}
-use Rattle.labelled_disk.specs.FilesOn.{disk_file, files_on}
+use Rattle.std.proofs.lemmas.List.{length-drop}
+use Rattle.labelled_disk.specs.Label.{is_free}
+use Rattle.labelled_disk.specs.File.{File}
+use Rattle.labelled_disk.specs.FilesOn.{files_on}
 use Rattle.labelled_disk.specs.Layout.{capacity, data_sectors, first_data}
-use Rattle.labelled_disk.specs.Lowest.{is_needed}
 use Rattle.labelled_disk.specs.Root.{serial_of, counter_of}
-use Rattle.labelled_disk.specs.Sectors.{Sector, zero_sector}
-use Rattle.labelled_disk.proofs.WriteLemmas.{look_up, get_drop}
+use Rattle.labelled_disk.specs.Sectors.{Sector}
+use Rattle.labelled_disk.proofs.WriteLemmas.{get_drop}
+use Rattle.alloc_map.specs.Bits.{is_used}
 use Rattle.flat_machine.specs.Machine.{Machine, used}
 use Rattle.flat_machine.specs.Start.{opened, start}
+use Rattle.label_laws.specs.Counts.{places}
+use Rattle.label_laws.proofs.TakenLemmas.{taken_by_files}
 use Rattle.volume_root.specs.Flag.{FlagLaws, with_flag}
-use Rattle.volume_root.specs.Sound.{Sound, map_bytes, is_used}
+use Rattle.volume_root.specs.Sound.{Sound, map_bytes}
 use Rattle.pilot_top.specs.Marked.{marked, MarksFiles}
-use Rattle.pilot_top.proofs.BitCounts.{passing, passing-none}
+use Rattle.pilot_top.proofs.BitCounts.{passing, passing-zero, passing-suc}
 
--- no sector is needed where there is no file
-module _ (d : List Sector) (none : files_on d ≡ []) where
-  no_file : (id : ℕ) → disk_file false d id ≡ None
-  no_file id = sym (look_up false 0 0 d id) ∙ ap (λ fs. file_at fs id) none
-
-  not_needed : (i : ℕ) (s : Sector) → slice_get (data_sectors d) i ≡ Some s → is_needed false (data_sectors d) i ≡ false
-  not_needed i s here = rw (here, no_file s.0.id) refl
-
--- a data sector of a sound volume is not marked
-not_marked : (d : List Sector) → Sound d → (i : ℕ) → first_data (length d) ≤ i → i < length d → is_used (map_bytes d) i ≡ false
-not_marked d sound i above below =
-    let first : ℕ = first_data (length d) in
-    let there = slice_get-get_or d i zero_sector below in
-    let place : first + (i - first) ≡ i = omega (arith, above) in
-    let here = get_drop first d (i - first) ∙ ap (slice_get d) place ∙ there in
-    elim (sound.free_or_needed (i - first) _ here) [
-      | inl free ↦ sound.bits.by_label i _ (record { is_data = above; here = there }) ∙ ap not free
-      | inr needed ↦ absurd (true≢false (sym needed ∙ not_needed d sound.file_map.no_files (i - first) _ here))
-    ]
+-- as many numbers in a row pass as sectors at these places are taken
+passing_places : (p : ℕ → Bool) (i : ℕ) (xs : List Sector) → ((j : ℕ) (s : Sector) → slice_get xs j ≡ Some s → p (i + j) ≡ not (is_free s.0))
+    → passing p i (length xs) ≡ length (places (λ n s. not (is_free s.0)) i xs)
+passing_places p i [] same = passing-zero p i
+passing_places p i (x ∷ xs) same =
+    let first : i + 0 ≡ i = omega arith in
+    let rest = passing_places p (i + 1) xs (λ j s here. (let next : i + 1 + j ≡ i + suc j = omega arith in ap p next) ∙ same (suc j) s here) in
+    passing-suc p i (length xs) ∙ ap (λ (b : Bool). cond b 1 0 + passing p (i + 1) (length xs)) (ap p (sym first) ∙ same 0 x refl) ∙ step (not (is_free x.0)) rest
+  where
+    step : (b : Bool) → passing p (i + 1) (length xs) ≡ length (places (λ n s. not (is_free s.0)) (i + 1) xs)
+        → cond b 1 0 + passing p (i + 1) (length xs) ≡ length (if b then i ∷ places (λ n s. not (is_free s.0)) (i + 1) xs else places (λ n s. not (is_free s.0)) (i + 1) xs)
+    step true rest = omega (arith, rest)
+    step false rest = omega (arith, rest)
 
 -- the allocation map of a sound volume marks what its files have
 pub sound_marks : (d : List Sector) → Sound d → MarksFiles d
 unfolding marked passing
 sound_marks d sound =
     let first : ℕ = first_data (length d) in
-    let none : marked d ≡ 0 = passing-none (is_used (map_bytes d)) first (length d - first) (λ i above below. not_marked d sound i above (omega (arith, above, below))) in
-    let empty : used (start d) ≡ 0 = ap total_room sound.file_map.no_files in
-    none ∙ sym empty
+    let size : length d - first_data (length d) ≡ length (data_sectors d) = sym (length-drop (first_data (length d)) d) in
+    ap (passing (is_used (map_bytes d)) first) size
+    ∙ passing_places (is_used (map_bytes d)) first (data_sectors d) (λ j s here. sound.bits.by_label (first + j) s (record { is_data = omega arith; here = sym (get_drop first d j) ∙ here }))
+    ∙ taken_by_files false d sound.free_or_needed
 
 -- the machine of a disk, by what it reads of the disk
 abbrev begun : ℕ → ℕ → ℕ → List File → Machine

@@ -5,7 +5,8 @@ use Rattle.labelled_disk.specs.Layout.{first_data}
 use Rattle.labelled_disk.specs.Sectors.{Sector}
 use Rattle.flat_machine.specs.Machine.{used}
 use Rattle.flat_machine.specs.Start.{start}
-use Rattle.volume_root.specs.Sound.{map_bytes, is_used}
+use Rattle.alloc_map.specs.Bits.{is_used}
+use Rattle.volume_root.specs.Sound.{map_bytes}
 
 -- how many data sectors the allocation map marks
 unfoldable pub marked : List Sector → ℕ

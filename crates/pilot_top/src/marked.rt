@@ -4,7 +4,7 @@ ghost use Rattle.std.specs.List.{range_with_len};
 ghost use Rattle.labelled_disk.specs.Calls.{OnlyReads, Rose};
 ghost use Rattle.labelled_disk.specs.Layout.{IsCount};
 ghost use Rattle.labelled_disk.specs.Sectors.{Sector};
-ghost use Rattle.volume_root.specs.Sound.{is_used};
+ghost use Rattle.alloc_map.specs.Bits.{is_used};
 ghost use Rattle.pilot_top.specs.Marked.{marked};
 
 use crate::labels::first_data_sector;

@@ -149,8 +149,19 @@ fn replies(alloc: Global, labels: &[(u32, Label)], trace: &[u8]) -> Result<Vec<u
 
 #[test]
 fn each_status_has_its_exit(rt: HostRuntime) -> Result<(), Fail> {
-    assert_eq!(rt; Status::Done.exit(), 0);
-    assert_eq!(rt; Status::Usage.exit(), 2);
-    assert_eq!(rt; Status::Unfit.exit(), 9);
+    let exits = [
+        (Status::Done, 0),
+        (Status::Usage, 2),
+        (Status::DiskFault, 3),
+        (Status::StreamFault, 4),
+        (Status::NotOpened, 5),
+        (Status::Long, 6),
+        (Status::NoMemory, 7),
+        (Status::Damaged, 8),
+        (Status::Unfit, 9),
+    ];
+    for (status, exit) in exits {
+        assert_eq!(rt; status.exit(), exit);
+    }
     Ok(())
 }

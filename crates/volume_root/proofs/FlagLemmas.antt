@@ -1,5 +1,5 @@
 -- A volume with either clean flag is the same, and a sound one is opened.
-use Rattle.std.proofs.Common.{◌≡◌, ◌⊎◌, inl, inr, ℕ, zero, suc, ◌+◌, ◌<◌, ◌≤◌, ◌^◌, Bool, true, false, List, [], ◌∷◌, length, drop, Option, Some, None, Ok, Err, refl, sym, ◌∙◌, ap, subst, arith, eqb}
+use Rattle.std.proofs.Common.{◌≡◌, ◌⊎◌, inl, inr, ℕ, zero, suc, ◌<◌, ◌≤◌, ◌^◌, Bool, true, false, List, [], ◌∷◌, length, drop, Option, Some, None, Ok, Err, refl, sym, ◌∙◌, ap, subst, arith, eqb}
 use Rattle.std.specs.Prelude.{All, slice_get, slice_index}
 use Rattle.std.specs.Bool.{then_some}
 use Rattle.std.specs.Option.{option_map_or}
@@ -9,7 +9,7 @@ use Rattle.labelled_disk.specs.declared.layout.RootFault.{RootFault}
 use Rattle.labelled_disk.specs.declared.layout.RootFault.TheVariants as fault
 use Rattle.labelled_disk.specs.Label.{is_free}
 use Rattle.labelled_disk.specs.Sectors.{Sector}
-use Rattle.labelled_disk.specs.Layout.{data_sectors, first_data, vam}
+use Rattle.labelled_disk.specs.Layout.{data_sectors, first_data}
 use Rattle.labelled_disk.specs.FilesOn.{files_on, files_by}
 use Rattle.labelled_disk.specs.Lowest.{is_needed}
 use Rattle.labelled_disk.specs.Root.{IsRoot, LabelsRight, page_in, short_at, number_at}
@@ -21,6 +21,7 @@ use Rattle.volume_root.specs.declared.root.Root.{Root}
 use Rattle.volume_root.specs.Flag.{FlagLaws, FlagKeepsVolume, SoundIsOpened}
 use Rattle.volume_root.specs.RootPage.{Test, first_of, judged, root_in, root_label, root_bytes, is_labelled, is_magic, is_version, is_counted, has_serial, has_counter, is_flagged, is_rest, IsValidRoot}
 use Rattle.volume_root.specs.Sound.{Sound}
+use Rattle.volume_root.proofs.FileMapLemmas.{file_map_kept}
 use Rattle.volume_root.proofs.RootLemmas.{passes}
 use Rattle.volume_root.proofs.WrittenLemmas.{flag_read, serial_read, counter_read, is_root}
 
@@ -49,10 +50,7 @@ module _ (s t : Sector) (rest : List Sector) where
     clean = flag;
     free_or_needed = subst (λ (xs : List Sector). (i : ℕ) (u : Sector) → slice_get xs i ≡ Some u → (is_free u.0 ≡ true) ⊎ (is_needed false xs i ≡ true)) (sym data_kept) sound.free_or_needed;
     bits = record { low = sound.bits.low; by_label = λ i u there. sound.bits.by_label i u (record { is_data = there.is_data; here = here i u there }); past = sound.bits.past };
-    file_map = record {
-      header = ap page_in (get_set_other (s ∷ rest) 0 (1 + vam (length (s ∷ rest))) t (λ e. omega (arith, e))) ∙ sound.file_map.header;
-      no_files = files_kept ∙ sound.file_map.no_files;
-    };
+    file_map = file_map_kept s t rest sound.file_map;
   }
     where
       here : (i : ℕ) (u : Sector) → HasData (t ∷ rest) i u → slice_get (s ∷ rest) i ≡ Some u
@@ -102,6 +100,7 @@ module _ (s : Sector) (rest : List Sector) (bytes : All (λ b. b < 256) s.1) (ha
     has_counter = same_counter;
     flag = λ clean. flag_read (flagged clean);
     map = λ clean. refl;
+    file_map = λ clean names. file_map_kept s (now_first clean) rest names;
     again = λ before now. refl;
     lawful_first = λ clean. inl (record { place = refl; root_label = refl; valid = has_root clean });
     lawful = λ before now. inl (record { place = refl; root_label = refl; valid = has_root now });

@@ -13,14 +13,14 @@ use Rattle.labelled_disk.specs.File.{File, total_room}
 use Rattle.labelled_disk.specs.FilesOn.{files_among}
 use Rattle.labelled_disk.specs.Right.{FilesRight, IsWhole, IsGiven}
 use Rattle.labelled_disk.specs.Root.{IsRoot, HasMaps, LabelsRight, page_in, root_page, short_at, number_at, serial_of, counter_of}
-use Rattle.labelled_disk.specs.Runs.{zero_bytes}
 use Rattle.labelled_disk.proofs.Finds.{get_set_same, get_set_other}
 use Rattle.labelled_disk.proofs.LowestLemmas.{empty_has_none}
 use Rattle.labelled_disk.proofs.WriteLemmas.{get_drop}
 use Rattle.volume_root.specs.Format.{map_label, used_byte, used_page, new_sector, new_sectors, new_root, formatted}
 use Rattle.volume_root.specs.FormatLaws.{IsEmptyVolume, NewIsEmpty}
 use Rattle.volume_root.specs.RootPage.{IsValidRoot, root_label, root_bytes}
-use Rattle.volume_root.specs.Sound.{map_bytes, HasBits, Sound}
+use Rattle.volume_root.specs.Sound.{map_bytes, HasBits, HasFileMap, Sound}
+use Rattle.volume_root.proofs.FileMapLemmas.{zero_file_map}
 use Rattle.volume_root.proofs.NewSectors.{in_allocation, in_file_map, in_data}
 use Rattle.volume_root.proofs.UsedBits.{is_below, is_past, pages_joined, byte_of}
 use Rattle.volume_root.proofs.WrittenLemmas.{is_root, flag_read, serial_read, counter_read}
@@ -153,11 +153,12 @@ module _ (n serial counter : ℕ) (count : IsCount n) (some_serial : 1 ≤ seria
     past = λ i over. is_past (first_data n) (map_bytes volume) each_byte i (omega (arith, over, size, first_fits n count));
   }
 
-  header : page_in (slice_get volume (1 + vam (length volume))) ≡ zero_bytes
-  unfolding zero_bytes
-  header =
-      let z : 1 + vam n + 0 ≡ 1 + vam n = omega arith in
-      ap (λ (k : ℕ). page_in (slice_get volume (1 + vam k))) size ∙ ap (λ (i : ℕ). page_in (slice_get volume i)) (sym z) ∙ ap page_in (at_file_map 0 (omega arith))
+  file_map : HasFileMap volume
+  file_map =
+      let place : 1 + vam n + 0 ≡ 1 + vam n = omega arith in
+      zero_file_map volume (λ i s high here. ap (λ (t : Sector). is_free t.0) (at_data i s (subst (λ (k : ℕ). first_data k ≤ i) size high) here))
+      (map_label 2 0, replicate 512 0) (subst IsCount (sym size) count)
+      (ap (λ (k : ℕ). slice_get volume (1 + vam k)) size ∙ ap (slice_get volume) (sym place) ∙ at_file_map 0 (omega arith)) refl
 
   sound : Sound volume
   sound = record {
@@ -165,7 +166,7 @@ module _ (n serial counter : ℕ) (count : IsCount n) (some_serial : 1 ≤ seria
     clean = ap (λ (page : List ℕ). short_at page 10) page_of_root ∙ flag_read (new_root n serial counter);
     free_or_needed = λ i s here. inl (ap (λ (t : Sector). is_free t.0) (in_data_sectors i s here));
     bits = bits;
-    file_map = record { header = header; no_files = no_files };
+    file_map = file_map;
   }
 
   pub empty : IsEmptyVolume n serial counter volume

@@ -7,8 +7,8 @@ use Rattle.std.proofs.lemmas.Grind.{flat_map-append}
 use Rattle.std.proofs.lemmas.List.{append-nil, get_or_past}
 use Rattle.std.proofs.lemmas.List.FromFn.{length-map-range_with_len, get_or-map-range_with_len, map-range_with_len_more}
 use Rattle.labelled_disk.specs.Sectors.{Sector}
+use Rattle.alloc_map.specs.Bits.{is_used}
 use Rattle.volume_root.specs.Format.{high_bits, used_byte, used_page}
-use Rattle.volume_root.specs.Sound.{is_used}
 
 -- a bit of the byte whose first bits are set
 abbrev HasBit : ℕ → ℕ → Type 0
@@ -40,6 +40,7 @@ bits_of (suc (suc (suc (suc (suc (suc (suc (suc (suc c))))))))) most = absurd (o
 -- bytes that are those of a map have its bits
 module _ (used : ℕ) (bytes : List ℕ) (same : (k : ℕ) → slice_index bytes k ≡ used_byte used k) where
   is_bit : (i : ℕ) → is_used bytes i ≡ ltb (i % 8) (min 8 (used - 8 * (i / 8)))
+  unfolding is_used
   is_bit i = ap (λ (b : ℕ). eqb (b / 2 ^ (7 - i % 8) % 2) 1) (same (i / 8)) ∙ bits_of (min 8 (used - 8 * (i / 8))) (omega arith) (i % 8) (omega arith)
 
   pub is_below : (i : ℕ) → i < used → is_used bytes i ≡ true

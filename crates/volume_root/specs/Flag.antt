@@ -11,7 +11,7 @@ use Rattle.labelled_disk.specs.Layout.{IsCount, data_sectors}
 use Rattle.labelled_disk.specs.Root.{IsRoot, LabelsRight, root_page, serial_of, counter_of, short_at}
 use Rattle.volume_root.specs.declared.root.Root.{Root}
 use Rattle.volume_root.specs.RootPage.{judged, root_in, root_write}
-use Rattle.volume_root.specs.Sound.{Sound, map_bytes}
+use Rattle.volume_root.specs.Sound.{HasFileMap, Sound, map_bytes}
 
 -- the root of these sectors, with this clean flag
 abbrev pub root_with : Bool → List Sector → Root
@@ -42,6 +42,7 @@ pub record FlagLaws (d : List Sector) : Type 0 where
   pub has_counter : (clean : Bool) → counter_of (with_flag clean d) ≡ counter_of d
   pub flag : (clean : Bool) → short_at (root_page (with_flag clean d)) 10 ≡ (if clean then 1 else 0)
   pub map : (clean : Bool) → map_bytes (with_flag clean d) ≡ map_bytes d
+  pub file_map : (clean : Bool) → HasFileMap d → HasFileMap (with_flag clean d)
   pub again : (before now : Bool) → written (flag_write now d) (with_flag before d) ≡ with_flag now d
   pub lawful_first : (clean : Bool) → Lawful d (flag_write clean d)
   pub lawful : (before now : Bool) → Lawful (with_flag before d) (flag_write now d)

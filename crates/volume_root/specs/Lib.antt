@@ -2,6 +2,8 @@ pub mod Flag
 pub mod Format
 pub mod FormatLaws
 pub mod Later
+pub mod Mapped
 pub mod RootLaws
 pub mod RootPage
 pub mod Sound
+pub mod ThreeFiles

@@ -3,7 +3,9 @@ ghost use Rattle.std.specs.Prelude.{ℕ};
 ghost use Rattle.labelled_disk.specs.Sectors.{Sector};
 ghost use Rattle.volume_root.specs.Flag.{FlagKeepsVolume, SoundIsOpened};
 ghost use Rattle.volume_root.specs.FormatLaws.{NewIsEmpty};
+ghost use Rattle.volume_root.specs.Mapped.{SoundAreMapped};
 ghost use Rattle.volume_root.specs.RootLaws.{ValidIsJudged, WrittenIsRead};
+ghost use Rattle.volume_root.specs.ThreeFiles.{ThreeFilesAreSound};
 
 /// The tests of a root are those that a valid root passes.
 pub fn valid_roots_pass()
@@ -28,4 +30,14 @@ pub fn flag_keeps_volume()
 /// A sound volume is opened.
 pub fn sound_is_opened()
     ensures { SoundIsOpened }
+{}
+
+/// The file map of a sound volume names a sector for each page of each file.
+pub fn sound_volumes_are_mapped()
+    ensures { SoundAreMapped }
+{}
+
+/// A volume of 256 sectors with three files, written out sector by sector, is sound.
+pub fn three_files_are_sound()
+    ensures { ThreeFilesAreSound }
 {}

@@ -11,7 +11,8 @@ mod write;
 pub use formatting::format;
 pub use labelled_disk::{Difference, Layout, RootFault};
 pub use laws::{
-    flag_keeps_volume, new_volume_is_empty, sound_is_opened, valid_roots_pass, written_root_is_read,
+    flag_keeps_volume, new_volume_is_empty, sound_is_opened, sound_volumes_are_mapped,
+    three_files_are_sound, valid_roots_pass, written_root_is_read,
 };
 pub use read::read_root;
 pub use root::Root;

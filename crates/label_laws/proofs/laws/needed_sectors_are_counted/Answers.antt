@@ -1,4 +1,5 @@
 use Rattle.label_laws.proofs.CountLemmas as laws
+use Rattle.label_laws.proofs.TakenLemmas.{taken_by_files}
 use Rattle.label_laws.proofs.laws.needed_sectors_are_counted.Goals as goal
 
 pub returns-clause-lists : goal.returns-clause-lists
@@ -6,3 +7,6 @@ returns-clause-lists c temps = laws.list_laws temps
 
 pub returns-clause-counts : goal.returns-clause-counts
 returns-clause-counts c temps = laws.count_laws temps
+
+pub returns-clause-taken : goal.returns-clause-taken
+returns-clause-taken c temps = taken_by_files temps

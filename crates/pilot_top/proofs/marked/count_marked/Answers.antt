@@ -1,6 +1,7 @@
 use Rattle.std.proofs.Common.{◌≡◌, ◌-◌, ◌*◌, ◌/◌, ◌%◌, length, sym, ◌∙◌, ap, arith, min}
 use Rattle.labelled_disk.specs.Layout.{first_data}
-use Rattle.volume_root.specs.Sound.{map_bytes, is_used}
+use Rattle.alloc_map.specs.Bits.{is_used}
+use Rattle.volume_root.specs.Sound.{map_bytes}
 use Rattle.labelled_disk.proofs.CallLemmas.{only_reads_itself, only_reads_more}
 use Rattle.pilot_top.specs.Marked.{marked}
 use Rattle.pilot_top.proofs.BitCounts.{passing, passing-le, passing-zero, page_counted}

@@ -1,7 +1,8 @@
 use Rattle.std.proofs.Common.{◌≡◌, ◌-◌, ◌*◌, ◌≤◌, List, Some, min}
 use Rattle.labelled_disk.specs.Calls.{OnlyReads}
 use Rattle.labelled_disk.specs.Sectors.{Sector}
-use Rattle.volume_root.specs.Sound.{map_bytes, is_used}
+use Rattle.alloc_map.specs.Bits.{is_used}
+use Rattle.volume_root.specs.Sound.{map_bytes}
 use Rattle.pilot_top.proofs.BitCounts.{passing}
 use Rattle.pilot_top.proofs.marked.count_marked.Given as goal
 

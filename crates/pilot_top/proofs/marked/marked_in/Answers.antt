@@ -1,5 +1,5 @@
 use Rattle.std.proofs.Common.{◌≡◌, ℕ, ◌+◌, ◌-◌, ◌%◌, Bool, cond, sym, ◌∙◌, ap, arith, min}
-use Rattle.volume_root.specs.Sound.{is_used}
+use Rattle.alloc_map.specs.Bits.{is_used}
 use Rattle.pilot_top.proofs.BitCounts.{passing, passing-le, passing-one, none_yet}
 use Rattle.pilot_top.proofs.marked.marked_in.Goals as goal
 use Rattle.pilot_top.proofs.marked.marked_in.Goals.{then-is_marked, else-is_marked}

@@ -1,5 +1,5 @@
 use Rattle.std.proofs.Common.{◌≡◌, ◌-◌, ◌%◌, min}
-use Rattle.volume_root.specs.Sound.{is_used}
+use Rattle.alloc_map.specs.Bits.{is_used}
 use Rattle.pilot_top.proofs.BitCounts.{passing}
 use Rattle.pilot_top.proofs.marked.marked_in.Given as goal
 
