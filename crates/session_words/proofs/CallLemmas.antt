@@ -17,44 +17,53 @@ use Rattle.flat_machine.proofs.Lists.{any_in, in_any, filter_in}
 use Rattle.flat_machine.proofs.NextLemmas.{next_keeps_machine}
 use Rattle.swapper_kernel.specs.Goes.{IsDirty}
 use Rattle.swapper_kernel.specs.Kinds.{kind_of, the_tables, a_file, unused, tables_alone}
-use Rattle.session_words.specs.Parts.{shapes_of, MapMeaning, TablesMeaning, is_loose, but_none}
+use Rattle.session_words.specs.Parts.{shapes_of, TablesMeaning, is_loose, but_none}
 use Rattle.session_words.specs.StandsFor.{IsFor, StandsFor}
 use Rattle.session_words.specs.CallLaws.{OnlyTables, ForceStands, CallLaws}
 use Rattle.swapper_kernel.proofs.KindLemmas.{kind_is_data, data_kind}
+use Rattle.session_words.proofs.KnownLemmas.{frames_brought}
 use Rattle.session_words.proofs.StayLemmas.{stays}
 use Rattle.session_words.proofs.LooseLemmas.{volume_loose}
 use Rattle.session_words.proofs.CellLemmas.{unrefused}
 
 -- The tables.
 
-module _ (names_triple : MapMeaning) (spaces_of : TablesMeaning) where
-  pub only_tables : OnlyTables names_triple spaces_of
+module _ (spaces_of : TablesMeaning) where
+  pub only_tables : OnlyTables spaces_of
   only_tables before_of x y m spaces unforced same are is tables h =
-      let kept = stays names_triple before_of x y tables_alone same in
+      let kept = stays before_of x y tables_alone same in
       record {
-        machine = is;
-        sectors = are;
-        root = kept.root m.serial m.counter m.capacity refl h.root;
-        map_labels = kept.map_labels h.map_labels;
-        labels = kept.labels (shapes_of m.files) h.labels;
-        bits = kept.bits refl h.bits;
-        triples = kept.triples refl h.triples;
-        cells = kept.cells but_none m.files refl h.cells;
-        tables = tables;
+        named = h.named;
+        map = kept.map h.named refl h.map;
+        by = record {
+          machine = is;
+          sectors = are;
+          root = kept.root m.serial m.counter m.capacity refl h.by.root;
+          map_labels = kept.map_labels h.by.map_labels;
+          labels = kept.labels (shapes_of m.files) h.by.labels;
+          bits = kept.bits refl h.by.bits;
+          triples = kept.triples h.named h.by.triples;
+          cells = kept.cells but_none m.files refl h.by.cells;
+          tables = tables;
+        };
       }
 
   -- the same memory, and other pages unforced
-  with_unforced : (x : List Sector) (m : Machine) (unforced : List FilePage) → IsMachine (record m { unforced = unforced }) → IsFor names_triple spaces_of x m → IsFor names_triple spaces_of x (record m { unforced = unforced })
+  with_unforced : (x : List Sector) (m : Machine) (unforced : List FilePage) → IsMachine (record m { unforced = unforced }) → IsFor spaces_of x m → IsFor spaces_of x (record m { unforced = unforced })
   with_unforced x m unforced is h = record {
-    machine = is;
-    sectors = h.sectors;
-    root = h.root;
-    map_labels = h.map_labels;
-    labels = h.labels;
-    bits = h.bits;
-    triples = h.triples;
-    cells = h.cells;
-    tables = h.tables;
+    named = h.named;
+    map = h.map;
+    by = record {
+      machine = is;
+      sectors = h.by.sectors;
+      root = h.by.root;
+      map_labels = h.by.map_labels;
+      labels = h.by.labels;
+      bits = h.by.bits;
+      triples = h.by.triples;
+      cells = h.by.cells;
+      tables = h.by.tables;
+    };
   }
 
 -- Force.
@@ -68,22 +77,23 @@ still_unforced spaces range us id page is hidden =
     let same : is_shown_within spaces range u.0 ≡ false = (λ i. is_shown_within spaces range (record { file = sym (eqb-true id u.0.file parts.0) i; page = sym (eqb-true page u.0.page parts.1) i })) ∙ hidden in
     in_any (is_page (record { file = id; page = page })) (without_shown_within spaces range us) u.0 (filter_in (λ v. not (is_shown_within spaces range v)) us u.0 u.1 (ap not same)) u.2
 
-module _ (names_triple : MapMeaning) (spaces_of : TablesMeaning) where
-  pub force_stands : ForceStands names_triple spaces_of
-  force_stands space s old new before after m accepted there swaps forced h =
+module _ (spaces_of : TablesMeaning) where
+  pub force_stands : ForceStands spaces_of
+  force_stands space s old new before after m accepted there swaps forced known h =
       let becomes : next m (ForceOut space) ≡ record m { unforced = without_shown_within m.spaces s m.unforced } =
       unrefused m (ForceOut space) accepted ∙ ap (λ (o : Option Space). option_map_or (λ (r : Space). record m { unforced = without_shown_within m.spaces r m.unforced }) o m) there in
-      let is : IsMachine (record m { unforced = without_shown_within m.spaces s m.unforced }) = subst IsMachine becomes (next_keeps_machine m (ForceOut space) tt h.is.machine) in
+      let is : IsMachine (record m { unforced = without_shown_within m.spaces s m.unforced }) = subst IsMachine becomes (next_keeps_machine m (ForceOut space) tt h.is.by.machine) in
       let x = swaps.memory h.memory h.stands in
-      subst (λ (n : Machine). StandsFor names_triple spaces_of new after n) (sym becomes)
+      subst (λ (n : Machine). StandsFor spaces_of new after n) (sym becomes)
       (record {
         memory = x.0;
         stands = x.1;
-        is = with_unforced names_triple spaces_of x.0 m (without_shown_within m.spaces s m.unforced) is (subst (λ (y : List Sector). IsFor names_triple spaces_of y m) (sym x.2) h.is);
+        is = with_unforced spaces_of x.0 m (without_shown_within m.spaces s m.unforced) is (subst (λ (y : List Sector). IsFor spaces_of y m) (sym x.2) h.is);
         dirty = λ id page dirty. elim (swaps.makes.dirty id page dirty) [
           | inl was ↦ either id page dirty (is_shown_within m.spaces s (record { file = id; page = page })) refl (h.dirty id page was)
           | inr own ↦ volume_loose (without_shown_within m.spaces s m.unforced) id page own
         ];
+        frames = frames_brought before after m.spaces known h.frames;
       })
     where
       loose : (id page : ℕ) → is_shown_within m.spaces s (record { file = id; page = page }) ≡ false → (a b : Bool) → (c : Bool) → is_unforced m.unforced id page ≡ c → (a || (b && c)) ≡ true
@@ -107,5 +117,5 @@ kind_tables n k l is = either (l.id == 3) refl (is_file l) (sym (data_kind n k l
     either false e true h = absurd (false≢true (ap tables_alone h))
     either false e false h = absurd (false≢true (ap tables_alone h))
 
-pub call_laws : (names_triple : MapMeaning) (spaces_of : TablesMeaning) → CallLaws names_triple spaces_of
-call_laws names_triple spaces_of = record { tables = only_tables names_triple spaces_of; force = force_stands names_triple spaces_of }
+pub call_laws : (spaces_of : TablesMeaning) → CallLaws spaces_of
+call_laws spaces_of = record { tables = only_tables spaces_of; force = force_stands spaces_of }

@@ -16,7 +16,7 @@ use Rattle.flat_machine.specs.Machine.{Machine}
 use Rattle.flat_machine.proofs.Cells.{every_append}
 use Rattle.swapper_kernel.specs.Stands.{labels_of}
 use Rattle.swapper_kernel.specs.Kinds.{the_tables, a_file, unused}
-use Rattle.session_words.specs.Parts.{shape_of, MapMeaning, TablesMeaning}
+use Rattle.session_words.specs.Parts.{shape_of, TablesMeaning}
 use Rattle.session_words.specs.StandsFor.{IsFor}
 use Rattle.session_words.specs.CellLaws.{StoresAt}
 use Rattle.swapper_kernel.specs.Differs.{ChangesAt}
@@ -61,26 +61,26 @@ overwritten_fits l p at bytes fits inside bs =
           (every_append (λ b. b < 256) (take at p ++ bytes) (drop (at + length bytes) p) (every_append (λ b. b < 256) (take at p) bytes (every_take (λ b. b < 256) at p all) bs) (every_drop (λ b. b < 256) (at + length bytes) p all));
     }
 
-module _ (names_triple : MapMeaning) (spaces_of : TablesMeaning) where
-  pub high_is_data : (x : List Sector) (m : Machine) (k : ℕ) (s : Sector) → IsFor names_triple spaces_of x m → slice_get x k ≡ Some s → 16 ≤ s.0.id → first_data (length x) ≤ k
+module _ (spaces_of : TablesMeaning) where
+  pub high_is_data : (x : List Sector) (m : Machine) (k : ℕ) (s : Sector) → IsFor spaces_of x m → slice_get x k ≡ Some s → 16 ≤ s.0.id → first_data (length x) ≤ k
   unfolding first_data
   high_is_data x m k s h here high = ⊎_elim
       (λ (low : k < 1).
       let z : k ≡ 0 = omega arith in
       let at : slice_get x 0 ≡ Some s = ap (slice_get x) (sym z) ∙ here in
-      let four = names_id s.0 (record { id = 4; page = 0 }) (subst (λ (o : Option Sector). IsSomeAnd o (λ t. IsTrue (names t.0 (record { id = 4; page = 0 })))) at h.root.valid.label) in
+      let four = names_id s.0 (record { id = 4; page = 0 }) (subst (λ (o : Option Sector). IsSomeAnd o (λ t. IsTrue (names t.0 (record { id = 4; page = 0 })))) at h.by.root.valid.label) in
       absurd (omega (arith, four, high)))
       (λ (above : 1 ≤ k). ⊎_elim
       (λ (low : k - 1 < vam (length x)).
       let z : 1 + (k - 1) ≡ k = omega arith in
-      let one = named (1 + (k - 1)) (record { id = 1; page = k - 1 }) (ap (slice_get x) z ∙ here) (h.map_labels.allocation (k - 1) (subst (λ (n : ℕ). k - 1 < vam n) (sym long) low)) in
+      let one = named (1 + (k - 1)) (record { id = 1; page = k - 1 }) (ap (slice_get x) z ∙ here) (h.by.map_labels.allocation (k - 1) (subst (λ (n : ℕ). k - 1 < vam n) (sym long) low)) in
       absurd (omega (arith, one, high)))
       (λ (past : vam (length x) ≤ k - 1). ⊎_elim
       (λ (low : k - 1 - vam (length x) < vfm (length x)).
       let z : 1 + vam (length x) + (k - 1 - vam (length x)) ≡ k = omega (arith, past, above) in
       let two = named (1 + vam (length x) + (k - 1 - vam (length x))) (record { id = 2; page = k - 1 - vam (length x) }) (ap (slice_get x) z ∙ here)
       (subst (λ (n : ℕ). IsSomeAnd (slice_get (labels_of x) (1 + vam n + (k - 1 - vam (length x)))) (λ l. IsTrue (names l (record { id = 2; page = k - 1 - vam (length x) })))) long
-      (h.map_labels.file_map (k - 1 - vam (length x)) (subst (λ (n : ℕ). k - 1 - vam (length x) < vfm n) (sym long) low))) in
+      (h.by.map_labels.file_map (k - 1 - vam (length x)) (subst (λ (n : ℕ). k - 1 - vam (length x) < vfm n) (sym long) low))) in
       absurd (omega (arith, two, high)))
       (λ (far : vfm (length x) ≤ k - 1 - vam (length x)). omega (arith, far, past, above))
       (cases_lt (k - 1 - vam (length x)) (vfm (length x))))
@@ -93,13 +93,13 @@ module _ (names_triple : MapMeaning) (spaces_of : TablesMeaning) where
       named : (n : ℕ) (w : Wanted) → slice_get x n ≡ Some s → IsSomeAnd (slice_get (labels_of x) n) (λ l. IsTrue (names l w)) → s.0.id ≡ w.id
       named n w at is = names_id s.0 w (subst (λ (o : Option Label). IsSomeAnd o (λ l. IsTrue (names l w))) (label_here x n s at) is)
 
-  pub change_stores : (x y : List Sector) (m : Machine) (home : Home) (f : File) (at : ℕ) (bytes : List ℕ) → IsFor names_triple spaces_of x m → file_at m.files home.id ≡ Some f
+  pub change_stores : (x y : List Sector) (m : Machine) (home : Home) (f : File) (at : ℕ) (bytes : List ℕ) → IsFor spaces_of x m → file_at m.files home.id ≡ Some f
       → at + length bytes ≤ 512 → AllByRecursion (λ b. b < 256) bytes → ChangesAt home at bytes x y → StoresAt home.id home.page at bytes x y
   change_stores x y m home f at bytes h found inside bs c =
       let w : Wanted = record { id = home.id; page = home.page } in
       let ids : c.s.0.id ≡ home.id = names_id c.s.0 (record { id = home.id; page = home.page }) c.named in
       let pages : c.s.0.page ≡ home.page = names_page c.s.0 (record { id = home.id; page = home.page }) c.named in
-      let given : is_file_id c.s.0.id ≡ true = ap is_file_id ids ∙ (machine_shapes m h.machine (length x) (slice_get x 0) h.root).given home.id (shape_of f) (ap (λ (o : Option File). option_map shape_of o) found) in
+      let given : is_file_id c.s.0.id ≡ true = ap is_file_id ids ∙ (machine_shapes m h.by.machine (length x) (slice_get x 0) h.by.root).given home.id (shape_of f) (ap (λ (o : Option File). option_map shape_of o) found) in
       let high = above_reserved c.s.0.id given in
       let file : is_file c.s.0 ≡ true = file_label c.s.0 given ((λ i. names c.s.0 (record { id = ids i; page = pages i })) ∙ c.named) in
       let above = high_is_data x m home.sector c.s h c.here high in
@@ -114,9 +114,9 @@ module _ (names_triple : MapMeaning) (spaces_of : TablesMeaning) where
         same_id = ids;
         same_page = pages;
         inside = inside;
-        fits = overwritten_fits c.s.0 c.s.1 at bytes (h.sectors home.sector c.s c.here) inside bs;
+        fits = overwritten_fits c.s.0 c.s.1 at bytes (h.by.sectors home.sector c.s c.here) inside bs;
         is = c.is;
       }
 
-  pub change_laws : ChangeLaws names_triple spaces_of
+  pub change_laws : ChangeLaws spaces_of
   change_laws = record { high = high_is_data; store = change_stores }

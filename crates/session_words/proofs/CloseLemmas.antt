@@ -23,19 +23,19 @@ use Rattle.label_laws.specs.AllPermanent.{if_permanent}
 use Rattle.label_laws.proofs.PermanentLemmas.{at_permanents, one}
 use Rattle.swapper_kernel.specs.Stands.{labels_of}
 use Rattle.swapper_kernel.specs.Kinds.{a_file}
-use Rattle.session_words.specs.Parts.{Shape, shape_of, shapes_of, HasLabelsUpto, HasMapLabels, HasBits, HasTriples, MapMeaning, TablesMeaning, is_owned, is_owned_upto, is_marked, map_pages}
+use Rattle.session_words.specs.Parts.{Shape, shape_of, shapes_of, HasLabelsUpto, HasMapLabels, TablesMeaning, is_owned, is_owned_upto}
 use Rattle.session_words.specs.StandsFor.{IsFor, IsSettled}
 use Rattle.session_words.specs.FreeLaws.{AreOfFiles, Frees, free_where}
 use Rattle.session_words.specs.CloseLaws.{is_closing, IsClosed, Closed}
 use Rattle.session_words.proofs.FoundLemmas.{above_reserved, file_id_of, file_label, owner_upto, from_data}
-use Rattle.session_words.proofs.FreeLemmas.{pages_gone, leaders_gone, bits_gone, triples_gone, map_labels_gone, sector_kept, root_kept}
+use Rattle.session_words.proofs.FreeLemmas.{pages_gone, leaders_gone, bits_freed, triples_freed, map_labels_gone, sector_kept, root_kept}
 use Rattle.session_words.proofs.LooseLemmas.{kind_file}
 use Rattle.session_words.proofs.PlaceLemmas.{same_pages}
 use Rattle.session_words.proofs.SettledLemmas.{Tells, both, right_all, settled_is_told, machine_shapes, shape_at}
 
-module _ (names_triple : MapMeaning) (spaces_of : TablesMeaning) (x y : List Sector) (m : Machine) (h : IsFor names_triple spaces_of x m) (d : Frees names_triple (is_closing m.files) x y) where
+module _ (spaces_of : TablesMeaning) (x y : List Sector) (m : Machine) (h : IsFor spaces_of x m) (d : Frees (is_closing m.files) x y) where
   high : (id : ℕ) (f : File) → file_at m.files id ≡ Some f → 16 ≤ id
-  high id f found = let given = (each_at (λ w. IsFileId m.serial m.counter w.id) m.files h.machine.ids_given id f found).above_reserved in omega (arith, given, at_id m.files id f found)
+  high id f found = let given = (each_at (λ w. IsFileId m.serial m.counter w.id) m.files h.by.machine.ids_given id f found).above_reserved in omega (arith, given, at_id m.files id f found)
 
   shape_high : (id : ℕ) (f : Shape) → shapes_of m.files id ≡ Some f → 16 ≤ id
   shape_high id f is = let g = shape_at m.files id f is in high id g.0 g.1
@@ -50,7 +50,7 @@ module _ (names_triple : MapMeaning) (spaces_of : TablesMeaning) (x y : List Sec
 
   -- the permanent files, by identifier
   shape_after : (id : ℕ) → shapes_of (filter (λ f. f.permanent) m.files) id ≡ option_map shape_of (if_permanent (file_at m.files id))
-  shape_after id = ap (λ (o : Option File). option_map shape_of o) (at_permanents m.files h.machine.ids_rise id)
+  shape_after id = ap (λ (o : Option File). option_map shape_of o) (at_permanents m.files h.by.machine.ids_rise id)
 
   no_three : file_at m.files 3 ≡ None
   no_three = by (file_at m.files 3) refl
@@ -82,7 +82,7 @@ module _ (names_triple : MapMeaning) (spaces_of : TablesMeaning) (x y : List Sec
 
   -- a permanent file is one of all
   was_file : (id : ℕ) (f : File) → file_at (filter (λ f. f.permanent) m.files) id ≡ Some f → (file_at m.files id ≡ Some f) × (f.permanent ≡ true)
-  was_file id f found = by (file_at m.files id) refl (sym (at_permanents m.files h.machine.ids_rise id) ∙ found)
+  was_file id f found = by (file_at m.files id) refl (sym (at_permanents m.files h.by.machine.ids_rise id) ∙ found)
     where
       of : (g : File) (b : Bool) → g.permanent ≡ b → (if b then Some g else None) ≡ Some f → (g ≡ f) × (f.permanent ≡ true)
       of g true e k = let same = same_Some g f k in (same, ap (λ (w : File). w.permanent) (sym same) ∙ e)
@@ -101,21 +101,21 @@ module _ (names_triple : MapMeaning) (spaces_of : TablesMeaning) (x y : List Sec
 
   settled_after : IsSettled y (next m Close)
   settled_after = record {
-    machine = next_keeps_machine m Close tt h.machine;
+    machine = next_keeps_machine m Close tt h.by.machine;
     sectors = d.sectors;
-    root = root_kept names_triple (is_closing m.files) reserved x y d m.serial m.counter m.capacity h.root;
-    map_labels = subst HasMapLabels (sym d.labels) (map_labels_gone (labels_of x) (is_closing m.files) reserved h.map_labels);
+    root = root_kept (is_closing m.files) reserved x y d m.serial m.counter m.capacity h.by.root;
+    map_labels = subst HasMapLabels (sym d.labels) (map_labels_gone (labels_of x) (is_closing m.files) reserved h.by.map_labels);
     table_pages = 0;
     labels = subst (λ (l : List Label). HasLabelsUpto 0 l (shapes_of (filter (λ f. f.permanent) m.files))) (sym d.labels) (record {
       pages = same_pages (map (free_where (is_closing m.files)) (labels_of x)) (λ i p. not (is_closing m.files i p) && is_owned (shapes_of m.files) i p) (is_owned_upto 0 (shapes_of (filter (λ f. f.permanent) m.files))) owned_after
-          (pages_gone (labels_of x) (is_closing m.files) (is_owned (shapes_of m.files)) h.labels.pages);
-      leaders = leaders_gone (labels_of x) (is_closing m.files) (shapes_of m.files) (shapes_of (filter (λ f. f.permanent) m.files)) leaders_from shape_high h.labels.leaders;
+          (pages_gone (labels_of x) (is_closing m.files) (is_owned (shapes_of m.files)) h.by.labels.pages);
+      leaders = leaders_gone (labels_of x) (is_closing m.files) (shapes_of m.files) (shapes_of (filter (λ f. f.permanent) m.files)) leaders_from shape_high h.by.labels.leaders;
     });
     cells = record {
       agrees = λ k t f p has found page firm.
           let low = above_reserved t.0.id (file_id_of t.0 (kind_file (length y) k t.0 has.is)) in
-          let was = sector_kept names_triple (is_closing m.files) reserved x y d a_file refl k t has (λ z. omega (arith, z, low)) in
-          h.cells.agrees k t f p was.0 (was_file t.0.id f found).0 page refl;
+          let was = sector_kept (is_closing m.files) reserved x y d a_file refl k t has (λ z. omega (arith, z, low)) in
+          h.by.cells.agrees k t f p was.0 (was_file t.0.id f found).0 page refl;
     };
   }
 
@@ -149,17 +149,20 @@ module _ (names_triple : MapMeaning) (spaces_of : TablesMeaning) (x y : List Sec
                   let mark : g.permanent ≡ true = ap (λ (s : Shape). s.permanent) k.same_shape ∙ (was_file id f found).1 in
                   (g, one m.serial m.counter y (right_all y (next m Close) settled_after) id ∙ ap if_permanent q ∙ ap (λ (b : Bool). if b then Some g else None) mark)
 
-  pub closed : IsClosed names_triple m y
+  pub closed : IsClosed m y
   closed = record {
     can_open = record {
       sectors = d.sectors;
       right = (settled_is_told y (next m Close) settled_after).right;
       free_or_needed = free_or_needed;
-      bits = subst (HasBits (is_marked y)) (sym d.labels) (bits_gone (labels_of x) (is_closing m.files) (is_marked x) (is_marked y) h.bits d.bits);
-      triples = subst (HasTriples (names_triple (map_pages y))) (sym d.labels) (triples_gone (labels_of x) (is_closing m.files) (names_triple (map_pages x)) (names_triple (map_pages y)) h.triples d.triples);
+      bits = bits_freed (is_closing m.files) reserved x y d h.by.bits;
+      named = λ i p s. not (is_closing m.files i p) && h.named i p s;
+      map = d.triples h.named h.map;
+      triples = triples_freed (is_closing m.files) reserved x y d h.named h.by.triples;
     };
+    root = settled_after.root;
     told = settled_is_told y (next m Close) settled_after;
   }
 
-pub closed_law : (names_triple : MapMeaning) (spaces_of : TablesMeaning) → Closed names_triple spaces_of
-closed_law names_triple spaces_of x y m h d = closed names_triple spaces_of x y m h d
+pub closed_law : (spaces_of : TablesMeaning) → Closed spaces_of
+closed_law spaces_of x y m h d = closed spaces_of x y m h d

@@ -1,5 +1,5 @@
 -- A file is made.
-use Rattle.std.proofs.Common.{◌≡◌, ◌≢◌, ◌⊎◌, inl, inr, ℕ, zero, suc, ◌+◌, ◌≤◌, Bool, true, false, cond, ◌&&◌, ◌||◌, not, List, [], ◌∷◌, length, Option, Some, None, refl, sym, ◌∙◌, ap, subst, arith, length-set}
+use Rattle.std.proofs.Common.{◌≡◌, ◌≢◌, ◌⊎◌, inl, inr, ℕ, zero, suc, ◌+◌, ◌*◌, ◌<◌, ◌≤◌, Bool, true, false, cond, ◌&&◌, ◌||◌, not, List, [], ◌∷◌, length, Option, Some, None, refl, sym, ◌∙◌, ap, subst, arith, length-set}
 use Rattle.std.specs.Prelude.{slice_get, slice_set, option_map, nat_lt, ◌==◌, if◌then◌else◌}
 use Rattle.std.specs.Option.{option_map_or}
 use Rattle.std.proofs.lemmas.Option.{same_Some, none-some}
@@ -7,13 +7,14 @@ use Rattle.std.proofs.lemmas.Bool.{eq-eqb, ne_eqb, eqb-true, eqb-false, true≢f
 use Rattle.std.proofs.lemmas.List.{length-map}
 use Rattle.labelled_disk.specs.declared.label.Label.{Label}
 use Rattle.labelled_disk.specs.Label.{is_free, leader_page}
-use Rattle.labelled_disk.specs.Layout.{first_data}
+use Rattle.labelled_disk.specs.Layout.{first_data, vam}
 use Rattle.labelled_disk.specs.Sectors.{Sector}
 use Rattle.labelled_disk.specs.File.{File, file_at}
 use Rattle.labelled_disk.specs.FilesOn.{put_file}
 use Rattle.labelled_disk.specs.Runs.{page_label, lengthened}
 use Rattle.labelled_disk.proofs.RisingLemmas.{at_id, at_put, rising_put, same_by_look_up}
 use Rattle.labelled_disk.proofs.WriteLemmas.{first_positive}
+use Rattle.file_map.specs.FileMap.{Triples}
 use Rattle.flat_machine.specs.declared.call.Call.TheVariants.{Create}
 use Rattle.flat_machine.specs.declared.call.Refusal.TheVariants as why
 use Rattle.flat_machine.specs.Machine.{Machine, used}
@@ -28,22 +29,26 @@ use Rattle.flat_machine.proofs.TestLemmas.{two_none, then_none}
 use Rattle.swapper_kernel.specs.Stands.{labels_of}
 use Rattle.session_words.specs.Volume.{volume_page}
 use Rattle.swapper_kernel.specs.Kinds.{Kind, kind_of, HasKind, the_tables, a_file, files_alone, tables_alone, maps_alone}
-use Rattle.session_words.specs.Parts.{Shape, Shapes, shape_of, shapes_of, HasLabel, HasLabels, HasMapLabels, HasBits, HasTriples, MapMeaning, TablesMeaning, is_owned, is_marked, map_pages}
+use Rattle.session_words.specs.Parts.{Shape, Shapes, shape_of, shapes_of, HasLabel, HasLabels, HasMapLabels, HasBits, HasTriples, TablesMeaning, is_owned, is_marked}
 use Rattle.session_words.specs.PlaceLaws.{IsMade, with_shape, shape_by}
 use Rattle.session_words.specs.StandsFor.{IsForBy, StandsFor}
+use Rattle.session_words.specs.GrowLaws.{grown_names}
 use Rattle.session_words.specs.CreateLaws.{LeaderMade, Creates, CreateStands}
 use Rattle.swapper_kernel.specs.DiffersLaws.{label_here, sector_of_label}
 use Rattle.swapper_kernel.proofs.KindLemmas.{kind_is_data}
+use Rattle.session_words.proofs.KnownLemmas.{frames_brought}
 use Rattle.session_words.proofs.FoundLemmas.{owner, above_reserved, file_id_of, file_not_free}
 use Rattle.session_words.proofs.LooseLemmas.{volume_loose, kind_file, goes_stands}
 use Rattle.session_words.proofs.CellLemmas.{unrefused}
 use Rattle.session_words.proofs.CallLemmas.{kind_tables}
-use Rattle.session_words.proofs.GrowLemmas.{page_label_named, grown_get, map_labels_grown, all_grown}
-use Rattle.session_words.proofs.PlaceLemmas.{labels_created, bits_set, triples_made}
+use Rattle.session_words.proofs.GrownLemmas.{page_label_named, grown_get, map_labels_grown}
+use Rattle.session_words.proofs.GrowLemmas.{all_grown}
+use Rattle.session_words.proofs.PlaceLemmas.{labels_created}
+use Rattle.session_words.proofs.BookLemmas.{bits_set, triples_made}
 use Rattle.session_words.proofs.SettledLemmas.{machine_shapes}
 
 -- The leader is made.
-module _ (spaces_of : TablesMeaning) (marks : ℕ → Bool) (named : ℕ → ℕ → ℕ → Bool) (x y : List Sector) (m : Machine) (kind leader : ℕ)
+module _ (spaces_of : TablesMeaning) (marks : ℕ → Bool) (named : Triples) (x y : List Sector) (m : Machine) (kind leader : ℕ)
     (g : LeaderMade m.serial (m.counter + 1) m.capacity (new_id m) kind leader x y) (h : IsForBy spaces_of marks named x m) (after_machine : IsMachine (with_new_file m 0 kind)) where
   label : Label
   label = page_label (new_id m) kind leader_page
@@ -129,9 +134,9 @@ module _ (spaces_of : TablesMeaning) (marks : ℕ → Bool) (named : ℕ → ℕ
         (subst (λ (s : Shapes). HasLabels (slice_set (labels_of x) leader (page_label (new_id m) kind leader_page)) s) (sym shapes_made)
         (labels_created (labels_of x) leader (page_label (new_id m) kind leader_page) (shapes_of m.files) h.labels made not_three no_shape refl));
     bits = subst (HasBits (λ k. k == leader || marks k)) (sym g.labels)
-        (bits_set (labels_of x) marks (λ k. k == leader || marks k) leader (page_label (new_id m) kind leader_page) h.bits
-        (λ inside. ap (λ (b : Bool). b || marks leader) (eq-eqb leader leader refl) ∙ ap not (sym taken))
-        (λ k other. ap (λ (b : Bool). b || marks k) (ne_eqb k leader other)));
+        (bits_set (labels_of x) marks (λ k. k == leader || marks k) leader (page_label (new_id m) kind leader_page) g.free.label h.bits g.free.there
+        (ap (λ (b : Bool). b || marks leader) (eq-eqb leader leader refl) ∙ ap not (sym taken))
+        (λ k below other. ap (λ (b : Bool). b || marks k) (ne_eqb k leader other)));
     triples = subst (HasTriples (λ j p s. (j == new_id m && p == leader_page && s == leader) || named j p s)) (sym g.labels)
         (triples_made (labels_of x) named (λ j p s. (j == new_id m && p == leader_page && s == leader) || named j p s) leader g.free.label (page_label (new_id m) kind leader_page) h.triples g.free.there g.free.free taken (λ j p s. refl));
     cells = record {
@@ -184,23 +189,28 @@ empty_accepted m pages kind accepted =
     let ids = tests.1 in
     rw (enough, ids) refl
 
-module _ (names_triple : MapMeaning) (spaces_of : TablesMeaning) where
-  pub create_stands : CreateStands names_triple spaces_of
-  create_stands kind leader is run old new before after m typed accepted goes h =
+module _ (spaces_of : TablesMeaning) where
+  pub create_stands : CreateStands spaces_of
+  create_stands kind leader is run old new before after m typed accepted goes known h =
       let becomes : next m (Create (length is) kind) ≡ with_new_file m (length is) kind = unrefused m (Create (length is) kind) accepted in
-      let machine : IsMachine (with_new_file m (length is) kind) = subst IsMachine becomes (next_keeps_machine m (Create (length is) kind) typed h.is.machine) in
+      let machine : IsMachine (with_new_file m (length is) kind) = subst IsMachine becomes (next_keeps_machine m (Create (length is) kind) typed h.is.by.machine) in
       let empty = empty_accepted m (length is) kind accepted in
-      let first : IsMachine (with_new_file m 0 kind) = subst IsMachine (unrefused m (Create 0 kind) empty) (next_keeps_machine m (Create 0 kind) typed h.is.machine) in
-      let files = created_files m (length is) kind h.is.machine in
+      let first : IsMachine (with_new_file m 0 kind) = subst IsMachine (unrefused m (Create 0 kind) empty) (next_keeps_machine m (Create 0 kind) typed h.is.by.machine) in
+      let files = created_files m (length is) kind h.is.by.machine in
       let same : record (with_new_file m 0 kind) { files = change_file (new_id m) (lengthened (length is)) (put_file (new_file m 0 kind) m.files) } ≡ with_new_file m (length is) kind =
       ap (λ (fs : List File). record (with_new_file m 0 kind) { files = fs }) files in
-      subst (λ (n : Machine). StandsFor names_triple spaces_of new after n) (sym becomes)
-      (goes_stands names_triple spaces_of (Creates names_triple m kind leader is) volume_page run old new before after m (with_new_file m (length is) kind)
+      subst (λ (n : Machine). StandsFor spaces_of new after n) (sym becomes)
+      (goes_stands spaces_of (Creates m kind leader is) volume_page run old new before after m (with_new_file m (length is) kind) (frames_brought before after m.spaces known)
       (λ x y creates k.
-      let led = leader_made spaces_of (is_marked x) (names_triple (map_pages x)) x creates.middle m kind leader creates.led k first in
-      subst (λ (n : Machine). IsForBy spaces_of (is_marked y) (names_triple (map_pages y)) y n) same
-      (all_grown spaces_of (λ k. k == leader || is_marked x k) (is_marked y) (λ j p s. (j == new_id m && p == leader_page && s == leader) || names_triple (map_pages x) j p s) (names_triple (map_pages y)) creates.middle y
-      (with_new_file m 0 kind) (new_id m) (new_file m 0 kind) is
-      (at_put (new_file m 0 kind) m.files (new_id m) ∙ ap (λ (b : Bool). cond b (Some (new_file m 0 kind)) (file_at m.files (new_id m))) (eq-eqb (new_id m) (new_id m) refl))
-      creates.grown creates.bits creates.triples led (subst IsMachine (sym same) machine)))
+      let led = leader_made spaces_of (is_marked x) k.named x creates.middle m kind leader creates.led k.by first in
+      let long : length creates.middle ≡ length x = long_y spaces_of (is_marked x) k.named x creates.middle m kind leader creates.led k.by first in
+      record {
+        named = grown_names (new_id m) 0 is (λ j p s. (j == new_id m && p == leader_page && s == leader) || k.named j p s);
+        map = creates.triples k.named k.map;
+        by = subst (λ (n : Machine). IsForBy spaces_of (is_marked y) (grown_names (new_id m) 0 is (λ j p s. (j == new_id m && p == leader_page && s == leader) || k.named j p s)) y n) same
+            (all_grown spaces_of (λ i. i == leader || is_marked x i) (is_marked y) (λ j p s. (j == new_id m && p == leader_page && s == leader) || k.named j p s) creates.middle y
+            (with_new_file m 0 kind) (new_id m) (new_file m 0 kind) is
+            (at_put (new_file m 0 kind) m.files (new_id m) ∙ ap (λ (b : Bool). cond b (Some (new_file m 0 kind)) (file_at m.files (new_id m))) (eq-eqb (new_id m) (new_id m) refl))
+            creates.grown (λ i below. creates.bits i (subst (λ (n : ℕ). i < 4096 * vam n) long below)) led (subst IsMachine (sym same) machine));
+      })
       (λ i page l. l) (λ i page own. volume_loose m.unforced i page own) goes h)

@@ -19,21 +19,22 @@ use Rattle.flat_machine.proofs.TestLemmas.{two_none, file_there}
 use Rattle.swapper_kernel.specs.Stands.{labels_of}
 use Rattle.swapper_kernel.specs.Kinds.{the_tables, a_file}
 use Rattle.session_words.specs.Volume.{volume_page}
-use Rattle.session_words.specs.Parts.{Shape, shape_of, shapes_of, HasLabels, HasMapLabels, HasBits, HasTriples, MapMeaning, TablesMeaning, is_owned, is_marked, map_pages}
-use Rattle.session_words.specs.StandsFor.{IsFor, StandsFor}
+use Rattle.session_words.specs.Parts.{Shape, shape_of, shapes_of, HasLabels, HasMapLabels, TablesMeaning, is_owned, is_marked}
+use Rattle.session_words.specs.StandsFor.{IsForBy, IsFor, StandsFor}
 use Rattle.session_words.specs.FreeLaws.{AreOfFiles, Frees, free_where}
 use Rattle.session_words.specs.DeleteLaws.{all_pages, DeleteStands}
+use Rattle.session_words.proofs.KnownLemmas.{frames_brought}
 use Rattle.session_words.proofs.CallLemmas.{kind_tables}
 use Rattle.session_words.proofs.CellLemmas.{unrefused}
 use Rattle.session_words.proofs.FilesLemmas.{at_without}
 use Rattle.session_words.proofs.FoundLemmas.{above_reserved, file_id_of}
-use Rattle.session_words.proofs.FreeLemmas.{pages_gone, leaders_gone, bits_gone, triples_gone, map_labels_gone, sector_kept, root_kept}
+use Rattle.session_words.proofs.FreeLemmas.{pages_gone, leaders_gone, bits_freed, triples_freed, map_labels_gone, sector_kept, root_kept}
 use Rattle.session_words.proofs.LooseLemmas.{volume_loose, kind_file, goes_stands}
 use Rattle.session_words.proofs.PlaceLemmas.{same_pages}
 use Rattle.session_words.proofs.SettledLemmas.{shape_at}
 
-module _ (names_triple : MapMeaning) (spaces_of : TablesMeaning) (x y : List Sector) (id : ℕ) (m : Machine) (high : 16 ≤ id) (d : Frees names_triple (all_pages id) x y) (after_machine : IsMachine (record m { files = without_file id m.files }))
-    (h : IsFor names_triple spaces_of x m) where
+module _ (spaces_of : TablesMeaning) (x y : List Sector) (id : ℕ) (m : Machine) (high : 16 ≤ id) (d : Frees (all_pages id) x y) (after_machine : IsMachine (record m { files = without_file id m.files }))
+    (h : IsFor spaces_of x m) where
   reserved : AreOfFiles (all_pages id)
   reserved i p is = let own = eqb-true i id is in inr (omega (arith, own, high))
 
@@ -43,7 +44,7 @@ module _ (names_triple : MapMeaning) (spaces_of : TablesMeaning) (x y : List Sec
   shape_high : (i : ℕ) (f : Shape) → shapes_of m.files i ≡ Some f → 16 ≤ i
   shape_high i f found =
       let g = shape_at m.files i f found in
-      let given = (each_at (λ w. IsFileId m.serial m.counter w.id) m.files h.machine.ids_given i g.0 g.1).above_reserved in
+      let given = (each_at (λ w. IsFileId m.serial m.counter w.id) m.files h.by.machine.ids_given i g.0 g.1).above_reserved in
       omega (arith, given, at_id m.files i g.0 g.1)
 
   owned_after : (i p : ℕ) → (not (all_pages id i p) && is_owned (shapes_of m.files) i p) ≡ is_owned (shapes_of (without_file id m.files)) i p
@@ -66,43 +67,46 @@ module _ (names_triple : MapMeaning) (spaces_of : TablesMeaning) (x y : List Sec
       by true k = absurd (none-some g k)
       by false k = (g, k, refl, refl, refl)
 
-  deleted : IsFor names_triple spaces_of y (record m { files = without_file id m.files })
-  deleted = record {
+  by_deleted : IsForBy spaces_of (is_marked y) (λ i p s. not (all_pages id i p) && h.named i p s) y (record m { files = without_file id m.files })
+  by_deleted = record {
     machine = after_machine;
     sectors = d.sectors;
-    root = root_kept names_triple (all_pages id) reserved x y d m.serial m.counter m.capacity h.root;
-    map_labels = subst HasMapLabels (sym d.labels) (map_labels_gone (labels_of x) (all_pages id) reserved h.map_labels);
+    root = root_kept (all_pages id) reserved x y d m.serial m.counter m.capacity h.by.root;
+    map_labels = subst HasMapLabels (sym d.labels) (map_labels_gone (labels_of x) (all_pages id) reserved h.by.map_labels);
     labels = subst (λ (l : List Label). HasLabels l (shapes_of (without_file id m.files))) (sym d.labels) (record {
       pages = same_pages (map (free_where (all_pages id)) (labels_of x)) (λ i p. not (all_pages id i p) && is_owned (shapes_of m.files) i p) (is_owned (shapes_of (without_file id m.files))) owned_after
-          (pages_gone (labels_of x) (all_pages id) (is_owned (shapes_of m.files)) h.labels.pages);
-      leaders = leaders_gone (labels_of x) (all_pages id) (shapes_of m.files) (shapes_of (without_file id m.files)) leaders_from shape_high h.labels.leaders;
+          (pages_gone (labels_of x) (all_pages id) (is_owned (shapes_of m.files)) h.by.labels.pages);
+      leaders = leaders_gone (labels_of x) (all_pages id) (shapes_of m.files) (shapes_of (without_file id m.files)) leaders_from shape_high h.by.labels.leaders;
     });
-    bits = subst (HasBits (is_marked y)) (sym d.labels) (bits_gone (labels_of x) (all_pages id) (is_marked x) (is_marked y) h.bits d.bits);
-    triples = subst (HasTriples (names_triple (map_pages y))) (sym d.labels) (triples_gone (labels_of x) (all_pages id) (names_triple (map_pages x)) (names_triple (map_pages y)) h.triples d.triples);
+    bits = bits_freed (all_pages id) reserved x y d h.by.bits;
+    triples = triples_freed (all_pages id) reserved x y d h.named h.by.triples;
     cells = record {
       agrees = λ k t f p has found page firm.
           let low = above_reserved t.0.id (file_id_of t.0 (kind_file (length y) k t.0 has.is)) in
-          let was = sector_kept names_triple (all_pages id) reserved x y d a_file refl k t has (λ z. omega (arith, z, low)) in
-          h.cells.agrees k t f p was.0 (sym (at_without id m.files t.0.id ∙ ap (λ (b : Bool). if b then None else file_at m.files t.0.id) was.1) ∙ found) page firm;
+          let was = sector_kept (all_pages id) reserved x y d a_file refl k t has (λ z. omega (arith, z, low)) in
+          h.by.cells.agrees k t f p was.0 (sym (at_without id m.files t.0.id ∙ ap (λ (b : Bool). if b then None else file_at m.files t.0.id) was.1) ∙ found) page firm;
     };
     tables = record {
-      pages = h.tables.pages;
-      told = h.tables.told;
-      count = h.tables.count;
+      pages = h.by.tables.pages;
+      told = h.by.tables.told;
+      count = h.by.tables.count;
       each = λ k t has.
           let three = kind_tables (length y) k t.0 has.is in
-          h.tables.each k t (sector_kept names_triple (all_pages id) reserved x y d the_tables refl k t has (λ z. omega (arith, z, three))).0;
+          h.by.tables.each k t (sector_kept (all_pages id) reserved x y d the_tables refl k t has (λ z. omega (arith, z, three))).0;
     };
   }
 
-pub delete_stands : (names_triple : MapMeaning) (spaces_of : TablesMeaning) → DeleteStands names_triple spaces_of
-delete_stands names_triple spaces_of id run old new before after m accepted goes h =
+  deleted : IsFor spaces_of y (record m { files = without_file id m.files })
+  deleted = record { named = λ i p s. not (all_pages id i p) && h.named i p s; map = d.triples h.named h.map; by = by_deleted }
+
+pub delete_stands : (spaces_of : TablesMeaning) → DeleteStands spaces_of
+delete_stands spaces_of id run old new before after m accepted goes known h =
     let becomes : next m (Delete id) ≡ record m { files = without_file id m.files } = unrefused m (Delete id) accepted in
-    let machine : IsMachine (record m { files = without_file id m.files }) = subst IsMachine becomes (next_keeps_machine m (Delete id) tt h.is.machine) in
+    let machine : IsMachine (record m { files = without_file id m.files }) = subst IsMachine becomes (next_keeps_machine m (Delete id) tt h.is.by.machine) in
     let tests = two_none (no_file m id) (file_mapped m id (λ w. true)) accepted in
     let there = file_there m id tests.0 in
-    let high = (each_at (λ f. IsFileId m.serial m.counter f.id) m.files h.is.machine.ids_given id there.0 there.1).above_reserved in
-    subst (λ (n : Machine). StandsFor names_triple spaces_of new after n) (sym becomes)
-    (goes_stands names_triple spaces_of (Frees names_triple (all_pages id)) volume_page run old new before after m (record m { files = without_file id m.files })
-    (λ x y frees k. deleted names_triple spaces_of x y id m (omega (arith, high, at_id m.files id there.0 there.1)) frees machine k)
+    let high = (each_at (λ f. IsFileId m.serial m.counter f.id) m.files h.is.by.machine.ids_given id there.0 there.1).above_reserved in
+    subst (λ (n : Machine). StandsFor spaces_of new after n) (sym becomes)
+    (goes_stands spaces_of (Frees (all_pages id)) volume_page run old new before after m (record m { files = without_file id m.files }) (frames_brought before after m.spaces known)
+    (λ x y frees k. deleted spaces_of x y id m (omega (arith, high, at_id m.files id there.0 there.1)) frees machine k)
     (λ i page l. l) (λ i page own. volume_loose m.unforced i page own) goes h)

@@ -1,16 +1,16 @@
 -- Which pages have frames.
-use Rattle.std.proofs.Common.{◌≡◌, ◌≢◌, ◌⊎◌, inl, inr, ⊎_elim, ℕ, ◌≤◌, false, List, Some, refl, sym, ◌∙◌, ap, subst, arith}
+use Rattle.std.proofs.Common.{◌≡◌, ◌≢◌, ◌⊎◌, inl, inr, ⊎_elim, ℕ, ◌≤◌, false, List, Some, refl, sym, ◌∙◌, ap, arith}
 use Rattle.std.specs.Prelude.{slice_get}
 use Rattle.std.proofs.lemmas.Option.{same_Some}
 use Rattle.std.proofs.lemmas.Bool.{true≢false}
 use Rattle.labelled_disk.specs.declared.label.Label.{Label}
 use Rattle.labelled_disk.specs.Sectors.{Sector}
-use Rattle.frame_pool.specs.declared.home.Home.{Home}
 use Rattle.frame_pool.specs.Frames.{Frame, Slots, Has}
 use Rattle.flat_machine.specs.declared.space.Space.{Space}
 use Rattle.swapper_kernel.specs.Stands.{IsMerged}
 use Rattle.swapper_kernel.specs.Homes.{wanted_at}
-use Rattle.session_words.specs.FrameLaws.{HasFrames, FrameLaws, IsKnown, is_shown}
+use Rattle.session_words.specs.FrameLaws.{HasFrames, FrameLaws, is_shown}
+use Rattle.session_words.proofs.KnownLemmas.{frames_brought}
 use Rattle.session_words.proofs.LooseLemmas.{names_id, names_page}
 
 none_over : (sectors : List Sector) (slots : Slots) (memory : List Sector) (spaces : List Space) (k : ℕ) (s : Sector) → IsMerged sectors slots memory → HasFrames slots spaces
@@ -27,12 +27,7 @@ none_over sectors slots memory spaces k s merged frames here hidden low i f has 
 
 pub frame_laws : FrameLaws
 frame_laws = record {
-  brought = λ before after spaces brings frames. record {
-    known = λ id page there. elim (brings.homes there.frame.home (record { slot = there.slot; frame = there.frame; has = there.has; at = refl })) [
-      | inl was ↦ frames.known id page (record { slot = was.slot; frame = was.frame; has = was.has; same_id = ap (λ (h : Home). h.id) was.at ∙ there.same_id; same_page = ap (λ (h : Home). h.page) was.at ∙ there.same_page })
-      | inr new ↦ subst (λ (n : ℕ). IsKnown spaces id n) there.same_page (subst (λ (n : ℕ). IsKnown spaces n there.frame.home.page) there.same_id new)
-    ];
-  };
+  brought = frames_brought;
   mapped = λ slots spaces others shown frames. record { known = λ id page there. elim (frames.known id page there) [ inl low ↦ inl low | inr was ↦ inr (shown id page there was) ] };
   none_over = none_over;
 }

@@ -1,35 +1,22 @@
 -- A set of pages goes.
-use Rattle.std.proofs.Common.{◌≡◌, ◌≢◌, inr, ⊎_elim, ℕ, zero, suc, ◌+◌, ◌<◌, ◌≤◌, Bool, true, false, ◌&&◌, ◌||◌, not, List, [], ◌∷◌, map, length, take, Option, Some, None, refl, sym, ◌∙◌, ap, subst, arith}
-use Rattle.std.specs.Prelude.{slice_get, option_map, nat_lt, nat_le, ◌==◌, if◌then◌else◌, IsTrue, IsSomeAnd}
-use Rattle.std.specs.Option.{option_map_or}
+use Rattle.std.proofs.Common.{◌≡◌, ◌≢◌, inl, inr, ⊎_elim, ℕ, ◌+◌, ◌*◌, ◌<◌, ◌≤◌, Bool, true, false, ◌&&◌, not, List, map, length, Option, Some, None, refl, sym, ◌∙◌, ap, subst, arith}
+use Rattle.std.specs.Prelude.{slice_get, option_map, ◌==◌, if◌then◌else◌, IsTrue, IsSomeAnd}
 use Rattle.std.proofs.lemmas.Option.{same_Some, none-some, slice_get-map}
-use Rattle.std.proofs.lemmas.Bool.{and_parts, eq-eqb, ne_eqb, eqb-true, eqb-false, false≢true, cases_eq, cases_lt}
-use Rattle.std.proofs.lemmas.List.{length-map, length-take-le}
+use Rattle.std.proofs.lemmas.Bool.{and_parts, ne_eqb, eqb-false, false≢true, cases_eq}
+use Rattle.std.proofs.lemmas.List.{length-map}
 use Rattle.labelled_disk.specs.declared.label.Label.{Label}
 use Rattle.labelled_disk.specs.declared.label.Wanted.{Wanted}
-use Rattle.labelled_disk.specs.Label.{is_free, names, leader_page}
+use Rattle.labelled_disk.specs.Label.{is_free, names}
 use Rattle.labelled_disk.specs.Layout.{first_data, vam, vfm}
 use Rattle.labelled_disk.specs.Sectors.{Sector, free_label}
-use Rattle.labelled_disk.specs.File.{File, Page, size, file_at}
-use Rattle.labelled_disk.proofs.RisingLemmas.{at_id}
-use Rattle.flat_machine.specs.Machine.{Machine}
-use Rattle.flat_machine.specs.IsMachine.{IsMachine}
-use Rattle.flat_machine.specs.Next.{change_file}
-use Rattle.flat_machine.proofs.FileLemmas.{look_up_changed, one_id, changed_here, unchanged}
+use Rattle.file_map.specs.FileMap.{Triples}
 use Rattle.swapper_kernel.specs.Stands.{labels_of}
-use Rattle.swapper_kernel.specs.Kinds.{Kind, kind_of, HasKind, the_tables, a_file, maps_alone}
-use Rattle.session_words.specs.Parts.{Shape, Shapes, shape_of, shapes_of, HasRoot, HasLabel, HasPages, HasLeaders, HasLabels, HasMapLabels, HasBits, HasTriples, HasCells, MapMeaning, TablesMeaning, is_owned, is_marked, map_pages, but_none}
-use Rattle.session_words.specs.PlaceLaws.{with_shape, sized}
-use Rattle.session_words.specs.StandsFor.{IsFor}
-use Rattle.session_words.specs.FreeLaws.{free_where, AreOfFiles, Frees, cut_pages, cut, FreeLaws}
+use Rattle.swapper_kernel.specs.Kinds.{Kind, kind_of, HasKind, maps_alone}
+use Rattle.session_words.specs.Parts.{Shape, Shapes, HasRoot, HasLabel, HasPages, HasLeaders, HasMapLabels, HasBits, HasTriples, IsBesideData, is_marked}
+use Rattle.session_words.specs.FreeLaws.{free_where, AreOfFiles, Frees}
 use Rattle.swapper_kernel.specs.DiffersLaws.{label_here, sector_of_label}
 use Rattle.swapper_kernel.proofs.KindLemmas.{root_kind}
-use Rattle.session_words.proofs.FoundLemmas.{above_reserved, file_id_of}
-use Rattle.session_words.proofs.LooseLemmas.{names_id, kind_file}
-use Rattle.session_words.proofs.CellLemmas.{changed_from}
-use Rattle.session_words.proofs.CallLemmas.{kind_tables}
-use Rattle.session_words.proofs.PlaceLemmas.{same_pages}
-use Rattle.session_words.proofs.SettledLemmas.{machine_shapes}
+use Rattle.session_words.proofs.LooseLemmas.{names_id}
 
 module _ (labels : List Label) (gone : ℕ → ℕ → Bool) where
   long : length (map (free_where gone) labels) ≡ length labels
@@ -106,8 +93,18 @@ module _ (labels : List Label) (gone : ℕ → ℕ → Bool) where
         (cases_eq l.id 0);
   }
 
-  pub bits_gone : (marks later : ℕ → Bool) → HasBits marks labels → ((k : ℕ) (l : Label) → HasLabel labels k l → later k ≡ (not (gone l.id l.page) && marks k)) → HasBits later (map (free_where gone) labels)
-  bits_gone marks later h says = record { bits = λ k l has. either k l has (slice_get labels k) refl }
+  pub bits_gone : (marks later : ℕ → Bool) → HasBits marks labels → ((k : ℕ) (l : Label) → HasLabel labels k l → later k ≡ (not (gone l.id l.page) && marks k)) → ((k : ℕ) → IsBesideData (length labels) k → later k ≡ marks k)
+      → HasBits later (map (free_where gone) labels)
+  bits_gone marks later h says others = record {
+    low = λ k below.
+        let low : k < first_data (length labels) = subst (λ (n : ℕ). k < first_data n) long below in
+        others k (inl low) ∙ h.low k low;
+    bits = λ k l has. either k l has (slice_get labels k) refl;
+    past = λ k end below.
+        let far : length labels ≤ k = omega (arith, end, long) in
+        let bit : k < 4096 * vam (length labels) = subst (λ (n : ℕ). k < 4096 * vam n) long below in
+        others k (inr (far, bit)) ∙ h.past k far bit;
+  }
     where
       by : (k : ℕ) (l was : Label) → HasLabel labels k was → free_where gone was ≡ l → (b : Bool) → gone was.id was.page ≡ b → later k ≡ not (is_free l)
       by k l was there is true g = says k was there ∙ ap (λ (b : Bool). not b && marks k) g ∙ ap (λ (x : Label). not (is_free x)) (sym (goes_label was g) ∙ is)
@@ -119,7 +116,7 @@ module _ (labels : List Label) (gone : ℕ → ℕ → Bool) where
           by k l was (record { is_data = subst (λ (n : ℕ). first_data n ≤ k) long has.is_data; here = e })
           (same_Some (free_where gone was) l (sym (ap (option_map (free_where gone)) e) ∙ sym (slice_get-map (free_where gone) labels k) ∙ has.here)) (gone was.id was.page) refl
 
-  pub triples_gone : (named later : ℕ → ℕ → ℕ → Bool) → HasTriples named labels → ((i p s : ℕ) → later i p s ≡ (not (gone i p) && named i p s)) → HasTriples later (map (free_where gone) labels)
+  pub triples_gone : (named later : Triples) → HasTriples named labels → ((i p s : ℕ) → later i p s ≡ (not (gone i p) && named i p s)) → HasTriples later (map (free_where gone) labels)
   triples_gone named later h says = record {
     only = λ i p s is.
         let both = and_parts (not (gone i p)) (named i p s) (sym (says i p s) ∙ is) in
@@ -165,7 +162,7 @@ module _ (labels : List Label) (gone : ℕ → ℕ → Bool) where
           (named_stays (1 + vam (length labels) + k) (record { id = 2; page = k }) (omega arith) (h.file_map k (subst (λ (n : ℕ). k < vfm n) long below)));
     }
 
-module _ (names_triple : MapMeaning) (gone : ℕ → ℕ → Bool) (reserved : AreOfFiles gone) (x y : List Sector) (d : Frees names_triple gone x y) where
+module _ (gone : ℕ → ℕ → Bool) (reserved : AreOfFiles gone) (x y : List Sector) (d : Frees gone x y) where
   long_y : length y ≡ length x
   long_y = sym (length-map y (λ s. s.0)) ∙ ap (λ (l : List Label). length l) d.labels ∙ length-map (labels_of x) (free_where gone) ∙ length-map x (λ s. s.0)
 
@@ -177,6 +174,15 @@ module _ (names_triple : MapMeaning) (gone : ℕ → ℕ → Bool) (reserved : A
       let same : s.0 ≡ t = same_Some s.0 t (sym (d.pages k s.0 s.1 (ap (λ (l : Label). gone l.id l.page) s.2 ∙ was.1) (ap (λ (l : Label). maps_alone (kind_of (length x) k l)) s.2 ∙ ap maps_alone is ∙ other)) ∙ has.here) in
       (record { here = s.1 ∙ ap (λ (z : Sector). Some z) same; is = is }, was.1)
 
+  -- the bits, by the labels
+  pub bits_freed : HasBits (is_marked x) (labels_of x) → HasBits (is_marked y) (labels_of y)
+  bits_freed h = subst (HasBits (is_marked y)) (sym d.labels)
+      (bits_gone (labels_of x) gone (is_marked x) (is_marked y) h d.bits (λ k beside. d.others k (subst (λ (n : ℕ). IsBesideData n k) (length-map x (λ s. s.0)) beside)))
+
+  -- and the triples
+  pub triples_freed : (named : Triples) → HasTriples named (labels_of x) → HasTriples (λ i p s. not (gone i p) && named i p s) (labels_of y)
+  triples_freed named h = subst (HasTriples (λ i p s. not (gone i p) && named i p s)) (sym d.labels) (triples_gone (labels_of x) gone named (λ i p s. not (gone i p) && named i p s) h (λ i p s. refl))
+
   pub root_kept : (serial counter room : ℕ) → HasRoot (length x) (slice_get x 0) serial counter room → HasRoot (length y) (slice_get y 0) serial counter room
   root_kept serial counter room h = subst (λ (n : ℕ). HasRoot n (slice_get y 0) serial counter room) (sym long_y) (either (slice_get x 0) refl h)
     where
@@ -186,127 +192,3 @@ module _ (names_triple : MapMeaning) (gone : ℕ → ℕ → Bool) (reserved : A
           let four = names_id s.0 (record { id = 4; page = 0 }) r.valid.label in
           let stays_there = d.pages 0 s e (kept_reserved (labels_of x) gone reserved s.0 (λ q. omega (arith, four, q)) (omega (arith, four))) (ap maps_alone (root_kind (length x) s.0)) in
           subst (λ (o : Option Sector). HasRoot (length x) o serial counter room) (sym stays_there) r
-
--- A file is cut.
-
-module _ (names_triple : MapMeaning) (spaces_of : TablesMeaning) (x y : List Sector) (m : Machine) (id n : ℕ) (f : File) (found : file_at m.files id ≡ Some f) (few : n ≤ size f)
-    (d : Frees names_triple (cut_pages id n) x y) (after_machine : IsMachine (record m { files = change_file id (cut n) m.files })) (h : IsFor names_triple spaces_of x m) where
-  here : shapes_of m.files id ≡ Some (shape_of f)
-  here = ap (λ (o : Option File). option_map shape_of o) found
-
-  high : 16 ≤ id
-  high = above_reserved id ((machine_shapes m h.machine (length x) (slice_get x 0) h.root).given id (shape_of f) here)
-
-  short : size f < leader_page
-  short = (machine_shapes m h.machine (length x) (slice_get x 0) h.root).short id (shape_of f) here
-
-  reserved : AreOfFiles (cut_pages id n)
-  reserved i p e = let own = eqb-true i id (and_parts (i == id) (nat_le n p && not (p == leader_page)) e).0 in let low = high in inr (omega arith)
-
-  shapes_cut : (j : ℕ) → shapes_of (change_file id (cut n) m.files) j ≡ with_shape (shapes_of m.files) id (sized n (shape_of f)) j
-  shapes_cut j = each (j == id) refl
-    where
-      each : (b : Bool) → (j == id) ≡ b → shapes_of (change_file id (cut n) m.files) j ≡ (if b then Some (sized n (shape_of f)) else shapes_of m.files j)
-      each true e =
-          let own : f.id ≡ id = at_id m.files id f found in
-          let at : file_at m.files j ≡ Some f = ap (file_at m.files) (eqb-true j id e) ∙ found in
-          ap (λ (o : Option File). option_map shape_of o) (look_up_changed (λ w. if w.id == id then cut n w else w) (one_id id (cut n) (λ w. refl)) m.files j
-          ∙ ap (option_map (λ w. if w.id == id then cut n w else w)) at)
-          ∙ ap (λ (w : File). Some (shape_of w)) (changed_here id (cut n) f own)
-          ∙ (λ i. Some (record { kind = f.kind; permanent = f.permanent; immutable = f.immutable; size = length-take-le n f.pages few i }))
-      each false e = ap (λ (o : Option File). option_map shape_of o) (look_up_changed (λ w. if w.id == id then cut n w else w) (one_id id (cut n) (λ w. refl)) m.files j) ∙ other (file_at m.files j) refl
-        where
-          other : (o : Option File) → file_at m.files j ≡ o → option_map shape_of (option_map (λ w. if w.id == id then cut n w else w) o) ≡ option_map shape_of o
-          other None q = refl
-          other (Some w) q = ap (λ (v : File). Some (shape_of v)) (unchanged id (cut n) w (λ r. eqb-false j id e (sym (at_id m.files j w q) ∙ r)))
-
-  owned_cut : (i p : ℕ) → (not (cut_pages id n i p) && is_owned (shapes_of m.files) i p) ≡ is_owned (with_shape (shapes_of m.files) id (sized n (shape_of f))) i p
-  owned_cut i p = each (i == id) refl
-    where
-      numbers : (not (nat_le n p && not (p == leader_page)) && ((p == leader_page) || nat_lt p (size f))) ≡ ((p == leader_page) || nat_lt p n)
-      numbers = ⊎_elim
-          (λ (q : p ≡ leader_page). let a : (p == leader_page) ≡ true = eq-eqb p leader_page q in rw a (ends (nat_le n p)))
-          (λ (q : p ≢ leader_page).
-          let a : (p == leader_page) ≡ false = ne_eqb p leader_page q in
-          ⊎_elim
-          (λ (l : p < n). let b : nat_le n p ≡ false = grind arith in let c : nat_lt p (size f) ≡ true = grind arith in let e : nat_lt p n ≡ true = grind arith in rw (a, b, c, e) refl)
-          (λ (l : n ≤ p). let b : nat_le n p ≡ true = grind arith in let e : nat_lt p n ≡ false = grind arith in rw (a, b, e) refl)
-          (cases_lt p n))
-          (cases_eq p leader_page)
-        where
-          ends : (a : Bool) → (not (a && false) && true) ≡ true
-          ends true = refl
-          ends false = refl
-
-      each : (b : Bool) → (i == id) ≡ b
-          → (not (b && (nat_le n p && not (p == leader_page))) && ((i == 3 && nat_lt p 96) || option_map_or (λ g. p == leader_page || nat_lt p g.size) (shapes_of m.files i) false))
-          ≡ ((i == 3 && nat_lt p 96) || option_map_or (λ g. p == leader_page || nat_lt p g.size) (if b then Some (sized n (shape_of f)) else shapes_of m.files i) false)
-      each true e =
-          let low = high in
-          let three : (i == 3) ≡ false = ne_eqb i 3 (λ q. omega (arith, q, low, eqb-true i id e)) in
-          (λ j. not (nat_le n p && not (p == leader_page)) && ((three j && nat_lt p 96) || option_map_or (λ (g : Shape). p == leader_page || nat_lt p g.size) ((ap (shapes_of m.files) (eqb-true i id e) ∙ here) j) false))
-          ∙ numbers ∙ ap (λ (b : Bool). (b && nat_lt p 96) || ((p == leader_page) || nat_lt p n)) (sym three)
-      each false e = refl
-
-  get_take_some : (k j : ℕ) (ps : List Page) (p : Page) → slice_get (take k ps) j ≡ Some p → slice_get ps j ≡ Some p
-  get_take_some zero j ps p at = absurd (none-some p at)
-  get_take_some (suc k) j [] p at = absurd (none-some p at)
-  get_take_some (suc k) zero (q ∷ ps) p at = at
-  get_take_some (suc k) (suc j) (q ∷ ps) p at = get_take_some k j ps p at
-
-  cells_cut : HasCells but_none y (change_file id (cut n) m.files)
-  cells_cut = record {
-    agrees = λ k t w p has now page none.
-        let low = above_reserved t.0.id (file_id_of t.0 (kind_file (length y) k t.0 has.is)) in
-        let was = sector_kept names_triple (cut_pages id n) reserved x y d a_file refl k t has (omega (arith, low)) in
-        let v = changed_from (λ w. if w.id == id then cut n w else w) (one_id id (cut n) (λ v. refl)) m.files t.0.id w now in
-        h.cells.agrees k t v.0 p was.0 v.1 (⊎_elim
-        (λ (q : v.0.id ≡ id). get_take_some n t.0.page v.0.pages p (ap (λ (u : File). slice_get u.pages t.0.page) (sym (v.2 ∙ changed_here id (cut n) v.0 q)) ∙ page))
-        (λ (q : v.0.id ≢ id). ap (λ (u : File). slice_get u.pages t.0.page) (sym (v.2 ∙ unchanged id (cut n) v.0 q)) ∙ page)
-        (cases_eq v.0.id id)) refl;
-  }
-
-  leaders_from : (i : ℕ) (g : Shape) → with_shape (shapes_of m.files) id (sized n (shape_of f)) i ≡ Some g
-      → (e : Shape) × (shapes_of m.files i ≡ Some e) × (e.kind ≡ g.kind) × (e.permanent ≡ g.permanent) × (e.immutable ≡ g.immutable)
-  leaders_from i g = each (i == id) refl
-    where
-      each : (b : Bool) → (i == id) ≡ b → (if b then Some (sized n (shape_of f)) else shapes_of m.files i) ≡ Some g
-          → (e : Shape) × (shapes_of m.files i ≡ Some e) × (e.kind ≡ g.kind) × (e.permanent ≡ g.permanent) × (e.immutable ≡ g.immutable)
-      each true q is =
-          let same = same_Some (sized n (shape_of f)) g is in
-          (shape_of f, ap (shapes_of m.files) (eqb-true i id q) ∙ here, ap (λ (s : Shape). s.kind) same, ap (λ (s : Shape). s.permanent) same, ap (λ (s : Shape). s.immutable) same)
-      each false q is = (g, is, refl, refl, refl)
-
-  pub all_cut : IsFor names_triple spaces_of y (record m { files = change_file id (cut n) m.files })
-  all_cut = record {
-    machine = after_machine;
-    sectors = d.sectors;
-    root = root_kept names_triple (cut_pages id n) reserved x y d m.serial m.counter m.capacity h.root;
-    map_labels = subst HasMapLabels (sym d.labels) (map_labels_gone (labels_of x) (cut_pages id n) reserved h.map_labels);
-    labels = subst (λ (l : List Label). HasLabels l (shapes_of (change_file id (cut n) m.files))) (sym d.labels)
-        (subst (λ (s : Shapes). HasLabels (map (free_where (cut_pages id n)) (labels_of x)) s) (λ i j. sym (shapes_cut j) i)
-        (record {
-          pages = same_pages (map (free_where (cut_pages id n)) (labels_of x)) (λ i p. not (cut_pages id n i p) && is_owned (shapes_of m.files) i p) (is_owned (with_shape (shapes_of m.files) id (sized n (shape_of f)))) owned_cut
-              (pages_gone (labels_of x) (cut_pages id n) (is_owned (shapes_of m.files)) h.labels.pages);
-          leaders = leaders_gone (labels_of x) (cut_pages id n) (shapes_of m.files) (with_shape (shapes_of m.files) id (sized n (shape_of f))) leaders_from (λ i g at. above_reserved i ((machine_shapes m h.machine (length x) (slice_get x 0) h.root).given i g at)) h.labels.leaders;
-        }));
-    bits = subst (HasBits (is_marked y)) (sym d.labels) (bits_gone (labels_of x) (cut_pages id n) (is_marked x) (is_marked y) h.bits d.bits);
-    triples = subst (HasTriples (names_triple (map_pages y))) (sym d.labels) (triples_gone (labels_of x) (cut_pages id n) (names_triple (map_pages x)) (names_triple (map_pages y)) h.triples d.triples);
-    cells = cells_cut;
-    tables = record {
-      pages = h.tables.pages;
-      told = h.tables.told;
-      count = h.tables.count;
-      each = λ k t has.
-          let three = kind_tables (length y) k t.0 has.is in
-          h.tables.each k t (sector_kept names_triple (cut_pages id n) reserved x y d the_tables refl k t has (omega (arith, three))).0;
-    };
-  }
-
-pub free_laws : (names_triple : MapMeaning) (spaces_of : TablesMeaning) → FreeLaws names_triple spaces_of
-free_laws names_triple spaces_of = record {
-  pages = λ labels gone owned h. pages_gone labels gone owned h;
-  bits = λ labels gone marks later h says. bits_gone labels gone marks later h says;
-  triples = λ labels gone named later h says. triples_gone labels gone named later h says;
-  cut_file = λ x y m id n f found few d after h. all_cut names_triple spaces_of x y m id n f found few d after h;
-}

@@ -25,12 +25,14 @@ use Rattle.swapper_kernel.specs.Goes.{Goes, Same, is_page_write, Change, Pages}
 use Rattle.session_words.specs.Volume.{volume_page}
 use Rattle.swapper_kernel.specs.Kinds.{kind_of, the_tables, a_file, unused, files_alone}
 use Rattle.swapper_kernel.specs.Differs.{Differs}
-use Rattle.session_words.specs.Parts.{HasRoot, HasLabelsUpto, HasMapLabels, MapMeaning, TablesMeaning, is_loose, is_loose_at, DirtyAreLoose, shapes_of}
+use Rattle.session_words.specs.Parts.{HasRoot, HasLabelsUpto, HasMapLabels, TablesMeaning, is_loose, is_loose_at, DirtyAreLoose, shapes_of}
+use Rattle.session_words.specs.FrameLaws.{HasFrames}
 use Rattle.session_words.specs.StandsFor.{IsFor, StandsFor, IsSettled}
 use Rattle.session_words.specs.SettledLaws.{LooseMayDiffer, LooseWritten, StandsIsSettled, SwapStands, SwapMoments}
 use Rattle.swapper_kernel.specs.DiffersLaws.{same_length, same_back, same_place, differs_itself}
 use Rattle.swapper_kernel.proofs.KindLemmas.{data_kind, kind_is_data}
 use Rattle.session_words.proofs.FoundLemmas.{above_reserved, file_id_of}
+use Rattle.session_words.proofs.KnownLemmas.{frames_brought}
 
 -- the label that names a page is that of the page
 pub names_id : (l : Label) (w : Wanted) → names l w ≡ true → l.id ≡ w.id
@@ -147,41 +149,42 @@ merged_differs unforced sectors slots memory merged loose = record {
 }
 
 -- where nothing is left out, less may be
-for_is_settled : (names_triple : MapMeaning) (spaces_of : TablesMeaning) (memory : List Sector) (m : Machine) → IsFor names_triple spaces_of memory m → IsSettled memory m
-for_is_settled names_triple spaces_of memory m h = record {
-  machine = h.machine;
-  sectors = h.sectors;
-  root = h.root;
-  map_labels = h.map_labels;
+for_is_settled : (spaces_of : TablesMeaning) (memory : List Sector) (m : Machine) → IsFor spaces_of memory m → IsSettled memory m
+for_is_settled spaces_of memory m h = record {
+  machine = h.by.machine;
+  sectors = h.by.sectors;
+  root = h.by.root;
+  map_labels = h.by.map_labels;
   table_pages = 96;
-  labels = h.labels;
-  cells = record { agrees = λ k s f p has at page firm. h.cells.agrees k s f p has at page refl };
+  labels = h.by.labels;
+  cells = record { agrees = λ k s f p has at page firm. h.by.cells.agrees k s f p has at page refl };
 }
 
-module _ (names_triple : MapMeaning) (spaces_of : TablesMeaning) where
-  pub stands_is_settled : StandsIsSettled names_triple spaces_of
+module _ (spaces_of : TablesMeaning) where
+  pub stands_is_settled : StandsIsSettled spaces_of
   stands_is_settled disk slots m d h told are =
       let same : h.stands.sectors ≡ d = same_Some h.stands.sectors d (sym h.stands.told ∙ told) in
-      loose_may_differ h.memory d m (for_is_settled names_triple spaces_of h.memory m h.is)
+      loose_may_differ h.memory d m (for_is_settled spaces_of h.memory m h.is)
       (subst (λ (x : List Sector). Differs (is_loose_at m.unforced) h.memory x) same (merged_differs m.unforced h.stands.sectors slots h.memory h.stands.merged h.dirty)) are
 
   -- a call that changes the memory so that it stands for another machine
-  pub goes_stands : (P : Change) (pages : Pages) (run : List DiskWrite) (old new : DiskState) (before after : Slots) (m n : Machine)
-      → ((x y : List Sector) → P x y → IsFor names_triple spaces_of x m → IsFor names_triple spaces_of y n)
+  pub goes_stands : (P : Change) (pages : Pages) (run : List DiskWrite) (old new : DiskState) (before after : Slots) (m n : Machine) → (HasFrames before m.spaces → HasFrames after n.spaces)
+      → ((x y : List Sector) → P x y → IsFor spaces_of x m → IsFor spaces_of y n)
       → ((id page : ℕ) → is_loose m.unforced id page ≡ true → is_loose n.unforced id page ≡ true) → ((id page : ℕ) → pages id page → is_loose n.unforced id page ≡ true)
-      → Goes P pages run old before new after → StandsFor names_triple spaces_of old before m → StandsFor names_triple spaces_of new after n
-  goes_stands P pages run old new before after m n changes more loose goes h =
+      → Goes P pages run old before new after → StandsFor spaces_of old before m → StandsFor spaces_of new after n
+  goes_stands P pages run old new before after m n kept changes more loose goes h =
       let x = goes.memory h.memory h.stands in
       record {
         memory = x.0;
         stands = x.1;
         is = changes h.memory x.0 x.2 h.is;
         dirty = λ id page is. elim (goes.makes.dirty id page is) [ inl was ↦ more id page (h.dirty id page was) | inr new ↦ loose id page new ];
+        frames = kept h.frames;
       }
 
-  pub swap_stands : SwapStands names_triple spaces_of
-  swap_stands old new before after m swaps h =
-      goes_stands Same volume_page [] old new before after m m (λ x y same is. subst (λ (z : List Sector). IsFor names_triple spaces_of z m) (sym same) is) (λ id page is. is) (λ id page own. volume_loose m.unforced id page own) swaps h
+  pub swap_stands : SwapStands spaces_of
+  swap_stands old new before after m swaps known h =
+      goes_stands Same volume_page [] old new before after m m (frames_brought before after m.spaces known) (λ x y same is. subst (λ (z : List Sector). IsFor spaces_of z m) (sym same) is) (λ id page is. is) (λ id page own. volume_loose m.unforced id page own) swaps h
 
 -- a run of writes to loose pages
 module _ (m : Machine) where
@@ -203,7 +206,7 @@ module _ (m : Machine) where
       each_loose ws (written (write.Page sector wanted bytes) d) (loose_written d m sector wanted bytes h (loose 0 sector wanted bytes refl) (form 0 (write.Page sector wanted bytes) refl))
       (λ j w at. form (suc j) w at) none (λ j s v b at. loose (suc j) s v b at) k
 
-pub swap_moments : (names_triple : MapMeaning) (spaces_of : TablesMeaning) → SwapMoments names_triple spaces_of
-swap_moments names_triple spaces_of old new before after m d swaps h told are k below =
-    each_loose m swaps.makes.wrote.writes d (stands_is_settled names_triple spaces_of old before m d h told are) swaps.makes.wrote.form swaps.makes.wrote.labels
+pub swap_moments : (spaces_of : TablesMeaning) → SwapMoments spaces_of
+swap_moments spaces_of old new before after m d swaps h told are k below =
+    each_loose m swaps.makes.wrote.writes d (stands_is_settled spaces_of old before m d h told are) swaps.makes.wrote.form swaps.makes.wrote.labels
     (λ j sector wanted bytes at. elim (swaps.makes.wrote.of_dirty j sector wanted bytes at) [ inl was ↦ h.dirty wanted.id wanted.page was | inr own ↦ volume_loose m.unforced wanted.id wanted.page own ]) k

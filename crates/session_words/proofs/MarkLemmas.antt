@@ -1,19 +1,20 @@
 -- A leader gets a mark.
-use Rattle.std.proofs.Common.{◌≡◌, ◌≢◌, ◌⊎◌, inl, inr, ⊎_elim, ℕ, ◌+◌, ◌/◌, ◌%◌, ◌<◌, ◌≤◌, Bool, true, false, ◌&&◌, ◌||◌, not, List, [], map, length, drop, take, Option, Some, None, refl, sym, ◌∙◌, ap, subst, arith}
-use Rattle.std.specs.Prelude.{slice_get, option_map, nat_lt, ◌==◌, if◌then◌else◌, IsTrue, IsSomeAnd}
+use Rattle.std.proofs.Common.{◌≡◌, ◌≢◌, ◌⊎◌, inl, inr, ⊎_elim, ℕ, ◌+◌, ◌/◌, ◌%◌, ◌<◌, Bool, true, false, ◌&&◌, ◌||◌, List, [], ◌∷◌, ◌++◌, map, length, drop, take, Option, Some, None, refl, sym, ◌∙◌, ap, subst, arith}
+use Rattle.std.specs.Prelude.{slice_get, option_map, nat_lt, ◌==◌, if◌then◌else◌}
+use Rattle.std.specs.List.{flat_map}
 use Rattle.std.specs.Option.{option_map_or}
 use Rattle.std.proofs.lemmas.Option.{same_Some, none-some, slice_get-map, slice_get_within}
-use Rattle.std.proofs.lemmas.Bool.{and_parts, and_from, and_left, eq-eqb, ne_eqb, eqb-true, cases_eq}
+use Rattle.std.proofs.lemmas.Bool.{and_from, and_left, eq-eqb, ne_eqb, cases_eq}
 use Rattle.std.proofs.lemmas.List.{length-map, drop-map, take-map}
 use Rattle.labelled_disk.specs.declared.label.Label.{Label}
-use Rattle.labelled_disk.specs.declared.label.Wanted.{Wanted}
-use Rattle.labelled_disk.specs.Label.{is_file, is_file_id, is_free, names, leader_page}
-use Rattle.labelled_disk.specs.Layout.{first_data, vam, vfm}
+use Rattle.labelled_disk.specs.Label.{is_file, is_file_id, is_free, leader_page}
+use Rattle.labelled_disk.specs.Layout.{vam, vfm}
 use Rattle.labelled_disk.specs.Root.{page_in}
 use Rattle.labelled_disk.specs.Sectors.{Sector}
 use Rattle.labelled_disk.specs.File.{File, Page, file_at}
 use Rattle.labelled_disk.proofs.RisingLemmas.{at_id}
-use Rattle.volume_root.specs.Sound.{is_used}
+use Rattle.alloc_map.specs.Bits.{is_used}
+use Rattle.file_map.specs.InSectors.{map_bytes}
 use Rattle.flat_machine.specs.declared.call.Call.TheVariants.{MakePermanent, MakeImmutable}
 use Rattle.flat_machine.specs.Machine.{Machine}
 use Rattle.flat_machine.specs.IsMachine.{IsMachine}
@@ -23,187 +24,22 @@ use Rattle.flat_machine.specs.Refusal.{no_file, file_mapped}
 use Rattle.flat_machine.proofs.TestLemmas.{one_none, two_none, file_there}
 use Rattle.flat_machine.proofs.NextLemmas.{next_keeps_machine}
 use Rattle.label_laws.specs.Marks.{permanent_label, immutable_label}
-use Rattle.label_laws.proofs.FileLemmas.{marks_are_added}
 use Rattle.swapper_kernel.specs.Stands.{labels_of}
 use Rattle.session_words.specs.Volume.{volume_page}
 use Rattle.swapper_kernel.specs.Kinds.{kind_of}
-use Rattle.session_words.specs.Parts.{Shape, shape_of, shapes_of, HasRoot, HasLabel, HasLabels, HasPages, HasLeaders, HasMapLabels, HasBits, HasTriples, IsLeader, IsOwned, MapMeaning, TablesMeaning, is_owned, is_marked, map_pages}
-use Rattle.session_words.specs.StandsFor.{IsFor, StandsFor}
+use Rattle.session_words.specs.Parts.{Shape, shape_of, shapes_of, HasRoot, HasLabels, HasLeaders, HasMapLabels, HasBits, HasTriples, IsLeader, TablesMeaning, is_owned, is_marked}
+use Rattle.session_words.specs.StandsFor.{IsForBy, IsFor, StandsFor}
 use Rattle.session_words.specs.MarkLaws.{marked_label, pages_of, Marks, MarkLaws}
 use Rattle.swapper_kernel.specs.DiffersLaws.{label_here}
+use Rattle.session_words.proofs.KnownLemmas.{frames_brought}
 use Rattle.session_words.proofs.FoundLemmas.{above_reserved}
+use Rattle.session_words.proofs.MapLemmas.{names_alike}
 use Rattle.session_words.proofs.LooseLemmas.{volume_loose, names_id, goes_stands}
-use Rattle.session_words.proofs.CellLemmas.{changed_from, unrefused}
+use Rattle.session_words.proofs.ShapeLemmas.{changed_from}
+use Rattle.session_words.proofs.CellLemmas.{unrefused}
 use Rattle.session_words.proofs.CallLemmas.{kind_tables}
 use Rattle.session_words.proofs.SettledLemmas.{machine_shapes, shape_at}
-
--- A mark of labels, and what it is of files.
-record IsMark (mark : Label → Label) (change : File → File) : Type 0 where
-  same_id : (l : Label) → (mark l).id ≡ l.id
-  same_page : (l : Label) → (mark l).page ≡ l.page
-  file : (l : Label) → is_file l ≡ true → is_file (mark l) ≡ true
-  leads : (l : Label) (f : File) → is_file l ≡ true → IsLeader l (shape_of f) → IsLeader (mark l) (shape_of (change f))
-  id_kept : (f : File) → (change f).id ≡ f.id
-  pages_kept : (f : File) → (change f).pages ≡ f.pages
-
-is_permanent_mark : IsMark permanent_label (λ f. record f { permanent = true })
-is_permanent_mark = record {
-  same_id = λ l. refl;
-  same_page = λ l. refl;
-  file = λ l is. (marks_are_added l is).file;
-  leads = λ l f is lead. let marks = marks_are_added l is in record { kind = lead.kind; permanent = marks.is_now_permanent; immutable = marks.immutable_as_before ∙ lead.immutable };
-  id_kept = λ f. refl;
-  pages_kept = λ f. refl;
-}
-
-is_immutable_mark : IsMark immutable_label (λ f. record f { immutable = true })
-is_immutable_mark = record {
-  same_id = λ l. refl;
-  same_page = λ l. refl;
-  file = λ l is. (marks_are_added l is).file_too;
-  leads = λ l f is lead. let marks = marks_are_added l is in record { kind = lead.kind; permanent = marks.permanent_as_before ∙ lead.permanent; immutable = marks.is_now_immutable };
-  id_kept = λ f. refl;
-  pages_kept = λ f. refl;
-}
-
--- a label that names its page
-named_parts : (l : Label) → names l (record { id = l.id; page = l.page }) ≡ true → (nat_lt l.flags 4 ≡ true) × ((l.last == 0) ≡ true)
-named_parts l is =
-    let a = and_parts ((l.id == l.id) && (l.page == l.page) && nat_lt l.flags 4) (l.last == 0) is in
-    ((and_parts ((l.id == l.id) && (l.page == l.page)) (nat_lt l.flags 4) a.0).1, a.1)
-
-is_named : (l : Label) → nat_lt l.flags 4 ≡ true → (l.last == 0) ≡ true → names l (record { id = l.id; page = l.page }) ≡ true
-is_named l flags last =
-    let c : (l.id == l.id) ≡ true = eq-eqb l.id l.id refl in
-    let e : (l.page == l.page) ≡ true = eq-eqb l.page l.page refl in
-    rw (c, e, flags, last) refl
-
-module _ (id : ℕ) (mark : Label → Label) (change : File → File) (is : IsMark mark change) (given : is_file_id id ≡ true) where
-  -- a label is as it was, or it is the leader's
-  either_label : (l : Label) → (marked_label id mark l ≡ l) ⊎ ((l.id ≡ id) × (l.page ≡ leader_page) × (marked_label id mark l ≡ mark l))
-  either_label l = by (l.id == id && l.page == leader_page) refl
-    where
-      by : (b : Bool) → (l.id == id && l.page == leader_page) ≡ b → ((if b then mark l else l) ≡ l) ⊎ ((l.id ≡ id) × (l.page ≡ leader_page) × ((if b then mark l else l) ≡ mark l))
-      by true e = let parts = and_parts (l.id == id) (l.page == leader_page) e in inr (eqb-true l.id id parts.0, eqb-true l.page leader_page parts.1, refl)
-      by false e = inl refl
-
-  id_same : (l : Label) → (marked_label id mark l).id ≡ l.id
-  id_same l = by (l.id == id && l.page == leader_page)
-    where
-      by : (b : Bool) → (if b then mark l else l).id ≡ l.id
-      by true = is.same_id l
-      by false = refl
-
-  page_same : (l : Label) → (marked_label id mark l).page ≡ l.page
-  page_same l = by (l.id == id && l.page == leader_page)
-    where
-      by : (b : Bool) → (if b then mark l else l).page ≡ l.page
-      by true = is.same_page l
-      by false = refl
-
-  free_same : (l : Label) → is_free (marked_label id mark l) ≡ is_free l
-  free_same l = ap (λ (n : ℕ). n == 0) (id_same l)
-
-  -- a leader that names its page has a file's label
-  leader_file : (l : Label) → l.id ≡ id → names l (record { id = l.id; page = l.page }) ≡ true → is_file l ≡ true
-  leader_file l own named =
-      let parts = named_parts l named in
-      and_from (is_file_id l.id && nat_lt l.flags 4) (l.last == 0) (and_from (is_file_id l.id) (nat_lt l.flags 4) (ap is_file_id own ∙ given) parts.0) parts.1
-
-  named_still : (l : Label) → names l (record { id = l.id; page = l.page }) ≡ true → names (marked_label id mark l) (record { id = (marked_label id mark l).id; page = (marked_label id mark l).page }) ≡ true
-  named_still l named = elim (either_label l) [
-    | inl same ↦ subst (λ (x : Label). names x (record { id = x.id; page = x.page }) ≡ true) (sym same) named
-    | inr (own, leader, new) ↦ subst (λ (x : Label). names x (record { id = x.id; page = x.page }) ≡ true) (sym new)
-        (let a = and_parts (is_file_id (mark l).id && nat_lt (mark l).flags 4) ((mark l).last == 0) (is.file l (leader_file l own named)) in
-        is_named (mark l) (and_parts (is_file_id (mark l).id) (nat_lt (mark l).flags 4) a.0).1 a.1)
-  ]
-
-  high : 16 ≤ id
-  high = above_reserved id given
-
-  -- a reserved label stays
-  reserved_still : (l : Label) → l.id < 16 → marked_label id mark l ≡ l
-  reserved_still l low = ap (λ (b : Bool). if b then mark l else l) (and_left (l.id == id) (l.page == leader_page) (ne_eqb l.id id (λ e. let h = high in omega (arith, e, low, h))))
-
-  module _ (labels : List Label) where
-    long : length (map (marked_label id mark) labels) ≡ length labels
-    long = length-map labels (marked_label id mark)
-
-    from : (k : ℕ) (l : Label) → slice_get (map (marked_label id mark) labels) k ≡ Some l → (w : Label) × (slice_get labels k ≡ Some w) × (marked_label id mark w ≡ l)
-    from k l at = either (slice_get labels k) refl
-      where
-        either : (o : Option Label) → slice_get labels k ≡ o → (w : Label) × (slice_get labels k ≡ Some w) × (marked_label id mark w ≡ l)
-        either None e = absurd (none-some l (sym (ap (option_map (marked_label id mark)) e) ∙ sym (slice_get-map (marked_label id mark) labels k) ∙ at))
-        either (Some w) e = (w, e, same_Some (marked_label id mark w) l (sym (ap (option_map (marked_label id mark)) e) ∙ sym (slice_get-map (marked_label id mark) labels k) ∙ at))
-
-    to : (k : ℕ) (w : Label) → slice_get labels k ≡ Some w → slice_get (map (marked_label id mark) labels) k ≡ Some (marked_label id mark w)
-    to k w at = slice_get-map (marked_label id mark) labels k ∙ ap (option_map (marked_label id mark)) at
-
-    has_from : (k : ℕ) (l : Label) → HasLabel (map (marked_label id mark) labels) k l → (w : Label) × HasLabel labels k w × (marked_label id mark w ≡ l)
-    has_from k l has = let w = from k l has.here in (w.0, record { is_data = subst (λ (n : ℕ). first_data n ≤ k) long has.is_data; here = w.1 }, w.2)
-
-    has_to : (k : ℕ) (w : Label) → HasLabel labels k w → HasLabel (map (marked_label id mark) labels) k (marked_label id mark w)
-    has_to k w has = record { is_data = subst (λ (n : ℕ). first_data n ≤ k) (sym long) has.is_data; here = to k w has.here }
-
-    free_from : (w l : Label) → marked_label id mark w ≡ l → is_free w ≡ is_free l
-    free_from w l e = sym (free_same w) ∙ ap is_free e
-
-    id_from : (w l : Label) → marked_label id mark w ≡ l → w.id ≡ l.id
-    id_from w l e = sym (id_same w) ∙ ap (λ (x : Label). x.id) e
-
-    page_from : (w l : Label) → marked_label id mark w ≡ l → w.page ≡ l.page
-    page_from w l e = sym (page_same w) ∙ ap (λ (x : Label). x.page) e
-
-    pages_marked : (owned later : ℕ → ℕ → Bool) → ((i p : ℕ) → later i p ≡ owned i p) → HasPages labels owned → HasPages (map (marked_label id mark) labels) later
-    pages_marked owned later same h = record {
-      only = λ k l has taken.
-          let w = has_from k l has in
-          let o = h.only k w.0 w.1 (free_from w.0 l w.2 ∙ taken) in
-          subst (IsOwned later) w.2 (record { is = ap (λ (i : ℕ). later i (marked_label id mark w.0).page) (id_same w.0) ∙ ap (later w.0.id) (page_same w.0) ∙ same w.0.id w.0.page ∙ o.is; named = named_still w.0 o.named });
-      all = λ i p owns.
-          let place = h.all i p (sym (same i p) ∙ owns) in
-          record {
-            place = place.place;
-            label = marked_label id mark place.label;
-            there = has_to place.place place.label place.there;
-            taken = free_same place.label ∙ place.taken;
-            same_id = id_same place.label ∙ place.same_id;
-            same_page = page_same place.label ∙ place.same_page;
-          };
-      once = λ i j a b at_a at_b taken same_id same_page.
-          let v = has_from i a at_a in
-          let w = has_from j b at_b in
-          h.once i j v.0 w.0 v.1 w.1 (free_from v.0 a v.2 ∙ taken) (id_from v.0 a v.2 ∙ same_id ∙ sym (id_from w.0 b w.2)) (page_from v.0 a v.2 ∙ same_page ∙ sym (page_from w.0 b w.2));
-    }
-
-    map_labels_marked : HasMapLabels labels → HasMapLabels (map (marked_label id mark) labels)
-    map_labels_marked h = record {
-      allocation = λ k below. stays (1 + k) (record { id = 1; page = k }) (omega arith) (h.allocation k (subst (λ (n : ℕ). k < vam n) long below));
-      file_map = λ k below. subst (λ (n : ℕ). IsSomeAnd (slice_get (map (marked_label id mark) labels) (1 + vam n + k)) (λ l. IsTrue (names l (record { id = 2; page = k })))) (sym long)
-          (stays (1 + vam (length labels) + k) (record { id = 2; page = k }) (omega arith) (h.file_map k (subst (λ (n : ℕ). k < vfm n) long below)));
-    }
-      where
-        stays : (k : ℕ) (w : Wanted) → w.id < 16 → IsSomeAnd (slice_get labels k) (λ l. IsTrue (names l w)) → IsSomeAnd (slice_get (map (marked_label id mark) labels) k) (λ l. IsTrue (names l w))
-        stays k w low named = either (slice_get labels k) refl named
-          where
-            either : (o : Option Label) → slice_get labels k ≡ o → IsSomeAnd o (λ l. IsTrue (names l w)) → IsSomeAnd (slice_get (map (marked_label id mark) labels) k) (λ l. IsTrue (names l w))
-            either None e a = absurd a
-            either (Some l) e a =
-                let own = names_id l w a in
-                subst (λ (o : Option Label). IsSomeAnd o (λ l. IsTrue (names l w))) (sym (to k l e ∙ ap (λ (x : Label). Some x) (reserved_still l (omega (arith, own, low))))) a
-
-    bits_marked : (marks : ℕ → Bool) → HasBits marks labels → HasBits marks (map (marked_label id mark) labels)
-    bits_marked marks h = record { bits = λ k l has. let w = has_from k l has in h.bits k w.0 w.1 ∙ ap not (free_from w.0 l w.2) }
-
-    triples_marked : (named : ℕ → ℕ → ℕ → Bool) → HasTriples named labels → HasTriples named (map (marked_label id mark) labels)
-    triples_marked named h = record {
-      only = λ i p s told.
-          let t = h.only i p s told in
-          record { label = marked_label id mark t.label; there = has_to s t.label t.there; taken = free_same t.label ∙ t.taken; same_id = id_same t.label ∙ t.same_id; same_page = page_same t.label ∙ t.same_page };
-      all = λ i p s t.
-          let w = has_from s t.label t.there in
-          h.all i p s (record { label = w.0; there = w.1; taken = free_from w.0 t.label w.2 ∙ t.taken; same_id = id_from w.0 t.label w.2 ∙ t.same_id; same_page = page_from w.0 t.label w.2 ∙ t.same_page });
-    }
+use Rattle.session_words.proofs.MarkedLabelLemmas.{has_from, id_from, page_from, pages_marked, map_labels_marked, bits_marked, triples_marked, IsMark, either_label, is_immutable_mark, is_permanent_mark, leader_file}
 
 -- the pages of sectors
 page_here : (xs : List Sector) (k : ℕ) (s : Sector) → slice_get xs k ≡ Some s → slice_get (pages_of xs) k ≡ Some s.1
@@ -224,19 +60,26 @@ same_marks x y same i =
 same_long : (x y : List Sector) → pages_of y ≡ pages_of x → length y ≡ length x
 same_long x y same = sym (length-map y (λ s. s.1)) ∙ ap (λ (l : List (List ℕ)). length l) same ∙ length-map x (λ s. s.1)
 
-same_map_pages : (x y : List Sector) → pages_of y ≡ pages_of x → map_pages y ≡ map_pages x
-same_map_pages x y same =
-    taken y ∙ ap (λ (n : ℕ). take (vfm n) (drop (1 + vam n) (pages_of y))) (same_long x y same) ∙ ap (λ (l : List (List ℕ)). take (vfm (length x)) (drop (1 + vam (length x)) l)) same ∙ sym (taken x)
+same_map_bytes : (x y : List Sector) → pages_of y ≡ pages_of x → map_bytes y ≡ map_bytes x
+same_map_bytes x y same =
+    taken y ∙ ap (λ (n : ℕ). flat_map (λ (p : List ℕ). p) (take (vfm n) (drop (1 + vam n) (pages_of y)))) (same_long x y same)
+    ∙ ap (λ (l : List (List ℕ)). flat_map (λ (p : List ℕ). p) (take (vfm (length x)) (drop (1 + vam (length x)) l))) same ∙ sym (taken x)
   where
-    taken : (xs : List Sector) → map_pages xs ≡ take (vfm (length xs)) (drop (1 + vam (length xs)) (pages_of xs))
-    taken xs =
-        sym (take-map (λ (s : Sector). s.1) (vfm (length xs)) (drop (1 + vam (length xs)) xs))
-        ∙ ap (take (vfm (length xs))) (sym (drop-map (λ (s : Sector). s.1) (1 + vam (length xs)) xs))
+    joined : (ss : List Sector) → flat_map (λ (s : Sector). s.1) ss ≡ flat_map (λ (p : List ℕ). p) (pages_of ss)
+    joined [] = refl
+    joined (s ∷ ss) = ap (λ (l : List ℕ). s.1 ++ l) (joined ss)
 
-module _ (names_triple : MapMeaning) (spaces_of : TablesMeaning) (id : ℕ) (mark : Label → Label) (change : File → File) (is : IsMark mark change) (x y : List Sector) (m : Machine) (f : File)
-    (found : file_at m.files id ≡ Some f) (d : Marks id mark x y) (after_machine : IsMachine (record m { files = change_file id change m.files })) (h : IsFor names_triple spaces_of x m) where
+    taken : (xs : List Sector) → map_bytes xs ≡ flat_map (λ (p : List ℕ). p) (take (vfm (length xs)) (drop (1 + vam (length xs)) (pages_of xs)))
+    taken xs =
+        joined (take (vfm (length xs)) (drop (1 + vam (length xs)) xs))
+        ∙ ap (flat_map (λ (p : List ℕ). p))
+        (sym (take-map (λ (s : Sector). s.1) (vfm (length xs)) (drop (1 + vam (length xs)) xs))
+        ∙ ap (take (vfm (length xs))) (sym (drop-map (λ (s : Sector). s.1) (1 + vam (length xs)) xs)))
+
+module _ (spaces_of : TablesMeaning) (id : ℕ) (mark : Label → Label) (change : File → File) (is : IsMark mark change) (x y : List Sector) (m : Machine) (f : File)
+    (found : file_at m.files id ≡ Some f) (d : Marks id mark x y) (after_machine : IsMachine (record m { files = change_file id change m.files })) (h : IsFor spaces_of x m) where
   given : is_file_id id ≡ true
-  given = (machine_shapes m h.machine (length x) (slice_get x 0) h.root).given id (shape_of f) (ap (λ (o : Option File). option_map shape_of o) found)
+  given = (machine_shapes m h.by.machine (length x) (slice_get x 0) h.by.root).given id (shape_of f) (ap (λ (o : Option File). option_map shape_of o) found)
 
   long_y : length y ≡ length x
   long_y = same_long x y d.pages
@@ -285,7 +128,7 @@ module _ (names_triple : MapMeaning) (spaces_of : TablesMeaning) (id : ℕ) (mar
   low_id n low e = let a = above_reserved id given in omega (arith, low, e, a)
 
   root_kept : HasRoot (length y) (slice_get y 0) m.serial m.counter m.capacity
-  root_kept = subst (λ (n : ℕ). HasRoot n (slice_get y 0) m.serial m.counter m.capacity) (sym long_y) (either (slice_get x 0) refl h.root)
+  root_kept = subst (λ (n : ℕ). HasRoot n (slice_get y 0) m.serial m.counter m.capacity) (sym long_y) (either (slice_get x 0) refl h.by.root)
     where
       either : (o : Option Sector) → slice_get x 0 ≡ o → HasRoot (length x) o m.serial m.counter m.capacity → HasRoot (length x) (slice_get y 0) m.serial m.counter m.capacity
       either None e r = absurd r.valid.label
@@ -325,7 +168,7 @@ module _ (names_triple : MapMeaning) (spaces_of : TablesMeaning) (id : ℕ) (mar
         let old_id : w.0.id ≡ l.id = id_from id mark change is given (labels_of x) w.0 l w.2 in
         let old_page : w.0.page ≡ l.page = page_from id mark change is given (labels_of x) w.0 l w.2 in
         let lead : IsLeader w.0 (shape_of before.0) =
-        h.labels.leaders.tell k w.0 (shape_of before.0) w.1 (ap (shapes_of m.files) old_id ∙ ap (λ (o : Option File). option_map shape_of o) before.1) (old_page ∙ leader) in
+        h.by.labels.leaders.tell k w.0 (shape_of before.0) w.1 (ap (shapes_of m.files) old_id ∙ ap (λ (o : Option File). option_map shape_of o) before.1) (old_page ∙ leader) in
         let at : before.0.id ≡ l.id = at_id m.files l.id before.0 before.1 in
         subst (IsLeader l) (ap shape_of (sym before.2) ∙ file.2)
         (⊎_elim
@@ -333,7 +176,7 @@ module _ (names_triple : MapMeaning) (spaces_of : TablesMeaning) (id : ℕ) (mar
         let here : (w.0.id == id && w.0.page == leader_page) ≡ true = and_from (w.0.id == id) (w.0.page == leader_page) (eq-eqb w.0.id id (old_id ∙ q)) (eq-eqb w.0.page leader_page (old_page ∙ leader)) in
         let new : mark w.0 ≡ l = sym (ap (λ (b : Bool). if b then mark w.0 else w.0) here) ∙ w.2 in
         let taken : is_free w.0 ≡ false = ne_eqb w.0.id 0 (λ z. low_id 0 (omega arith) (sym z ∙ old_id ∙ q)) in
-        let file_label : is_file w.0 ≡ true = leader_file id mark change is given w.0 (old_id ∙ q) (h.labels.pages.only k w.0 w.1 taken).named in
+        let file_label : is_file w.0 ≡ true = leader_file id mark change is given w.0 (old_id ∙ q) (h.by.labels.pages.only k w.0 w.1 taken).named in
         subst (λ (z : Label). IsLeader z (shape_of (if before.0.id == id then change before.0 else before.0))) new
         (subst (λ (z : File). IsLeader (mark w.0) (shape_of z)) (sym (changed_here id change before.0 (at ∙ q))) (is.leads w.0 before.0 file_label lead)))
         (λ (q : l.id ≢ id).
@@ -344,54 +187,56 @@ module _ (names_triple : MapMeaning) (spaces_of : TablesMeaning) (id : ℕ) (mar
         (cases_eq l.id id));
   }
 
-  all_marked : IsFor names_triple spaces_of y (record m { files = change_file id change m.files })
-  all_marked = record {
+  by_marked : IsForBy spaces_of (is_marked y) h.named y (record m { files = change_file id change m.files })
+  by_marked = record {
     machine = after_machine;
     sectors = d.sectors;
     root = root_kept;
-    map_labels = subst HasMapLabels (sym d.labels) (map_labels_marked id mark change is given (labels_of x) h.map_labels);
+    map_labels = subst HasMapLabels (sym d.labels) (map_labels_marked id mark change is given (labels_of x) h.by.map_labels);
     labels = subst (λ (l : List Label). HasLabels l (shapes_of (change_file id change m.files))) (sym d.labels)
-        (record { pages = pages_marked id mark change is given (labels_of x) (is_owned (shapes_of m.files)) (is_owned (shapes_of (change_file id change m.files))) owned_same h.labels.pages; leaders = leaders_marked });
-    bits = subst (HasBits (is_marked y)) (sym d.labels) (bits_marked id mark change is given (labels_of x) (is_marked y) (subst (λ (b : ℕ → Bool). HasBits b (labels_of x)) (λ i k. sym (same_marks x y d.pages k) i) h.bits));
-    triples = subst (HasTriples (names_triple (map_pages y))) (sym d.labels)
-        (triples_marked id mark change is given (labels_of x) (names_triple (map_pages y)) (subst (λ (ps : List (List ℕ)). HasTriples (names_triple ps) (labels_of x)) (sym (same_map_pages x y d.pages)) h.triples));
+        (record { pages = pages_marked id mark change is given (labels_of x) (is_owned (shapes_of m.files)) (is_owned (shapes_of (change_file id change m.files))) owned_same h.by.labels.pages; leaders = leaders_marked });
+    bits = subst (HasBits (is_marked y)) (sym d.labels) (bits_marked id mark change is given (labels_of x) (is_marked y) (subst (λ (b : ℕ → Bool). HasBits b (labels_of x)) (λ i k. sym (same_marks x y d.pages k) i) h.by.bits));
+    triples = subst (HasTriples h.named) (sym d.labels) (triples_marked id mark change is given (labels_of x) h.named h.by.triples);
     cells = record {
       agrees = λ k t w p has now page firm.
           let before = changed_from (λ v. if v.id == id then change v else v) ids m.files t.0.id w now in
           let was_page : slice_get before.0.pages t.0.page ≡ Some p = ap (λ (ps : List Page). slice_get ps t.0.page) (sym (ap (λ (v : File). v.pages) before.2 ∙ pages_same before.0)) ∙ page in
-          let short = (machine_shapes m h.machine (length x) (slice_get x 0) h.root).short t.0.id (shape_of before.0) (ap (λ (o : Option File). option_map shape_of o) before.1) in
+          let short = (machine_shapes m h.by.machine (length x) (slice_get x 0) h.by.root).short t.0.id (shape_of before.0) (ap (λ (o : Option File). option_map shape_of o) before.1) in
           let within = slice_get_within before.0.pages t.0.page p was_page in
-          h.cells.agrees k t before.0 p
+          h.by.cells.agrees k t before.0 p
           (record { here = same_sector k t has.here (inr (λ q. omega (arith, q, short, within))); is = ap (λ (n : ℕ). kind_of n k t.0) (sym long_y) ∙ has.is })
           before.1 was_page firm;
     };
     tables = record {
-      pages = h.tables.pages;
-      told = h.tables.told;
-      count = h.tables.count;
+      pages = h.by.tables.pages;
+      told = h.by.tables.told;
+      count = h.by.tables.count;
       each = λ k t has.
           let three = kind_tables (length y) k t.0 has.is in
-          h.tables.each k t (record { here = same_sector k t has.here (inl (λ q. low_id 3 (omega arith) (sym three ∙ q))); is = ap (λ (n : ℕ). kind_of n k t.0) (sym long_y) ∙ has.is });
+          h.by.tables.each k t (record { here = same_sector k t has.here (inl (λ q. low_id 3 (omega arith) (sym three ∙ q))); is = ap (λ (n : ℕ). kind_of n k t.0) (sym long_y) ∙ has.is });
     };
   }
 
-module _ (names_triple : MapMeaning) (spaces_of : TablesMeaning) where
-  pub mark_laws : MarkLaws names_triple spaces_of
+  all_marked : IsFor spaces_of y (record m { files = change_file id change m.files })
+  all_marked = record { named = h.named; map = names_alike x y long_y (same_map_bytes x y d.pages) h.named h.map; by = by_marked }
+
+module _ (spaces_of : TablesMeaning) where
+  pub mark_laws : MarkLaws spaces_of
   mark_laws = record {
-    permanent = λ id run old new before after m accepted goes h.
+    permanent = λ id run old new before after m accepted goes known h.
         let becomes : next m (MakePermanent id) ≡ record m { files = change_file id (λ f. record f { permanent = true }) m.files } = unrefused m (MakePermanent id) accepted in
-        let machine = subst IsMachine becomes (next_keeps_machine m (MakePermanent id) tt h.is.machine) in
+        let machine = subst IsMachine becomes (next_keeps_machine m (MakePermanent id) tt h.is.by.machine) in
         let there = file_there m id (one_none (no_file m id) accepted) in
-        subst (λ (n : Machine). StandsFor names_triple spaces_of new after n) (sym becomes)
-        (goes_stands names_triple spaces_of (Marks id permanent_label) volume_page run old new before after m (record m { files = change_file id (λ f. record f { permanent = true }) m.files })
-        (λ x y marks k. all_marked names_triple spaces_of id permanent_label (λ f. record f { permanent = true }) is_permanent_mark x y m there.0 there.1 marks machine k)
+        subst (λ (n : Machine). StandsFor spaces_of new after n) (sym becomes)
+        (goes_stands spaces_of (Marks id permanent_label) volume_page run old new before after m (record m { files = change_file id (λ f. record f { permanent = true }) m.files }) (frames_brought before after m.spaces known)
+        (λ x y marks k. all_marked spaces_of id permanent_label (λ f. record f { permanent = true }) is_permanent_mark x y m there.0 there.1 marks machine k)
         (λ i page l. l) (λ i page own. volume_loose m.unforced i page own) goes h);
-    immutable = λ id run old new before after m accepted goes h.
+    immutable = λ id run old new before after m accepted goes known h.
         let becomes : next m (MakeImmutable id) ≡ record m { files = change_file id (λ f. record f { immutable = true }) m.files } = unrefused m (MakeImmutable id) accepted in
-        let machine = subst IsMachine becomes (next_keeps_machine m (MakeImmutable id) tt h.is.machine) in
+        let machine = subst IsMachine becomes (next_keeps_machine m (MakeImmutable id) tt h.is.by.machine) in
         let there = file_there m id (two_none (no_file m id) (file_mapped m id (λ w. w.writable)) accepted).0 in
-        subst (λ (n : Machine). StandsFor names_triple spaces_of new after n) (sym becomes)
-        (goes_stands names_triple spaces_of (Marks id immutable_label) volume_page run old new before after m (record m { files = change_file id (λ f. record f { immutable = true }) m.files })
-        (λ x y marks k. all_marked names_triple spaces_of id immutable_label (λ f. record f { immutable = true }) is_immutable_mark x y m there.0 there.1 marks machine k)
+        subst (λ (n : Machine). StandsFor spaces_of new after n) (sym becomes)
+        (goes_stands spaces_of (Marks id immutable_label) volume_page run old new before after m (record m { files = change_file id (λ f. record f { immutable = true }) m.files }) (frames_brought before after m.spaces known)
+        (λ x y marks k. all_marked spaces_of id immutable_label (λ f. record f { immutable = true }) is_immutable_mark x y m there.0 there.1 marks machine k)
         (λ i page l. l) (λ i page own. volume_loose m.unforced i page own) goes h);
   }

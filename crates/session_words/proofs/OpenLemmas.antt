@@ -1,6 +1,7 @@
 -- A session's start on a closed volume.
-use Rattle.std.proofs.Common.{◌≡◌, ◌≢◌, inl, inr, ℕ, suc, ◌+◌, ◌/◌, ◌%◌, ◌<◌, ◌≤◌, Bool, true, false, ◌&&◌, ◌||◌, List, [], ◌∷◌, map, length, drop, take, Option, Some, None, refl, sym, ◌∙◌, ap, subst, arith}
+use Rattle.std.proofs.Common.{◌≡◌, ◌≢◌, inl, inr, ℕ, suc, ◌+◌, ◌*◌, ◌/◌, ◌%◌, ◌<◌, ◌≤◌, Bool, true, false, ◌&&◌, ◌||◌, List, [], ◌∷◌, map, length, drop, take, Option, Some, None, refl, sym, ◌∙◌, ap, subst, arith}
 use Rattle.std.specs.Prelude.{slice_get, slice_set, option_map, nat_lt, ◌==◌, IsTrue, IsSomeAnd}
+use Rattle.std.specs.List.{flat_map}
 use Rattle.std.specs.Option.{option_map_or}
 use Rattle.std.proofs.lemmas.Option.{same_Some, none-some, slice_get-map, slice_get_within}
 use Rattle.std.proofs.lemmas.Bool.{and_from, eq-eqb, ne_eqb, true≢false, false≢true}
@@ -16,7 +17,9 @@ use Rattle.labelled_disk.specs.FilesOn.{files_on, disk_file}
 use Rattle.labelled_disk.specs.Runs.{page_label}
 use Rattle.labelled_disk.proofs.LowestLemmas.{files_are_as_told}
 use Rattle.labelled_disk.proofs.WriteLemmas as laws
-use Rattle.volume_root.specs.Sound.{is_used}
+use Rattle.alloc_map.specs.Bits.{is_used}
+use Rattle.file_map.specs.FileMap.{Triples}
+use Rattle.file_map.specs.InSectors.{map_bytes}
 use Rattle.flat_machine.specs.Settled.{PageAgrees}
 use Rattle.flat_machine.specs.Start.{start}
 use Rattle.flat_machine.proofs.StartMachine.{start_is_machine}
@@ -26,28 +29,31 @@ use Rattle.swapper_kernel.specs.Stands.{labels_of}
 use Rattle.swapper_kernel.specs.Kinds.{kind_of, HasKind, a_file, files_alone, tables_alone, maps_alone}
 use Rattle.swapper_kernel.specs.DiffersLaws.{label_here, sector_of_label}
 use Rattle.swapper_kernel.proofs.KindLemmas.{root_kind, kind_is_data}
-use Rattle.session_words.specs.Parts.{is_owned_upto, Shape, Shapes, shapes_of, HasRoot, HasLabel, HasPages, HasLeaders, HasMapLabels, HasBits, HasTriples, HasCells, MapMeaning, TablesMeaning, is_marked, map_pages, but_none}
+use Rattle.session_words.specs.Parts.{is_owned_upto, Shape, Shapes, shapes_of, HasRoot, HasLabel, HasPages, HasLeaders, HasMapLabels, HasBits, HasTriples, HasCells, TablesMeaning, is_marked, but_none}
 use Rattle.session_words.specs.PlaceLaws.{IsMade}
 use Rattle.session_words.specs.GrowLaws.{AreFree, grown_labels, grown_marks, grown_names}
 use Rattle.session_words.specs.StartLaws.{table_label}
 use Rattle.session_words.specs.StandsFor.{IsFor}
 use Rattle.session_words.specs.OpenLaws.{CanOpen, FlagCleared, TablesMade, TablesBegun, Opened}
-use Rattle.session_words.proofs.GrowLemmas.{page_label_named, grown_get, grown_long, free_are_data, map_labels_grown}
+use Rattle.session_words.proofs.BitLemmas.{bits_alike}
+use Rattle.session_words.proofs.GrownLemmas.{page_label_named, grown_get, grown_long, free_are_data, map_labels_grown}
 use Rattle.session_words.proofs.LooseLemmas.{kind_file}
-use Rattle.session_words.proofs.PlaceLemmas.{label_set, bits_set, triples_made}
+use Rattle.session_words.proofs.MapLemmas.{names_alike}
+use Rattle.session_words.proofs.PlaceLemmas.{label_set}
+use Rattle.session_words.proofs.BookLemmas.{bits_set, triples_made}
 use Rattle.session_words.proofs.SettledLemmas.{shape_at}
 use Rattle.session_words.proofs.StartLemmas.{start_laws}
 use Rattle.session_words.proofs.StayLemmas.{stays}
 
 -- The tables' pages, one by one.
 
-record Tabled (n : ℕ) (shapes : Shapes) (labels : List Label) (marks : ℕ → Bool) (named : ℕ → ℕ → ℕ → Bool) : Type 0 where
+record Tabled (n : ℕ) (shapes : Shapes) (labels : List Label) (marks : ℕ → Bool) (named : Triples) : Type 0 where
   pages : HasPages labels (is_owned_upto n shapes)
   leaders : HasLeaders labels shapes
   bits : HasBits marks labels
   triples : HasTriples named labels
 
-tables_grown : (is : List ℕ) (n m : ℕ) (shapes : Shapes) (labels : List Label) (marks : ℕ → Bool) (named : ℕ → ℕ → ℕ → Bool) → n + length is ≡ m → shapes 3 ≡ None → AreFree 3 0 n is labels → Tabled n shapes labels marks named
+tables_grown : (is : List ℕ) (n m : ℕ) (shapes : Shapes) (labels : List Label) (marks : ℕ → Bool) (named : Triples) → n + length is ≡ m → shapes 3 ≡ None → AreFree 3 0 n is labels → Tabled n shapes labels marks named
     → Tabled m shapes (grown_labels 3 0 n is labels) (grown_marks is marks) (grown_names 3 n is named)
 tables_grown [] n m shapes labels marks named long none free h = let same : n ≡ m = omega (arith, long) in subst (λ (k : ℕ). Tabled k shapes labels marks named) same h
 tables_grown (i ∷ is) n m shapes labels marks named long none free h =
@@ -61,9 +67,9 @@ tables_grown (i ∷ is) n m shapes labels marks named long none free h =
           | inr (other, was) ↦ h.leaders.tell k l f was found leader
         ];
       };
-      bits = bits_set labels marks (λ k. k == i || marks k) i (page_label 3 0 n) h.bits
-          (λ inside. ap (λ (b : Bool). b || marks i) (eq-eqb i i refl))
-          (λ k other. ap (λ (b : Bool). b || marks k) (ne_eqb k i other));
+      bits = bits_set labels marks (λ k. k == i || marks k) i (page_label 3 0 n) free.0.label h.bits free.0.there
+          (ap (λ (b : Bool). b || marks i) (eq-eqb i i refl))
+          (λ k below other. ap (λ (b : Bool). b || marks k) (ne_eqb k i other));
       triples = triples_made labels named (λ j p s. (j == 3 && p == n && s == i) || named j p s) i free.0.label (page_label 3 0 n) h.triples free.0.there free.0.free taken (λ j p s. refl);
     })
   where
@@ -109,6 +115,19 @@ module _ (d x : List Sector) (c : FlagCleared d x) where
   same_marks : (i : ℕ) → is_marked x i ≡ is_marked d i
   same_marks i = ap (λ (o : Option Sector). is_used (page_in o) (i % 4096)) (c.others (1 + i / 4096) (λ e. omega (arith, e)))
 
+  bits_too : HasBits (is_marked d) (labels_of d) → HasBits (is_marked x) (labels_of x)
+  bits_too h = record {
+    low = λ k below. same_marks k ∙ h.low k (subst (λ (n : ℕ). k < first_data n) labels_long below);
+    bits = λ k l has. same_marks k ∙ h.bits k l (back k l has);
+    past = λ k end below. same_marks k ∙ h.past k (omega (arith, end, labels_long)) (subst (λ (n : ℕ). k < 4096 * vam n) labels_long below);
+  }
+
+  triples_too : (named : Triples) → HasTriples named (labels_of d) → HasTriples named (labels_of x)
+  triples_too named h = record {
+    only = λ i p s told. let q = h.only i p s told in record { label = q.label; there = forth s q.label q.there; taken = q.taken; same_id = q.same_id; same_page = q.same_page };
+    all = λ i p s q. h.all i p s (record { label = q.label; there = back s q.label q.there; taken = q.taken; same_id = q.same_id; same_page = q.same_page });
+  }
+
   same_behind : (a b : List Sector) → length b ≡ length a → ((k : ℕ) → k ≢ 0 → slice_get b k ≡ slice_get a k) → (n : ℕ) → drop (suc n) b ≡ drop (suc n) a
   same_behind [] [] long same n = refl
   same_behind [] (t ∷ b) long same n = absurd (omega arith)
@@ -121,19 +140,19 @@ module _ (d x : List Sector) (c : FlagCleared d x) where
       all_same (s ∷ a) [] long same = absurd (omega arith)
       all_same (s ∷ a) (t ∷ b) long same = (λ i. same_Some t s (same 0) i ∷ all_same a b (omega arith) (λ k. same (suc k)) i)
 
-  same_pages_of_map : map_pages x ≡ map_pages d
-  same_pages_of_map =
+  pub same_map_bytes : map_bytes x ≡ map_bytes d
+  same_map_bytes =
       let one : (n : ℕ) → 1 + n ≡ suc n = λ n. omega arith in
-      ap (λ (n : ℕ). map (λ (s : Sector). s.1) (take (vfm n) (drop (1 + vam n) x))) c.long
-      ∙ ap (λ (n : ℕ). map (λ (s : Sector). s.1) (take (vfm (length d)) (drop n x))) (one (vam (length d)))
-      ∙ ap (λ (l : List Sector). map (λ (s : Sector). s.1) (take (vfm (length d)) l)) (same_behind d x c.long c.others (vam (length d)))
-      ∙ ap (λ (n : ℕ). map (λ (s : Sector). s.1) (take (vfm (length d)) (drop n d))) (sym (one (vam (length d))))
+      ap (λ (n : ℕ). flat_map (λ (s : Sector). s.1) (take (vfm n) (drop (1 + vam n) x))) c.long
+      ∙ ap (λ (n : ℕ). flat_map (λ (s : Sector). s.1) (take (vfm (length d)) (drop n x))) (one (vam (length d)))
+      ∙ ap (λ (l : List Sector). flat_map (λ (s : Sector). s.1) (take (vfm (length d)) l)) (same_behind d x c.long c.others (vam (length d)))
+      ∙ ap (λ (n : ℕ). flat_map (λ (s : Sector). s.1) (take (vfm (length d)) (drop n d))) (sym (one (vam (length d))))
 
 bytes_agree : (bs : List ℕ) → PageAgrees (map byte bs) (map byte bs)
 bytes_agree [] = tt
 bytes_agree (b ∷ bs) = (refl, bytes_agree bs)
 
-module _ (names_triple : MapMeaning) (spaces_of : TablesMeaning) (d x y z : List Sector) (is : List ℕ) (o : CanOpen names_triple d) (c : FlagCleared d x) (t : TablesMade names_triple is x y) (b : TablesBegun spaces_of y z) where
+module _ (spaces_of : TablesMeaning) (d x y z : List Sector) (is : List ℕ) (o : CanOpen d) (c : FlagCleared d x) (t : TablesMade is x y) (b : TablesBegun spaces_of y z) where
   long_y : length y ≡ length x
   long_y = sym (length-map y (λ s. s.0)) ∙ ap (λ (l : List Label). length l) t.grown.labels ∙ grown_long 3 0 0 is (labels_of x) ∙ length-map x (λ s. s.0)
 
@@ -146,26 +165,27 @@ module _ (names_triple : MapMeaning) (spaces_of : TablesMeaning) (d x y z : List
           let g = shape_at (files_on d) 3 f e in
           absurd (none-some g.0 (sym (reserved_have_none false d 3 refl) ∙ sym (laws.look_up false 0 0 d 3) ∙ g.1))
 
-  tabled : Tabled 96 (shapes_of (files_on d)) (labels_of y) (is_marked y) (names_triple (map_pages y))
+  tabled : Tabled 96 (shapes_of (files_on d)) (labels_of y) (is_marked y) (grown_names 3 0 is o.named)
   tabled =
       let files = start_laws.files d o.right o.free_or_needed in
-      let began : Tabled 0 (shapes_of (files_on d)) (labels_of x) (is_marked x) (names_triple (map_pages x)) = record {
+      let began : Tabled 0 (shapes_of (files_on d)) (labels_of x) (is_marked x) o.named = record {
         pages = pages_too d x c (is_owned_upto 0 (shapes_of (files_on d))) files.pages;
         leaders = record { tell = λ k l f has found leader. files.leaders.tell k l f (back d x c k l has) found leader };
-        bits = record { bits = λ k l has. same_marks d x c k ∙ o.bits.bits k l (back d x c k l has) };
-        triples = subst (λ (ps : List (List ℕ)). HasTriples (names_triple ps) (labels_of x)) (sym (same_pages_of_map d x c)) (record {
-          only = λ i p s told. let q = o.triples.only i p s told in record { label = q.label; there = forth d x c s q.label q.there; taken = q.taken; same_id = q.same_id; same_page = q.same_page };
-          all = λ i p s q. o.triples.all i p s (record { label = q.label; there = back d x c s q.label q.there; taken = q.taken; same_id = q.same_id; same_page = q.same_page });
-        });
+        bits = bits_too d x c o.bits;
+        triples = triples_too d x c o.named o.triples;
       } in
-      let grown = tables_grown is 0 96 (shapes_of (files_on d)) (labels_of x) (is_marked x) (names_triple (map_pages x)) (omega (arith, t.count)) none t.grown.free began in
+      let grown = tables_grown is 0 96 (shapes_of (files_on d)) (labels_of x) (is_marked x) o.named (omega (arith, t.count)) none t.grown.free began in
       record {
         pages = subst (λ (l : List Label). HasPages l (is_owned_upto 96 (shapes_of (files_on d)))) (sym t.grown.labels) grown.pages;
         leaders = subst (λ (l : List Label). HasLeaders l (shapes_of (files_on d))) (sym t.grown.labels) grown.leaders;
-        bits = subst (HasBits (is_marked y)) (sym t.grown.labels) (subst (λ (m : ℕ → Bool). HasBits m (grown_labels 3 0 0 is (labels_of x))) (λ i k. sym (t.bits k) i) grown.bits);
-        triples = subst (HasTriples (names_triple (map_pages y))) (sym t.grown.labels)
-            (subst (λ (m : ℕ → ℕ → ℕ → Bool). HasTriples m (grown_labels 3 0 0 is (labels_of x))) (λ i j p s. sym (t.triples j p s) i) grown.triples);
+        bits = subst (HasBits (is_marked y)) (sym t.grown.labels)
+            (bits_alike (grown_labels 3 0 0 is (labels_of x)) (grown_marks is (is_marked x)) (is_marked y) (omega (arith, long_labels, c.root_open.valid.accepted))
+            (λ k below. t.bits k (subst (λ (n : ℕ). k < 4096 * vam n) long_labels below)) grown.bits);
+        triples = subst (HasTriples (grown_names 3 0 is o.named)) (sym t.grown.labels) grown.triples;
       }
+    where
+      long_labels : length (grown_labels 3 0 0 is (labels_of x)) ≡ length x
+      long_labels = grown_long 3 0 0 is (labels_of x) ∙ length-map x (λ s. s.0)
 
   root_here : HasRoot (length y) (slice_get y 0) (start d).serial (start d).counter (start d).capacity
   root_here = subst (λ (n : ℕ). HasRoot n (slice_get y 0) (start d).serial (start d).counter (start d).capacity) (sym long_y) (either (slice_get x 0) refl c.root_open)
@@ -222,20 +242,24 @@ module _ (names_triple : MapMeaning) (spaces_of : TablesMeaning) (d x y z : List
         subst (PageAgrees (map byte s.1)) (same_Some (map byte s.1) p (sym stands ∙ page)) (bytes_agree s.1);
   }
 
-  pub opened : IsFor names_triple spaces_of z (start d)
+  pub opened : IsFor spaces_of z (start d)
   opened =
-      let kept = stays names_triple spaces_of y z tables_alone b.same in
+      let kept = stays spaces_of y z tables_alone b.same in
       record {
-        machine = start_is_machine d o.sectors o.right;
-        sectors = b.sectors;
-        root = kept.root (start d).serial (start d).counter (start d).capacity refl root_here;
-        map_labels = kept.map_labels map_labels_here;
-        labels = kept.labels (shapes_of (files_on d)) (record { pages = tabled.pages; leaders = tabled.leaders });
-        bits = kept.bits refl tabled.bits;
-        triples = kept.triples refl tabled.triples;
-        cells = kept.cells but_none (files_on d) refl cells_here;
-        tables = b.tables;
+        named = grown_names 3 0 is o.named;
+        map = kept.map (grown_names 3 0 is o.named) refl (t.triples o.named (names_alike d x c.long (same_map_bytes d x c) o.named o.map));
+        by = record {
+          machine = start_is_machine d o.sectors o.right;
+          sectors = b.sectors;
+          root = kept.root (start d).serial (start d).counter (start d).capacity refl root_here;
+          map_labels = kept.map_labels map_labels_here;
+          labels = kept.labels (shapes_of (files_on d)) (record { pages = tabled.pages; leaders = tabled.leaders });
+          bits = kept.bits refl tabled.bits;
+          triples = kept.triples (grown_names 3 0 is o.named) tabled.triples;
+          cells = kept.cells but_none (files_on d) refl cells_here;
+          tables = b.tables;
+        };
       }
 
-pub opened_laws : (names_triple : MapMeaning) (spaces_of : TablesMeaning) → Opened names_triple spaces_of
-opened_laws names_triple spaces_of d x y z is o c t b = opened names_triple spaces_of d x y z is o c t b
+pub opened_laws : (spaces_of : TablesMeaning) → Opened spaces_of
+opened_laws spaces_of d x y z is o c t b = opened spaces_of d x y z is o c t b

@@ -50,7 +50,8 @@ use Rattle.session_words.proofs.FoundLemmas.{above_reserved, file_id_of}
 use Rattle.session_words.proofs.FilesLemmas.{at_without}
 use Rattle.session_words.proofs.SettledLemmas.{Tells, both, right_all, zipped, same_rooms, settled_is_told}
 use Rattle.session_words.proofs.StandLemmas.{Stands, AllStand, changed_stand, settled_stand, settled_any, settled_rising, told_but_loose, lengthened_stands, shortened_stands, permanent_stands, immutable_stands}
-use Rattle.session_words.proofs.StopLemmas.{moments_are_like, few_labels, loose_agree, loose_right}
+use Rattle.session_words.proofs.MomentLemmas.{moments_are_like, few_labels}
+use Rattle.session_words.proofs.StopLemmas.{loose_agree, loose_right}
 
 growth_long : (id kind page : ℕ) (is : List ℕ) → length (growth id kind page is) ≡ length is
 growth_long id kind page [] = refl

@@ -16,13 +16,14 @@ use Rattle.flat_machine.proofs.FileLemmas.{look_up_changed, one_id, changed_here
 use Rattle.flat_machine.proofs.Lists.{rising_map}
 use Rattle.flat_machine.proofs.NextLemmas.{next_keeps_machine}
 use Rattle.session_words.specs.Volume.{volume_page}
-use Rattle.session_words.specs.Parts.{MapMeaning, TablesMeaning}
+use Rattle.session_words.specs.Parts.{TablesMeaning}
 use Rattle.session_words.specs.StandsFor.{StandsFor}
 use Rattle.session_words.specs.GrowLaws.{Grows}
 use Rattle.session_words.specs.FreeLaws.{Frees, cut_pages, cut}
 use Rattle.session_words.specs.SizeLaws.{SizeLaws}
+use Rattle.session_words.proofs.KnownLemmas.{frames_brought}
 use Rattle.session_words.proofs.CellLemmas.{unrefused}
-use Rattle.session_words.proofs.FreeLemmas.{all_cut}
+use Rattle.session_words.proofs.CutLemmas.{all_cut}
 use Rattle.session_words.proofs.GrowLemmas.{grow_laws}
 use Rattle.session_words.proofs.LooseLemmas.{volume_loose, goes_stands}
 
@@ -59,7 +60,7 @@ shorter_is f pages few =
     ap (λ (ps : List Page). record f { pages = ps })
     (ap (λ (k : ℕ). take pages f.pages ++ replicate k zero_page) none ∙ append-nil (take pages f.pages))
 
-module _ (names_triple : MapMeaning) (spaces_of : TablesMeaning) where
+module _ (spaces_of : TablesMeaning) where
   -- the machine after it, with the change said otherwise
   resized_machine : (id pages : ℕ) (f : File) (c : File → File) (m : Machine) → ((w : File) → (c w).id ≡ w.id) → resized pages f ≡ c f → IsMachine m → refusal m (SetSize id pages) ≡ None → file_at m.files id ≡ Some f
       → next m (SetSize id pages) ≡ record m { files = change_file id c m.files }
@@ -67,18 +68,18 @@ module _ (names_triple : MapMeaning) (spaces_of : TablesMeaning) where
       unrefused m (SetSize id pages) accepted
       ∙ ap (λ (fs : List File). record m { files = fs }) (changed_alike id f (resized pages) c (λ w. refl) ids same m.files is.ids_rise found)
 
-  pub size_laws : SizeLaws names_triple spaces_of
+  pub size_laws : SizeLaws spaces_of
   size_laws = record {
-    lengthens = λ id pages f is run old new before after m accepted found long goes h.
-        let becomes = resized_machine id pages f (lengthened (length is)) m (λ w. refl) (longer_is f pages (length is) long) h.is.machine accepted found in
-        let machine : IsMachine (record m { files = change_file id (lengthened (length is)) m.files }) = subst IsMachine becomes (next_keeps_machine m (SetSize id pages) tt h.is.machine) in
-        subst (λ (n : Machine). StandsFor names_triple spaces_of new after n) (sym becomes)
-        (goes_stands names_triple spaces_of (Grows names_triple id f.kind (size f) is) volume_page run old new before after m (record m { files = change_file id (lengthened (length is)) m.files })
-        (λ x y grows k. (grow_laws names_triple spaces_of).grown x y m id f is found grows machine k) (λ i page l. l) (λ i page own. volume_loose m.unforced i page own) goes h);
-    shortens = λ id pages f run old new before after m accepted found few goes h.
-        let becomes = resized_machine id pages f (cut pages) m (λ w. refl) (shorter_is f pages few) h.is.machine accepted found in
-        let machine : IsMachine (record m { files = change_file id (cut pages) m.files }) = subst IsMachine becomes (next_keeps_machine m (SetSize id pages) tt h.is.machine) in
-        subst (λ (n : Machine). StandsFor names_triple spaces_of new after n) (sym becomes)
-        (goes_stands names_triple spaces_of (Frees names_triple (cut_pages id pages)) volume_page run old new before after m (record m { files = change_file id (cut pages) m.files })
-        (λ x y frees k. all_cut names_triple spaces_of x y m id pages f found few frees machine k) (λ i page l. l) (λ i page own. volume_loose m.unforced i page own) goes h);
+    lengthens = λ id pages f is run old new before after m accepted found long goes known h.
+        let becomes = resized_machine id pages f (lengthened (length is)) m (λ w. refl) (longer_is f pages (length is) long) h.is.by.machine accepted found in
+        let machine : IsMachine (record m { files = change_file id (lengthened (length is)) m.files }) = subst IsMachine becomes (next_keeps_machine m (SetSize id pages) tt h.is.by.machine) in
+        subst (λ (n : Machine). StandsFor spaces_of new after n) (sym becomes)
+        (goes_stands spaces_of (Grows id f.kind (size f) is) volume_page run old new before after m (record m { files = change_file id (lengthened (length is)) m.files }) (frames_brought before after m.spaces known)
+        (λ x y grows k. (grow_laws spaces_of).grown x y m id f is found grows machine k) (λ i page l. l) (λ i page own. volume_loose m.unforced i page own) goes h);
+    shortens = λ id pages f run old new before after m accepted found few goes known h.
+        let becomes = resized_machine id pages f (cut pages) m (λ w. refl) (shorter_is f pages few) h.is.by.machine accepted found in
+        let machine : IsMachine (record m { files = change_file id (cut pages) m.files }) = subst IsMachine becomes (next_keeps_machine m (SetSize id pages) tt h.is.by.machine) in
+        subst (λ (n : Machine). StandsFor spaces_of new after n) (sym becomes)
+        (goes_stands spaces_of (Frees (cut_pages id pages)) volume_page run old new before after m (record m { files = change_file id (cut pages) m.files }) (frames_brought before after m.spaces known)
+        (λ x y frees k. all_cut spaces_of x y m id pages f found few frees machine k) (λ i page l. l) (λ i page own. volume_loose m.unforced i page own) goes h);
   }

@@ -30,7 +30,8 @@ use Rattle.session_words.specs.StopLaws.{AreAnyWhereUnforced}
 use Rattle.session_words.proofs.CellLemmas.{any_agrees, page_with_any}
 use Rattle.session_words.proofs.GrowLemmas.{get_longer}
 use Rattle.session_words.proofs.SettledLemmas.{Tells, both}
-use Rattle.session_words.proofs.StopLemmas.{zip_by_place, zip_at, zip_long, loose_agree, loose_right}
+use Rattle.session_words.proofs.SameLabelLemmas.{zip_by_place, zip_at, zip_long}
+use Rattle.session_words.proofs.StopLemmas.{loose_agree, loose_right}
 
 -- a file of a disk agrees with a machine's, once that is settled, and is as permanent
 pub record Stands (unforced : List FilePage) (g f : File) : Type 0 where

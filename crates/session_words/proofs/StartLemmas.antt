@@ -1,31 +1,30 @@
 -- The labels of a sound volume.
-use Rattle.std.proofs.Common.{◌≡◌, ◌≢◌, ◌⊎◌, inl, inr, ⊎_elim, ℕ, zero, suc, ◌+◌, ◌-◌, ◌*◌, ◌/◌, ◌%◌, ◌^◌, ◌<◌, ◌≤◌, Bool, true, false, ◌&&◌, ◌||◌, not, cond, List, [], ◌∷◌, ◌++◌, length, take, drop, Option, Some, None, refl, sym, ◌∙◌, ap, subst, arith}
-use Rattle.std.specs.Prelude.{slice_get, slice_set, slice_index, option_map, nat_lt, ◌==◌}
+use Rattle.std.proofs.Common.{◌≡◌, ◌≢◌, ◌⊎◌, inl, inr, ℕ, zero, suc, ◌+◌, ◌-◌, ◌<◌, ◌≤◌, Bool, true, false, ◌&&◌, ◌||◌, not, cond, List, [], ◌∷◌, length, Option, Some, None, refl, sym, ◌∙◌, ap, subst, arith}
+use Rattle.std.specs.Prelude.{slice_get, slice_set, option_map, nat_lt, ◌==◌}
 use Rattle.std.specs.Option.{option_map_or}
-use Rattle.std.specs.List.{position_or_len, flat_map}
-use Rattle.std.proofs.lemmas.Option.{same_Some, none-some, slice_get_within}
-use Rattle.std.proofs.lemmas.Bool.{and_parts, eq-eqb, ne_eqb, eqb-true, ltb-true, true≢false, false≢true, cases_eq, cases_lt}
+use Rattle.std.specs.List.{position_or_len}
+use Rattle.std.proofs.lemmas.Option.{same_Some, none-some}
+use Rattle.std.proofs.lemmas.Bool.{and_parts, eq-eqb, ne_eqb, eqb-true, ltb-true, true≢false, false≢true, cases_eq}
 use Rattle.std.proofs.lemmas.Bool.Decides.{nat_tests}
 use Rattle.std.proofs.lemmas.List.{length-map}
 use Rattle.labelled_disk.specs.declared.label.Label.{Label}
 use Rattle.labelled_disk.specs.Label.{is_file, is_file_id, is_free, names, leader_page, is_permanent, is_immutable}
-use Rattle.labelled_disk.specs.Layout.{data_sectors, first_data, vam}
+use Rattle.labelled_disk.specs.Layout.{data_sectors, first_data}
 use Rattle.labelled_disk.specs.Lowest.{is_needed, is_first}
-use Rattle.labelled_disk.specs.Sectors.{Sector, AreSectors}
+use Rattle.labelled_disk.specs.Sectors.{Sector}
 use Rattle.labelled_disk.specs.File.{File, size}
 use Rattle.labelled_disk.specs.FilesOn.{is_of, is_page, leads_file, file_among, files_on, disk_file}
 use Rattle.labelled_disk.specs.Right.{IsWhole}
-use Rattle.labelled_disk.specs.Root.{LabelsRight, page_in}
+use Rattle.labelled_disk.specs.Root.{LabelsRight}
 use Rattle.labelled_disk.proofs.LowestLemmas.{files_are_as_told}
 use Rattle.labelled_disk.proofs.SectorWrites as w
 use Rattle.labelled_disk.proofs.WriteLemmas as laws
-use Rattle.volume_root.specs.Sound as sound
 use Rattle.swapper_kernel.specs.Stands.{labels_of}
-use Rattle.session_words.specs.Parts.{is_owned_upto, Shape, Shapes, shape_of, shapes_of, HasLabel, HasPlace, HasBits, IsOwned, is_marked}
+use Rattle.session_words.specs.Parts.{is_owned_upto, Shape, Shapes, shape_of, shapes_of, HasLabel, HasPlace, IsOwned}
 use Rattle.session_words.specs.PlaceLaws.{with_page}
 use Rattle.session_words.specs.StartLaws.{table_label, IsFilesAlone, StartLaws}
 use Rattle.swapper_kernel.specs.DiffersLaws.{label_here, sector_of_label}
-use Rattle.session_words.proofs.StayLemmas.{get_take, get_take_past}
+use Rattle.session_words.proofs.MapBitLemmas.{bits_by_page}
 use Rattle.session_words.proofs.FoundLemmas.{above_reserved, file_id_of, file_not_free}
 use Rattle.session_words.proofs.SettledLemmas.{shape_at}
 use Rattle.session_words.proofs.PlaceLemmas.{same_pages, page_made}
@@ -228,58 +227,6 @@ table_owned shapes n i p = either (i == 3) (cases_eq p n) (option_map_or (λ f. 
     either true (inl e) b = let x : (p == n) ≡ true = eq-eqb p n e in let y : nat_lt p (suc n) ≡ true = grind arith in rw (x, y) refl
     either true (inr apart) b = let x : (p == n) ≡ false = ne_eqb p n apart in let y : nat_lt p (suc n) ≡ nat_lt p n = grind (arith, nat_tests) in rw (x, y) refl
     either false which b = refl
-
--- Bits, over the pages of the map in order or page by page.
-
-index_low : (p rest : List ℕ) (r : ℕ) → r < length p → slice_index (p ++ rest) r ≡ slice_index p r
-index_low [] rest r below = absurd (omega arith)
-index_low (b ∷ p) rest zero below = refl
-index_low (b ∷ p) rest (suc r) below = index_low p rest r (omega arith)
-
-index_high : (p rest : List ℕ) (k : ℕ) → slice_index (p ++ rest) (length p + k) ≡ slice_index rest k
-index_high [] rest k = let z : 0 + k ≡ k = omega arith in ap (slice_index rest) z
-index_high (b ∷ p) rest k = (let z : suc (length p) + k ≡ suc (length p + k) = omega arith in ap (slice_index (b ∷ (p ++ rest))) z) ∙ index_high p rest k
-
-index_none : (r : ℕ) → slice_index [] r ≡ 0
-index_none zero = refl
-index_none (suc r) = refl
-
-index_flat : (ss : List Sector) (q r : ℕ) → r < 512 → ((k : ℕ) (s : Sector) → slice_get ss k ≡ Some s → length s.1 ≡ 512) → slice_index (flat_map (λ s. s.1) ss) (512 * q + r) ≡ slice_index (page_in (slice_get ss q)) r
-index_flat [] q r below whole = index_none (512 * q + r) ∙ sym (index_none r)
-index_flat (s ∷ ss) zero r below whole =
-    (let z : 512 * 0 + r ≡ r = omega arith in ap (slice_index (s.1 ++ flat_map (λ s. s.1) ss)) z) ∙ index_low s.1 (flat_map (λ s. s.1) ss) r (omega (arith, whole 0 s refl))
-index_flat (s ∷ ss) (suc q) r below whole =
-    (let z : 512 * suc q + r ≡ length s.1 + (512 * q + r) = omega (arith, whole 0 s refl) in ap (slice_index (s.1 ++ flat_map (λ s. s.1) ss)) z)
-    ∙ index_high s.1 (flat_map (λ s. s.1) ss) (512 * q + r) ∙ index_flat ss q r below (λ k t at. whole (suc k) t at)
-
-pub bits_by_page : (d : List Sector) → AreSectors d → sound.HasBits d → HasBits (is_marked d) (labels_of d)
-bits_by_page d are h = record {
-  bits = λ k l has.
-      let there = sector_of_label d k l has.here in
-      let above : first_data (length d) ≤ k = subst (λ (n : ℕ). first_data n ≤ k) (length-map d (λ s. s.0)) has.is_data in
-      let inside : k < length d = slice_get_within d k there.0 there.1 in
-      same k inside ∙ h.by_label k there.0 (record { is_data = above; here = there.1 }) ∙ ap (λ (x : Label). not (is_free x)) there.2;
-}
-  where
-    pages : List Sector
-    pages = take (vam (length d)) (drop 1 d)
-
-    whole : (k : ℕ) (s : Sector) → slice_get (take (vam (length d)) (drop 1 d)) k ≡ Some s → length s.1 ≡ 512
-    whole k s at = ⊎_elim
-        (λ (l : k < vam (length d)). (are (1 + k) s (sym (laws.get_drop 1 d k) ∙ sym (get_take (vam (length d)) (drop 1 d) k l) ∙ at)).whole_page)
-        (λ (l : vam (length d) ≤ k). absurd (none-some s (sym (get_take_past (vam (length d)) (drop 1 d) k l) ∙ at)))
-        (cases_lt k (vam (length d)))
-
-    same : (k : ℕ) → k < length d → is_marked d k ≡ sound.is_used (sound.map_bytes d) k
-    same k inside =
-        let below : k / 4096 < vam (length d) = omega (arith, inside) in
-        let page : slice_get (take (vam (length d)) (drop 1 d)) (k / 4096) ≡ slice_get d (1 + k / 4096) = get_take (vam (length d)) (drop 1 d) (k / 4096) below ∙ laws.get_drop 1 d (k / 4096) in
-        let place : 512 * (k / 4096) + k % 4096 / 8 ≡ k / 8 = omega arith in
-        let bit : k % 4096 % 8 ≡ k % 8 = omega arith in
-        let small : k % 4096 / 8 < 512 = omega arith in
-        let byte : slice_index (page_in (slice_get d (1 + k / 4096))) (k % 4096 / 8) ≡ slice_index (sound.map_bytes d) (k / 8) =
-        ap (λ (o : Option Sector). slice_index (page_in o) (k % 4096 / 8)) (sym page) ∙ sym (index_flat (take (vam (length d)) (drop 1 d)) (k / 4096) (k % 4096 / 8) small whole) ∙ ap (slice_index (sound.map_bytes d)) place in
-        λ i. byte i / 2 ^ (7 - bit i) % 2 == 1
 
 pub start_laws : StartLaws
 start_laws = record {

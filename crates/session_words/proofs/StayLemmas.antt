@@ -1,7 +1,7 @@
 -- Each part stays where no page of its kind differs.
-use Rattle.std.proofs.Common.{◌≡◌, ℕ, zero, suc, ◌+◌, ◌/◌, ◌%◌, ◌<◌, ◌≤◌, Bool, false, List, [], ◌∷◌, map, length, take, drop, Option, None, refl, sym, ◌∙◌, ap, subst, arith, ⊎_elim}
+use Rattle.std.proofs.Common.{◌≡◌, ℕ, zero, suc, ◌+◌, ◌*◌, ◌/◌, ◌%◌, ◌<◌, ◌≤◌, Bool, false, List, [], ◌∷◌, length, take, drop, Option, None, refl, sym, ◌∙◌, ap, subst, arith, ⊎_elim}
 use Rattle.std.specs.Prelude.{slice_get}
-use Rattle.std.proofs.lemmas.Option.{slice_get_within}
+use Rattle.std.specs.List.{flat_map}
 use Rattle.std.proofs.lemmas.Bool.{cases_lt}
 use Rattle.std.proofs.lemmas.List.{length-map}
 use Rattle.labelled_disk.specs.declared.label.Label.{Label}
@@ -9,11 +9,14 @@ use Rattle.labelled_disk.specs.Layout.{vam, vfm, first_data}
 use Rattle.labelled_disk.specs.Sectors.{Sector}
 use Rattle.labelled_disk.specs.Root.{page_in}
 use Rattle.labelled_disk.proofs.WriteLemmas.{get_drop, same_elements}
-use Rattle.volume_root.specs.Sound.{is_used}
+use Rattle.alloc_map.specs.Bits.{is_used}
+use Rattle.file_map.specs.InSectors.{map_bytes}
 use Rattle.swapper_kernel.specs.Stands.{labels_of}
 use Rattle.swapper_kernel.specs.Kinds.{Kind, SameBut, of_kinds, the_root, the_allocation_map, the_file_map, the_tables, a_file}
-use Rattle.session_words.specs.Parts.{HasRoot, HasBits, HasTriples, HasLabels, HasMapLabels, map_pages, HasLabel, is_marked, MapMeaning, TablesMeaning}
+use Rattle.session_words.specs.Parts.{HasRoot, HasBits, HasTriples, HasLabels, HasMapLabels, is_marked, TablesMeaning}
 use Rattle.session_words.specs.KindLaws.{Stays}
+use Rattle.session_words.proofs.BitLemmas.{bits_alike}
+use Rattle.session_words.proofs.MapLemmas.{names_alike}
 use Rattle.swapper_kernel.specs.DiffersLaws.{same_length, same_place}
 use Rattle.swapper_kernel.proofs.KindLemmas.{kind_back, root_kind, allocation_kind, map_kind}
 
@@ -47,32 +50,42 @@ module _ (m n : List Sector) (kinds : Kind → Bool) (same : SameBut kinds m n) 
   marks_place : kinds the_allocation_map ≡ false → (k : ℕ) → k < vam (length m) → slice_get n (1 + k) ≡ slice_get m (1 + k)
   marks_place other k below = same_place (of_kinds (length m) kinds) m n same (1 + k) (λ s here. ap kinds (allocation_kind (length m) (1 + k) s.0 (omega arith) (omega arith)) ∙ other)
 
-  pub bits_stay : kinds the_allocation_map ≡ false → HasBits (is_marked m) (labels_of m) → HasBits (is_marked n) (labels_of n)
-  bits_stay other h = record {
-    bits = λ k l has.
-        let was : HasLabel (labels_of m) k l = subst (λ (ls : List Label). HasLabel ls k l) same.labels has in
-        let inside : k < length (labels_of m) = slice_get_within (labels_of m) k l was.here in
-        let page : slice_get n (1 + k / 4096) ≡ slice_get m (1 + k / 4096) = marks_place other (k / 4096) (omega (arith, inside, length-map m (λ s. s.0))) in
-        ap (λ (p : Option Sector). is_used (page_in p) (k % 4096)) page ∙ h.bits k l was;
-  }
+  same_mark : kinds the_allocation_map ≡ false → (k : ℕ) → k < 4096 * vam (length m) → is_marked n k ≡ is_marked m k
+  same_mark other k below = ap (λ (p : Option Sector). is_used (page_in p) (k % 4096)) (marks_place other (k / 4096) (omega (arith, below)))
 
-  pub same_map_pages : kinds the_file_map ≡ false → map_pages n ≡ map_pages m
+  pub bits_stay : kinds the_allocation_map ≡ false → HasBits (is_marked m) (labels_of m) → HasBits (is_marked n) (labels_of n)
+  bits_stay other h = ⊎_elim
+      (λ (none : length m < 1). subst (λ (z : List Sector). HasBits (is_marked z) (labels_of z)) (both_empty m n none long) h)
+      (λ (some : 1 ≤ length m). subst (HasBits (is_marked n)) (sym same.labels)
+      (bits_alike (labels_of m) (is_marked m) (is_marked n) (omega (arith, some, labels_long))
+      (λ k below. same_mark other k (subst (λ (i : ℕ). k < 4096 * vam i) labels_long below)) h))
+      (cases_lt (length m) 1)
+    where
+      labels_long : length (labels_of m) ≡ length m
+      labels_long = length-map m (λ s. s.0)
+
+      both_empty : (a b : List Sector) → length a < 1 → length b ≡ length a → a ≡ b
+      both_empty [] [] none same = refl
+      both_empty [] (t ∷ b) none same = absurd (omega arith)
+      both_empty (s ∷ a) b none same = absurd (omega arith)
+
+  same_map_bytes : kinds the_file_map ≡ false → map_bytes n ≡ map_bytes m
   unfolding first_data
-  same_map_pages other =
-      ap (λ (i : ℕ). map (λ (s : Sector). s.1) (take (vfm i) (drop (1 + vam i) n))) long
-      ∙ ap (map (λ (s : Sector). s.1)) (same_piece (vfm (length m)) (1 + vam (length m)) n m (λ k below.
+  same_map_bytes other =
+      ap (λ (i : ℕ). flat_map (λ (s : Sector). s.1) (take (vfm i) (drop (1 + vam i) n))) long
+      ∙ ap (flat_map (λ (s : Sector). s.1)) (same_piece (vfm (length m)) (1 + vam (length m)) n m (λ k below.
       same_place (of_kinds (length m) kinds) m n same (1 + vam (length m) + k) (λ s here. ap kinds (map_kind (length m) (1 + vam (length m) + k) s.0 (omega arith) (omega arith)) ∙ other)))
 
-module _ (names_triple : MapMeaning) (spaces_of : TablesMeaning) (m n : List Sector) (kinds : Kind → Bool) (same : SameBut kinds m n) where
-  pub stays : Stays names_triple spaces_of m n kinds same
+module _ (spaces_of : TablesMeaning) (m n : List Sector) (kinds : Kind → Bool) (same : SameBut kinds m n) where
+  pub stays : Stays spaces_of m n kinds same
   stays = record {
     labels = λ shapes. subst (λ (l : List Label). HasLabels l shapes) (sym same.labels);
     map_labels = subst HasMapLabels (sym same.labels);
     root = λ serial counter room other h.
         subst (λ (o : Option Sector). HasRoot (length n) o serial counter room) (sym (root_place m n kinds same other)) (subst (λ (i : ℕ). HasRoot i (slice_get m 0) serial counter room) (sym (long m n kinds same)) h);
     bits = bits_stay m n kinds same;
-    triples = λ other h. subst (λ (l : List Label). HasTriples (names_triple (map_pages n)) l) (sym same.labels)
-        (subst (λ (p : List (List ℕ)). HasTriples (names_triple p) (labels_of m)) (sym (same_map_pages m n kinds same other)) h);
+    map = λ named other. names_alike m n (long m n kinds same) (same_map_bytes m n kinds same other) named;
+    triples = λ named. subst (HasTriples named) (sym same.labels);
     cells = λ but files other h. record { agrees = λ k s f p has. h.agrees k s f p (kind_back kinds a_file m n same other k s has) };
     tables = λ spaces other h. record { pages = h.pages; told = h.told; count = h.count; each = λ k s has. h.each k s (kind_back kinds the_tables m n same other k s has) };
   }

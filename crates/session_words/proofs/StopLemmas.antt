@@ -1,207 +1,36 @@
 -- A stop among the writes of a call.
-use Rattle.std.proofs.Common.{◌≡◌, ◌≢◌, ◌⊎◌, inl, inr, ⊎_elim, ℕ, zero, suc, ◌+◌, ◌<◌, ◌≤◌, Bool, true, false, ◌||◌, ◌&&◌, not, List, [], ◌∷◌, map, length, drop, Option, Some, None, refl, sym, ◌∙◌, ap, subst, arith, eqb, length-set}
-use Rattle.std.specs.Prelude.{slice_get, slice_set, option_map, find, filter, ◌==◌, IsTrue, IsSomeAnd, ◌/◌, ◌%◌, ◌^◌}
-use Rattle.std.specs.Option.{option_map_or}
+use Rattle.std.proofs.Common.{◌≡◌, ◌⊎◌, inl, inr, ℕ, ◌+◌, ◌<◌, Bool, true, false, ◌||◌, ◌&&◌, List, map, length, drop, Option, Some, None, refl, sym, ◌∙◌, ap, subst, arith}
+use Rattle.std.specs.Prelude.{slice_get, option_map, find, ◌==◌, IsTrue, IsSomeAnd, ◌/◌, ◌%◌, ◌^◌}
 use Rattle.std.specs.List.{AllZip}
 use Rattle.std.proofs.lemmas.Option.{same_Some, none-some, slice_get_within, slice_get-map}
-use Rattle.std.proofs.lemmas.Bool.{and_parts, eqb-true, true≢false, cases_eq}
-use Rattle.std.proofs.lemmas.List.{length-map, map-set}
+use Rattle.std.proofs.lemmas.Bool.{and_parts, eqb-true}
+use Rattle.std.proofs.lemmas.List.{length-map}
 use Rattle.labelled_disk.specs.declared.label.Label.{Label}
-use Rattle.labelled_disk.specs.declared.disk.DiskWrite.{DiskWrite}
-use Rattle.labelled_disk.specs.declared.disk.DiskWrite.TheVariants as write
 use Rattle.labelled_disk.specs.Label.{is_file, names, is_permanent, leader_page}
 use Rattle.labelled_disk.specs.Layout.{data_sectors, first_data}
 use Rattle.labelled_disk.specs.Sectors.{Sector, AreSectors}
-use Rattle.labelled_disk.specs.Moment.{written, moment}
-use Rattle.labelled_disk.specs.Lawful.{Lawful, IsLabelWrite, IsNextLabel}
 use Rattle.labelled_disk.specs.File.{File, Page, byte, any_page, file_at, size, total_room}
 use Rattle.labelled_disk.specs.Right.{IsWhole, IsGiven}
 use Rattle.labelled_disk.specs.FilesOn.{is_of, disk_file, file_by, files_on, is_page, page_at, pages_from}
 use Rattle.labelled_disk.specs.Rising.{BothBy}
 use Rattle.labelled_disk.specs.Root.{serial_of, counter_of}
 use Rattle.labelled_disk.proofs.RootLemmas.{right_still}
-use Rattle.labelled_disk.proofs.Finds.{get_set_same, get_set_other}
-use Rattle.labelled_disk.proofs.Pages.{pages_more, pages_end, pages_each, pages_zero}
+use Rattle.labelled_disk.proofs.Pages.{pages_each}
 use Rattle.labelled_disk.proofs.RisingLemmas.{zip_by_look_up}
 use Rattle.labelled_disk.proofs.SectorWrites as w
 use Rattle.labelled_disk.proofs.WriteLemmas as laws
 use Rattle.flat_machine.specs.declared.space.FilePage.{FilePage}
 use Rattle.flat_machine.specs.Settled.{FileAgrees, PageAgrees}
-use Rattle.label_laws.specs.MixedVolumes.{label_count}
 use Rattle.swapper_kernel.specs.Stands.{labels_of}
-use Rattle.swapper_kernel.specs.Goes.{is_page_write}
 use Rattle.swapper_kernel.specs.Differs.{Differs}
 use Rattle.session_words.specs.Parts.{is_loose, is_loose_at}
-use Rattle.session_words.specs.StopLaws.{MomentsAreLike, FewLabels, LooseAgree, LooseRight, AreAnyWhereUnforced, StopLaws}
+use Rattle.session_words.specs.StopLaws.{LooseAgree, LooseRight, AreAnyWhereUnforced, StopLaws}
 use Rattle.session_words.proofs.SettledLemmas.{same_rooms}
-use Rattle.swapper_kernel.specs.DiffersLaws.{same_length, same_place, other_sector, differs_itself, differs_then}
-use Rattle.session_words.proofs.LooseLemmas.{volume_loose, page_differs, loose_label, firm_root, names_id}
+use Rattle.swapper_kernel.specs.DiffersLaws.{same_length, same_place, other_sector}
+use Rattle.session_words.proofs.LooseLemmas.{firm_root, names_id}
 use Rattle.session_words.proofs.CellLemmas.{any_agrees}
-
--- The same label write on both.
-
-module _ (unforced : List FilePage) (a b : List Sector) (like : Differs (is_loose_at unforced) a b) where
-  -- another sector in one place
-  set_like : (k : ℕ) (s t : Sector) → s.0 ≡ t.0 → (is_loose unforced s.0.id s.0.page ≡ false → s ≡ t) → Differs (is_loose_at unforced) (slice_set a k s) (slice_set b k t)
-  set_like k s t label same = record {
-    labels = map-set (λ (x : Sector). x.0) b k t ∙ (λ i. slice_set (like.labels i) k (sym label i)) ∙ sym (map-set (λ (x : Sector). x.0) a k s);
-    pages = λ j x here fails. ⊎_elim
-        (λ (q : j ≡ k).
-        let inside : k < length a = omega (arith, q, slice_get_within (slice_set a k s) j x here, length-set a k s) in
-        let is : s ≡ x = same_Some s x (sym (get_set_same a k s inside) ∙ ap (slice_get (slice_set a k s)) (sym q) ∙ here) in
-        let both : s ≡ t = same (ap (λ (y : Sector). is_loose unforced y.0.id y.0.page) is ∙ fails) in
-        ap (slice_get (slice_set b k t)) q ∙ get_set_same b k t (omega (arith, inside, same_length a b like.labels)) ∙ ap (λ (y : Sector). Some y) (sym both ∙ is))
-        (λ (q : j ≢ k). get_set_other b k j t q ∙ like.pages j x (sym (get_set_other a k j s q) ∙ here) fails)
-        (cases_eq j k);
-  }
-
-  -- a label that is free, or that of the same page
-  next_label : (old new : Label) → IsNextLabel old new → is_loose unforced new.id new.page ≡ false → is_loose unforced old.id old.page ≡ false
-  next_label old new (inl free) firm = absurd (true≢false (sym (ap (λ (l : Label). is_loose unforced l.id l.page) free) ∙ firm))
-  next_label old new (inr marks) firm = elim marks.1 [
-    | inl one ↦ sym (ap (λ (l : Label). is_loose unforced l.id l.page) one) ∙ firm
-    | inr two ↦ sym (ap (λ (l : Label). is_loose unforced l.id l.page) two) ∙ firm
-  ]
-
-  whole_like : (sector : ℕ) (label : Label) (bytes : List ℕ) → Differs (is_loose_at unforced) (written (write.Whole sector label bytes) a) (written (write.Whole sector label bytes) b)
-  whole_like sector label bytes = set_like sector (label, bytes) (label, bytes) refl (λ firm. refl)
-
-  label_like : (sector : ℕ) (label : Label) → IsLabelWrite b sector label → Differs (is_loose_at unforced) (written (write.LabelOnly sector label) a) (written (write.LabelOnly sector label) b)
-  label_like sector label lawful =
-      let t : Sector = lawful.old.0 in
-      let there : slice_get b sector ≡ Some t = lawful.old.1.here in
-      let s = other_sector a b like.labels sector t there in
-      let of_a : written (write.LabelOnly sector label) a ≡ slice_set a sector (label, s.0.1) = ap (λ (o : Option Sector). option_map_or (λ (old : Sector). slice_set a sector (label, old.1)) o a) s.1 in
-      let of_b : written (write.LabelOnly sector label) b ≡ slice_set b sector (label, t.1) = ap (λ (o : Option Sector). option_map_or (λ (old : Sector). slice_set b sector (label, old.1)) o b) there in
-      let both = set_like sector (label, s.0.1) (label, t.1) refl (λ firm.
-      let old_firm = next_label t.0 label lawful.old.3 firm in
-      let same : s.0 ≡ t = same_Some s.0 t (sym (like.pages sector s.0 s.1 (ap (λ (l : Label). is_loose unforced l.id l.page) s.2 ∙ old_firm)) ∙ there) in
-      ap (λ (x : Sector). (label, x.1)) same) in
-      subst (λ (x : List Sector). Differs (is_loose_at unforced) x (written (write.LabelOnly sector label) b)) (sym of_a)
-      (subst (λ (y : List Sector). Differs (is_loose_at unforced) (slice_set a sector (label, s.0.1)) y) (sym of_b) both)
-
--- a page that is written is loose
-abbrev LoosePage : List FilePage → DiskWrite → Type 0
-LoosePage unforced (write.Whole sector label bytes) = Unit {0}
-LoosePage unforced (write.LabelOnly sector label) = Unit {0}
-LoosePage unforced (write.Page sector wanted bytes) = is_loose unforced wanted.id wanted.page ≡ true
-
-module _ (unforced : List FilePage) where
-  -- the writes, on a disk that is like the one with the label writes alone
-  each_like : (ws : List DiskWrite) (a b : List Sector) → Differs (is_loose_at unforced) a b → ((k : ℕ) (w : DiskWrite) → slice_get ws k ≡ Some w → Lawful (moment b ws k) w)
-      → ((k : ℕ) (w : DiskWrite) → slice_get ws k ≡ Some w → LoosePage unforced w) → (k : ℕ) → Differs (is_loose_at unforced) (moment a (filter (λ w. not (is_page_write w)) ws) (label_count ws k)) (moment b ws k)
-  each_like ws a b like lawful loose zero = like
-  each_like [] a b like lawful loose (suc k) = like
-  each_like (write.Whole sector label bytes ∷ ws) a b like lawful loose (suc k) =
-      each_like ws (written (write.Whole sector label bytes) a) (written (write.Whole sector label bytes) b) (whole_like unforced a b like sector label bytes)
-      (λ j w at. lawful (suc j) w at) (λ j w at. loose (suc j) w at) k
-  each_like (write.LabelOnly sector label ∷ ws) a b like lawful loose (suc k) =
-      each_like ws (written (write.LabelOnly sector label) a) (written (write.LabelOnly sector label) b) (label_like unforced a b like sector label (lawful 0 (write.LabelOnly sector label) refl))
-      (λ j w at. lawful (suc j) w at) (λ j w at. loose (suc j) w at) k
-  each_like (write.Page sector wanted bytes ∷ ws) a b like lawful loose (suc k) =
-      each_like ws a (written (write.Page sector wanted bytes) b)
-      (differs_then (is_loose_at unforced) a b (written (write.Page sector wanted bytes) b) like
-      (page_differs (is_loose_at unforced) b sector wanted bytes (λ l named. loose_label unforced wanted l (loose 0 (write.Page sector wanted bytes) refl) named)))
-      (λ j w at. lawful (suc j) w at) (λ j w at. loose (suc j) w at) k
-
-pub moments_are_like : MomentsAreLike
-moments_are_like unforced run old new before d wrote dirty told k =
-    subst (λ (r : List DiskWrite). Differs (is_loose_at unforced) (moment d r (label_count wrote.writes k)) (moment d wrote.writes k)) wrote.labels
-    (each_like unforced wrote.writes d d (differs_itself (is_loose_at unforced) d) (λ j w at. wrote.lawful d j w told at) loose k)
-  where
-    loose : (j : ℕ) (w : DiskWrite) → slice_get wrote.writes j ≡ Some w → LoosePage unforced w
-    loose j (write.Whole sector label bytes) at = tt
-    loose j (write.LabelOnly sector label) at = tt
-    loose j (write.Page sector wanted bytes) at = elim (wrote.of_dirty j sector wanted bytes at) [ inl was ↦ dirty wanted.id wanted.page was | inr own ↦ volume_loose unforced wanted.id wanted.page own ]
-
-pub few_labels : FewLabels
-few_labels run old new before wrote k = subst (λ (r : List DiskWrite). label_count wrote.writes k ≤ length r) wrote.labels (few wrote.writes k)
-  where
-    few : (ws : List DiskWrite) (k : ℕ) → label_count ws k ≤ length (filter (λ w. not (is_page_write w)) ws)
-    few ws zero = omega arith
-    few [] (suc k) = omega arith
-    few (write.Whole sector label bytes ∷ ws) (suc k) = omega (arith, few ws k)
-    few (write.LabelOnly sector label ∷ ws) (suc k) = omega (arith, few ws k)
-    few (write.Page sector wanted bytes ∷ ws) (suc k) = few ws k
-
--- Files of disks with the same labels.
-
--- what is found by its label in lists with the same labels stands at one place
-record FoundBoth (t : Label → Bool) (xs ys : List Sector) : Type 0 where
-  place : ℕ
-  x : Sector
-  y : Sector
-  at_x : slice_get xs place ≡ Some x
-  at_y : slice_get ys place ≡ Some y
-  label : x.0 ≡ y.0
-  passes : t x.0 ≡ true
-  in_x : find (λ s. t s.0) xs ≡ Some x
-  in_y : find (λ s. t s.0) ys ≡ Some y
-
-found_both : (t : Label → Bool) (xs ys : List Sector) → labels_of ys ≡ labels_of xs → ((find (λ s. t s.0) xs ≡ None) × (find (λ s. t s.0) ys ≡ None)) ⊎ FoundBoth t xs ys
-found_both t [] [] labels = inl (refl, refl)
-found_both t [] (y ∷ ys) labels = absurd (none-some y.0 (sym (ap (λ (l : List Label). slice_get l 0) labels)))
-found_both t (x ∷ xs) [] labels = absurd (none-some x.0 (ap (λ (l : List Label). slice_get l 0) labels))
-found_both t (x ∷ xs) (y ∷ ys) labels = either (t x.0) refl (found_both t xs ys (ap (λ (l : List Label). drop 1 l) labels))
-  where
-    label : y.0 ≡ x.0
-    label = same_Some y.0 x.0 (ap (λ (l : List Label). slice_get l 0) labels)
-
-    either : (b : Bool) → t x.0 ≡ b → ((find (λ s. t s.0) xs ≡ None) × (find (λ s. t s.0) ys ≡ None)) ⊎ FoundBoth t xs ys
-        → ((find (λ s. t s.0) (x ∷ xs) ≡ None) × (find (λ s. t s.0) (y ∷ ys) ≡ None)) ⊎ FoundBoth t (x ∷ xs) (y ∷ ys)
-    either true e more = let q : t y.0 ≡ true = ap t label ∙ e in inr (record { place = 0; x = x; y = y; at_x = refl; at_y = refl; label = sym label; passes = e; in_x = rw e refl; in_y = rw q refl })
-    either false e (inl none) = let q : t y.0 ≡ false = ap t label ∙ e in inl (rw e none.0, rw q none.1)
-    either false e (inr f) =
-        let q : t y.0 ≡ false = ap t label ∙ e in
-        inr (record { place = suc f.place; x = f.x; y = f.y; at_x = f.at_x; at_y = f.at_y; label = f.label; passes = f.passes; in_x = rw e f.in_x; in_y = rw q f.in_y })
-
--- as many pages, where the same numbers are missing
-pages_long : (page other : ℕ → Option Page) (k n : ℕ) → ((j : ℕ) → ((page j ≡ None) × (other j ≡ None)) ⊎ ((p : Page) × (q : Page) × (page j ≡ Some p) × (other j ≡ Some q)))
-    → length (pages_from other k n) ≡ length (pages_from page k n)
-pages_long page other k zero same = ap (λ (l : List Page). length l) (pages_zero other k ∙ sym (pages_zero page k))
-pages_long page other k (suc n) same = elim (same k) [
-  | inl (a, b) ↦ ap (λ (l : List Page). length l) (pages_end other k (suc n) b ∙ sym (pages_end page k (suc n) a))
-  | inr (p, q, a, b) ↦ ap (λ (l : List Page). length l) (pages_more other k n q b) ∙ ap suc (pages_long page other (k + 1) n same) ∙ sym (ap (λ (l : List Page). length l) (pages_more page k n p a))
-]
-
-pub zip_by_place : {A B : Type 0} (R : A → B → Type 0) (xs : List A) (ys : List B) → length xs ≡ length ys → ((k : ℕ) (x : A) (y : B) → slice_get xs k ≡ Some x → slice_get ys k ≡ Some y → R x y) → AllZip R xs ys
-zip_by_place R [] [] long each = tt
-zip_by_place R [] (y ∷ ys) long each = absurd (omega arith)
-zip_by_place R (x ∷ xs) [] long each = absurd (omega arith)
-zip_by_place R (x ∷ xs) (y ∷ ys) long each = (each 0 x y refl refl, zip_by_place R xs ys (omega arith) (λ k a b at bt. each (suc k) a b at bt))
-
-pub zip_long : {A B : Type 0} (R : A → B → Type 0) (xs : List A) (ys : List B) → AllZip R xs ys → length xs ≡ length ys
-zip_long R [] [] all = refl
-zip_long R [] (y ∷ ys) all = absurd all
-zip_long R (x ∷ xs) [] all = absurd all
-zip_long R (x ∷ xs) (y ∷ ys) all = ap suc (zip_long R xs ys all.1)
-
-pub zip_at : {A B : Type 0} (R : A → B → Type 0) (xs : List A) (ys : List B) → AllZip R xs ys → (k : ℕ) (x : A) (y : B) → slice_get xs k ≡ Some x → slice_get ys k ≡ Some y → R x y
-zip_at R [] [] all k x y at bt = absurd (none-some x at)
-zip_at R [] (b ∷ ys) all k x y at bt = absurd all
-zip_at R (a ∷ xs) [] all k x y at bt = absurd all
-zip_at R (a ∷ xs) (b ∷ ys) all zero x y at bt = subst (λ (c : _). R c y) (same_Some a x at) (subst (R a) (same_Some b y bt) all.0)
-zip_at R (a ∷ xs) (b ∷ ys) all (suc k) x y at bt = zip_at R xs ys all.1 k x y at bt
-
--- two lists of files that agree one by one do so by identifiers
-pub zip_looked : (R : File → File → Type 0) → ((f g : File) → R f g → f.id ≡ g.id) → (fs gs : List File) → AllZip R fs gs → (id : ℕ) → BothBy R (file_at fs id) (file_at gs id)
-zip_looked R ids [] [] all id = tt
-zip_looked R ids [] (g ∷ gs) all id = absurd all
-zip_looked R ids (f ∷ fs) [] all id = absurd all
-zip_looked R ids (f ∷ fs) (g ∷ gs) all id = either (eqb f.id id) refl (zip_looked R ids fs gs all.1 id)
-  where
-    either : (b : Bool) → eqb f.id id ≡ b → BothBy R (file_at fs id) (file_at gs id) → BothBy R (file_at (f ∷ fs) id) (file_at (g ∷ gs) id)
-    either true e more = let q : eqb g.id id ≡ true = ap (λ (n : ℕ). eqb n id) (sym (ids f g all.0)) ∙ e in rw (e, q) all.0
-    either false e more = let q : eqb g.id id ≡ false = ap (λ (n : ℕ). eqb n id) (sym (ids f g all.0)) ∙ e in rw (e, q) more
-
-labels_drop : (n : ℕ) (xs : List Sector) → labels_of (drop n xs) ≡ drop n (labels_of xs)
-labels_drop zero xs = refl
-labels_drop (suc n) [] = refl
-labels_drop (suc n) (x ∷ xs) = labels_drop n xs
-
-same_data_labels : (d e : List Sector) → labels_of e ≡ labels_of d → labels_of (data_sectors e) ≡ labels_of (data_sectors d)
-same_data_labels d e labels =
-    ap (λ (n : ℕ). labels_of (drop (first_data n) e)) (same_length d e labels) ∙ labels_drop (first_data (length d)) e ∙ ap (drop (first_data (length d))) labels ∙ sym (labels_drop (first_data (length d)) d)
+use Rattle.session_words.proofs.SameLabelLemmas.{found_both, pages_long, same_data_labels, zip_at, zip_by_place, zip_long, zip_looked}
+use Rattle.session_words.proofs.MomentLemmas.{few_labels, moments_are_like}
 
 module _ (unforced : List FilePage) (d e : List Sector) (differs : Differs (is_loose_at unforced) d e) (are : AreSectors e) where
   start : data_sectors e ≡ drop (first_data (length d)) e

@@ -19,7 +19,8 @@ use Rattle.swapper_kernel.specs.Goes.{Goes, Change}
 use Rattle.session_words.specs.Volume.{volume_page}
 use Rattle.swapper_kernel.specs.Kinds.{HasKind, SameBut, of_kinds, a_file, files_alone}
 use Rattle.swapper_kernel.specs.Differs.{Differs}
-use Rattle.session_words.specs.Parts.{MapMeaning, TablesMeaning, HasCells, but_none, shapes_of}
+use Rattle.session_words.specs.Parts.{TablesMeaning, HasCells, but_none, shapes_of}
+use Rattle.session_words.specs.FrameLaws.{BringsKnown}
 use Rattle.session_words.specs.StandsFor.{IsFor, StandsFor}
 
 -- Bytes were stored in the sector of a file's page, from this byte of it on.
@@ -74,23 +75,23 @@ pub record Kills (spaces : List Space) (range : Space) (m n : List Sector) : Typ
   pub differs : Differs (is_killed (length m) spaces range) m n
   pub sectors : AreSectors n
 
-module _ (names_triple : MapMeaning) (spaces_of : TablesMeaning) where
+module _ (spaces_of : TablesMeaning) where
   -- only pages of files differ, and the files keep their shapes: the cells alone are to be argued for
   abbrev pub OnlyCells : Type 0
   OnlyCells = (x y : List Sector) (m : Machine) (files : List File) (unforced : List FilePage) → SameBut files_alone x y → AreSectors y
       → IsMachine (record m { files = files; unforced = unforced }) → shapes_of files ≡ shapes_of m.files → HasCells but_none y files
-      → IsFor names_triple spaces_of x m → IsFor names_triple spaces_of y (record m { files = files; unforced = unforced })
+      → IsFor spaces_of x m → IsFor spaces_of y (record m { files = files; unforced = unforced })
 
   -- a store
   abbrev pub StoreStands : Type 0
   StoreStands = (address : ℕ) (bytes : List ℕ) (old new : DiskState) (before after : Slots) (m : Machine) → IsTyped (Store address bytes) → refusal m (Store address bytes) ≡ None
       → Goes (Stores m.spaces address bytes) (IsTouchedOrOwn m.spaces address (length bytes)) [] old before new after
-      → StandsFor names_triple spaces_of old before m → StandsFor names_triple spaces_of new after (next m (Store address bytes))
+      → BringsKnown m.spaces before after → StandsFor spaces_of old before m → StandsFor spaces_of new after (next m (Store address bytes))
 
   -- a kill
   abbrev pub KillStands : Type 0
   KillStands = (space : ℕ) (s : Space) (old new : DiskState) (before after : Slots) (m : Machine) → refusal m (Kill space) ≡ None → space_at m.spaces space ≡ Some s
-      → Goes (Kills m.spaces s) volume_page [] old before new after → StandsFor names_triple spaces_of old before m → StandsFor names_triple spaces_of new after (next m (Kill space))
+      → Goes (Kills m.spaces s) volume_page [] old before new after → BringsKnown m.spaces before after → StandsFor spaces_of old before m → StandsFor spaces_of new after (next m (Kill space))
 
   pub record CellLaws : Type 0 where
     pub cells : OnlyCells

@@ -28,9 +28,13 @@ IsKnown spaces id page = ((1 ≤ id) × (id ≤ 3)) ⊎ (is_shown spaces id page
 pub record HasFrames (slots : Slots) (spaces : List Space) : Type 0 where
   pub known : (id page : ℕ) → IsThere slots id page → IsKnown spaces id page
 
+-- known pages alone came into frames
+abbrev pub BringsKnown : List Space → Slots → Slots → Type 0
+BringsKnown spaces before after = Brings (λ home. IsKnown spaces home.id home.page) before after
+
 pub record FrameLaws : Type 0 where
   -- known pages came
-  pub brought : (before after : Slots) (spaces : List Space) → Brings (λ home. IsKnown spaces home.id home.page) before after → HasFrames before spaces → HasFrames after spaces
+  pub brought : (before after : Slots) (spaces : List Space) → BringsKnown spaces before after → HasFrames before spaces → HasFrames after spaces
   -- other windows, that show what has frames
   pub mapped : (slots : Slots) (spaces others : List Space) → ((id page : ℕ) → IsThere slots id page → is_shown spaces id page ≡ true → is_shown others id page ≡ true)
       → HasFrames slots spaces → HasFrames slots others

@@ -1,22 +1,25 @@
 -- A file grows: what that does to the memory, and to the machine that it stands for.
-use Rattle.std.specs.Prelude.{◌≡◌, ◌≢◌, ℕ, ◌+◌, ◌<◌, Bool, true, false, ◌&&◌, ◌||◌, ◌==◌, List, [], ◌∷◌, length, Some, slice_get, slice_set}
+use Rattle.std.specs.Prelude.{◌≡◌, ◌≢◌, ℕ, ◌+◌, ◌*◌, ◌<◌, Bool, true, false, ◌&&◌, ◌||◌, ◌==◌, List, [], ◌∷◌, length, Some, slice_get, slice_set}
 use Rattle.labelled_disk.specs.declared.label.Label.{Label}
 use Rattle.labelled_disk.specs.Label.{is_free, leader_page}
+use Rattle.labelled_disk.specs.Layout.{vam}
 use Rattle.labelled_disk.specs.Sectors.{Sector, AreSectors}
 use Rattle.labelled_disk.specs.File.{File, file_at, size}
 use Rattle.labelled_disk.specs.Runs.{page_label, zero_bytes, lengthened}
+use Rattle.file_map.specs.FileMap.{Triples}
+use Rattle.file_map.specs.InSectors.{MapNames}
 use Rattle.flat_machine.specs.Machine.{Machine}
 use Rattle.flat_machine.specs.IsMachine.{IsMachine}
 use Rattle.flat_machine.specs.Next.{change_file}
 use Rattle.swapper_kernel.specs.Stands.{labels_of}
 use Rattle.swapper_kernel.specs.Kinds.{kind_of, maps_alone}
-use Rattle.session_words.specs.Parts.{MapMeaning, TablesMeaning, Shape, Shapes, HasLabel, HasLabels, HasBits, HasTriples, is_marked, map_pages}
+use Rattle.session_words.specs.Parts.{TablesMeaning, Shape, Shapes, HasLabel, HasLabels, HasBits, HasTriples, is_marked}
 use Rattle.session_words.specs.Found.{AreShapes}
 use Rattle.session_words.specs.PlaceLaws.{with_shape, sized}
 use Rattle.session_words.specs.StandsFor.{IsFor}
 
 -- what labels, bits and triples say together
-pub record IsBook (labels : List Label) (shapes : Shapes) (marks : ℕ → Bool) (named : ℕ → ℕ → ℕ → Bool) : Type 0 where
+pub record IsBook (labels : List Label) (shapes : Shapes) (marks : ℕ → Bool) (named : Triples) : Type 0 where
   pub labels_right : HasLabels labels shapes
   pub bits : HasBits marks labels
   pub triples : HasTriples named labels
@@ -37,7 +40,7 @@ abbrev pub grown_marks : List ℕ → (ℕ → Bool) → ℕ → Bool
 grown_marks [] marks = marks
 grown_marks (i ∷ is) marks = grown_marks is (λ k. k == i || marks k)
 
-abbrev pub grown_names : ℕ → ℕ → List ℕ → (ℕ → ℕ → ℕ → Bool) → ℕ → ℕ → ℕ → Bool
+abbrev pub grown_names : ℕ → ℕ → List ℕ → Triples → Triples
 grown_names id page [] named = named
 grown_names id page (i ∷ is) named = grown_names id (page + 1) is (λ j p s. (j == id && p == page && s == i) || named j p s)
 
@@ -56,15 +59,15 @@ pub record GrowsPages (id kind page : ℕ) (is : List ℕ) (m n : List Sector) :
   pub sectors : AreSectors n
 
 -- and the maps say so
-pub record Grows (names_triple : MapMeaning) (id kind page : ℕ) (is : List ℕ) (m n : List Sector) : Type 0 where
+pub record Grows (id kind page : ℕ) (is : List ℕ) (m n : List Sector) : Type 0 where
   pub grown : GrowsPages id kind page is m n
-  pub bits : (k : ℕ) → is_marked n k ≡ grown_marks is (is_marked m) k
-  pub triples : (i p s : ℕ) → names_triple (map_pages n) i p s ≡ grown_names id page is (names_triple (map_pages m)) i p s
+  pub bits : (k : ℕ) → k < 4096 * vam (length m) → is_marked n k ≡ grown_marks is (is_marked m) k
+  pub triples : (named : Triples) → MapNames m named → MapNames n (grown_names id page is named)
 
-pub record GrowLaws (names_triple : MapMeaning) (spaces_of : TablesMeaning) : Type 0 where
-  pub book : (id kind : ℕ) (is : List ℕ) (labels : List Label) (shapes : Shapes) (marks : ℕ → Bool) (named : ℕ → ℕ → ℕ → Bool) (f : Shape) → AreShapes shapes → shapes id ≡ Some f
+pub record GrowLaws (spaces_of : TablesMeaning) : Type 0 where
+  pub book : (id kind : ℕ) (is : List ℕ) (labels : List Label) (shapes : Shapes) (marks : ℕ → Bool) (named : Triples) (f : Shape) → AreShapes shapes → shapes id ≡ Some f
       → f.size + length is < leader_page → AreFree id kind f.size is labels → IsBook labels shapes marks named
       → IsBook (grown_labels id kind f.size is labels) (with_shape shapes id (sized (f.size + length is) f)) (grown_marks is marks) (grown_names id f.size is named)
-  pub grown : (x y : List Sector) (m : Machine) (id : ℕ) (f : File) (is : List ℕ) → file_at m.files id ≡ Some f → Grows names_triple id f.kind (size f) is x y
+  pub grown : (x y : List Sector) (m : Machine) (id : ℕ) (f : File) (is : List ℕ) → file_at m.files id ≡ Some f → Grows id f.kind (size f) is x y
       → IsMachine (record m { files = change_file id (lengthened (length is)) m.files })
-      → IsFor names_triple spaces_of x m → IsFor names_triple spaces_of y (record m { files = change_file id (lengthened (length is)) m.files })
+      → IsFor spaces_of x m → IsFor spaces_of y (record m { files = change_file id (lengthened (length is)) m.files })

@@ -20,3 +20,5 @@ pub mod RunStops
 pub mod OpenLaws
 pub mod CloseLaws
 pub mod DeleteLaws
+pub mod ShownLaws
+pub mod SoundLaws

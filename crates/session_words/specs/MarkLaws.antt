@@ -14,7 +14,8 @@ use Rattle.label_laws.specs.Marks.{permanent_label, immutable_label}
 use Rattle.swapper_kernel.specs.Stands.{labels_of}
 use Rattle.swapper_kernel.specs.Goes.{Goes}
 use Rattle.session_words.specs.Volume.{volume_page}
-use Rattle.session_words.specs.Parts.{MapMeaning, TablesMeaning}
+use Rattle.session_words.specs.Parts.{TablesMeaning}
+use Rattle.session_words.specs.FrameLaws.{BringsKnown}
 use Rattle.session_words.specs.StandsFor.{StandsFor}
 
 -- the label, with the mark if it is the leader's of this file
@@ -31,10 +32,10 @@ pub record Marks (id : ℕ) (mark : Label → Label) (m n : List Sector) : Type 
   pub pages : pages_of n ≡ pages_of m
   pub sectors : AreSectors n
 
-pub record MarkLaws (names_triple : MapMeaning) (spaces_of : TablesMeaning) : Type 0 where
+pub record MarkLaws (spaces_of : TablesMeaning) : Type 0 where
   pub permanent : (id : ℕ) (run : List DiskWrite) (old new : DiskState) (before after : Slots) (m : Machine) → refusal m (MakePermanent id) ≡ None
       → Goes (Marks id permanent_label) volume_page run old before new after
-      → StandsFor names_triple spaces_of old before m → StandsFor names_triple spaces_of new after (next m (MakePermanent id))
+      → BringsKnown m.spaces before after → StandsFor spaces_of old before m → StandsFor spaces_of new after (next m (MakePermanent id))
   pub immutable : (id : ℕ) (run : List DiskWrite) (old new : DiskState) (before after : Slots) (m : Machine) → refusal m (MakeImmutable id) ≡ None
       → Goes (Marks id immutable_label) volume_page run old before new after
-      → StandsFor names_triple spaces_of old before m → StandsFor names_triple spaces_of new after (next m (MakeImmutable id))
+      → BringsKnown m.spaces before after → StandsFor spaces_of old before m → StandsFor spaces_of new after (next m (MakeImmutable id))

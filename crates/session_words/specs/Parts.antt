@@ -1,5 +1,5 @@
 -- The parts of what a session stands for: each speaks of labels, and of the pages of one kind.
-use Rattle.std.specs.Prelude.{◌≡◌, ℕ, ◌+◌, ◌/◌, ◌%◌, ◌<◌, ◌≤◌, Bool, true, false, not, ◌&&◌, ◌||◌, ◌==◌, nat_lt, nat_le, List, length, map, take, drop, Option, Some, option_map, slice_get, IsSomeAnd, IsTrue}
+use Rattle.std.specs.Prelude.{◌≡◌, ◌⊎◌, ℕ, ◌+◌, ◌*◌, ◌/◌, ◌%◌, ◌<◌, ◌≤◌, Bool, true, false, not, ◌&&◌, ◌||◌, ◌==◌, nat_lt, nat_le, List, length, map, Option, Some, option_map, slice_get, IsSomeAnd, IsTrue}
 use Rattle.std.specs.Option.{option_map_or}
 use Rattle.labelled_disk.specs.declared.label.Label.{Label}
 use Rattle.labelled_disk.specs.Label.{is_free, names, leader_page, is_permanent, is_immutable}
@@ -7,7 +7,8 @@ use Rattle.labelled_disk.specs.Layout.{vam, vfm, first_data, capacity}
 use Rattle.labelled_disk.specs.Sectors.{Sector}
 use Rattle.labelled_disk.specs.File.{File, Page, byte, size, file_at}
 use Rattle.labelled_disk.specs.Root.{IsRoot, page_in, number_at, short_at}
-use Rattle.volume_root.specs.Sound.{is_used}
+use Rattle.file_map.specs.FileMap.{Triples}
+use Rattle.alloc_map.specs.Bits.{is_used}
 use Rattle.frame_pool.specs.Frames.{Slots}
 use Rattle.flat_machine.specs.declared.space.Space.{Space}
 use Rattle.flat_machine.specs.declared.space.FilePage.{FilePage}
@@ -109,15 +110,17 @@ pub record HasMapLabels (labels : List Label) : Type 0 where
 abbrev pub is_marked : List Sector → ℕ → Bool
 is_marked memory i = is_used (page_in (slice_get memory (1 + i / 4096))) (i % 4096)
 
--- a data sector is marked exactly where its label isn't free
+-- a bit of the map on n sectors that is of no data sector: of the root or of a map, or past the end
+abbrev pub IsBesideData : ℕ → ℕ → Type 0
+IsBesideData n k = (k < first_data n) ⊎ ((n ≤ k) × (k < 4096 * vam n))
+
+-- root and maps are marked, a data sector exactly where its label isn't free, and nothing past the end
 pub record HasBits (marks : ℕ → Bool) (labels : List Label) : Type 0 where
+  pub low : (k : ℕ) → k < first_data (length labels) → marks k ≡ true
   pub bits : (k : ℕ) (l : Label) → HasLabel labels k l → marks k ≡ not (is_free l)
+  pub past : (k : ℕ) → length labels ≤ k → k < 4096 * vam (length labels) → marks k ≡ false
 
--- The file map. What its pages tell is a parameter: that this page of this file stands in this sector.
-
--- the pages of the file map, in order
-abbrev pub map_pages : List Sector → List (List ℕ)
-map_pages memory = map (λ s. s.1) (take (vfm (length memory)) (drop (1 + vam (length memory)) memory))
+-- The file map.
 
 -- the sector's label is that of the page
 pub record IsTriple (labels : List Label) (id page sector : ℕ) : Type 0 where
@@ -127,14 +130,10 @@ pub record IsTriple (labels : List Label) (id page sector : ℕ) : Type 0 where
   pub same_id : label.id ≡ id
   pub same_page : label.page ≡ page
 
--- what the pages of a file map mean: whether they name this page of this file in this sector
-abbrev pub MapMeaning : Type 0
-MapMeaning = List (List ℕ) → ℕ → ℕ → ℕ → Bool
-
 -- these are the triples of the labels
-pub record HasTriples (names_triple : ℕ → ℕ → ℕ → Bool) (labels : List Label) : Type 0 where
-  pub only : (id page sector : ℕ) → names_triple id page sector ≡ true → IsTriple labels id page sector
-  pub all : (id page sector : ℕ) → IsTriple labels id page sector → names_triple id page sector ≡ true
+pub record HasTriples (named : Triples) (labels : List Label) : Type 0 where
+  pub only : (id page sector : ℕ) → named id page sector ≡ true → IsTriple labels id page sector
+  pub all : (id page sector : ℕ) → IsTriple labels id page sector → named id page sector ≡ true
 
 -- Files.
 

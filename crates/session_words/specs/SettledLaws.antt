@@ -10,7 +10,8 @@ use Rattle.frame_pool.specs.Frames.{Slots}
 use Rattle.flat_machine.specs.Machine.{Machine}
 use Rattle.session_words.specs.Volume.{Searches}
 use Rattle.swapper_kernel.specs.Differs.{Differs}
-use Rattle.session_words.specs.Parts.{MapMeaning, TablesMeaning, is_loose, is_loose_at}
+use Rattle.session_words.specs.Parts.{TablesMeaning, is_loose, is_loose_at}
+use Rattle.session_words.specs.FrameLaws.{BringsKnown}
 use Rattle.session_words.specs.StandsFor.{StandsFor, IsSettled, TellsSettled}
 
 -- a disk that has all of a machine but what is unforced tells its settled files
@@ -26,18 +27,18 @@ abbrev pub LooseWritten : Type 0
 LooseWritten = (d : List Sector) (m : Machine) (sector : ℕ) (wanted : Wanted) (bytes : List ℕ) → IsSettled d m → is_loose m.unforced wanted.id wanted.page ≡ true
     → IsWriteInForm (write.Page sector wanted bytes) → IsSettled (written (write.Page sector wanted bytes) d) m
 
-module _ (names_triple : MapMeaning) (spaces_of : TablesMeaning) where
+module _ (spaces_of : TablesMeaning) where
   -- the disk, without its frames, tells the settled files of the machine that both stand for
   abbrev pub StandsIsSettled : Type 0
-  StandsIsSettled = (disk : DiskState) (slots : Slots) (m : Machine) (d : List Sector) → StandsFor names_triple spaces_of disk slots m → disk.contents ≡ Some d → AreSectors d → IsSettled d m
+  StandsIsSettled = (disk : DiskState) (slots : Slots) (m : Machine) (d : List Sector) → StandsFor spaces_of disk slots m → disk.contents ≡ Some d → AreSectors d → IsSettled d m
 
   -- swapping leaves what both stand for
   abbrev pub SwapStands : Type 0
-  SwapStands = (old new : DiskState) (before after : Slots) (m : Machine) → Searches old before new after → StandsFor names_triple spaces_of old before m → StandsFor names_triple spaces_of new after m
+  SwapStands = (old new : DiskState) (before after : Slots) (m : Machine) → Searches old before new after → BringsKnown m.spaces before after → StandsFor spaces_of old before m → StandsFor spaces_of new after m
 
   -- and at each moment of it the disk tells the settled files
   abbrev pub SwapMoments : Type 0
-  SwapMoments = (old new : DiskState) (before after : Slots) (m : Machine) (d : List Sector) (swaps : Searches old before new after) → StandsFor names_triple spaces_of old before m
+  SwapMoments = (old new : DiskState) (before after : Slots) (m : Machine) (d : List Sector) (swaps : Searches old before new after) → StandsFor spaces_of old before m
       → old.contents ≡ Some d → AreSectors d → (k : ℕ) → k ≤ length swaps.makes.wrote.writes → IsSettled (moment d swaps.makes.wrote.writes k) m
 
   -- what a session's calls cite of a stop

@@ -3,7 +3,7 @@ ghost use Rattle.std.specs.Prelude.{◌≡◌, ℕ, Bool, true, List, Some, None
 ghost use Rattle.labelled_disk.specs.Sectors.{Sector};
 ghost use Rattle.swapper_kernel.specs.Kinds.{Kind, SameBut};
 ghost use Rattle.session_words.specs.KindLaws.{Stays};
-ghost use Rattle.session_words.specs.Parts.{HasLabels, MapMeaning, Shape, Shapes, TablesMeaning};
+ghost use Rattle.session_words.specs.Parts.{HasLabels, Shape, Shapes, TablesMeaning};
 ghost use Rattle.session_words.specs.SettledLaws.{SettledLaws};
 ghost use Rattle.session_words.specs.CellLaws.{CellLaws};
 ghost use Rattle.session_words.specs.PlaceLaws.{PlaceLaws};
@@ -20,6 +20,8 @@ ghost use Rattle.session_words.specs.DeleteLaws.{DeleteStands};
 ghost use Rattle.session_words.specs.GrowLaws.{GrowLaws};
 ghost use Rattle.session_words.specs.ChangeLaws.{ChangeLaws};
 ghost use Rattle.session_words.specs.FrameLaws.{FrameLaws};
+ghost use Rattle.session_words.specs.ShownLaws.{ShownLaws};
+ghost use Rattle.session_words.specs.SoundLaws.{SoundLaws};
 ghost use Rattle.session_words.specs.FreeLaws.{FreeLaws};
 ghost use Rattle.session_words.specs.Found.{AreShapes, IsFound};
 ghost use Rattle.swapper_kernel.specs.Stands.{labels_of};
@@ -28,7 +30,7 @@ ghost use Rattle.labelled_disk.specs.FilesOn.{disk_file};
 
 /// Each part of what a session stands for stays where pages of other kinds change.
 pub fn parts_stay()
-    ensures { (names_triple : MapMeaning) (spaces_of : TablesMeaning) (m n : List Sector) (kinds : Kind → Bool) (same : SameBut kinds m n) → Stays names_triple spaces_of m n kinds same }
+    ensures { (spaces_of : TablesMeaning) (m n : List Sector) (kinds : Kind → Bool) (same : SameBut kinds m n) → Stays spaces_of m n kinds same }
 {}
 
 /// Labels that are those of some files tell these files, and no others.
@@ -39,12 +41,12 @@ pub fn labels_tell_files()
 
 /// The disk tells the settled files of the machine that it and its frames stand for, at each moment of swapping too.
 pub fn disk_tells_settled()
-    ensures { (names_triple : MapMeaning) (spaces_of : TablesMeaning) → SettledLaws names_triple spaces_of }
+    ensures { (spaces_of : TablesMeaning) → SettledLaws spaces_of }
 {}
 
 /// A store and a kill change cells alone, and the pages of files alone.
 pub fn cells_alone()
-    ensures { (names_triple : MapMeaning) (spaces_of : TablesMeaning) → CellLaws names_triple spaces_of }
+    ensures { (spaces_of : TablesMeaning) → CellLaws spaces_of }
 {}
 
 /// What the parts become where one data sector gets another label.
@@ -59,7 +61,7 @@ pub fn stops_between_writes()
 
 /// Calls of the space tables and a force lead to the machine after them.
 pub fn calls_stand()
-    ensures { (names_triple : MapMeaning) (spaces_of : TablesMeaning) → CallLaws names_triple spaces_of }
+    ensures { (spaces_of : TablesMeaning) → CallLaws spaces_of }
 {}
 
 /// The labels of a sound volume are those of its files, and those of the space tables are made one by one.
@@ -69,12 +71,12 @@ pub fn sound_labels_are_files()
 
 /// A file that grows: labels, bits and triples together, and the machine after it.
 pub fn files_grow()
-    ensures { (names_triple : MapMeaning) (spaces_of : TablesMeaning) → GrowLaws names_triple spaces_of }
+    ensures { (spaces_of : TablesMeaning) → GrowLaws spaces_of }
 {}
 
 /// A change of a frame's bytes is a store in the page of a file.
 pub fn bytes_change()
-    ensures { (names_triple : MapMeaning) (spaces_of : TablesMeaning) → ChangeLaws names_triple spaces_of }
+    ensures { (spaces_of : TablesMeaning) → ChangeLaws spaces_of }
 {}
 
 /// Which pages have frames, and over which sectors there is none.
@@ -82,24 +84,34 @@ pub fn frames_are_known()
     ensures { FrameLaws }
 {}
 
+/// What frames show of both maps is what the maps of the memory say.
+pub fn maps_are_shown()
+    ensures { ShownLaws }
+{}
+
+/// A sound volume can be opened, and one that can be opened is sound once its flag is clean.
+pub fn sound_volumes_open()
+    ensures { SoundLaws }
+{}
+
 /// A set of pages goes, whatever the order: what the parts become, and a file that is cut.
 pub fn pages_freed()
-    ensures { (names_triple : MapMeaning) (spaces_of : TablesMeaning) → FreeLaws names_triple spaces_of }
+    ensures { (spaces_of : TablesMeaning) → FreeLaws spaces_of }
 {}
 
 /// A call that gives a file another size leads to the machine after it.
 pub fn files_resized()
-    ensures { (names_triple : MapMeaning) (spaces_of : TablesMeaning) → SizeLaws names_triple spaces_of }
+    ensures { (spaces_of : TablesMeaning) → SizeLaws spaces_of }
 {}
 
 /// A creation leads to the machine after it.
 pub fn files_made()
-    ensures { (names_triple : MapMeaning) (spaces_of : TablesMeaning) → CreateStands names_triple spaces_of }
+    ensures { (spaces_of : TablesMeaning) → CreateStands spaces_of }
 {}
 
 /// A call that makes a file permanent or immutable leads to the machine after it.
 pub fn files_marked()
-    ensures { (names_triple : MapMeaning) (spaces_of : TablesMeaning) → MarkLaws names_triple spaces_of }
+    ensures { (spaces_of : TablesMeaning) → MarkLaws spaces_of }
 {}
 
 /// At each moment of a call that writes labels, the disk tells the settled files of a machine.
@@ -109,15 +121,15 @@ pub fn stops_tell_settled()
 
 /// A start leads to the machine of the permanent files.
 pub fn volume_opened()
-    ensures { (names_triple : MapMeaning) (spaces_of : TablesMeaning) → Opened names_triple spaces_of }
+    ensures { (spaces_of : TablesMeaning) → Opened spaces_of }
 {}
 
 /// Where a close has freed the tables and the temporary files, the volume can be opened, and its files are those of the machine after it.
 pub fn volume_closed()
-    ensures { (names_triple : MapMeaning) (spaces_of : TablesMeaning) → Closed names_triple spaces_of }
+    ensures { (spaces_of : TablesMeaning) → Closed spaces_of }
 {}
 
 /// A deletion leads to the machine after it.
 pub fn files_deleted()
-    ensures { (names_triple : MapMeaning) (spaces_of : TablesMeaning) → DeleteStands names_triple spaces_of }
+    ensures { (spaces_of : TablesMeaning) → DeleteStands spaces_of }
 {}
