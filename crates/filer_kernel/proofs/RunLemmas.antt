@@ -1,9 +1,12 @@
 -- Lists of runs that are kept.
-use Rattle.std.proofs.Common.{◌≡◌, ◌-◌, ℕ, zero, suc, Bool, true, false, List, [], ◌∷◌, ◌++◌, length, filter, drop, refl, sym, subst}
+use Rattle.std.proofs.Common.{◌≡◌, ◌-◌, ℕ, zero, suc, Bool, true, false, ◌==◌, List, [], ◌∷◌, ◌++◌, length, filter, drop, refl, sym, subst}
 use Rattle.std.specs.Prelude.{cond, if◌then◌else◌}
+use Rattle.std.proofs.lemmas.Bool.{eqb-true}
 use Rattle.std.proofs.lemmas.Option.{same_Some, none-some}
 use Rattle.file_map.specs.declared.run.Run.{Run}
 use Rattle.file_map.specs.Run.{IsRun}
+use Rattle.filer_kernel.specs.declared.cached.CachedRuns.{CachedRuns}
+use Rattle.filer_kernel.specs.Cached.{runs_of}
 use Rattle.filer_kernel.specs.Runs.{AreRunsOf, newest}
 
 pub no_runs : (n : ℕ) → AreRunsOf n []
@@ -44,3 +47,11 @@ newest_runs n k xs ys r same are is = subst (AreRunsOf n) (sym same) (runs_dropp
 pub left_of_volume : (b : Bool) (test : Run → Bool) (xs ys : List Run) → ys ≡ filter test xs → (if b then ys else []) ≡ filter test (if b then xs else [])
 left_of_volume true test xs ys same = same
 left_of_volume false test xs ys same = refl
+
+of_right : (b : Bool) (m n : ℕ) (xs : List Run) → (m == n) ≡ b → AreRunsOf m xs → AreRunsOf n (if b then xs else [])
+of_right true m n xs same are = subst (λ (k : ℕ). AreRunsOf k xs) (eqb-true m n same) are
+of_right false m n xs same are = no_runs n
+
+-- those that are kept of a volume are of it
+pub of_volume : (n : ℕ) (cached : CachedRuns) → AreRunsOf n (runs_of n cached)
+of_volume n cached = of_right (cached.sectors == n) cached.sectors n cached.runs.items refl cached.form

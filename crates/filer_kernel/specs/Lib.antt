@@ -4,3 +4,10 @@ pub mod Cached
 pub mod Becomes
 pub mod Marks
 pub mod Lending
+pub mod Halted
+pub mod Triples
+pub mod Causes
+pub mod Tables
+pub mod PlaceLaws
+pub mod TableLaws
+pub mod TableOnce

@@ -4,7 +4,7 @@ ghost use Rattle.std.specs.Prelude.{◌≡◌, ℕ, []};
 use crate::CachedRuns;
 use labelled_disk::Disk;
 use std::alloc::Allocator;
-use swapper_kernel::SwapperOver;
+use swapper_kernel::{Swapper, SwapperOver};
 
 /// A swapper that is held by value, and the runs of files that were found last. Every call that moves sectors asks that
 /// the disk has as many sectors as the layout: a disk or a swapper that was lent might be another one.
@@ -66,5 +66,17 @@ impl<D: Disk, A: Allocator> FilerOver<D, A> {
         ensures* lends { sem 𝓛 (LendsUnder D.row A.row D.Disk A.Allocator self.entry result) }
     {
         self.swapper.disk_over()
+    }
+}
+
+impl<'d, D: Disk, A: Allocator> FilerOver<&'d mut D, A> {
+    ghost use Rattle.filer_kernel.specs.Cached.{runs_of};
+
+    /// A filer with no run, over a swapper whose disk is lent.
+    pub fn new(swapper: Swapper<'d, D, A>) -> Filer<'d, D, A>
+        ensures swapper { result.swapper ≡ swapper.entry }
+        ensures runs { (n : ℕ) → runs_of n result.runs ≡ [] }
+    {
+        FilerOver::over(swapper)
     }
 }

@@ -2,8 +2,16 @@
 #![tactic(auto)]
 
 mod cached;
+mod edits;
 mod filer;
+mod files;
+mod halted;
+mod laws;
 mod sectors;
+mod tables;
+mod window;
 
 pub use cached::CachedRuns;
 pub use filer::{Filer, FilerOver};
+pub use laws::{maps_in_sectors, maps_stay, other_map_stays, runs_stay, tables_told_stay};
+pub use window::{Window1, Window1Over};

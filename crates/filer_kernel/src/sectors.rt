@@ -1,5 +1,5 @@
 //! Sectors that are taken and given back, in the allocation map.
-ghost use Rattle.std.specs.Prelude.{◌≡◌, ℕ, ◌+◌, ◌*◌, ◌≤◌, ◌<◌, true, false, List, IfOk, IfErr, OnOk, Err};
+ghost use Rattle.std.specs.Prelude.{◌≡◌, ℕ, ◌+◌, ◌-◌, ◌*◌, ◌≤◌, ◌<◌, true, false, List, IfOk, IfErr, OnOk, Err};
 ghost use Rattle.labelled_disk.specs.Sectors.{Sector};
 ghost use Rattle.labelled_disk.specs.declared.evidence.Halt.TheVariants as halt;
 ghost use Rattle.alloc_map.specs.Runs.{IsDataRun, IfMem};
@@ -23,6 +23,7 @@ impl<D: Disk, A: Allocator> FilerOver<D, A> {
     pub fn free_count(&mut self) -> Result<u32, Halt>
         requires size { (D.state self.old.swapper.under).sectors ≡ self.old.swapper.layout.sectors }
         ensures count { (m : List Sector) (marks : Marks) → Stands (D.state self.old.swapper.under) self.old.swapper.pool m → BitsAre self.old.swapper.layout marks m → IfOk result (λ n. n ≡ free_sectors self.old.swapper.layout marks) }
+        ensures form { IfOk result (λ n. n ≤ self.old.swapper.layout.sectors - self.old.swapper.layout.first) }
         ensures sound { (m : List Sector) → Stands (D.state self.old.swapper.under) self.old.swapper.pool m → AreNamed m (IsMapHome AllocationMap self.old.swapper.layout) → IfErr result (λ e. e ≡ halt.Disk) }
         ensures same { (m : List Sector) (marks : Marks) → Stands (D.state self.old.swapper.under) self.old.swapper.pool m → BitsAre self.old.swapper.layout marks m → Stands (D.state self.new.swapper.under) self.new.swapper.pool m }
         ensures cause { IfErr result (Halts (IsMapHome AllocationMap self.old.swapper.layout) (D.state self.old.swapper.under) self.old.swapper.pool (D.state self.new.swapper.under)) }

@@ -15,7 +15,7 @@ use Rattle.labelled_disk.specs.Runs.{IsWriteInForm}
 use Rattle.labelled_disk.proofs.WriteRunLemmas.{appended_one}
 use Rattle.frame_pool.specs.Frames.{Frame, Slots, Has}
 use Rattle.swapper_kernel.specs.Stands.{IsMerged}
-use Rattle.swapper_kernel.specs.Goes.{Goes, Wrote, no_page, is_page_write}
+use Rattle.swapper_kernel.specs.Goes.{Goes, Makes, Wrote, no_page, is_page_write}
 use Rattle.swapper_kernel.specs.StepLaws.{IsLabelled}
 use Rattle.swapper_kernel.proofs.MoveLemmas.{move_laws}
 
@@ -41,11 +41,14 @@ merged_labelled (write.LabelOnly sector label) k sectors slots m s is was free h
     rw (at_disk, at_memory) ((move_laws sectors slots m).relabelled sector s (label, s.1) here (λ i f has at. free i f has (at ∙ is)) h)
 merged_labelled (write.Page sector wanted page) k sectors slots m s is was free h = absurd is
 
-pub beside_frames : (old new : DiskState) (slots : Slots) (w : DiskWrite) (sector : ℕ) → IsLabelled w sector → IsWriteInForm w → TellsWrite w old new → Moves old new
-    → ((d : List Sector) → old.contents ≡ Some d → Lawful d w × ((s : Sector) × (slice_get d sector ≡ Some s)))
-    → ((i : ℕ) (f : Frame) → Has slots i f → f.home.sector ≢ sector) → Goes (λ m n. n ≡ written w m) no_page (w ∷ []) old slots new slots
-beside_frames old new slots w sector is form made moves lawful free = record {
-  makes = record {
+module _ (old new : DiskState) (slots : Slots) (w : DiskWrite) (sector : ℕ) (is : IsLabelled w sector) (form : IsWriteInForm w) (made : TellsWrite w old new) (moves : Moves old new) where
+  one : (k : ℕ) (x : DiskWrite) → slice_get (w ∷ []) k ≡ Some x → (P : DiskWrite → Type 0) → P w → P x
+  one zero x at P h = subst P (same_Some w x at) h
+  one (suc k) x at P h = absurd (none-some x at)
+
+  -- whatever stands in frames, one label was written
+  pub label_written : ((d : List Sector) → old.contents ≡ Some d → Lawful d w) → Makes no_page (w ∷ []) old slots new slots
+  label_written lawful = record {
     went = record { sectors = moves.sectors; lent = moves.lent; faults = moves.faults; transfers = moves.transfers.later };
     dirty = λ id page d. inl d;
     wrote = record {
@@ -57,7 +60,17 @@ beside_frames old new slots w sector is form made moves lawful free = record {
       of_dirty = λ k place wanted bytes at. absurd (true≢false (one k (write.Page place wanted bytes) at (λ (x : DiskWrite). is_page_write x ≡ false) (no_page_write w sector is)));
     };
     count = refl;
-  };
+  }
+    where
+      law : (d : List Sector) (k : ℕ) (x : DiskWrite) → old.contents ≡ Some d → slice_get (w ∷ []) k ≡ Some x → Lawful (moment d (w ∷ []) k) x
+      law d zero x told at = subst (Lawful d) (same_Some w x at) (lawful d told)
+      law d (suc k) x told at = absurd (none-some x at)
+
+pub beside_frames : (old new : DiskState) (slots : Slots) (w : DiskWrite) (sector : ℕ) → IsLabelled w sector → IsWriteInForm w → TellsWrite w old new → Moves old new
+    → ((d : List Sector) → old.contents ≡ Some d → Lawful d w × ((s : Sector) × (slice_get d sector ≡ Some s)))
+    → ((i : ℕ) (f : Frame) → Has slots i f → f.home.sector ≢ sector) → Goes (λ m n. n ≡ written w m) no_page (w ∷ []) old slots new slots
+beside_frames old new slots w sector is form made moves lawful free = record {
+  makes = label_written old new slots w sector is form made moves (λ d told. (lawful d told).0);
   memory = λ m h.
       let there = (lawful h.sectors h.told).1 in (
         written w m,
@@ -69,11 +82,3 @@ beside_frames old new slots w sector is form made moves lawful free = record {
         refl,
       );
 }
-  where
-    one : (k : ℕ) (x : DiskWrite) → slice_get (w ∷ []) k ≡ Some x → (P : DiskWrite → Type 0) → P w → P x
-    one zero x at P h = subst P (same_Some w x at) h
-    one (suc k) x at P h = absurd (none-some x at)
-
-    law : (d : List Sector) (k : ℕ) (x : DiskWrite) → old.contents ≡ Some d → slice_get (w ∷ []) k ≡ Some x → Lawful (moment d (w ∷ []) k) x
-    law d zero x told at = subst (Lawful d) (same_Some w x at) (lawful d told).0
-    law d (suc k) x told at = absurd (none-some x at)

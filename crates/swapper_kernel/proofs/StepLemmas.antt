@@ -24,7 +24,7 @@ use Rattle.swapper_kernel.specs.Goes.{IsDirty, Went, Wrote, no_page, Swaps}
 use Rattle.swapper_kernel.specs.GoesLaws.{went_itself, wrote_none}
 use Rattle.swapper_kernel.specs.StepLaws.{StepLaws}
 use Rattle.swapper_kernel.proofs.MoveLemmas.{move_laws, written_there}
-use Rattle.swapper_kernel.proofs.BesideLemmas.{beside_frames}
+use Rattle.swapper_kernel.proofs.BesideLemmas.{label_written, beside_frames}
 
 pub went_by : {a b : DiskState} → Moves a b → Went a b
 went_by m = record { sectors = m.sectors; lent = m.lent; faults = m.faults; transfers = m.transfers.later }
@@ -166,4 +166,4 @@ step_put disk slots i home label bytes below empty nowhere holds named = record 
 }
 
 pub step_laws : StepLaws
-step_laws = record { read = step_read; written = step_written; out = step_out; cleared = step_cleared; put = step_put; beside_frames = beside_frames }
+step_laws = record { read = step_read; written = step_written; out = step_out; cleared = step_cleared; put = step_put; label_written = label_written; beside_frames = beside_frames }

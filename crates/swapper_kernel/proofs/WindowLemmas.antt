@@ -32,7 +32,7 @@ use Rattle.swapper_kernel.specs.Window.{IsPage, Shows, Tells, Beside, IsAccounte
 le_total : (a b : ℕ) → (a ≤ b) ⊎ (b ≤ a)
 le_total a b = elim (leb_tells a b) [ inl (_, le) ↦ inl le | inr (_, gt) ↦ inr (omega arith) ]
 
-part_elsewhere : (b : List ℕ) (from : ℕ) (bytes : List ℕ) (j k : ℕ) → j ≢ k → from + length bytes ≤ 512 → 512 * k + from + length bytes ≤ length b → part (overwritten b (512 * k + from) bytes) (512 * j) 512 ≡ part b (512 * j) 512
+pub part_elsewhere : (b : List ℕ) (from : ℕ) (bytes : List ℕ) (j k : ℕ) → j ≢ k → from + length bytes ≤ 512 → 512 * k + from + length bytes ≤ length b → part (overwritten b (512 * k + from) bytes) (512 * j) 512 ≡ part b (512 * j) 512
 part_elsewhere b from bytes j k other fits inside = elim (le_total j k) [
   | inl below ↦ part-overwritten_below b bytes (512 * k + from) (512 * j) 512 (omega (arith, below, other)) inside
   | inr above ↦ part-overwritten_above b bytes (512 * k + from) (512 * j) 512 (omega (arith, above, other, fits)) inside

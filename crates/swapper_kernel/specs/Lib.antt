@@ -5,6 +5,7 @@ pub mod DiffersLaws
 pub mod Goes
 pub mod GoesLaws
 pub mod FlushLaws
+pub mod FormLaws
 pub mod Halts
 pub mod HaltLaws
 pub mod Homes

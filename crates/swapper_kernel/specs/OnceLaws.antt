@@ -17,7 +17,7 @@ use Rattle.swapper_kernel.specs.DiffersLaws.{label_here}
 use Rattle.swapper_kernel.specs.Window.{IsPage, Tells}
 
 -- a dirty frame over the sector
-record IsOver (slots : Slots) (sector : ℕ) : Type 0 where
+pub record IsOver (slots : Slots) (sector : ℕ) : Type 0 where
   pub slot : ℕ
   pub frame : Frame
   pub has : Has slots slot frame
@@ -44,7 +44,7 @@ none_over s sector (inr clean) = inr (still_clean None s sector (λ g same dirty
 nothing_over : (sector : ℕ) → IsClean [] sector
 nothing_over sector i f has dirty at = none-some (Some f) has.is
 
-over_or_clean : (s : Slots) (sector : ℕ) → IsOver s sector ⊎ IsClean s sector
+pub over_or_clean : (s : Slots) (sector : ℕ) → IsOver s sector ⊎ IsClean s sector
 over_or_clean [] sector = inr (nothing_over sector)
 over_or_clean (None ∷ s) sector = none_over s sector (over_or_clean s sector)
 over_or_clean (Some f ∷ s) sector = frame_over f s sector f.dirty refl (cases_eq f.home.sector sector) (over_or_clean s sector)
@@ -70,7 +70,7 @@ byte_at : (b : List ℕ) (q r d : ℕ) → r < 512 → get_or b (q + r) d ≡ ge
 byte_at b q r d below = sym (get_or-take 512 (drop q b) r d below ∙ get_or-drop q b r d)
 
 -- byte k of the list is one of its page
-byte_in : (b : List ℕ) (k d : ℕ) → get_or b k d ≡ get_or (part b (512 * (k / 512)) 512) (k % 512) d
+pub byte_in : (b : List ℕ) (k d : ℕ) → get_or b k d ≡ get_or (part b (512 * (k / 512)) 512) (k % 512) d
 byte_in b k d =
     let place : k ≡ 512 * (k / 512) + k % 512 = omega arith in
     let below : k % 512 < 512 = omega arith in

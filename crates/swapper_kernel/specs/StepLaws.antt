@@ -13,7 +13,7 @@ use Rattle.labelled_disk.specs.Runs.{IsWriteInForm}
 use Rattle.frame_pool.specs.declared.home.Home.{Home}
 use Rattle.frame_pool.specs.Frames.{Frame, Slots, Has, IsNowhere, frame_at, new_frame, cleaned_at}
 use Rattle.swapper_kernel.specs.Homes.{wanted_at}
-use Rattle.swapper_kernel.specs.Goes.{Goes, Swaps, no_page}
+use Rattle.swapper_kernel.specs.Goes.{Goes, Makes, Swaps, no_page}
 
 -- the write gives this sector a label
 abbrev pub IsLabelled : DiskWrite → ℕ → Type 0
@@ -22,6 +22,9 @@ IsLabelled (write.LabelOnly sector label) k = sector ≡ k
 IsLabelled (write.Page sector wanted page) k = ⊥
 
 pub record StepLaws : Type 0 where
+  -- a sector was written whole, or its label alone, whatever stands in frames
+  pub label_written : (old new : DiskState) (slots : Slots) (w : DiskWrite) (sector : ℕ) → IsLabelled w sector → IsWriteInForm w → TellsWrite w old new → Moves old new
+      → ((d : List Sector) → old.contents ≡ Some d → Lawful d w) → Makes no_page (w ∷ []) old slots new slots
   -- a sector under no frame was written whole, or its label alone: the memory changes as the disk does
   pub beside_frames : (old new : DiskState) (slots : Slots) (w : DiskWrite) (sector : ℕ) → IsLabelled w sector → IsWriteInForm w → TellsWrite w old new → Moves old new
       → ((d : List Sector) → old.contents ≡ Some d → Lawful d w × ((s : Sector) × (slice_get d sector ≡ Some s)))

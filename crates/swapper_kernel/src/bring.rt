@@ -94,8 +94,9 @@ impl<D: Disk, A: Allocator> SwapperOver<D, A> {
         Ok(())
     }
 
-    /// Makes a page resident and gives its slot, in at most two transfers. The frames of a run of its file stay.
-    fn fetch(&mut self, home: Home, keep_first: u32, keep_pages: u32) -> Result<u32, Halt>
+    /// Makes a page resident and gives its slot, in at most two transfers. A page that is resident already keeps its
+    /// frame and its home, whatever home is given for it. The frames of a run of its file stay.
+    pub fn fetch(&mut self, home: Home, keep_first: u32, keep_pages: u32) -> Result<u32, Halt>
         requires size { (D.state self.old.under).sectors ≡ self.old.layout.sectors }
         requires placed { IsPlaced self.old.layout home }
         requires keep { keep_pages ≤ 16 }

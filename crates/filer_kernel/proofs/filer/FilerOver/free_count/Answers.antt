@@ -25,3 +25,6 @@ returns-clause-same g c = λ m marks stands bits.
     let kept = rw (c.over-map.ensures.memory, c.window0.ensures.value, c.window0.ensures.which) at c.free_count.ensures.kept.2 in
     lent (λ d s. Stands d s m) _ (g.D.Disk.state c.free_count.new.self.mem.swapper.now.under) _ c.free_count.new.self.mem.swapper.now.pool (search rules) (search rules)
     (stays_shown which kept m stands bits.bytes bits.shows (c.free_count.ensures.unchanged bits.bytes (rw (c.over-map.ensures.memory, c.window0.ensures.value, c.window0.ensures.which) told)))
+
+pub returns-clause-form : goal.returns-clause-form
+returns-clause-form g c = rw (c.over-map.ensures.first, c.over-map.ensures.sectors, c.layout-layout.ensures) at c.free_count.ensures.form

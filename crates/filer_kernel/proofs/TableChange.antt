@@ -1,0 +1,146 @@
+-- A page of the space tables changes in its frame.
+use Rattle.std.proofs.Common.{◌≡◌, ◌≢◌, inl, inr, ℕ, ◌+◌, ◌*◌, ◌<◌, ◌≤◌, true, List, [], length, Some, sym, ◌∙◌, ap, arith, rules}
+use Rattle.std.specs.Prelude.{slice_get, slice_set}
+use Rattle.std.proofs.lemmas.Bool.{cases_eq, true≢false}
+use Rattle.std.proofs.lemmas.Bool.Decides.{nat_tests}
+use Rattle.std.proofs.lemmas.List.{same_lists, places}
+use Rattle.std.proofs.lemmas.Option.{same_Some}
+use Rattle.labelled_disk.specs.declared.label.Label.{Label}
+use Rattle.labelled_disk.specs.declared.layout.Layout.{Layout}
+use Rattle.labelled_disk.specs.Label.{names}
+use Rattle.labelled_disk.specs.Sectors.{Sector}
+use Rattle.labelled_disk.specs.State.{DiskState}
+use Rattle.flat_mem.specs.Memory.{part, overwritten}
+use Rattle.flat_mem.specs.Parts.{part-overwritten, length-overwritten}
+use Rattle.frame_pool.specs.declared.home.Home.{Home}
+use Rattle.frame_pool.specs.Frames.{Slots, Frame, Has, changed}
+use Rattle.frame_pool.specs.FrameLaws.{has_set, has_below}
+use Rattle.frame_pool.specs.ListLaws.{get_other, get_same, below_of}
+use Rattle.file_map.specs.FileMap.{Triples}
+use Rattle.swapper_kernel.specs.Homes.{IsLayout, IsPlaced, no_home}
+use Rattle.swapper_kernel.specs.Goes.{Goes, this_page}
+use Rattle.swapper_kernel.specs.GoesLaws.{goes_wider}
+use Rattle.swapper_kernel.specs.Differs.{ChangesAt, Differs}
+use Rattle.swapper_kernel.specs.DiffersLaws.{set_labels, other_sector, names_id, names_page}
+use Rattle.swapper_kernel.specs.Steps.{Steps}
+use Rattle.swapper_kernel.specs.CourseLaws.{steps_wider}
+use Rattle.swapper_kernel.proofs.WindowLemmas.{part_elsewhere}
+use Rattle.filer_kernel.specs.declared.cached.CachedRuns.{CachedRuns}
+use Rattle.filer_kernel.specs.Cached.{runs_of}
+use Rattle.filer_kernel.specs.PlaceLaws.{map_kept}
+use Rattle.filer_kernel.specs.Tables.{in_tables, table_pages, IsTableHome, IsComing, IsChanging, IsTablePage, TablesTell, BesideTables}
+use Rattle.filer_kernel.proofs.TableLemmas.{table_on_data}
+
+-- no byte is written
+pub nothing_written : (b : List ℕ) (at : ℕ) (bytes : List ℕ) → length bytes ≡ 0 → overwritten b at bytes ≡ b
+nothing_written b at bytes none = same_lists _ _ (search (rules, places)) (λ k d h. grind (arith, places))
+
+table_sector : (layout : Layout) (place : ℕ) (l : Label) → layout.first ≤ place → l.id ≡ 3 → in_tables layout place l ≡ true
+table_sector layout place l first three = grind (arith, nat_tests)
+
+-- In the memory, page k changes in the sector of its frame's home.
+module _ (x : Layout) (k from : ℕ) (bytes : List ℕ) (home : Home) (m n : List Sector) (first : x.first ≤ home.sector) (three : home.id ≡ 3) (at : home.page ≡ k) (c : ChangesAt home from bytes m n) where
+  named_here : names c.s.0 (record { id = 3; page = k }) ≡ true
+  named_here = sym (λ j. names c.s.0 (record { id = three j; page = at j })) ∙ c.named
+
+  -- in no sector but the tables'
+  pub change_differs : Differs (in_tables x) m n
+  change_differs = record {
+    labels = rw c.is (set_labels m home.sector c.s (overwritten c.s.1 from bytes) c.here);
+    pages = λ j t here fails. elim (cases_eq j home.sector) [
+      | inl own ↦
+          let same : c.s ≡ t = same_Some c.s t (sym c.here ∙ ap (slice_get m) (sym own) ∙ here) in
+          let id : t.0.id ≡ 3 = ap (λ (z : Sector). z.0.id) (sym same) ∙ names_id c.s.0 (record { id = 3; page = k }) named_here in
+          absurd (true≢false (sym (table_sector x j t.0 (rw own first) id) ∙ fails))
+      | inr other ↦ rw c.is (get_other m home.sector j (c.s.0, overwritten c.s.1 from bytes) other ∙ here)
+    ];
+  }
+
+  -- a label of the new memory is alone where it was in the old one
+  still_alone : (j sector : ℕ) → ((o : ℕ) (s : Sector) → x.first ≤ o → slice_get m o ≡ Some s → names s.0 (record { id = 3; page = j }) ≡ true → o ≡ sector)
+      → (o : ℕ) (s : Sector) → x.first ≤ o → slice_get n o ≡ Some s → names s.0 (record { id = 3; page = j }) ≡ true → o ≡ sector
+  still_alone j sector alone o s below here named =
+      let was = other_sector m n change_differs.labels o s here in
+      alone o was.0 below was.1 (ap (λ (l : Label). names l (record { id = 3; page = j })) was.2 ∙ named)
+
+  -- so are the bytes
+  module _ (named : Triples) (b : List ℕ) (page : (j : ℕ) → j < 96 → IsTablePage x named m j (part b (512 * j) 512)) (long : length b ≡ 512 * 96) (below : k < 96) (fits : from + length bytes ≤ 512) where
+    piece : 512 * k + from + length bytes ≤ length b
+    piece = omega (arith, long, below, fits)
+
+    page_same : (j : ℕ) → j < 96 → j ≡ k → IsTablePage x named n j (part (overwritten b (512 * k + from) bytes) (512 * j) 512)
+    page_same j j_below same =
+        let p : IsTablePage x named m k (part b (512 * k) 512) = page k below in
+        let sector : home.sector ≡ p.sector = p.alone home.sector c.s first c.here named_here in
+        let old : c.s ≡ (p.label, part b (512 * k) 512) = same_Some {A = Sector} c.s (p.label, part b (512 * k) 512) (sym c.here ∙ ap (slice_get m) sector ∙ p.keeps) in
+        let now : IsTablePage x named n k (part (overwritten b (512 * k + from) bytes) (512 * k) 512) = record {
+          sector = p.sector;
+          label = c.s.0;
+          found = p.found;
+          keeps = ap (slice_get n) (sym sector)
+              ∙ ap (λ (l : List Sector). slice_get l home.sector) c.is ∙ get_same m home.sector (c.s.0, overwritten c.s.1 from bytes) (below_of m home.sector c.s c.here)
+              ∙ ap (λ (l : List ℕ). Some (c.s.0, l)) (ap (λ (t : Sector). overwritten t.1 from bytes) old ∙ sym (part-overwritten b bytes (512 * k) 512 from (omega (arith, long, below)) fits));
+          named_so = named_here;
+          alone = still_alone k p.sector p.alone;
+        } in
+        rw same now
+
+    page_other : (j : ℕ) → j < 96 → j ≢ k → IsTablePage x named n j (part (overwritten b (512 * k + from) bytes) (512 * j) 512)
+    page_other j j_below other =
+        let p : IsTablePage x named m j (part b (512 * j) 512) = page j j_below in
+        let apart : p.sector ≢ home.sector = λ same.
+        let one : c.s ≡ (p.label, part b (512 * j) 512) = same_Some {A = Sector} c.s (p.label, part b (512 * j) 512) (sym c.here ∙ ap (slice_get m) (sym same) ∙ p.keeps) in
+        other (sym (names_page p.label (record { id = 3; page = j }) p.named_so) ∙ ap (λ (z : Sector). z.0.page) (sym one) ∙ names_page c.s.0 (record { id = 3; page = k }) named_here) in
+        record {
+          sector = p.sector;
+          label = p.label;
+          found = p.found;
+          keeps = ap (λ (l : List Sector). slice_get l p.sector) c.is ∙ get_other m home.sector p.sector (c.s.0, overwritten c.s.1 from bytes) apart
+              ∙ p.keeps ∙ ap (λ (l : List ℕ). Some (p.label, l)) (sym (part_elsewhere b from bytes j k other fits piece));
+          named_so = p.named_so;
+          alone = still_alone j p.sector p.alone;
+        }
+
+    pub changed_page : (j : ℕ) → j < 96 → IsTablePage x named n j (part (overwritten b (512 * k + from) bytes) (512 * j) 512)
+    changed_page j j_below = elim (cases_eq j k) [ inl same ↦ page_same j j_below same | inr other ↦ page_other j j_below other ]
+
+-- A frame of page `page` was changed.
+module _ {a b : DiskState} {s t : Slots} {x y : Layout} {k : CachedRuns} (is : IsLayout x) (page : ℕ) (below : page < 96) (same : y ≡ x) (f : Frame) (placed : IsPlaced x f.home) (three : f.home.id ≡ 3) (at : f.home.page ≡ page)
+    (from : ℕ) (bytes : List ℕ) (fits : from + length bytes ≤ 512) (goes : Goes (ChangesAt f.home from bytes) (this_page f.home.id f.home.page) [] a s b t) where
+  pub tables_changed : (all : List ℕ) → TablesTell a s x k all → TablesTell b t y k (overwritten all (512 * page + from) bytes)
+  tables_changed all tells =
+      let now = goes.memory tells.memory tells.stands in
+      let first = (table_on_data x f.home placed three).0 in
+      let piece : 512 * page + from + length bytes ≤ length all = omega (arith, tells.count, below, fits) in
+      let changed : TablesTell b t x k (overwritten all (512 * page + from) bytes) = record {
+        memory = now.0;
+        stands = now.1;
+        triples = tells.triples;
+        map = map_kept x tells.triples tells.memory now.0 is (change_differs x page from bytes f.home tells.memory now.0 first three at now.2) tells.map;
+        kept = tells.kept;
+        size = goes.makes.went.sectors ∙ tells.size;
+        count = length-overwritten all bytes (512 * page + from) piece ∙ tells.count;
+        page = changed_page x page from bytes f.home tells.memory now.0 first three at now.2 tells.triples all tells.page tells.count below fits;
+      } in
+      rw same changed
+
+  pub beside_changed : (i : ℕ) → Has s i f → t ≡ slice_set s i (Some (changed f from bytes)) → Steps no_home (λ (h : Home). h ≡ f.home) a s b t → BesideTables a s x k b t y k
+  beside_changed i has slots steps = record {
+    goes = goes_wider (ChangesAt f.home from bytes) (Differs (in_tables x)) table_pages (λ m n c. change_differs x page from bytes f.home m n (table_on_data x f.home placed three).0 three at c) (λ id p own. inl (own.0 ∙ three)) goes;
+    brings = record {
+      homes = λ home held. elim (has_set s i held.slot (Some (changed f from bytes)) held.frame (has_below s i f has) (record { is = ap (λ (l : Slots). slice_get l held.slot) (sym slots) ∙ held.has.is })) [
+        | inl (_, own) ↦ inl (record { slot = i; frame = f; has = has; at = ap (λ (g : Frame). g.home) (same_Some (changed f from bytes) held.frame own) ∙ held.at })
+        | inr (_, was) ↦ inl (record { slot = held.slot; frame = held.frame; has = was; at = held.at })
+      ];
+    };
+    steps = steps_wider (IsComing x a s (runs_of x.sectors k)) (IsChanging x) (λ h no. absurd no) (λ h own. inr (rw own changing)) steps;
+    layout = same;
+    given = λ r one. inl one;
+    runs_are = λ m named stands map are. are;
+    told = λ all tells. (overwritten all (512 * page + from) bytes, tables_changed all tells);
+  }
+    where
+      changing : IsTableHome x f.home
+      changing =
+          let data_sector = table_on_data x f.home placed three in
+          record { of_tables = three; on_data = record { id = inl three; from = data_sector.0; below = data_sector.1 } }

@@ -1,0 +1,65 @@
+use Rattle.std.proofs.Common.{rules, IfErr, OnOk, List, ◌∙◌, ap}
+use Rattle.labelled_disk.specs.declared.layout.Layout.{Layout}
+use Rattle.labelled_disk.specs.Sectors.{Sector}
+use Rattle.file_map.specs.FileMap.{Triples, without_from}
+use Rattle.swapper_kernel.specs.declared.manager.Manager.TheVariants.{FileMap}
+use Rattle.swapper_kernel.specs.Stands.{Stands}
+use Rattle.filer_kernel.specs.Becomes.{Becomes}
+use Rattle.filer_kernel.specs.Causes.{CutHalts}
+use Rattle.filer_kernel.specs.Triples.{MapIs}
+use Rattle.filer_kernel.proofs.Lent.{lent}
+use Rattle.filer_kernel.proofs.Outcomes.{err_wider}
+use Rattle.filer_kernel.proofs.FileLemmas.{names_told, becomes_named, match_on_ok}
+use Rattle.filer_kernel.proofs.CutLemmas.{IsAtMoment, moment_here, cut_halts, cut_sound, cut_right}
+use Rattle.filer_kernel.proofs.filer.FilerOver.cut.Given as given
+use Rattle.filer_kernel.proofs.filer.FilerOver.cut.Goals as goal
+
+pub returns-clause-cut : goal.returns-clause-cut
+returns-clause-cut g c =
+    let x = c.args.self.now.swapper.layout in
+    lent (λ d s. (m : List Sector) (named : Triples) → Stands (g.D.Disk.state c.args.self.now.swapper.under) c.args.self.now.swapper.pool m → MapIs x named m
+    → OnOk c.halted.result (Becomes FileMap x m (MapIs x (without_from named c.args.id c.args.from)) d s))
+    _ (g.D.Disk.state c.cut.new.self.mem.swapper.now.under) _ c.cut.new.self.mem.swapper.now.pool (search rules) (search rules) (λ m named stands map.
+    let told = names_told c.requires.size m named stands map in
+    let done = c.cut.ensures.cut named (rw (c.over-map.ensures.sectors, c.layout-layout.ensures, c.over-map.ensures.memory, c.window0.ensures.value, c.window0.ensures.which) told) in
+    let which = rw (c.over-map.ensures.memory, c.window0.ensures.which) at c.cut.ensures.kept.1 in
+    let kept = rw (c.over-map.ensures.memory, c.window0.ensures.value, c.window0.ensures.which) at c.cut.ensures.kept.2 in
+    let of = c.cut.ensures.sectors ∙ c.over-map.ensures.sectors ∙ ap (λ (l : Layout). l.sectors) c.layout-layout.ensures in
+    rw c.halted.ensures (match_on_ok c.cut.result _ _ _ done (becomes_named which kept m stands (without_from named c.args.id c.args.from) _ of)))
+
+-- what the window accounts for
+moment : (g : given.Over) (c : goal.After-halted g) → IfErr c.cut.result (IsAtMoment c.over-map.result.sectors FileMap (g.D.Disk.state c.args.self.now.swapper.under) c.args.self.now.swapper.pool c.args.self.now.swapper.layout
+    (g.D.Disk.state c.cut.new.self.mem.swapper.now.under) c.cut.new.self.mem.swapper.now.pool c.cut.new.self.mem.swapper.now.layout)
+moment g c =
+    moment_here c.cut.result c.over-map.result.sectors (g.D.Disk.state c.cut.new.self.mem.swapper.now.under) c.cut.new.self.mem.swapper.now.pool c.cut.new.self.mem.swapper.now.layout
+    {also = FileMap} {b = g.D.Disk.state c.args.self.now.swapper.under} {u = c.args.self.now.swapper.pool} {z = c.args.self.now.swapper.layout} (search rules) (search rules) (search rules) (search rules)
+    (err_wider c.cut.result _ _ (λ error why. record {
+      what = why.0.which;
+      disk = g.D.Disk.state why.0.swapper.now.under;
+      slots = why.0.swapper.now.pool;
+      place = why.0.swapper.now.layout;
+      same = why.1.1;
+      since = why.1.2;
+      until = why.2.2;
+      cause = why.3;
+    }) c.cut.ensures.cause)
+
+pub returns-clause-sound : goal.returns-clause-sound
+returns-clause-sound g c = λ m named stands map labels.
+    let told = names_told c.requires.size m named stands map in
+    let own = c.cut.ensures.cut named (rw (c.over-map.ensures.sectors, c.layout-layout.ensures, c.over-map.ensures.memory, c.window0.ensures.value, c.window0.ensures.which) told) in
+    rw c.halted.ensures (cut_sound c.cut.result _ _ c.args.self.now.swapper.layout _ _ c.args.self.now.swapper.pool _ _ own (moment g c) m stands labels)
+
+pub returns-clause-right : goal.returns-clause-right
+returns-clause-right g c = λ m named stands map.
+    let told = names_told c.requires.size m named stands map in
+    let own = c.cut.ensures.cut named (rw (c.over-map.ensures.sectors, c.layout-layout.ensures, c.over-map.ensures.memory, c.window0.ensures.value, c.window0.ensures.which) told) in
+    rw c.halted.ensures (cut_right c.cut.result _ _ c.args.self.now.swapper.layout _ _ c.args.self.now.swapper.pool _ _ own (moment g c))
+
+pub returns-clause-cause : goal.returns-clause-cause
+returns-clause-cause g c =
+    let x = c.args.self.now.swapper.layout in
+    let of = c.over-map.ensures.sectors ∙ ap (λ (l : Layout). l.sectors) c.layout-layout.ensures in
+    let halts : IfErr c.halted.result (CutHalts x (g.D.Disk.state c.args.self.now.swapper.under) c.args.self.now.swapper.pool (g.D.Disk.state c.cut.new.self.mem.swapper.now.under) c.cut.new.self.mem.swapper.now.pool) =
+    rw c.halted.ensures (cut_halts c.cut.result _ x _ _ _ _ _ of c.requires.size (moment g c)) in
+    search (rules, halts)
