@@ -1,0 +1,2 @@
+pub mod RelabelLemmas
+pub mod RunLemmas

@@ -1,0 +1,43 @@
+use Rattle.std.proofs.Common.{◌≡◌, inl, rules, true, false, true≢false, sym, ◌∙◌}
+use Rattle.labelled_disk.specs.Label.{names}
+use Rattle.labelled_disk.specs.Calls.{TellsSame, Moves}
+use Rattle.labelled_disk.specs.State.{HasLabel}
+use Rattle.swapper_kernel.specs.Homes.{IsLayout}
+use Rattle.label_calls.specs.Labels.{ones_of}
+use Rattle.label_calls.proofs.RelabelLemmas.{in_memory, freed_laws}
+use Rattle.label_calls.proofs.page.free_page.Goals as goal
+
+pub returns-then-not-names-clause-stopped : goal.returns-then-not-names-clause-stopped
+returns-then-not-names-clause-stopped g c = inl (search rules)
+
+pub returns-then-not-names-clause-sound : goal.returns-then-not-names-clause-sound
+returns-then-not-names-clause-sound g c = λ m stands one.
+    let named : names c.in-Ok.found c.args.wanted ≡ true = in_memory (ones_of c.args.wanted) _ _ _ c.in-Ok.found m (search rules) stands one in
+    let other : names c.in-Ok.found c.args.wanted ≡ false = search rules in
+    absurd (true≢false (sym named ∙ other))
+
+pub returns-in-Err-write_label-clause-stopped : goal.returns-in-Err-write_label-clause-stopped
+returns-in-Err-write_label-clause-stopped g c =
+    let old = g.D.Disk.state c.args.swapper.now.under in
+    let mid = g.D.Disk.state c.read_label.new.swapper.under in
+    let new = g.D.Disk.state c.write_label.new.swapper.under in
+    let there : HasLabel old c.args.sector c.in-Ok.found = search rules in
+    let same : TellsSame old mid = search rules in
+    let read : Moves old mid = search rules in
+    let moves : Moves mid new = search rules in
+    let layout : IsLayout c.args.swapper.now.layout = search rules in
+    let named : names c.in-Ok.found c.args.wanted ≡ true = search rules in
+    (freed_laws c.args.swapper.now.layout old mid new c.args.swapper.now.pool c.args.sector c.in-Ok.found layout (λ d told. g.met.D.Disk.whole c.args.swapper.now.under d told ∙ c.requires.size) c.requires.data there same read moves c.args.wanted c.requires.of_file named).stopped c.in-Err-write_label.ensures.stopped
+
+pub returns-clause-freed : goal.returns-clause-freed
+returns-clause-freed g c =
+    let old = g.D.Disk.state c.args.swapper.now.under in
+    let mid = g.D.Disk.state c.read_label.new.swapper.under in
+    let new = g.D.Disk.state c.write_label.new.swapper.under in
+    let there : HasLabel old c.args.sector c.in-Ok.found = search rules in
+    let same : TellsSame old mid = search rules in
+    let read : Moves old mid = search rules in
+    let moves : Moves mid new = search rules in
+    let layout : IsLayout c.args.swapper.now.layout = search rules in
+    let named : names c.in-Ok.found c.args.wanted ≡ true = search rules in
+    (freed_laws c.args.swapper.now.layout old mid new c.args.swapper.now.pool c.args.sector c.in-Ok.found layout (λ d told. g.met.D.Disk.whole c.args.swapper.now.under d told ∙ c.requires.size) c.requires.data there same read moves c.args.wanted c.requires.of_file named).made c.in-Ok-write_label.ensures.writes

@@ -1,0 +1,52 @@
+use Rattle.std.proofs.Common.{◌≡◌, ◌⊎◌, inl, inr, rules, true, false, true≢false, sym, ◌∙◌}
+use Rattle.labelled_disk.specs.Label.{names, leader_page}
+use Rattle.labelled_disk.specs.Calls.{TellsSame, TellsWrite, Moves}
+use Rattle.labelled_disk.specs.declared.disk.DiskWrite.TheVariants as write
+use Rattle.labelled_disk.specs.Runs.{zero_bytes}
+use Rattle.labelled_disk.specs.Sectors.{IsSector}
+use Rattle.labelled_disk.specs.State.{HasLabel}
+use Rattle.swapper_kernel.specs.Homes.{IsLayout}
+use Rattle.label_calls.specs.Labels.{ones_of, with_mark}
+use Rattle.label_calls.proofs.RelabelLemmas.{in_memory, marked_laws, fresh_in_form}
+use Rattle.label_calls.proofs.page.mark_leader.Goals as goal
+
+pub returns-then-not-names-clause-stopped : goal.returns-then-not-names-clause-stopped
+returns-then-not-names-clause-stopped g c = inl (search rules)
+
+pub returns-then-not-names-clause-sound : goal.returns-then-not-names-clause-sound
+returns-then-not-names-clause-sound g c = λ m stands one.
+    let named : names c.in-Ok.found (record { id = c.args.id; page = leader_page }) ≡ true = in_memory (ones_of (record { id = c.args.id; page = leader_page })) _ _ _ c.in-Ok.found m (search rules) stands one in
+    let other : names c.in-Ok.found (record { id = c.args.id; page = leader_page }) ≡ false = search rules in
+    absurd (true≢false (sym named ∙ other))
+
+pub returns-in-Err-write_label-clause-stopped : goal.returns-in-Err-write_label-clause-stopped
+returns-in-Err-write_label-clause-stopped g c =
+    let old = g.D.Disk.state c.args.swapper.now.under in
+    let mid = g.D.Disk.state c.read_label.new.swapper.under in
+    let new = g.D.Disk.state c.write_label.new.swapper.under in
+    let there : HasLabel old c.args.sector c.in-Ok.found = search rules in
+    let same : TellsSame old mid = search rules in
+    let read : Moves old mid = search rules in
+    let moves : Moves mid new = search rules in
+    let layout : IsLayout c.args.swapper.now.layout = search rules in
+    let named : names c.in-Ok.found (record { id = c.args.id; page = leader_page }) ≡ true = search rules in
+    let form : IsSector (with_mark c.args.mark c.in-Ok.found, zero_bytes) = fresh_in_form (with_mark c.args.mark c.in-Ok.found) (search rules) (search rules) (search rules) (search rules) (search rules) in
+    let laws = marked_laws c.args.swapper.now.layout old mid new c.args.swapper.now.pool c.args.sector c.in-Ok.found layout (λ d told. g.met.D.Disk.whole c.args.swapper.now.under d told ∙ c.requires.size) c.requires.data there same read moves c.args.mark c.args.id c.requires.of_file form named in
+    let either : TellsSame mid new ⊎ TellsWrite (write.LabelOnly c.args.sector (with_mark c.args.mark c.in-Ok.found)) mid new = search rules in
+    inr (c.in-Ok.found, there, laws.stopped either)
+
+pub returns-clause-marked : goal.returns-clause-marked
+returns-clause-marked g c =
+    let old = g.D.Disk.state c.args.swapper.now.under in
+    let mid = g.D.Disk.state c.read_label.new.swapper.under in
+    let new = g.D.Disk.state c.write_label.new.swapper.under in
+    let there : HasLabel old c.args.sector c.in-Ok.found = search rules in
+    let same : TellsSame old mid = search rules in
+    let read : Moves old mid = search rules in
+    let moves : Moves mid new = search rules in
+    let layout : IsLayout c.args.swapper.now.layout = search rules in
+    let named : names c.in-Ok.found (record { id = c.args.id; page = leader_page }) ≡ true = search rules in
+    let form : IsSector (with_mark c.args.mark c.in-Ok.found, zero_bytes) = fresh_in_form (with_mark c.args.mark c.in-Ok.found) (search rules) (search rules) (search rules) (search rules) (search rules) in
+    let laws = marked_laws c.args.swapper.now.layout old mid new c.args.swapper.now.pool c.args.sector c.in-Ok.found layout (λ d told. g.met.D.Disk.whole c.args.swapper.now.under d told ∙ c.requires.size) c.requires.data there same read moves c.args.mark c.args.id c.requires.of_file form named in
+    let made : TellsWrite (write.LabelOnly c.args.sector (with_mark c.args.mark c.in-Ok.found)) mid new = search rules in
+    (c.in-Ok.found, laws.made made)

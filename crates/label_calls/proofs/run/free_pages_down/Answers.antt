@@ -1,0 +1,70 @@
+use Rattle.std.proofs.Common.{◌≡◌, ◌≢◌, ℕ, ◌+◌, ◌-◌, ◌<◌, map, rules, refl, arith}
+use Rattle.std.specs.List.{range_with_len}
+use Rattle.labelled_disk.specs.declared.disk.DiskWrite.TheVariants as write
+use Rattle.labelled_disk.specs.Runs.{freeing}
+use Rattle.labelled_disk.specs.Sectors.{free_label}
+use Rattle.label_calls.specs.Labels.{IsNotOf}
+use Rattle.label_calls.specs.Runs.{IsOneNotOf}
+use Rattle.label_calls.proofs.RunLemmas.{so_far_none, so_far_more, one_still_there, made_some, cause_before, run_is, freeing_is, not_of_before, named_some, was_before}
+use Rattle.label_calls.proofs.run.free_pages_down.Goals as goal
+
+pub loop-k-init : goal.loop-k-init
+loop-k-init g c = so_far_none _ _ _ _ _ _ _ c.requires.size
+
+apart : (sector pages k : ℕ) → k < pages → (i : ℕ) → i < k → sector + (pages - (k + 1)) ≢ sector + (pages - (i + 1))
+apart sector pages k inside i below same = omega (arith, inside, below, same)
+
+pub returns-in-Err-clause-stopped : goal.returns-in-Err-clause-stopped
+returns-in-Err-clause-stopped g c =
+    let below : c.loop-k.k < c.args.pages = search rules in
+    made_some (λ k. c.args.sector + (c.args.pages - (k + 1))) (λ k. write.LabelOnly (c.args.sector + (c.args.pages - (k + 1))) free_label) _ _ _ _ _ _ _ _ c.loop-k.k c.loop-k.invariant (apart c.args.sector c.args.pages c.loop-k.k below)
+    c.args.pages (freeing (map (λ k. c.args.sector + (c.args.pages - (k + 1))) (range_with_len 0 c.args.pages))) (freeing_is (λ k. c.args.sector + (c.args.pages - (k + 1))) (range_with_len 0 c.args.pages)) below _ c.in-Err.ensures.stopped
+
+pub returns-in-Err-clause-sound : goal.returns-in-Err-clause-sound
+returns-in-Err-clause-sound g c = λ m stands free ones.
+    let below : c.loop-k.k < c.args.pages = search rules in
+    let last : (c.args.pages - (c.loop-k.k + 1)) < c.args.pages = omega (arith, below) in
+    let there = one_still_there (λ k. c.args.sector + (c.args.pages - (k + 1))) _ _ _ _ _ _ _ _ _ c.loop-k.k c.loop-k.invariant (apart c.args.sector c.args.pages c.loop-k.k below) free m stands (ones (c.args.pages - (c.loop-k.k + 1)) last) in
+    c.in-Err.ensures.sound there.0 there.1 there.2
+
+pub returns-in-Err-clause-cause : goal.returns-in-Err-clause-cause
+returns-in-Err-clause-cause g c =
+    let below : c.loop-k.k < c.args.pages = search rules in
+    let last : (c.args.pages - (c.loop-k.k + 1)) < c.args.pages = omega (arith, below) in
+    let old = g.D.Disk.state c.args.swapper.now.under in
+    let mid = g.D.Disk.state c.loop-k.swapper.under in
+    let new = g.D.Disk.state c.free_page.new.swapper.under in
+    cause_before (λ k. c.args.sector + (c.args.pages - (k + 1))) _ _ _ _ _ _ _ _ _ c.loop-k.k c.loop-k.invariant (apart c.args.sector c.args.pages c.loop-k.k below) (IsNotOf (c.args.sector + (c.args.pages - (c.loop-k.k + 1))) (record { id = c.args.id; page = c.args.page + (c.args.pages - (c.loop-k.k + 1)) }) mid) (IsOneNotOf c.args.sector c.args.pages (λ k. record { id = c.args.id; page = c.args.page + k }) old) new c.in-Err.halt
+    (λ evidence is. ((c.args.pages - (c.loop-k.k + 1)), last, not_of_before (λ k. c.args.sector + (c.args.pages - (k + 1))) _ _ _ _ _ _ _ _ _ c.loop-k.k c.loop-k.invariant (apart c.args.sector c.args.pages c.loop-k.k below) (record { id = c.args.id; page = c.args.page + (c.args.pages - (c.loop-k.k + 1)) }) evidence is)) c.in-Err.ensures.cause
+
+pub loop-k-preserved : goal.loop-k-preserved
+loop-k-preserved g c =
+    let below : c.loop-k.k < c.args.pages = search rules in
+    let last : (c.args.pages - (c.loop-k.k + 1)) < c.args.pages = omega (arith, below) in
+    so_far_more (λ k. c.args.sector + (c.args.pages - (k + 1))) (λ k. write.LabelOnly (c.args.sector + (c.args.pages - (k + 1))) free_label) _ _ _ _ _ _ _ _ c.loop-k.k c.loop-k.invariant (apart c.args.sector c.args.pages c.loop-k.k below)
+    _ _ _ refl (λ free. free (c.args.pages - (c.loop-k.k + 1)) last) c.in-Ok.ensures.freed c.in-Ok.ensures.frames c.in-Ok.ensures.layout c.in-Ok.ensures.cost
+
+pub returns-clause-freed : goal.returns-clause-freed
+returns-clause-freed g c =
+    let all : c.loop-k.k ≡ c.args.pages = search rules in
+    let so_far = rw all at c.loop-k.invariant in
+    run_is (λ k. c.args.sector + (c.args.pages - (k + 1))) (λ k. write.LabelOnly (c.args.sector + (c.args.pages - (k + 1))) free_label) _ c.args.sector c.args.pages _ _ _ _ _ _ _ (freeing_is (λ k. c.args.sector + (c.args.pages - (k + 1))) (range_with_len 0 c.args.pages)) so_far
+
+pub returns-in-Err-clause-named : goal.returns-in-Err-clause-named
+returns-in-Err-clause-named g c =
+    let below : c.loop-k.k < c.args.pages = search rules in
+    named_some (λ k. c.args.sector + (c.args.pages - (k + 1))) (λ k. write.LabelOnly (c.args.sector + (c.args.pages - (k + 1))) free_label) _ _ _ _ _ _ _ _ c.loop-k.k c.loop-k.invariant (apart c.args.sector c.args.pages c.loop-k.k below)
+    c.args.pages (freeing (map (λ k. c.args.sector + (c.args.pages - (k + 1))) (range_with_len 0 c.args.pages))) (freeing_is (λ k. c.args.sector + (c.args.pages - (k + 1))) (range_with_len 0 c.args.pages)) below _ c.in-Err.ensures.stopped (was_before c.in-Err.ensures.frames c.in-Err.ensures.was)
+
+-- the turn of a sector in the row
+turned : (k pages : ℕ) → k < pages → pages - (pages - (k + 1) + 1) ≡ k
+turned k pages below = omega (arith, below)
+
+pub returns-clause-were : goal.returns-clause-were
+returns-clause-were g c = λ d told k below.
+    let all : c.loop-k.k ≡ c.args.pages = search rules in
+    let i : ℕ = c.args.pages - (k + 1) in
+    let less : i < c.loop-k.k = omega (arith, all, below) in
+    let one = c.loop-k.invariant.found d told i less in
+    let back : c.args.pages - (i + 1) ≡ k = turned k c.args.pages below in
+    rw back at one

@@ -1,0 +1,74 @@
+-- What a label write does to disk and frames.
+use Rattle.std.specs.Prelude.{◌≡◌, ◌≢◌, ◌⊎◌, ℕ, ◌<◌, bit_or, true, false, List, [], ◌∷◌, Some, slice_get}
+use Rattle.labelled_disk.specs.declared.label.Label.{Label}
+use Rattle.labelled_disk.specs.declared.label.Wanted.{Wanted}
+use Rattle.labelled_disk.specs.declared.disk.DiskWrite.{DiskWrite}
+use Rattle.labelled_disk.specs.declared.evidence.Evidence.{Evidence}
+use Rattle.labelled_disk.specs.declared.evidence.Evidence.TheVariants.{Mismatch, Malformed, Missing}
+use Rattle.labelled_disk.specs.Label.{is_free, is_file, names}
+use Rattle.labelled_disk.specs.Sectors.{Sector}
+use Rattle.labelled_disk.specs.State.{DiskState, HasLabel}
+use Rattle.labelled_disk.specs.Moment.{written}
+use Rattle.labelled_disk.specs.WriteRuns.{Appended}
+use Rattle.frame_pool.specs.Frames.{Frame, Slots, Has}
+use Rattle.swapper_kernel.specs.Goes.{Goes, Makes, no_page}
+use Rattle.label_calls.specs.declared.page.Mark.{Mark}
+use Rattle.label_calls.specs.declared.page.Mark.TheVariants.{Permanent, Immutable}
+
+-- the label of a page of the space tables or of a file, or of a leader without marks
+pub record IsFresh (label : Label) : Type 0 where
+  pub of_file : ((label.page < 96) × (label ≡ record { id = 3; page = label.page; kind = 0; flags = 0; last = 0 })) ⊎ (is_file label ≡ true)
+  pub no_flags : label.flags ≡ 0
+
+-- the label with a mark more
+abbrev pub with_mark : Mark → Label → Label
+with_mark Permanent label = record label { flags = bit_or label.flags 1 }
+with_mark Immutable label = record label { flags = bit_or label.flags 2 }
+
+-- some labels
+abbrev pub Labels : Type 1
+Labels = Label → Type 0
+
+-- those of free sectors
+abbrev pub free_ones : Labels
+free_ones label = is_free label ≡ true
+
+-- those of this page
+abbrev pub ones_of : Wanted → Labels
+ones_of wanted label = names label wanted ≡ true
+
+-- no frame has the sector as its home
+abbrev pub IsUncovered : Slots → ℕ → Type 0
+IsUncovered slots sector = (i : ℕ) (f : Frame) → Has slots i f → f.home.sector ≢ sector
+
+-- the sector has one of these labels
+abbrev pub HasOne : Labels → List Sector → ℕ → Type 0
+HasOne labels sectors sector = (s : Sector) × (slice_get sectors sector ≡ Some s) × labels s.0
+
+-- The sector had one of these labels, and one lawful write gave it another. Where no frame is over the sector, the memory
+-- is what the write makes of it.
+pub record Relabels (labels : Labels) (sector : ℕ) (write : DiskWrite) (old : DiskState) (slots : Slots) (new : DiskState) : Type 0 where
+  pub found : (d : List Sector) → old.contents ≡ Some d → HasOne labels d sector
+  pub appended : Appended (write ∷ []) old new
+  pub makes : Makes no_page (write ∷ []) old slots new slots
+  pub goes : IsUncovered slots sector → Goes (λ m n. n ≡ written write m) no_page (write ∷ []) old slots new slots
+
+-- nothing was written, or the write was made
+abbrev pub MayHaveWritten : DiskWrite → DiskState → Slots → DiskState → Type 0
+MayHaveWritten write old slots new = Makes no_page [] old slots new slots ⊎ Makes no_page (write ∷ []) old slots new slots
+
+-- what is wanted where a sector is to be free
+abbrev pub nobody : Wanted
+nobody = record { id = 0; page = 0 }
+
+-- the evidence is the label of this sector, which isn't free
+abbrev pub IsTaken : ℕ → DiskState → Evidence → Type 0
+IsTaken k disk (Mismatch sector wanted found) = (sector ≡ k) × (wanted ≡ nobody) × HasLabel disk k found × (is_free found ≡ false)
+IsTaken k disk (Malformed window page) = ⊥
+IsTaken k disk (Missing id page) = ⊥
+
+-- the evidence is the label of this sector, which doesn't name this page
+abbrev pub IsNotOf : ℕ → Wanted → DiskState → Evidence → Type 0
+IsNotOf k w disk (Mismatch sector wanted found) = (sector ≡ k) × (wanted ≡ w) × HasLabel disk k found × (names found w ≡ false)
+IsNotOf k w disk (Malformed window page) = ⊥
+IsNotOf k w disk (Missing id page) = ⊥

@@ -1,0 +1,226 @@
+//! The label of one data sector.
+ghost use Rattle.std.specs.Prelude.{◌≡◌, ◌⊎◌, ◌<◌, ◌≤◌, ◌+◌, ℕ, List, [], Some, IfOk, IfErr, OnErr, OnOk};
+ghost use Rattle.labelled_disk.specs.declared.disk.DiskWrite.TheVariants as write;
+ghost use Rattle.labelled_disk.specs.declared.evidence.Halt.TheVariants as halt;
+ghost use Rattle.labelled_disk.specs.Label.{leader_page};
+ghost use Rattle.labelled_disk.specs.Runs.{zero_bytes};
+ghost use Rattle.labelled_disk.specs.Sectors.{Sector, free_label};
+ghost use Rattle.labelled_disk.specs.Calls.{Moves, Rose, TellsSame, TellsWrite};
+ghost use Rattle.labelled_disk.specs.State.{HasLabel};
+ghost use Rattle.labelled_disk.specs.declared.label.Label.{Label};
+ghost use Rattle.swapper_kernel.specs.Goes.{Makes, no_page};
+ghost use Rattle.swapper_kernel.specs.Halts.{HasCause};
+ghost use Rattle.swapper_kernel.specs.Stands.{Stands};
+ghost use Rattle.label_calls.specs.Labels.{IsFresh, HasOne, Relabels, MayHaveWritten, IsTaken, IsNotOf, free_ones, ones_of, with_mark};
+
+use labelled_disk::{Disk, Evidence, FileId, Halt, Label, Wanted};
+use std::alloc::Allocator;
+use swapper_kernel::SwapperOver;
+
+/// A mark that a file gets for good.
+#[derive(Clone, Copy, Debug, PartialEq, Eq)]
+pub enum Mark {
+    Permanent,
+    Immutable,
+}
+
+/// The page number of a leader.
+const LEADER: u32 = 4_294_967_295;
+
+impl Mark {
+    // The label with the mark.
+    fn on(self, label: Label) -> Label
+        ensures { result ≡ with_mark self label }
+    {
+        let bit = match self {
+            Mark::Permanent => 1,
+            Mark::Immutable => 2,
+        };
+        Label {
+            flags: label.flags | bit,
+            ..label
+        }
+    }
+}
+
+/// The label of a sector, as the disk has it.
+pub fn read_label<D: Disk, A: Allocator>(
+    swapper: &mut SwapperOver<D, A>,
+    sector: u32,
+) -> Result<Label, Halt>
+    requires { sector < (D.state swapper.old.under).sectors }
+    ensures found { IfOk result (HasLabel (D.state swapper.old.under) sector) }
+    ensures same { TellsSame (D.state swapper.old.under) (D.state swapper.new.under) }
+    ensures moves { Moves (D.state swapper.old.under) (D.state swapper.new.under) }
+    ensures makes { Makes no_page [] (D.state swapper.old.under) swapper.old.pool (D.state swapper.new.under) swapper.new.pool }
+    ensures cause { IfErr result (λ e. (e ≡ halt.Disk) × Rose (D.state swapper.old.under).faults (D.state swapper.new.under).faults) }
+    ensures frames { swapper.new.pool ≡ swapper.old.pool }
+    ensures layout { swapper.new.layout ≡ swapper.old.layout }
+{
+    let mut page = [0; 512];
+    let disk = swapper.disk_over();
+    match disk.read(sector, &mut page) {
+        Ok(label) => Ok(label),
+        Err(_) => Err(Halt::Disk),
+    }
+}
+
+// Writes a label over that of a data sector, whose page stays.
+fn write_label<D: Disk, A: Allocator>(
+    swapper: &mut SwapperOver<D, A>,
+    sector: u32,
+    label: Label,
+) -> Result<(), Halt>
+    requires { sector < (D.state swapper.old.under).sectors }
+    ensures writes { OnOk result (TellsWrite (write.LabelOnly sector label) (D.state swapper.old.under) (D.state swapper.new.under)) }
+    ensures stopped { OnErr result (TellsSame (D.state swapper.old.under) (D.state swapper.new.under) ⊎ TellsWrite (write.LabelOnly sector label) (D.state swapper.old.under) (D.state swapper.new.under)) }
+    ensures moves { Moves (D.state swapper.old.under) (D.state swapper.new.under) }
+    ensures cause { IfErr result (λ e. (e ≡ halt.Disk) × Rose (D.state swapper.old.under).faults (D.state swapper.new.under).faults) }
+    ensures frames { swapper.new.pool ≡ swapper.old.pool }
+    ensures layout { swapper.new.layout ≡ swapper.old.layout }
+{
+    let disk = swapper.disk_over();
+    match disk.write_label(sector, &label) {
+        Ok(()) => Ok(()),
+        Err(_) => Err(Halt::Disk),
+    }
+}
+
+// Writes a label and a page of zeros into a data sector.
+#[tactic(auto, unfolding(labelled_disk::specs::Runs::zero_bytes))]
+fn write_fresh<D: Disk, A: Allocator>(
+    swapper: &mut SwapperOver<D, A>,
+    sector: u32,
+    label: Label,
+) -> Result<(), Halt>
+    requires { sector < (D.state swapper.old.under).sectors }
+    ensures writes { OnOk result (TellsWrite (write.Whole sector label zero_bytes) (D.state swapper.old.under) (D.state swapper.new.under)) }
+    ensures stopped { OnErr result (TellsSame (D.state swapper.old.under) (D.state swapper.new.under) ⊎ TellsWrite (write.Whole sector label zero_bytes) (D.state swapper.old.under) (D.state swapper.new.under)) }
+    ensures moves { Moves (D.state swapper.old.under) (D.state swapper.new.under) }
+    ensures cause { IfErr result (λ e. (e ≡ halt.Disk) × Rose (D.state swapper.old.under).faults (D.state swapper.new.under).faults) }
+    ensures frames { swapper.new.pool ≡ swapper.old.pool }
+    ensures layout { swapper.new.layout ≡ swapper.old.layout }
+{
+    let disk = swapper.disk_over();
+    match disk.write(sector, &label, &[0; 512]) {
+        Ok(()) => Ok(()),
+        Err(_) => Err(Halt::Disk),
+    }
+}
+
+/// Gives a free data sector the label of a page, and a page of zeros.
+pub fn make_page<D: Disk, A: Allocator>(
+    swapper: &mut SwapperOver<D, A>,
+    sector: u32,
+    label: Label,
+) -> Result<(), Halt>
+    requires size { (D.state swapper.old.under).sectors ≡ swapper.old.layout.sectors }
+    requires data { swapper.old.layout.first ≤ sector }
+    requires inside { sector < swapper.old.layout.sectors }
+    requires form { IsFresh label }
+    ensures made { OnOk result (Relabels free_ones sector (write.Whole sector label zero_bytes) (D.state swapper.old.under) swapper.old.pool (D.state swapper.new.under)) }
+    ensures stopped { OnErr result (MayHaveWritten (write.Whole sector label zero_bytes) (D.state swapper.old.under) swapper.old.pool (D.state swapper.new.under)) }
+    ensures was { OnErr result (Makes no_page [] (D.state swapper.old.under) swapper.old.pool (D.state swapper.new.under) swapper.new.pool
+        ⊎ ((d : List Sector) → (D.state swapper.old.under).contents ≡ Some d → HasOne free_ones d sector)) }
+    ensures sound { (m : List Sector) → Stands (D.state swapper.old.under) swapper.old.pool m → HasOne free_ones m sector → IfErr result (λ e. e ≡ halt.Disk) }
+    ensures cause { IfErr result (HasCause (IsTaken sector (D.state swapper.old.under)) (D.state swapper.old.under) (D.state swapper.new.under)) }
+    ensures frames { swapper.new.pool ≡ swapper.old.pool }
+    ensures layout { swapper.new.layout ≡ swapper.old.layout }
+    ensures cost { (D.state swapper.new.under).transfers ≤ (D.state swapper.old.under).transfers + 2 }
+{
+    let found = match read_label(swapper, sector) {
+        Ok(found) => found,
+        Err(halt) => return Err(halt),
+    };
+    if !found.is_free() {
+        return Err(Halt::Damaged(Evidence::Mismatch {
+            sector,
+            wanted: Wanted { id: 0, page: 0 },
+            found,
+        }));
+    }
+    match write_fresh(swapper, sector, label) {
+        Ok(()) => (),
+        Err(halt) => return Err(halt),
+    }
+    Ok(())
+}
+
+/// Gives a data sector that has this page of a file, or of the space tables, a free label.
+pub fn free_page<D: Disk, A: Allocator>(
+    swapper: &mut SwapperOver<D, A>,
+    sector: u32,
+    wanted: Wanted,
+) -> Result<(), Halt>
+    requires size { (D.state swapper.old.under).sectors ≡ swapper.old.layout.sectors }
+    requires data { swapper.old.layout.first ≤ sector }
+    requires inside { sector < swapper.old.layout.sectors }
+    requires of_file { (wanted.id ≡ 3) ⊎ (16 ≤ wanted.id) }
+    ensures freed { OnOk result (Relabels (ones_of wanted) sector (write.LabelOnly sector free_label) (D.state swapper.old.under) swapper.old.pool (D.state swapper.new.under)) }
+    ensures stopped { OnErr result (MayHaveWritten (write.LabelOnly sector free_label) (D.state swapper.old.under) swapper.old.pool (D.state swapper.new.under)) }
+    ensures was { OnErr result (Makes no_page [] (D.state swapper.old.under) swapper.old.pool (D.state swapper.new.under) swapper.new.pool
+        ⊎ ((d : List Sector) → (D.state swapper.old.under).contents ≡ Some d → HasOne (ones_of wanted) d sector)) }
+    ensures sound { (m : List Sector) → Stands (D.state swapper.old.under) swapper.old.pool m → HasOne (ones_of wanted) m sector → IfErr result (λ e. e ≡ halt.Disk) }
+    ensures cause { IfErr result (HasCause (IsNotOf sector wanted (D.state swapper.old.under)) (D.state swapper.old.under) (D.state swapper.new.under)) }
+    ensures frames { swapper.new.pool ≡ swapper.old.pool }
+    ensures layout { swapper.new.layout ≡ swapper.old.layout }
+    ensures cost { (D.state swapper.new.under).transfers ≤ (D.state swapper.old.under).transfers + 2 }
+{
+    let found = match read_label(swapper, sector) {
+        Ok(found) => found,
+        Err(halt) => return Err(halt),
+    };
+    if !found.names(wanted) {
+        return Err(Halt::Damaged(Evidence::Mismatch {
+            sector,
+            wanted,
+            found,
+        }));
+    }
+    match write_label(swapper, sector, Label::FREE) {
+        Ok(()) => (),
+        Err(halt) => return Err(halt),
+    }
+    Ok(())
+}
+
+/// Gives the leader of a file, which stands in this data sector, a mark more.
+pub fn mark_leader<D: Disk, A: Allocator>(
+    swapper: &mut SwapperOver<D, A>,
+    sector: u32,
+    id: FileId,
+    mark: Mark,
+) -> Result<(), Halt>
+    requires size { (D.state swapper.old.under).sectors ≡ swapper.old.layout.sectors }
+    requires data { swapper.old.layout.first ≤ sector }
+    requires inside { sector < swapper.old.layout.sectors }
+    requires of_file { 16 ≤ id }
+    ensures marked { OnOk result ((label : Label) × Relabels (λ l. (l ≡ label) × ones_of (record { id = id; page = leader_page }) l) sector (write.LabelOnly sector (with_mark mark label)) (D.state swapper.old.under) swapper.old.pool (D.state swapper.new.under)) }
+    ensures stopped { OnErr result (Makes no_page [] (D.state swapper.old.under) swapper.old.pool (D.state swapper.new.under) swapper.new.pool
+        ⊎ ((label : Label) × HasLabel (D.state swapper.old.under) sector label × MayHaveWritten (write.LabelOnly sector (with_mark mark label)) (D.state swapper.old.under) swapper.old.pool (D.state swapper.new.under))) }
+    ensures was { OnErr result (Makes no_page [] (D.state swapper.old.under) swapper.old.pool (D.state swapper.new.under) swapper.new.pool
+        ⊎ ((d : List Sector) → (D.state swapper.old.under).contents ≡ Some d → HasOne (ones_of (record { id = id; page = leader_page })) d sector)) }
+    ensures sound { (m : List Sector) → Stands (D.state swapper.old.under) swapper.old.pool m → HasOne (ones_of (record { id = id; page = leader_page })) m sector → IfErr result (λ e. e ≡ halt.Disk) }
+    ensures cause { IfErr result (HasCause (IsNotOf sector (record { id = id; page = leader_page }) (D.state swapper.old.under)) (D.state swapper.old.under) (D.state swapper.new.under)) }
+    ensures frames { swapper.new.pool ≡ swapper.old.pool }
+    ensures layout { swapper.new.layout ≡ swapper.old.layout }
+    ensures cost { (D.state swapper.new.under).transfers ≤ (D.state swapper.old.under).transfers + 2 }
+{
+    let wanted = Wanted { id, page: LEADER };
+    let found = match read_label(swapper, sector) {
+        Ok(found) => found,
+        Err(halt) => return Err(halt),
+    };
+    if !found.names(wanted) {
+        return Err(Halt::Damaged(Evidence::Mismatch {
+            sector,
+            wanted,
+            found,
+        }));
+    }
+    match write_label(swapper, sector, mark.on(found)) {
+        Ok(()) => (),
+        Err(halt) => return Err(halt),
+    }
+    Ok(())
+}
