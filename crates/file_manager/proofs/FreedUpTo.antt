@@ -1,0 +1,106 @@
+-- The pages of a file up to one, freed in a loop over runs.
+use Rattle.std.proofs.Common.{◌≡◌, ℕ, zero, suc, ◌+◌, ◌-◌, ◌*◌, ◌<◌, ◌≤◌, List, [], refl, sym, ◌∙◌, ap, subst, arith}
+use Rattle.labelled_disk.specs.declared.layout.Layout.{Layout}
+use Rattle.labelled_disk.specs.Sectors.{Sector}
+use Rattle.labelled_disk.specs.State.{DiskState}
+use Rattle.frame_pool.specs.Frames.{Slots}
+use Rattle.file_map.specs.FileMap.{Triples}
+use Rattle.flat_machine.specs.declared.space.Space.{Space}
+use Rattle.swapper_kernel.specs.GoesLaws.{makes_nothing}
+use Rattle.filer_kernel.specs.declared.cached.CachedRuns.{CachedRuns}
+use Rattle.session_words.specs.Volume.{volume_page}
+use Rattle.file_manager.specs.Freeing.{MayFree, Freed, MakesFree}
+use Rattle.file_manager.proofs.FreedRun.{freed_then, freed_none, makes_free_then}
+
+pub record IsFreedTo (id from end page : ℕ) (d0 : DiskState) (s0 : Slots) (layout : Layout) (kept : CachedRuns) (d : DiskState) (s : Slots) (later : Layout) (runs : CachedRuns) : Type 0 where
+  pub above : from ≤ page
+  pub below : page ≤ end
+  pub same_layout : later ≡ layout
+  pub size : d.sectors ≡ later.sectors
+  pub cost : d.transfers ≤ d0.transfers + (page - from) * (16 + 4 * layout.vam)
+  pub makes : MakesFree (page - from) d0 s0 d s
+  pub told : (named : Triples) (spaces : List Space) (m : List Sector) → MayFree d0 s0 layout kept named spaces id from end m → Freed layout named spaces id from (page - from) end d0 s0 d s runs
+
+-- what a run costs is at most so much a page
+pub per_page : (p v : ℕ) → 1 ≤ p → 14 + 2 * p + 4 * v ≤ p * (16 + 4 * v)
+per_page zero v some = absurd (omega (arith, some))
+per_page (suc zero) v some = omega arith
+per_page (suc (suc q)) v some = let rest = per_page (suc q) v (omega arith) in omega (arith, rest)
+
+cost_then : (t0 t u a p v : ℕ) → 1 ≤ p → t ≤ t0 + a * (16 + 4 * v) → u ≤ t + (14 + 2 * p + 4 * v) → u ≤ t0 + (a + p) * (16 + 4 * v)
+cost_then t0 t u a p v some before here = let one = per_page p v some in omega (arith, one, before, here)
+
+pub to_cost : (t0 t u from page end v : ℕ) → from ≤ page → page < end → t ≤ t0 + (page - from) * (16 + 4 * v) → u ≤ t + (14 + 2 * (end - page) + 4 * v) → u ≤ t0 + (end - from) * (16 + 4 * v)
+to_cost t0 t u from page end v above below before here =
+    let all = cost_then t0 t u (page - from) (end - page) v (omega (arith, below)) before here in
+    subst (λ (n : ℕ). u ≤ t0 + n * (16 + 4 * v)) (let z : page - from + (end - page) ≡ end - from = omega (arith, above, below) in z) all
+
+-- no page yet
+pub to_none : (id from end : ℕ) (d0 : DiskState) (s0 : Slots) (layout : Layout) (kept : CachedRuns) → from ≤ end → d0.sectors ≡ layout.sectors → IsFreedTo id from end from d0 s0 layout kept d0 s0 layout kept
+to_none id from end d0 s0 layout kept order size =
+    let z : 0 ≡ from - from = omega arith in
+    record {
+      above = omega arith;
+      below = order;
+      same_layout = refl;
+      size = size;
+      cost = omega arith;
+      makes = subst (λ (n : ℕ). MakesFree n d0 s0 d0 s0) z (record { sectors = []; long = refl; makes = makes_nothing volume_page d0 s0 });
+      told = λ named spaces m may. subst (λ (n : ℕ). Freed layout named spaces id from n end d0 s0 d0 s0 kept) z (freed_none m may);
+    }
+
+-- and a run more
+pub to_then : {id from end page pages : ℕ} {d0 d e : DiskState} {s0 s t : Slots} {layout later last : Layout} {kept runs more : CachedRuns} → IsFreedTo id from end page d0 s0 layout kept d s later runs
+    → page < end → (1 ≤ pages) × (pages ≤ end - page) → last ≡ later → e.transfers ≤ d.transfers + (14 + 2 * pages + 4 * later.vam) → MakesFree pages d s e t
+    → ((named : Triples) (spaces : List Space) (m : List Sector) → MayFree d s later runs named spaces id page (page + (end - page)) m → Freed later named spaces id page pages (page + (end - page)) d s e t more)
+    → IsFreedTo id from end (page + pages) d0 s0 layout kept e t last more
+to_then {id = id} {from = from} {end = end} {page = page} {pages = pages} {d0 = d0} {d = d} {e = e} {s0 = s0} {s = s} {t = t} {layout = layout} {later = later} {last = last} {kept = kept} {runs = runs} {more = more} h under some same cost makes told =
+    let few = some.1 in
+    let whole : page + (end - page) ≡ end = omega (arith, under) in
+    let above = h.above in
+    let z : page - from + pages ≡ page + pages - from = omega (arith, above) in
+    let y : from + (page - from) ≡ page = omega (arith, above) in
+    let v : later.vam ≡ layout.vam = ap (λ (l : Layout). l.vam) h.same_layout in
+    record {
+      above = omega (arith, above);
+      below = omega (arith, under, few);
+      same_layout = same ∙ h.same_layout;
+      size = makes.makes.went.sectors ∙ h.size ∙ ap (λ (l : Layout). l.sectors) (sym same);
+      cost = subst (λ (n : ℕ). e.transfers ≤ d0.transfers + n * (16 + 4 * layout.vam)) z (cost_then d0.transfers d.transfers e.transfers (page - from) pages layout.vam some.0 h.cost (subst (λ (n : ℕ). e.transfers ≤ d.transfers + (14 + 2 * pages + 4 * n)) v cost));
+      makes = subst (λ (n : ℕ). MakesFree n d0 s0 e t) z (makes_free_then h.makes makes);
+      told = λ named spaces m may.
+          let first = h.told named spaces m may in
+          let rest : MayFree d s layout runs named spaces id page end first.memory = subst (λ (n : ℕ). MayFree d s layout runs named spaces id n end first.memory) y first.rest in
+          let open_rest = subst (λ (n : ℕ). MayFree d s later runs named spaces id page n first.memory) (sym whole) (subst (λ (l : Layout). MayFree d s l runs named spaces id page end first.memory) (sym h.same_layout) rest) in
+          let next = subst (λ (n : ℕ). Freed later named spaces id page pages n d s e t more) whole (told named spaces first.memory open_rest) in
+          let next_there = subst (λ (l : Layout). Freed l named spaces id page pages end d s e t more) h.same_layout next in
+          subst (λ (n : ℕ). Freed layout named spaces id from n end d0 s0 e t more) z
+          (freed_then first (subst (λ (n : ℕ). Freed layout named spaces id n pages end d s e t more) (sym y) next_there));
+    }
+
+module _ {id from end page : ℕ} {d0 d : DiskState} {s0 s : Slots} {layout later : Layout} {kept runs : CachedRuns} (h : IsFreedTo id from end page d0 s0 layout kept d s later runs) where
+  -- the rest may be freed
+  pub to_rest : page < end → (named : Triples) (spaces : List Space) (m : List Sector) → MayFree d0 s0 layout kept named spaces id from end m → (n : List Sector) × MayFree d s later runs named spaces id page (page + (end - page)) n
+  to_rest under named spaces m may =
+      let first = h.told named spaces m may in
+      let above = h.above in
+      let y : from + (page - from) ≡ page = omega (arith, above) in
+      let whole : page + (end - page) ≡ end = omega (arith, under) in
+      let rest : MayFree d s layout runs named spaces id page end first.memory = subst (λ (n : ℕ). MayFree d s layout runs named spaces id n end first.memory) y first.rest in
+      let there : MayFree d s later runs named spaces id page end first.memory = subst (λ (l : Layout). MayFree d s l runs named spaces id page end first.memory) (sym h.same_layout) rest in
+      (first.memory, subst (λ (n : ℕ). MayFree d s later runs named spaces id page n first.memory) (sym whole) there)
+
+  -- all are freed
+  pub to_all : page ≡ end → (named : Triples) (spaces : List Space) (m : List Sector) → MayFree d0 s0 layout kept named spaces id from end m → Freed layout named spaces id from (end - from) end d0 s0 d s runs
+  to_all all named spaces m may = subst (λ (n : ℕ). Freed layout named spaces id from (n - from) end d0 s0 d s runs) all (h.told named spaces m may)
+
+  pub to_made : page ≡ end → MakesFree (end - from) d0 s0 d s
+  to_made all = subst (λ (n : ℕ). MakesFree (n - from) d0 s0 d s) all h.makes
+
+  pub to_spent : page ≡ end → d.transfers ≤ d0.transfers + (end - from) * (16 + 4 * layout.vam)
+  to_spent all = subst (λ (n : ℕ). d.transfers ≤ d0.transfers + (n - from) * (16 + 4 * layout.vam)) all h.cost
+
+  pub to_stopped_cost : (e : DiskState) → page < end → e.transfers ≤ d.transfers + (14 + 2 * (end - page) + 4 * later.vam) → e.transfers ≤ d0.transfers + (end - from) * (16 + 4 * layout.vam)
+  to_stopped_cost e below here =
+      let v : later.vam ≡ layout.vam = ap (λ (l : Layout). l.vam) h.same_layout in
+      to_cost d0.transfers d.transfers e.transfers from page end layout.vam h.above below h.cost (subst (λ (n : ℕ). e.transfers ≤ d.transfers + (14 + 2 * (end - page) + 4 * n)) v here)

@@ -1,0 +1,16 @@
+pub mod BookLemmas
+pub mod MapOnce
+pub mod RowLemmas
+pub mod GrowSteps
+pub mod RunStages
+pub mod RunLeads
+pub mod UpLemmas
+pub mod UpTo
+pub mod LeaderLemmas
+pub mod FreedSectors
+pub mod FreedRun
+pub mod FreedUpTo
+pub mod AllFreed
+pub mod MayBeFreed
+pub mod MarkLemmas
+pub mod NextLemmas

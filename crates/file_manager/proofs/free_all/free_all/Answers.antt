@@ -1,0 +1,30 @@
+use Rattle.std.proofs.Common.{arith, ◌≤◌}
+use Rattle.labelled_disk.specs.Label.{leader_page}
+use Rattle.file_manager.proofs.FreedRun.{stops_then}
+use Rattle.file_manager.proofs.AllFreed.{may_rest, all_freed, all_made, one_page}
+use Rattle.file_manager.proofs.free_all.free_all.Goals as goal
+
+pub returns-in-Err-clause-sound : goal.returns-in-Err-clause-sound
+returns-in-Err-clause-sound g c = λ named spaces m all. c.in-Err.ensures.sound named spaces m all.leader
+
+pub returns-in-Err-free_up-clause-sound : goal.returns-in-Err-free_up-clause-sound
+returns-in-Err-free_up-clause-sound g c = λ named spaces m all.
+    let fits = c.ranges.pages.fits in
+    let few : c.args.pages ≤ leader_page = omega (arith, fits) in
+    let h = c.in-Ok.ensures.freed named spaces m all.leader in
+    (rw (c.in-Ok.ensures.layout) at c.in-Err-free_up.ensures.sound) named spaces h.memory (may_rest c.args.filer.now.swapper.accepted m all few (one_page c.in-Ok.ensures.some) h)
+
+pub returns-in-Err-free_up-clause-stopped : goal.returns-in-Err-free_up-clause-stopped
+returns-in-Err-free_up-clause-stopped g c = stops_then c.in-Ok.ensures.makes c.in-Err-free_up.ensures.stopped
+
+pub returns-in-Ok-free_up-clause-freed : goal.returns-in-Ok-free_up-clause-freed
+returns-in-Ok-free_up-clause-freed g c = λ named spaces m all.
+    let fits = c.ranges.pages.fits in
+    let few : c.args.pages ≤ leader_page = omega (arith, fits) in
+    let one = one_page c.in-Ok.ensures.some in
+    let h = c.in-Ok.ensures.freed named spaces m all.leader in
+    let next = (rw (c.in-Ok.ensures.layout) at c.in-Ok-free_up.ensures.freed) named spaces h.memory (may_rest c.args.filer.now.swapper.accepted m all few one h) in
+    all_freed c.args.filer.now.swapper.accepted m all few one h next
+
+pub returns-in-Ok-free_up-clause-makes : goal.returns-in-Ok-free_up-clause-makes
+returns-in-Ok-free_up-clause-makes g c = all_made c.args.pages (one_page c.in-Ok.ensures.some) c.in-Ok.ensures.makes c.in-Ok-free_up.ensures.makes

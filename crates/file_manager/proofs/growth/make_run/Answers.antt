@@ -1,0 +1,110 @@
+use Rattle.std.proofs.Common.{◌≡◌, [], sym, ◌∙◌, subst, refl, arith}
+use Rattle.labelled_disk.specs.declared.layout.Layout.{Layout}
+use Rattle.file_map.specs.Run.{IsRun}
+use Rattle.swapper_kernel.specs.declared.manager.Manager.TheVariants.{AllocationMap}
+use Rattle.swapper_kernel.specs.FormLaws.{memory_in_form}
+use Rattle.filer_kernel.specs.Cached.{runs_of}
+use Rattle.session_words.specs.Parts.{is_marked}
+use Rattle.file_manager.proofs.RowLemmas.{row_run}
+use Rattle.file_manager.proofs.RunStages.{one_free, marks_shown, bits_shown, maps_named, new_run, named_once, named_marked, room_left}
+use Rattle.file_manager.proofs.RunLeads.{map_makes, added_makes, stopped_labels, stopped_behind, run_in_form, none_over, ones_free, labelled, map_then, named_then, run_leads}
+use Rattle.file_manager.proofs.growth.make_run.Goals as goal
+
+pub returns-in-Err-clause-sound : goal.returns-in-Err-clause-sound
+returns-in-Err-clause-sound g c = λ x shapes spaces books hidden unowned some.
+    let layout = c.args.filer.now.swapper.layout in
+    let is = c.args.filer.now.swapper.accepted in
+    let runs = runs_of layout.sectors c.args.filer.now.runs in
+    let one = one_free layout is runs shapes x books.booked some in
+    c.in-Err.ensures.sound x (marks_shown layout is runs shapes x books.booked) one.0 books.stands (bits_shown layout is runs shapes x books.booked) (maps_named layout is runs shapes x books.booked AllocationMap) one.1 one.2 one.3
+
+pub returns-in-Err-clause-stopped : goal.returns-in-Err-clause-stopped
+returns-in-Err-clause-stopped g c = record { sectors = []; few = omega arith; count = 0; makes = map_makes c.in-Err.ensures.kept }
+
+pub returns-in-Err-label_run-clause-sound : goal.returns-in-Err-label_run-clause-sound
+returns-in-Err-label_run-clause-sound g c = λ x shapes spaces books hidden unowned some.
+    let layout = c.args.filer.now.swapper.layout in
+    let is = c.args.filer.now.swapper.accepted in
+    let kept = c.args.filer.now.runs in
+    let runs = runs_of layout.sectors kept in
+    let marks = marks_shown layout is runs shapes x books.booked in
+    let bits = bits_shown layout is runs shapes x books.booked in
+    let run = row_run c.args.id c.args.page c.in-Ok.taken.0 c.in-Ok.taken.1 in
+    let lowest = c.in-Ok.ensures.lowest x marks books.stands bits in
+    let taken = c.in-Ok.ensures.taken x marks books.stands bits in
+    c.in-Err-label_run.ensures.sound taken.memory taken.stands
+    (none_over layout is kept shapes spaces x _ _ books hidden run c.args.most _ _ _ c.in-Ok.ensures.kept c.in-Ok.ensures.form lowest taken)
+    (ones_free layout is kept shapes spaces x _ _ books hidden run c.args.most _ _ _ c.in-Ok.ensures.kept c.in-Ok.ensures.form lowest taken)
+
+pub returns-in-Err-label_run-clause-stopped : goal.returns-in-Err-label_run-clause-stopped
+returns-in-Err-label_run-clause-stopped g c =
+    stopped_labels (record { id = c.args.id; first = c.args.page; pages = c.in-Ok.taken.1; sector = c.in-Ok.taken.0 }) c.args.kind c.in-Ok.ensures.kept c.in-Err-label_run.ensures.frames c.args.most c.in-Ok.ensures.form.few c.in-Err-label_run.ensures.stopped
+
+pub add-requires-clause-form : goal.add-requires-clause-form
+add-requires-clause-form g c =
+    let lay = c.in-Ok-label_run.ensures.layout ∙ c.in-Ok.ensures.kept.layout in
+    subst (λ (l : Layout). IsRun l.sectors (record { id = c.args.id; first = c.args.page; pages = c.in-Ok.taken.1; sector = c.in-Ok.taken.0 })) (sym lay)
+    (run_in_form c.args.filer.now.swapper.layout c.args.id c.args.page c.args.most c.in-Ok.taken c.args.filer.now.swapper.accepted c.in-Ok.ensures.form c.requires.of_file c.ranges.id.fits c.requires.numbers)
+
+pub returns-in-Err-add-clause-sound : goal.returns-in-Err-add-clause-sound
+returns-in-Err-add-clause-sound g c = λ x shapes spaces books hidden unowned some.
+    let layout = c.args.filer.now.swapper.layout in
+    let is = c.args.filer.now.swapper.accepted in
+    let kept = c.args.filer.now.runs in
+    let runs = runs_of layout.sectors kept in
+    let marks = marks_shown layout is runs shapes x books.booked in
+    let bits = bits_shown layout is runs shapes x books.booked in
+    let run = row_run c.args.id c.args.page c.in-Ok.taken.0 c.in-Ok.taken.1 in
+    let lowest = c.in-Ok.ensures.lowest x marks books.stands bits in
+    let taken = c.in-Ok.ensures.taken x marks books.stands bits in
+    let frames = c.in-Ok-label_run.ensures.frames in
+    let lay : c.label_run.new.filer.swapper.layout ≡ layout = c.in-Ok-label_run.ensures.layout ∙ c.in-Ok.ensures.kept.layout in
+    let made = c.in-Ok-label_run.ensures.made in
+    let mid = labelled layout is kept shapes spaces x _ _ books hidden run c.args.most _ _ _ c.in-Ok.ensures.kept c.in-Ok.ensures.form lowest taken c.args.kind _ made in
+    let few = c.in-Ok.ensures.form.few in
+    (rw (frames, lay) at c.in-Err-add.ensures.sound) mid.0 books.booked.named (is_marked x) mid.1
+    (map_then layout is kept shapes spaces x _ _ books hidden run c.args.most _ _ _ c.in-Ok.ensures.kept c.in-Ok.ensures.form lowest taken c.args.kind _ made)
+    (new_run layout is runs shapes x books.booked c.args.id c.args.page c.in-Ok.taken.1 c.in-Ok.taken.0 (λ p above below. unowned p above (omega (arith, below, few))))
+    (named_then layout is kept shapes spaces x _ _ books hidden run c.args.most _ _ _ c.in-Ok.ensures.kept c.in-Ok.ensures.form lowest taken c.args.kind _ made)
+    (named_once layout is runs shapes x books.booked) (named_marked layout is runs shapes x books.booked) (room_left layout is runs shapes x books.booked some)
+
+pub returns-in-Err-add-clause-stopped : goal.returns-in-Err-add-clause-stopped
+returns-in-Err-add-clause-stopped g c =
+    stopped_behind (record { id = c.args.id; first = c.args.page; pages = c.in-Ok.taken.1; sector = c.in-Ok.taken.0 }) c.args.kind c.in-Ok.ensures.kept c.in-Ok-label_run.ensures.frames c.args.most c.in-Ok.ensures.form.few c.in-Ok-label_run.ensures.made c.in-Err-add.ensures.beside
+
+pub returns-clause-made : goal.returns-clause-made
+returns-clause-made g c = λ x shapes spaces books hidden unowned some.
+    let layout = c.args.filer.now.swapper.layout in
+    let is = c.args.filer.now.swapper.accepted in
+    let kept = c.args.filer.now.runs in
+    let runs = runs_of layout.sectors kept in
+    let marks = marks_shown layout is runs shapes x books.booked in
+    let bits = bits_shown layout is runs shapes x books.booked in
+    let run = row_run c.args.id c.args.page c.in-Ok.taken.0 c.in-Ok.taken.1 in
+    let lowest = c.in-Ok.ensures.lowest x marks books.stands bits in
+    let taken = c.in-Ok.ensures.taken x marks books.stands bits in
+    let frames = c.in-Ok-label_run.ensures.frames in
+    let lay : c.label_run.new.filer.swapper.layout ≡ layout = c.in-Ok-label_run.ensures.layout ∙ c.in-Ok.ensures.kept.layout in
+    let made = c.in-Ok-label_run.ensures.made in
+    let mid = labelled layout is kept shapes spaces x _ _ books hidden run c.args.most _ _ _ c.in-Ok.ensures.kept c.in-Ok.ensures.form lowest taken c.args.kind _ made in
+    let few = c.in-Ok.ensures.form.few in
+    let added = (rw (frames, lay) at c.in-Ok-add.ensures.added) mid.0 books.booked.named mid.1
+    (map_then layout is kept shapes spaces x _ _ books hidden run c.args.most _ _ _ c.in-Ok.ensures.kept c.in-Ok.ensures.form lowest taken c.args.kind _ made)
+    (new_run layout is runs shapes x books.booked c.args.id c.args.page c.in-Ok.taken.1 c.in-Ok.taken.0 (λ p above below. unowned p above (omega (arith, below, few)))) in
+    rw c.frames_of.ensures.same
+    (run_leads layout is kept shapes spaces x _ _ books hidden run c.args.most _ _ _ c.in-Ok.ensures.kept c.in-Ok.ensures.form lowest taken c.args.kind _ made
+    _ _ _ c.add.new.self.runs (c.in-Ok-add.ensures.runs ∙ c.in-Ok-label_run.ensures.runs ∙ c.in-Ok.ensures.runs) (rw (frames, lay) at c.in-Ok-add.ensures.beside) added
+    (λ y stands. memory_in_form _ _ y stands (g.met.D.Disk.in_form c.add.new.self.swapper.under stands.sectors stands.told) c.frames_of.ensures.pages))
+
+pub returns-clause-form : goal.returns-clause-form
+returns-clause-form g c = record {
+  form = run_in_form c.args.filer.now.swapper.layout c.args.id c.args.page c.args.most c.in-Ok.taken c.args.filer.now.swapper.accepted c.in-Ok.ensures.form c.requires.of_file c.ranges.id.fits c.requires.numbers;
+  same_id = refl;
+  same_first = refl;
+  few = c.in-Ok.ensures.form.few;
+}
+
+pub returns-clause-makes : goal.returns-clause-makes
+returns-clause-makes g c =
+    rw c.frames_of.ensures.same
+    (added_makes (record { id = c.args.id; first = c.args.page; pages = c.in-Ok.taken.1; sector = c.in-Ok.taken.0 }) c.args.kind c.in-Ok.ensures.kept c.in-Ok-label_run.ensures.frames c.in-Ok-label_run.ensures.made c.in-Ok-add.ensures.beside)

@@ -1,0 +1,30 @@
+use Rattle.std.proofs.Common.{rules, ◌≡◌, ◌<◌}
+use Rattle.file_manager.proofs.UpTo.{up_all, up_cost, up_none, up_more, up_sound, up_stopped}
+use Rattle.file_manager.proofs.growth.make_up.Goals as goal
+
+pub loop-page-init : goal.loop-page-init
+loop-page-init g c = up_none _ _ _ _ _ _ _ _ c.requires.order c.requires.size
+
+pub loop-page-preserved : goal.loop-page-preserved
+loop-page-preserved g c =
+    let below : c.loop-page.page < c.args.end = search rules in
+    up_more _ _ _ _ c.loop-page.page _ _ _ c.args.filer.now.swapper.accepted _ _ _ _ _ c.loop-page.invariant c.requires.numbers c.in-Ok.run' _ _ _ _ below c.in-Ok.ensures.form c.in-Ok.ensures.makes c.in-Ok.ensures.made c.in-Ok.ensures.layout c.in-Ok.ensures.runs c.in-Ok.ensures.cost_made
+
+pub returns-in-Err-clause-sound : goal.returns-in-Err-clause-sound
+returns-in-Err-clause-sound g c =
+    let below : c.loop-page.page < c.args.end = search rules in
+    up_sound _ c.args.kind _ _ c.loop-page.page _ _ _ c.args.filer.now.swapper.accepted _ _ _ _ _ c.loop-page.invariant c.requires.numbers c.in-Err.halt below c.in-Err.ensures.sound
+
+pub returns-in-Err-clause-stopped : goal.returns-in-Err-clause-stopped
+returns-in-Err-clause-stopped g c =
+    up_stopped _ _ _ _ c.loop-page.page _ _ _ c.args.filer.now.swapper.accepted _ _ _ _ _ c.loop-page.invariant c.requires.numbers _ _ c.loop-page.invariant.below c.in-Err.ensures.stopped
+
+pub returns-clause-made : goal.returns-clause-made
+returns-clause-made g c =
+    let all : c.loop-page.page ≡ c.args.end = search rules in
+    up_all _ _ _ _ c.loop-page.page _ _ _ _ _ _ _ _ all c.loop-page.invariant
+
+pub returns-in-Err-clause-cost : goal.returns-in-Err-clause-cost
+returns-in-Err-clause-cost g c =
+    let below : c.loop-page.page < c.args.end = search rules in
+    up_cost _ c.args.kind _ _ c.loop-page.page _ _ _ c.args.filer.now.swapper.accepted _ _ _ _ _ c.loop-page.invariant c.requires.numbers (g.D.Disk.state c.make_run.new.filer.swapper.under) below c.in-Err.ensures.cost

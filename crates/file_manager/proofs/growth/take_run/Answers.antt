@@ -1,0 +1,14 @@
+use Rattle.std.proofs.Common.{refl, sym, ◌∙◌, ◌≡◌}
+use Rattle.std.proofs.lemmas.Bool.{true≢false}
+use Rattle.alloc_map.specs.Runs.{IfMem}
+use Rattle.labelled_disk.specs.declared.evidence.Halt.TheVariants as halt
+use Rattle.file_manager.proofs.growth.take_run.Goals as goal
+
+pub returns-in-Err-NoRoom-clause-sound : goal.returns-in-Err-NoRoom-clause-sound
+returns-in-Err-NoRoom-clause-sound g c = λ m marks k stands bits named above below free.
+    absurd (true≢false (sym ((rw (c.in-Err-NoRoom.is, c.in-Err-NoRoom.field-0-is) at c.take.ensures.no_room) m marks stands bits refl k above below) ∙ free))
+
+pub returns-in-Err-Mem-clause-sound : goal.returns-in-Err-Mem-clause-sound
+returns-in-Err-Mem-clause-sound g c = λ m marks k stands bits named above below free.
+    let cause : IfMem (λ e. e ≡ halt.Disk) c.in-Err-Mem.field-0 = c.in-Err-Mem.ensures.sound m stands named in
+    rw (c.in-Err-Mem.field-0-is, c.in-Err-Mem.halt-is) at cause

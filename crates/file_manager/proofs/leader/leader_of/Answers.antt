@@ -1,0 +1,60 @@
+use Rattle.std.proofs.Common.{◌≡◌, true, Option, subst, rules}
+use Rattle.std.specs.Prelude.{IfSome}
+use Rattle.file_map.specs.declared.run.Run.{Run}
+use Rattle.labelled_disk.specs.Label.{leader_page}
+use Rattle.file_map.specs.Run.{holds, IsRun}
+use Rattle.file_map.specs.FileMap.{IsFound, IsNowhere}
+use Rattle.swapper_kernel.specs.declared.manager.Manager.TheVariants.{FileMap}
+use Rattle.swapper_kernel.specs.Homes.{IsLayout}
+use Rattle.file_manager.proofs.BookLemmas.{map_is, kept_are, map_named, own_maps, books_stay, no_leader, run_place}
+use Rattle.file_manager.proofs.leader.leader_of.Goals as goal
+
+pub returns-in-Ok-Some-clause-told : goal.returns-in-Ok-Some-clause-told
+returns-in-Ok-Some-clause-told g c = λ x shapes spaces books.
+    let is : IsLayout c.args.filer.now.swapper.layout = search rules in
+    let b = books.booked in
+    let here = c.in-Ok-Some.ensures.found x b.named books.stands (map_is _ _ shapes x is b) (kept_are _ _ shapes x is b) in
+    let found = subst (IsFound b.named c.args.id leader_page) c.in-Ok-Some.field-0-is here in
+    b.triples.only c.args.id leader_page _ (found.1 leader_page found.0)
+
+pub returns-in-Ok-Some-clause-same : goal.returns-in-Ok-Some-clause-same
+returns-in-Ok-Some-clause-same g c = λ x shapes spaces books.
+    let is : IsLayout c.args.filer.now.swapper.layout = search rules in
+    let b = books.booked in
+    let map = map_is _ _ shapes x is b in
+    books_stay _ _ _ _ _ _ _ shapes spaces x books (c.find.ensures.same x b.named books.stands map) (own_maps FileMap c.args.filer.now.swapper.layout _ _ c.find.ensures.beside.brings) (c.find.ensures.runs_are x b.named books.stands map (kept_are _ _ shapes x is b))
+
+pub returns-in-Ok-Some-clause-place : goal.returns-in-Ok-Some-clause-place
+returns-in-Ok-Some-clause-place g c =
+    let is : IsLayout c.args.filer.now.swapper.layout = search rules in
+    let form : IsRun c.args.filer.now.swapper.layout.sectors c.in-Ok-Some.run' = subst (λ (o : Option Run). IfSome o (λ run. IsRun c.args.filer.now.swapper.layout.sectors run)) c.in-Ok-Some.field-0-is c.in-Ok-Some.ensures.form in
+    let has : holds c.in-Ok-Some.run' c.args.id leader_page ≡ true = subst (λ (o : Option Run). IfSome o (λ run. holds run c.args.id leader_page ≡ true)) c.in-Ok-Some.field-0-is c.in-Ok-Some.ensures.holds in
+    run_place c.args.filer.now.swapper.layout c.in-Ok-Some.run' c.args.id leader_page is form has
+
+pub returns-in-Ok-None-clause-told : goal.returns-in-Ok-None-clause-told
+returns-in-Ok-None-clause-told g c = λ x shapes spaces books.
+    let is : IsLayout c.args.filer.now.swapper.layout = search rules in
+    let b = books.booked in
+    let here = c.in-Ok-None.ensures.found x b.named books.stands (map_is _ _ shapes x is b) (kept_are _ _ shapes x is b) in
+    let nowhere : IsNowhere b.named c.args.id leader_page = subst (IsFound b.named c.args.id leader_page) c.in-Ok-None.field-0-is here in
+    no_leader _ _ shapes x b c.args.id nowhere
+
+pub returns-in-Ok-None-clause-same : goal.returns-in-Ok-None-clause-same
+returns-in-Ok-None-clause-same g c = λ x shapes spaces books.
+    let is : IsLayout c.args.filer.now.swapper.layout = search rules in
+    let b = books.booked in
+    let map = map_is _ _ shapes x is b in
+    books_stay _ _ _ _ _ _ _ shapes spaces x books (c.find.ensures.same x b.named books.stands map) (own_maps FileMap c.args.filer.now.swapper.layout _ _ c.find.ensures.beside.brings) (c.find.ensures.runs_are x b.named books.stands map (kept_are _ _ shapes x is b))
+
+pub returns-in-Err-clause-told : goal.returns-in-Err-clause-told
+returns-in-Err-clause-told g c = λ x shapes spaces books.
+    let is : IsLayout c.args.filer.now.swapper.layout = search rules in
+    let b = books.booked in
+    c.in-Err.ensures.sound x b.named books.stands (map_is _ _ shapes x is b) (map_named _ x is b.long b.map_labels)
+
+pub returns-in-Err-clause-same : goal.returns-in-Err-clause-same
+returns-in-Err-clause-same g c = λ x shapes spaces books.
+    let is : IsLayout c.args.filer.now.swapper.layout = search rules in
+    let b = books.booked in
+    let map = map_is _ _ shapes x is b in
+    books_stay _ _ _ _ _ _ _ shapes spaces x books (c.find.ensures.same x b.named books.stands map) (own_maps FileMap c.args.filer.now.swapper.layout _ _ c.find.ensures.beside.brings) (c.find.ensures.runs_are x b.named books.stands map (kept_are _ _ shapes x is b))

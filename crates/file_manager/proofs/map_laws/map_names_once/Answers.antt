@@ -1,0 +1,5 @@
+use Rattle.file_manager.proofs.MapOnce.{named_once}
+use Rattle.file_manager.proofs.map_laws.map_names_once.Goals as goal
+
+pub returns : goal.returns
+returns c = named_once

@@ -1,0 +1,80 @@
+use Rattle.std.proofs.Common.{◌≡◌, ◌+◌, sym, ◌∙◌, ap, subst, arith}
+use Rattle.labelled_disk.specs.declared.layout.Layout.{Layout}
+use Rattle.swapper_kernel.specs.declared.manager.Manager.TheVariants.{AllocationMap, FileMap}
+use Rattle.filer_kernel.specs.declared.cached.CachedRuns.{CachedRuns}
+use Rattle.filer_kernel.specs.Cached.{runs_of}
+use Rattle.filer_kernel.specs.Triples.{AreOf}
+use Rattle.filer_kernel.specs.PlaceLaws.{data_first}
+use Rattle.file_manager.proofs.FreedRun.{none_over, ones, labelled, named_then, run_freed, run_makes, run_stops, all_stop, map_stops}
+use Rattle.file_manager.proofs.release.free_run.Goals as goal
+
+pub returns-in-Err-clause-sound : goal.returns-in-Err-clause-sound
+returns-in-Err-clause-sound g c = λ named spaces m may.
+    let all = may.mapped c.args.page (omega arith) (let some = c.requires.some in omega (arith, some)) in
+    c.in-Err.ensures.sound m named all.0 may.stands may.map (may.map_labels FileMap) all.1
+
+pub returns-in-Err-clause-stopped : goal.returns-in-Err-clause-stopped
+returns-in-Err-clause-stopped g c = map_stops c.part_of.ensures.beside
+
+pub free_labels-requires-clause-data : goal.free_labels-requires-clause-data
+free_labels-requires-clause-data g c =
+    let first = data_first c.args.filer.now.swapper.layout c.args.filer.now.swapper.accepted in
+    let lay : c.part_of.new.filer.swapper.layout.first ≡ c.args.filer.now.swapper.layout.first = ap (λ (l : Layout). l.first) c.part_of.ensures.beside.layout in
+    let from = c.in-Ok.ensures.form.form.from_data in
+    omega (arith, first, lay, from)
+
+pub returns-in-Err-free_labels-clause-sound : goal.returns-in-Err-free_labels-clause-sound
+returns-in-Err-free_labels-clause-sound g c = λ named spaces m may.
+    let layout = c.args.filer.now.swapper.layout in
+    let is = c.args.filer.now.swapper.accepted in
+    let all = c.in-Ok.ensures.named m named may.stands may.map may.kept in
+    let stands = c.part_of.ensures.same m named may.stands may.map in
+    c.in-Err-free_labels.ensures.sound m stands
+    (none_over layout is named spaces c.args.id c.args.page (c.args.page + c.args.most) c.requires.of_file m _ _ c.args.filer.now.runs may c.in-Ok.run' c.in-Ok.ensures.form all _ _ _ c.part_of.ensures.beside stands)
+    (ones layout is named spaces c.args.id c.args.page (c.args.page + c.args.most) c.requires.of_file m _ _ c.args.filer.now.runs may c.in-Ok.run' c.in-Ok.ensures.form all _ _ _ c.part_of.ensures.beside stands)
+
+pub returns-in-Err-free_labels-clause-stopped : goal.returns-in-Err-free_labels-clause-stopped
+returns-in-Err-free_labels-clause-stopped g c = run_stops c.in-Ok.run' c.part_of.ensures.beside c.in-Err-free_labels.ensures.frames c.in-Err-free_labels.ensures.stopped
+
+pub give-requires-clause-data : goal.give-requires-clause-data
+give-requires-clause-data g c =
+    let first = data_first c.args.filer.now.swapper.layout c.args.filer.now.swapper.accepted in
+    let lay : c.free_labels.new.filer.swapper.layout.first ≡ c.args.filer.now.swapper.layout.first = ap (λ (l : Layout). l.first) (c.in-Ok-free_labels.ensures.layout ∙ c.part_of.ensures.beside.layout) in
+    let from = c.in-Ok.ensures.form.form.from_data in
+    omega (arith, first, lay, from)
+
+pub returns-in-Err-give-clause-sound : goal.returns-in-Err-give-clause-sound
+returns-in-Err-give-clause-sound g c = λ named spaces m may.
+    let layout = c.args.filer.now.swapper.layout in
+    let is = c.args.filer.now.swapper.accepted in
+    let all = c.in-Ok.ensures.named m named may.stands may.map may.kept in
+    let stands = c.part_of.ensures.same m named may.stands may.map in
+    let frames = c.in-Ok-free_labels.ensures.frames in
+    let lay : c.free_labels.new.filer.swapper.layout ≡ layout = c.in-Ok-free_labels.ensures.layout ∙ c.part_of.ensures.beside.layout in
+    let made = c.in-Ok-free_labels.ensures.freed in
+    let mid = labelled layout is named spaces c.args.id c.args.page (c.args.page + c.args.most) c.requires.of_file m _ _ c.args.filer.now.runs may c.in-Ok.run' c.in-Ok.ensures.form all _ _ _ c.part_of.ensures.beside stands _ made in
+    (rw (frames, lay) at c.in-Err-give.ensures.sound) mid.0 mid.1
+    (named_then layout is named spaces c.args.id c.args.page (c.args.page + c.args.most) c.requires.of_file m _ _ c.args.filer.now.runs may c.in-Ok.run' c.in-Ok.ensures.form all _ _ _ c.part_of.ensures.beside stands _ made AllocationMap)
+
+pub returns-in-Err-give-clause-stopped : goal.returns-in-Err-give-clause-stopped
+returns-in-Err-give-clause-stopped g c = all_stop (run_makes c.in-Ok.run' c.part_of.ensures.beside c.in-Ok-free_labels.ensures.frames c.in-Ok-free_labels.ensures.freed c.in-Err-give.ensures.kept)
+
+pub returns-clause-freed : goal.returns-clause-freed
+returns-clause-freed g c = λ named spaces m may.
+    let layout = c.args.filer.now.swapper.layout in
+    let is = c.args.filer.now.swapper.accepted in
+    let all = c.in-Ok.ensures.named m named may.stands may.map may.kept in
+    let stands = c.part_of.ensures.same m named may.stands may.map in
+    let frames = c.in-Ok-free_labels.ensures.frames in
+    let lay : c.free_labels.new.filer.swapper.layout ≡ layout = c.in-Ok-free_labels.ensures.layout ∙ c.part_of.ensures.beside.layout in
+    let made = c.in-Ok-free_labels.ensures.freed in
+    let mid = labelled layout is named spaces c.args.id c.args.page (c.args.page + c.args.most) c.requires.of_file m _ _ c.args.filer.now.runs may c.in-Ok.run' c.in-Ok.ensures.form all _ _ _ c.part_of.ensures.beside stands _ made in
+    let kept = c.part_of.ensures.kept m named may.stands may.map may.kept in
+    let same_runs : c.give.new.self.runs ≡ c.part_of.new.filer.runs = c.in-Ok-give.ensures.runs ∙ c.in-Ok-free_labels.ensures.runs in
+    let given = rw (frames, lay) at c.in-Ok-give.ensures.given in
+    run_freed layout is named spaces c.args.id c.args.page (c.args.page + c.args.most) c.requires.of_file m _ _ c.args.filer.now.runs may c.in-Ok.run' c.in-Ok.ensures.form all _ _ _ c.part_of.ensures.beside stands _ made
+    _ _ _ c.give.new.self.runs (subst (λ (r : CachedRuns). AreOf named (runs_of layout.sectors r)) (sym same_runs) kept) (rw (frames, lay) at c.in-Ok-give.ensures.kept)
+    (λ marks bits. given mid.0 marks mid.1 bits)
+
+pub returns-clause-makes : goal.returns-clause-makes
+returns-clause-makes g c = run_makes c.in-Ok.run' c.part_of.ensures.beside c.in-Ok-free_labels.ensures.frames c.in-Ok-free_labels.ensures.freed c.in-Ok-give.ensures.kept

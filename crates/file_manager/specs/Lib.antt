@@ -1,0 +1,4 @@
+pub mod Book
+pub mod Freeing
+pub mod Answer
+pub mod Making

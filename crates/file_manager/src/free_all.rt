@@ -1,0 +1,42 @@
+//! All pages of a file that become free, its leader first.
+ghost use Rattle.std.specs.Prelude.{◌≡◌, ℕ, ◌+◌, ◌*◌, ◌≤◌, List, IfErr, OnErr, OnOk};
+ghost use Rattle.labelled_disk.specs.declared.evidence.Halt.TheVariants as halt;
+ghost use Rattle.labelled_disk.specs.Sectors.{Sector};
+ghost use Rattle.file_map.specs.FileMap.{Triples};
+ghost use Rattle.flat_machine.specs.declared.space.Space.{Space};
+ghost use Rattle.file_manager.specs.Freeing.{MayFreeAll, FreedAll, MakesFree, MakesSomeFree};
+
+use crate::release::{free_run, free_up};
+use filer_kernel::FilerOver;
+use labelled_disk::{Disk, FileId, Halt};
+use std::alloc::Allocator;
+
+/// The page number of a leader.
+const LEADER: u32 = 4_294_967_295;
+
+// Frees the leader of a file, and then its pages from 0 up. The file map stays.
+pub(crate) fn free_all<D: Disk, A: Allocator>(
+    filer: &mut FilerOver<D, A>,
+    id: FileId,
+    pages: u32,
+) -> Result<(), Halt>
+    requires size { (D.state filer.old.swapper.under).sectors ≡ filer.old.swapper.layout.sectors }
+    requires of_file { 16 ≤ id }
+    ensures freed { (named : Triples) (spaces : List Space) (m : List Sector) → MayFreeAll (D.state filer.old.swapper.under) filer.old.swapper.pool filer.old.swapper.layout filer.old.runs named spaces id pages m
+        → OnOk result (FreedAll filer.old.swapper.layout named spaces id pages (D.state filer.old.swapper.under) filer.old.swapper.pool (D.state filer.new.swapper.under) filer.new.swapper.pool filer.new.runs) }
+    ensures sound { (named : Triples) (spaces : List Space) (m : List Sector) → MayFreeAll (D.state filer.old.swapper.under) filer.old.swapper.pool filer.old.swapper.layout filer.old.runs named spaces id pages m
+        → IfErr result (λ e. e ≡ halt.Disk) }
+    ensures makes { OnOk result (MakesFree (1 + pages) (D.state filer.old.swapper.under) filer.old.swapper.pool (D.state filer.new.swapper.under) filer.new.swapper.pool) }
+    ensures stopped { OnErr result (MakesSomeFree (D.state filer.old.swapper.under) filer.old.swapper.pool (D.state filer.new.swapper.under) filer.new.swapper.pool) }
+    ensures layout { filer.new.swapper.layout ≡ filer.old.swapper.layout }
+    ensures cost { (D.state filer.new.swapper.under).transfers ≤ (D.state filer.old.swapper.under).transfers + (1 + pages) * (16 + 4 * filer.old.swapper.layout.vam) }
+{
+    match free_run(filer, id, LEADER, 1) {
+        Ok(_) => (),
+        Err(halt) => return Err(halt),
+    }
+    match free_up(filer, id, 0, pages) {
+        Ok(()) => Ok(()),
+        Err(halt) => Err(halt),
+    }
+}

@@ -1,0 +1,50 @@
+//! Files that get more pages.
+ghost use Rattle.std.specs.Prelude.{◌≡◌, ◌+◌, ◌-◌, ◌*◌, ◌≤◌, ◌<◌, true, List, IfErr, OnErr, OnOk, min};
+ghost use Rattle.labelled_disk.specs.declared.evidence.Halt.TheVariants as halt;
+ghost use Rattle.labelled_disk.specs.Label.{is_file_id};
+ghost use Rattle.labelled_disk.specs.Sectors.{Sector};
+ghost use Rattle.flat_machine.specs.declared.space.Space.{Space};
+ghost use Rattle.session_words.specs.Parts.{Shape, Shapes};
+ghost use Rattle.file_manager.specs.Making.{MayGrow, GrownBy, MakesAll, MakesSome};
+
+use crate::Volume;
+use crate::growth::make_up;
+use filer_kernel::FilerOver;
+use labelled_disk::{Disk, FileId, Halt};
+use std::alloc::Allocator;
+
+/// Gives a file more pages, of zeros: it has so many, and is to have others up to `pages`.
+pub fn grow<D: Disk, A: Allocator>(
+    filer: &mut FilerOver<D, A>,
+    volume: &mut Volume,
+    id: FileId,
+    kind: u16,
+    size: u32,
+    pages: u32,
+) -> Result<(), Halt>
+    requires sectors { (D.state filer.old.swapper.under).sectors ≡ filer.old.swapper.layout.sectors }
+    requires of_file { is_file_id id ≡ true }
+    requires order { size ≤ pages }
+    requires numbers { pages < 4294967295 }
+    ensures grown { (x : List Sector) (shapes : Shapes) (spaces : List Space) (f : Shape) → MayGrow (D.state filer.old.swapper.under) filer.old.swapper.pool filer.old.swapper.layout filer.old.runs shapes spaces id f pages x → f.size ≡ size
+        → OnOk result (GrownBy id kind size (pages - size) (D.state filer.old.swapper.under) filer.old.swapper.pool filer.old.swapper.layout (D.state filer.new.swapper.under) filer.new.swapper.pool filer.new.runs) }
+    ensures sound { (x : List Sector) (shapes : Shapes) (spaces : List Space) (f : Shape) → MayGrow (D.state filer.old.swapper.under) filer.old.swapper.pool filer.old.swapper.layout filer.old.runs shapes spaces id f pages x → f.size ≡ size
+        → IfErr result (λ e. e ≡ halt.Disk) }
+    ensures makes { OnOk result (MakesAll id kind size (pages - size) (D.state filer.old.swapper.under) filer.old.swapper.pool (D.state filer.new.swapper.under) filer.new.swapper.pool) }
+    ensures stopped { OnErr result (MakesSome id kind size (pages - size) (D.state filer.old.swapper.under) filer.old.swapper.pool (D.state filer.new.swapper.under) filer.new.swapper.pool) }
+    ensures used { OnOk result (volume.new ≡ record volume.old { used = min (volume.old.used + (pages - size)) volume.old.layout.capacity }) }
+    ensures same_volume { OnErr result (volume.new ≡ volume.old) }
+    ensures layout { filer.new.swapper.layout ≡ filer.old.swapper.layout }
+    ensures runs { filer.new.runs ≡ filer.old.runs }
+    ensures cost { (D.state filer.new.swapper.under).transfers ≤ (D.state filer.old.swapper.under).transfers + (pages - size) * (8 * filer.old.swapper.layout.vam + 100) }
+{
+    match make_up(filer, id, kind, size, pages) {
+        Ok(()) => (),
+        Err(halt) => return Err(halt),
+    }
+    volume.used = volume
+        .used
+        .saturating_add(pages - size)
+        .min(volume.layout.capacity);
+    Ok(())
+}

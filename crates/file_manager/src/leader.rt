@@ -1,0 +1,45 @@
+//! Where the leader of a file stands.
+ghost use Rattle.std.specs.Prelude.{◌≡◌, ℕ, ◌+◌, ◌≤◌, ◌<◌, List, [], IfOk, IfErr, IfSome, MatchResult, OnOk};
+ghost use Rattle.labelled_disk.specs.Sectors.{Sector};
+ghost use Rattle.labelled_disk.specs.declared.evidence.Halt.TheVariants as halt;
+ghost use Rattle.flat_machine.specs.declared.space.Space.{Space};
+ghost use Rattle.swapper_kernel.specs.Goes.{Makes};
+ghost use Rattle.swapper_kernel.specs.Stands.{labels_of};
+ghost use Rattle.session_words.specs.Parts.{Shapes};
+ghost use Rattle.session_words.specs.Volume.{volume_page};
+ghost use Rattle.filer_kernel.specs.Cached.{runs_of};
+ghost use Rattle.filer_kernel.specs.Causes.{MapHalts};
+ghost use Rattle.file_manager.specs.Answer.{IsLeaderOf};
+ghost use Rattle.file_manager.specs.Book.{Books, BringsOwn};
+
+use filer_kernel::FilerOver;
+use labelled_disk::{Disk, FileId, Halt};
+use std::alloc::Allocator;
+
+/// The page number of a leader.
+pub(crate) const LEADER: u32 = 4_294_967_295;
+
+// The sector of the leader of a file, or none where the file map has no leader of it.
+pub(crate) fn leader_of<D: Disk, A: Allocator>(
+    filer: &mut FilerOver<D, A>,
+    id: FileId,
+) -> Result<Option<u32>, Halt>
+    requires size { (D.state filer.old.swapper.under).sectors ≡ filer.old.swapper.layout.sectors }
+    requires client { 16 ≤ id }
+    ensures told { (x : List Sector) (shapes : Shapes) (spaces : List Space) → Books (D.state filer.old.swapper.under) filer.old.swapper.pool filer.old.swapper.layout filer.old.runs shapes spaces x
+        → MatchResult result (IsLeaderOf (labels_of x) shapes id) (λ e. e ≡ halt.Disk) }
+    ensures same { (x : List Sector) (shapes : Shapes) (spaces : List Space) → Books (D.state filer.old.swapper.under) filer.old.swapper.pool filer.old.swapper.layout filer.old.runs shapes spaces x
+        → Books (D.state filer.new.swapper.under) filer.new.swapper.pool filer.old.swapper.layout filer.new.runs shapes spaces x }
+    ensures place { IfOk result (λ found. IfSome found (λ sector. (filer.old.swapper.layout.first ≤ sector) × (sector < filer.old.swapper.layout.sectors))) }
+    ensures makes { Makes volume_page [] (D.state filer.old.swapper.under) filer.old.swapper.pool (D.state filer.new.swapper.under) filer.new.swapper.pool }
+    ensures brings { BringsOwn filer.old.swapper.pool filer.new.swapper.pool }
+    ensures cause { IfErr result (MapHalts filer.old.swapper.layout (D.state filer.old.swapper.under) filer.old.swapper.pool (D.state filer.new.swapper.under)) }
+    ensures layout { filer.new.swapper.layout ≡ filer.old.swapper.layout }
+    ensures cost { (D.state filer.new.swapper.under).transfers ≤ (D.state filer.old.swapper.under).transfers + 14 }
+{
+    match filer.find(id, LEADER) {
+        Ok(Some(run)) => Ok(Some(run.sector + (LEADER - run.first))),
+        Ok(None) => Ok(None),
+        Err(halt) => Err(halt),
+    }
+}

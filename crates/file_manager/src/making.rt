@@ -1,0 +1,46 @@
+//! Leader and pages of a new file.
+ghost use Rattle.std.specs.Prelude.{◌≡◌, ◌+◌, ◌*◌, ◌≤◌, ◌<◌, true, List, IfErr, OnErr, OnOk};
+ghost use Rattle.labelled_disk.specs.declared.evidence.Halt.TheVariants as halt;
+ghost use Rattle.labelled_disk.specs.Label.{is_file_id};
+ghost use Rattle.labelled_disk.specs.Sectors.{Sector};
+ghost use Rattle.flat_machine.specs.declared.space.Space.{Space};
+ghost use Rattle.session_words.specs.Parts.{Shapes};
+ghost use Rattle.file_manager.specs.Making.{MayCreate, CreatedBy, CreatesAll, CreatesSome};
+
+use crate::growth::{make_run, make_up};
+use filer_kernel::FilerOver;
+use labelled_disk::{Disk, FileId, Halt};
+use std::alloc::Allocator;
+
+/// The page number of a leader.
+const LEADER: u32 = 4_294_967_295;
+
+/// Makes the leader of a file that there is not yet, and then so many pages of zeros.
+pub fn make_file<D: Disk, A: Allocator>(
+    filer: &mut FilerOver<D, A>,
+    id: FileId,
+    kind: u16,
+    pages: u32,
+) -> Result<(), Halt>
+    requires size { (D.state filer.old.swapper.under).sectors ≡ filer.old.swapper.layout.sectors }
+    requires of_file { is_file_id id ≡ true }
+    requires numbers { pages < 4294967295 }
+    ensures made { (x : List Sector) (shapes : Shapes) (spaces : List Space) → MayCreate (D.state filer.old.swapper.under) filer.old.swapper.pool filer.old.swapper.layout filer.old.runs shapes spaces id pages x
+        → OnOk result (CreatedBy id kind pages (D.state filer.old.swapper.under) filer.old.swapper.pool filer.old.swapper.layout (D.state filer.new.swapper.under) filer.new.swapper.pool filer.new.runs) }
+    ensures sound { (x : List Sector) (shapes : Shapes) (spaces : List Space) → MayCreate (D.state filer.old.swapper.under) filer.old.swapper.pool filer.old.swapper.layout filer.old.runs shapes spaces id pages x → IfErr result (λ e. e ≡ halt.Disk) }
+    ensures makes { OnOk result (CreatesAll id kind pages (D.state filer.old.swapper.under) filer.old.swapper.pool (D.state filer.new.swapper.under) filer.new.swapper.pool) }
+    ensures stopped { OnErr result (CreatesSome id kind (D.state filer.old.swapper.under) filer.old.swapper.pool (D.state filer.new.swapper.under) filer.new.swapper.pool) }
+    ensures layout { filer.new.swapper.layout ≡ filer.old.swapper.layout }
+    ensures runs { filer.new.runs ≡ filer.old.runs }
+    ensures cost { (D.state filer.new.swapper.under).transfers ≤ (D.state filer.old.swapper.under).transfers + (8 * filer.old.swapper.layout.vam + 100 + pages * (8 * filer.old.swapper.layout.vam + 100)) }
+{
+    match make_run(filer, id, kind, LEADER, 1) {
+        Ok(_run) => (),
+        Err(halt) => return Err(halt),
+    }
+    match make_up(filer, id, kind, 0, pages) {
+        Ok(()) => (),
+        Err(halt) => return Err(halt),
+    }
+    Ok(())
+}

@@ -1,0 +1,95 @@
+//! Marks that a file gets for good.
+ghost use Rattle.std.specs.Prelude.{◌≡◌, ◌+◌, ◌≤◌, false, List, Some, IfErr, OnOk};
+ghost use Rattle.labelled_disk.specs.declared.evidence.Halt.TheVariants as halt;
+ghost use Rattle.labelled_disk.specs.Label.{leader_page};
+ghost use Rattle.labelled_disk.specs.Sectors.{Sector};
+ghost use Rattle.flat_machine.specs.declared.space.Space.{Space};
+ghost use Rattle.session_words.specs.FrameLaws.{is_shown};
+ghost use Rattle.session_words.specs.Parts.{Shape, Shapes};
+ghost use Rattle.label_calls.specs.Labels.{with_mark};
+ghost use Rattle.label_laws.specs.Marks.{permanent_label, immutable_label};
+ghost use Rattle.label_calls.specs.declared.page.Mark.TheVariants.{Permanent, Immutable};
+ghost use Rattle.file_manager.specs.Answer.{IsMarked, WritesMark};
+ghost use Rattle.file_manager.specs.Book.{Books};
+
+use crate::leader::{LEADER, leader_of};
+use filer_kernel::FilerOver;
+use label_calls::{Mark, mark_leader};
+use labelled_disk::{Disk, Evidence, FileId, Halt};
+use std::alloc::Allocator;
+
+// Gives a file a mark.
+fn mark<D: Disk, A: Allocator>(
+    filer: &mut FilerOver<D, A>,
+    id: FileId,
+    mark: Mark,
+) -> Result<(), Halt>
+    requires size { (D.state filer.old.swapper.under).sectors ≡ filer.old.swapper.layout.sectors }
+    requires client { 16 ≤ id }
+    ensures told { (x : List Sector) (shapes : Shapes) (spaces : List Space) (f : Shape) → Books (D.state filer.old.swapper.under) filer.old.swapper.pool filer.old.swapper.layout filer.old.runs shapes spaces x
+        → shapes id ≡ Some f → is_shown spaces id leader_page ≡ false
+        → OnOk result (IsMarked id (with_mark mark) x (D.state filer.old.swapper.under) filer.old.swapper.pool filer.old.swapper.layout (D.state filer.new.swapper.under) filer.new.swapper.pool filer.new.runs) }
+    ensures sound { (x : List Sector) (shapes : Shapes) (spaces : List Space) (f : Shape) → Books (D.state filer.old.swapper.under) filer.old.swapper.pool filer.old.swapper.layout filer.old.runs shapes spaces x
+        → shapes id ≡ Some f → IfErr result (λ e. e ≡ halt.Disk) }
+    ensures makes { WritesMark mark (D.state filer.old.swapper.under) filer.old.swapper.pool (D.state filer.new.swapper.under) filer.new.swapper.pool }
+    ensures layout { filer.new.swapper.layout ≡ filer.old.swapper.layout }
+    ensures cost { (D.state filer.new.swapper.under).transfers ≤ (D.state filer.old.swapper.under).transfers + 16 }
+{
+    let sector = match leader_of(filer, id) {
+        Ok(Some(sector)) => sector,
+        Ok(None) => {
+            return Err(Halt::Damaged(Evidence::Missing { id, page: LEADER }));
+        }
+        Err(halt) => return Err(halt),
+    };
+    let swapper = filer.swapper_over();
+    match mark_leader(swapper, sector, id, mark) {
+        Ok(()) => (),
+        Err(halt) => return Err(halt),
+    }
+    Ok(())
+}
+
+/// Makes a file permanent for good: its leader gets the mark, in one write. No window shows the leader's page.
+pub fn make_permanent<D: Disk, A: Allocator>(
+    filer: &mut FilerOver<D, A>,
+    id: FileId,
+) -> Result<(), Halt>
+    requires size { (D.state filer.old.swapper.under).sectors ≡ filer.old.swapper.layout.sectors }
+    requires client { 16 ≤ id }
+    ensures told { (x : List Sector) (shapes : Shapes) (spaces : List Space) (f : Shape) → Books (D.state filer.old.swapper.under) filer.old.swapper.pool filer.old.swapper.layout filer.old.runs shapes spaces x
+        → shapes id ≡ Some f → is_shown spaces id leader_page ≡ false
+        → OnOk result (IsMarked id permanent_label x (D.state filer.old.swapper.under) filer.old.swapper.pool filer.old.swapper.layout (D.state filer.new.swapper.under) filer.new.swapper.pool filer.new.runs) }
+    ensures sound { (x : List Sector) (shapes : Shapes) (spaces : List Space) (f : Shape) → Books (D.state filer.old.swapper.under) filer.old.swapper.pool filer.old.swapper.layout filer.old.runs shapes spaces x
+        → shapes id ≡ Some f → IfErr result (λ e. e ≡ halt.Disk) }
+    ensures makes { WritesMark Permanent (D.state filer.old.swapper.under) filer.old.swapper.pool (D.state filer.new.swapper.under) filer.new.swapper.pool }
+    ensures layout { filer.new.swapper.layout ≡ filer.old.swapper.layout }
+    ensures cost { (D.state filer.new.swapper.under).transfers ≤ (D.state filer.old.swapper.under).transfers + 16 }
+{
+    match mark(filer, id, Mark::Permanent) {
+        Ok(()) => Ok(()),
+        Err(halt) => Err(halt),
+    }
+}
+
+/// Makes a file immutable for good: its leader gets the mark, in one write. No window shows the leader's page.
+pub fn make_immutable<D: Disk, A: Allocator>(
+    filer: &mut FilerOver<D, A>,
+    id: FileId,
+) -> Result<(), Halt>
+    requires size { (D.state filer.old.swapper.under).sectors ≡ filer.old.swapper.layout.sectors }
+    requires client { 16 ≤ id }
+    ensures told { (x : List Sector) (shapes : Shapes) (spaces : List Space) (f : Shape) → Books (D.state filer.old.swapper.under) filer.old.swapper.pool filer.old.swapper.layout filer.old.runs shapes spaces x
+        → shapes id ≡ Some f → is_shown spaces id leader_page ≡ false
+        → OnOk result (IsMarked id immutable_label x (D.state filer.old.swapper.under) filer.old.swapper.pool filer.old.swapper.layout (D.state filer.new.swapper.under) filer.new.swapper.pool filer.new.runs) }
+    ensures sound { (x : List Sector) (shapes : Shapes) (spaces : List Space) (f : Shape) → Books (D.state filer.old.swapper.under) filer.old.swapper.pool filer.old.swapper.layout filer.old.runs shapes spaces x
+        → shapes id ≡ Some f → IfErr result (λ e. e ≡ halt.Disk) }
+    ensures makes { WritesMark Immutable (D.state filer.old.swapper.under) filer.old.swapper.pool (D.state filer.new.swapper.under) filer.new.swapper.pool }
+    ensures layout { filer.new.swapper.layout ≡ filer.old.swapper.layout }
+    ensures cost { (D.state filer.new.swapper.under).transfers ≤ (D.state filer.old.swapper.under).transfers + 16 }
+{
+    match mark(filer, id, Mark::Immutable) {
+        Ok(()) => Ok(()),
+        Err(halt) => Err(halt),
+    }
+}

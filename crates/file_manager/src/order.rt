@@ -1,0 +1,37 @@
+//! The files in the order of their identifiers.
+ghost use Rattle.std.specs.Prelude.{◌≡◌, ◌+◌, ◌≤◌, List, [], IfErr, MatchResult};
+ghost use Rattle.labelled_disk.specs.Sectors.{Sector};
+ghost use Rattle.labelled_disk.specs.declared.evidence.Halt.TheVariants as halt;
+ghost use Rattle.flat_machine.specs.declared.space.Space.{Space};
+ghost use Rattle.swapper_kernel.specs.Goes.{Makes};
+ghost use Rattle.session_words.specs.Parts.{Shapes};
+ghost use Rattle.session_words.specs.Volume.{volume_page};
+ghost use Rattle.filer_kernel.specs.Causes.{MapHalts};
+ghost use Rattle.file_manager.specs.Answer.{IsNextFile};
+ghost use Rattle.file_manager.specs.Book.{Books, BringsOwn};
+
+use filer_kernel::FilerOver;
+use labelled_disk::{Disk, FileId, Halt};
+use std::alloc::Allocator;
+
+/// The least identifier above this one of which the file map has a page, and at least 16; None where there is none.
+pub fn next<D: Disk, A: Allocator>(
+    filer: &mut FilerOver<D, A>,
+    id: FileId,
+) -> Result<Option<FileId>, Halt>
+    requires size { (D.state filer.old.swapper.under).sectors ≡ filer.old.swapper.layout.sectors }
+    ensures told { (x : List Sector) (shapes : Shapes) (spaces : List Space) → Books (D.state filer.old.swapper.under) filer.old.swapper.pool filer.old.swapper.layout filer.old.runs shapes spaces x
+        → MatchResult result (IsNextFile shapes id) (λ e. e ≡ halt.Disk) }
+    ensures same { (x : List Sector) (shapes : Shapes) (spaces : List Space) → Books (D.state filer.old.swapper.under) filer.old.swapper.pool filer.old.swapper.layout filer.old.runs shapes spaces x
+        → Books (D.state filer.new.swapper.under) filer.new.swapper.pool filer.old.swapper.layout filer.new.runs shapes spaces x }
+    ensures makes { Makes volume_page [] (D.state filer.old.swapper.under) filer.old.swapper.pool (D.state filer.new.swapper.under) filer.new.swapper.pool }
+    ensures brings { BringsOwn filer.old.swapper.pool filer.new.swapper.pool }
+    ensures cause { IfErr result (MapHalts filer.old.swapper.layout (D.state filer.old.swapper.under) filer.old.swapper.pool (D.state filer.new.swapper.under)) }
+    ensures layout { filer.new.swapper.layout ≡ filer.old.swapper.layout }
+    ensures cost { (D.state filer.new.swapper.under).transfers ≤ (D.state filer.old.swapper.under).transfers + 36 }
+{
+    match filer.next_file(id) {
+        Ok(found) => Ok(found),
+        Err(halt) => Err(halt),
+    }
+}

@@ -1,0 +1,147 @@
+//! Pages of a file that become free: their labels, and their sectors in the allocation map.
+ghost use Rattle.std.specs.Prelude.{◌≡◌, ℕ, ◌+◌, ◌-◌, ◌*◌, ◌^◌, ◌≤◌, ◌<◌, true, List, IfOk, IfErr, OnErr, OnOk};
+ghost use Rattle.labelled_disk.specs.declared.evidence.Halt.TheVariants as halt;
+ghost use Rattle.labelled_disk.specs.Runs.{freeing};
+ghost use Rattle.labelled_disk.specs.Sectors.{Sector};
+ghost use Rattle.file_map.specs.Run.{IsRun};
+ghost use Rattle.file_map.specs.FileMap.{Triples};
+ghost use Rattle.flat_machine.specs.declared.space.Space.{Space};
+ghost use Rattle.swapper_kernel.specs.declared.manager.Manager.TheVariants.{FileMap as FileMapPages};
+ghost use Rattle.swapper_kernel.specs.Maps.{IsMapHome};
+ghost use Rattle.swapper_kernel.specs.Homes.{AreNamed};
+ghost use Rattle.swapper_kernel.specs.Stands.{Stands};
+ghost use Rattle.swapper_kernel.specs.Window.{Beside};
+ghost use Rattle.label_calls.specs.Labels.{ones_of};
+ghost use Rattle.label_calls.specs.Runs.{AreUncovered, HaveOnes, RelabelsRun, MadeSome};
+ghost use Rattle.filer_kernel.specs.Cached.{runs_of};
+ghost use Rattle.filer_kernel.specs.Triples.{MapIs, AreOf};
+ghost use Rattle.file_manager.specs.Freeing.{MayFree, Freed, IsPartOf, NamesAll, MakesFree, MakesSomeFree, run_sectors};
+
+use file_map::Run;
+use filer_kernel::FilerOver;
+use label_calls::free_pages_up;
+use labelled_disk::{Disk, Evidence, FileId, Halt};
+use std::alloc::Allocator;
+
+// The sectors in a row of this page of a file and of those behind it, at most so many pages.
+fn part_of<D: Disk, A: Allocator>(
+    filer: &mut FilerOver<D, A>,
+    id: FileId,
+    page: u32,
+    most: u32,
+) -> Result<Run, Halt>
+    requires size { (D.state filer.old.swapper.under).sectors ≡ filer.old.swapper.layout.sectors }
+    requires some { 1 ≤ most }
+    ensures form { IfOk result (IsPartOf filer.old.swapper.layout.sectors id page (page + most)) }
+    ensures named { (m : List Sector) (named : Triples) → Stands (D.state filer.old.swapper.under) filer.old.swapper.pool m → MapIs filer.old.swapper.layout named m → AreOf named (runs_of filer.old.swapper.layout.sectors filer.old.runs)
+        → IfOk result (NamesAll named) }
+    ensures kept { (m : List Sector) (named : Triples) → Stands (D.state filer.old.swapper.under) filer.old.swapper.pool m → MapIs filer.old.swapper.layout named m → AreOf named (runs_of filer.old.swapper.layout.sectors filer.old.runs)
+        → AreOf named (runs_of filer.old.swapper.layout.sectors filer.new.runs) }
+    ensures sound { (m : List Sector) (named : Triples) (sector : ℕ) → Stands (D.state filer.old.swapper.under) filer.old.swapper.pool m → MapIs filer.old.swapper.layout named m → AreNamed m (IsMapHome FileMapPages filer.old.swapper.layout)
+        → named id page sector ≡ true → IfErr result (λ e. e ≡ halt.Disk) }
+    ensures same { (m : List Sector) (named : Triples) → Stands (D.state filer.old.swapper.under) filer.old.swapper.pool m → MapIs filer.old.swapper.layout named m → Stands (D.state filer.new.swapper.under) filer.new.swapper.pool m }
+    ensures beside { Beside FileMapPages (D.state filer.old.swapper.under) filer.old.swapper.pool filer.old.swapper.layout (D.state filer.new.swapper.under) filer.new.swapper.pool filer.new.swapper.layout }
+    ensures cost { (D.state filer.new.swapper.under).transfers ≤ (D.state filer.old.swapper.under).transfers + 14 }
+{
+    match filer.find(id, page) {
+        Ok(Some(run)) => {
+            let before = page - run.first;
+            let pages = (run.pages - before).min(most);
+            Ok(Run {
+                id,
+                first: page,
+                pages,
+                sector: run.sector + before,
+            })
+        }
+        Ok(None) => Err(Halt::Damaged(Evidence::Missing { id, page })),
+        Err(halt) => Err(halt),
+    }
+}
+
+// Frees the labels of the sectors of a run, the first page first.
+fn free_labels<D: Disk, A: Allocator>(filer: &mut FilerOver<D, A>, run: Run) -> Result<(), Halt>
+    requires size { (D.state filer.old.swapper.under).sectors ≡ filer.old.swapper.layout.sectors }
+    requires data { filer.old.swapper.layout.first ≤ run.sector }
+    requires form { IsRun filer.old.swapper.layout.sectors run }
+    ensures freed { OnOk result (RelabelsRun run.sector run.pages (freeing (run_sectors run)) (D.state filer.old.swapper.under) filer.old.swapper.pool (D.state filer.new.swapper.under)) }
+    ensures stopped { OnErr result (MadeSome (freeing (run_sectors run)) (D.state filer.old.swapper.under) filer.old.swapper.pool (D.state filer.new.swapper.under)) }
+    ensures sound { (m : List Sector) → Stands (D.state filer.old.swapper.under) filer.old.swapper.pool m → AreUncovered filer.old.swapper.pool run.sector run.pages
+        → HaveOnes (λ k. ones_of (record { id = run.id; page = run.first + k })) m run.sector run.pages → IfErr result (λ e. e ≡ halt.Disk) }
+    ensures frames { filer.new.swapper.pool ≡ filer.old.swapper.pool }
+    ensures layout { filer.new.swapper.layout ≡ filer.old.swapper.layout }
+    ensures runs { filer.new.runs ≡ filer.old.runs }
+    ensures cost { (D.state filer.new.swapper.under).transfers ≤ (D.state filer.old.swapper.under).transfers + 2 * run.pages }
+{
+    let swapper = filer.swapper_over();
+    match free_pages_up(swapper, run.sector, run.pages, run.id, run.first) {
+        Ok(()) => Ok(()),
+        Err(halt) => Err(halt),
+    }
+}
+
+// Frees pages of a file from one on, at least that one and at most so many: those whose sectors are in a row. The file map
+// stays.
+pub(crate) fn free_run<D: Disk, A: Allocator>(
+    filer: &mut FilerOver<D, A>,
+    id: FileId,
+    page: u32,
+    most: u32,
+) -> Result<u32, Halt>
+    requires size { (D.state filer.old.swapper.under).sectors ≡ filer.old.swapper.layout.sectors }
+    requires of_file { 16 ≤ id }
+    requires some { 1 ≤ most }
+    ensures freed { (named : Triples) (spaces : List Space) (m : List Sector) → MayFree (D.state filer.old.swapper.under) filer.old.swapper.pool filer.old.swapper.layout filer.old.runs named spaces id page (page + most) m
+        → IfOk result (λ pages. Freed filer.old.swapper.layout named spaces id page pages (page + most) (D.state filer.old.swapper.under) filer.old.swapper.pool (D.state filer.new.swapper.under) filer.new.swapper.pool filer.new.runs) }
+    ensures some { IfOk result (λ pages. (1 ≤ pages) × (pages ≤ most)) }
+    ensures sound { (named : Triples) (spaces : List Space) (m : List Sector) → MayFree (D.state filer.old.swapper.under) filer.old.swapper.pool filer.old.swapper.layout filer.old.runs named spaces id page (page + most) m
+        → IfErr result (λ e. e ≡ halt.Disk) }
+    ensures makes { IfOk result (λ pages. MakesFree pages (D.state filer.old.swapper.under) filer.old.swapper.pool (D.state filer.new.swapper.under) filer.new.swapper.pool) }
+    ensures stopped { OnErr result (MakesSomeFree (D.state filer.old.swapper.under) filer.old.swapper.pool (D.state filer.new.swapper.under) filer.new.swapper.pool) }
+    ensures layout { filer.new.swapper.layout ≡ filer.old.swapper.layout }
+    ensures spent { IfOk result (λ pages. (D.state filer.new.swapper.under).transfers ≤ (D.state filer.old.swapper.under).transfers + (14 + 2 * pages + 4 * filer.old.swapper.layout.vam)) }
+    ensures cost { (D.state filer.new.swapper.under).transfers ≤ (D.state filer.old.swapper.under).transfers + (14 + 2 * most + 4 * filer.old.swapper.layout.vam) }
+{
+    let run = match part_of(filer, id, page, most) {
+        Ok(run) => run,
+        Err(halt) => return Err(halt),
+    };
+    match free_labels(filer, run) {
+        Ok(()) => (),
+        Err(halt) => return Err(halt),
+    }
+    match filer.give(run.sector, run.pages) {
+        Ok(()) => (),
+        Err(halt) => return Err(halt),
+    }
+    Ok(run.pages)
+}
+
+// Frees the pages of a file from one on up to another, run by run. The file map stays.
+pub(crate) fn free_up<D: Disk, A: Allocator>(
+    filer: &mut FilerOver<D, A>,
+    id: FileId,
+    from: u32,
+    end: u32,
+) -> Result<(), Halt>
+    requires size { (D.state filer.old.swapper.under).sectors ≡ filer.old.swapper.layout.sectors }
+    requires of_file { 16 ≤ id }
+    requires order { from ≤ end }
+    ensures freed { (named : Triples) (spaces : List Space) (m : List Sector) → MayFree (D.state filer.old.swapper.under) filer.old.swapper.pool filer.old.swapper.layout filer.old.runs named spaces id from end m
+        → OnOk result (Freed filer.old.swapper.layout named spaces id from (end - from) end (D.state filer.old.swapper.under) filer.old.swapper.pool (D.state filer.new.swapper.under) filer.new.swapper.pool filer.new.runs) }
+    ensures sound { (named : Triples) (spaces : List Space) (m : List Sector) → MayFree (D.state filer.old.swapper.under) filer.old.swapper.pool filer.old.swapper.layout filer.old.runs named spaces id from end m
+        → IfErr result (λ e. e ≡ halt.Disk) }
+    ensures makes { OnOk result (MakesFree (end - from) (D.state filer.old.swapper.under) filer.old.swapper.pool (D.state filer.new.swapper.under) filer.new.swapper.pool) }
+    ensures stopped { OnErr result (MakesSomeFree (D.state filer.old.swapper.under) filer.old.swapper.pool (D.state filer.new.swapper.under) filer.new.swapper.pool) }
+    ensures layout { filer.new.swapper.layout ≡ filer.old.swapper.layout }
+    ensures cost { (D.state filer.new.swapper.under).transfers ≤ (D.state filer.old.swapper.under).transfers + (end - from) * (16 + 4 * filer.old.swapper.layout.vam) }
+{
+    let mut page = from;
+    while page < end {
+        match free_run(filer, id, page, end - page) {
+            Ok(pages) => page += pages,
+            Err(halt) => return Err(halt),
+        }
+    }
+    Ok(())
+}
