@@ -1,5 +1,5 @@
 -- What a disk over an image file is, and how its counts go.
-use Rattle.std.specs.Prelude.{◌≡◌, ℕ, ◌+◌, ◌-◌, ◌^◌, min, [], None, Some, Result}
+use Rattle.std.specs.Prelude.{◌≡◌, ◌+◌, ◌-◌, ◌^◌, min, [], None, Some, Result}
 use Rattle.std.proofs.lemmas.Option.{none-some}
 use Rattle.labelled_disk.specs.Memory.{CountsFault}
 use Rattle.labelled_disk.specs.State.{DiskState}

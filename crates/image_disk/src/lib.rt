@@ -2,7 +2,9 @@
 #![tactic(auto)]
 
 mod disk;
+mod files;
 mod word;
 
 pub use disk::{ImageDisk, SECTOR_BYTES};
+pub use files::{NoImage, new_image, open_image};
 pub use word::{Image, image_of};

@@ -1,24 +1,29 @@
 //! The program: makes the disks and the streams of this process, and hands them to the top call.
 #![tactic(auto)]
 
-mod about;
-mod images;
+ghost use Rattle.std.specs.Prelude.{◌≡◌};
+ghost use Rattle.std.specs.Process.{exit_status};
+ghost use Rattle.pilot_top.specs.Status.{exit_of};
 
-use image_disk::{Image, ImageDisk, image_of};
+mod about;
+
+use image_disk::{Image, ImageDisk, NoImage, image_of, new_image, open_image};
 use labelled_disk::{Disk, MemoryDisk};
 use pilot_top::{Status, pilot};
 use std::fs::File;
 use std::process::ExitCode;
-use std::rt::Files;
 use std::{env, io};
 use trace_io::{ReaderSource, WriterSink};
 
-fn hold_stream<R: Files>(rt: &R) -> io::Result<R::File> {
-    File::open(rt, "/dev/null")
+/// What is opened three times so that no image gets the number of a standard stream.
+const NOTHING: &str = "/dev/null";
+
+fn hold_stream(rt: &HostRuntime) -> io::Result<File> {
+    File::open(rt, NOTHING)
 }
 
 /// Takes the numbers of the standard streams that were closed, so that no later file gets one.
-fn hold_streams<R: Files>(rt: &R) -> io::Result<(R::File, R::File, R::File)> {
+fn hold_streams(rt: &HostRuntime) -> io::Result<(File, File, File)> {
     Ok((hold_stream(rt)?, hold_stream(rt)?, hold_stream(rt)?))
 }
 
@@ -57,14 +62,34 @@ fn in_memory(rt: &HostRuntime, sectors: u32, words: &[String]) -> Status {
     }
 }
 
+/// The disk in an image file, or one of no sector, where standard error gets a line that says why.
+fn disk_or_none(
+    rt: &HostRuntime,
+    path: &str,
+    image: Result<ImageDisk<File>, NoImage>,
+) -> ImageDisk<File> {
+    match image {
+        Ok(disk) => disk,
+        Err(why) => {
+            let _ = eprintln!(rt; "pilot: {path:?}: {why}");
+            ImageDisk::absent()
+        }
+    }
+}
+
 /// Carries out a command on the disk that an image word asks for. No file is opened where a number
 /// of a standard stream may be free.
-fn on_image(rt: &HostRuntime, held: bool, image: &str, words: &[String]) -> Status {
+fn on_image(rt: &HostRuntime, held: io::Result<()>, image: &str, words: &[String]) -> Status {
     let mut disk = match image_of(image) {
         Image::Memory(sectors) => return in_memory(rt, sectors, words),
-        Image::New { sectors, path } if held => images::made(rt, sectors, path),
-        Image::File(path) if held => images::opened(rt, path),
-        Image::New { .. } | Image::File(_) => ImageDisk::absent(),
+        Image::New { sectors, path } if held.is_ok() => {
+            disk_or_none(rt, path, new_image(rt, sectors, path))
+        }
+        Image::File(path) if held.is_ok() => disk_or_none(rt, path, open_image(rt, path)),
+        Image::New { .. } | Image::File(_) => {
+            let image = held.map(|()| ImageDisk::absent());
+            disk_or_none(rt, NOTHING, image.map_err(NoImage::System))
+        }
     };
     command(rt, &mut disk, words)
 }
@@ -77,7 +102,7 @@ fn tell(rt: &HostRuntime, text: &str) -> Status {
     }
 }
 
-fn run(rt: &HostRuntime, held: bool) -> Status {
+fn run(rt: &HostRuntime, held: io::Result<()>) -> Status {
     let words = match words_of(rt) {
         Ok(words) => words,
         Err(status) => {
@@ -95,7 +120,15 @@ fn run(rt: &HostRuntime, held: bool) -> Status {
     }
 }
 
+/// Carries out the command of this process, and gives its exit status, which is that of a `Status`.
+fn process(rt: &HostRuntime) -> ExitCode
+    ensures exit { (status : Status) × (exit_status result ≡ exit_of status) }
+{
+    let streams = hold_streams(rt);
+    let held = streams.as_ref().map(|_| ()).map_err(|error| *error);
+    ExitCode::from(run(rt, held).exit())
+}
+
 fn main(rt: HostRuntime) -> ExitCode {
-    let held = hold_streams(&rt);
-    ExitCode::from(run(&rt, held.is_ok()).exit())
+    process(&rt)
 }

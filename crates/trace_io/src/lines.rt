@@ -90,17 +90,6 @@ fn take_line<S: Source>(source: &mut S, buffer: &mut [u8; LINE], room: u64) -> S
     }
 }
 
-// The item of a line, of which the buffer has the front.
-fn item(buffer: &[u8; LINE], size: u64) -> Option<Call>
-    ensures form { IfSome result IsInForm }
-    ensures line { (line : List ℕ) → length line ≡ size → Keeps255 buffer.now line → result ≡ call_of line }
-{
-    if size > LINE as u64 {
-        return None;
-    }
-    calls::call_of(&buffer[..size as usize])
-}
-
 fn line_of(item: Option<Call>) -> Line
     ensures line { result ≡ line_of item }
     ensures form { IfSome item IsInForm → GivesForm result }
@@ -109,6 +98,18 @@ fn line_of(item: Option<Call>) -> Line
         Some(call) => Line::Call(call),
         None => Line::Bad,
     }
+}
+
+// What a line says, of which the buffer has the front.
+fn line_in(buffer: &[u8; LINE], size: u64) -> Line
+    ensures form { GivesForm result }
+    ensures line { (line : List ℕ) → length line ≡ size → Keeps255 buffer.now line
+        → result ≡ line_of (call_of line) }
+{
+    if size > LINE as u64 {
+        return Line::Bad;
+    }
+    line_of(calls::call_of(&buffer[..size as usize]))
 }
 
 impl Lines {
@@ -160,14 +161,14 @@ impl Lines {
         match scan.end {
             Ending::Feed => {
                 self.taken += 1;
-                line_of(item(&self.buffer, scan.size))
+                line_in(&self.buffer, scan.size)
             }
             Ending::Source => {
                 self.stopped = Some(Stop::End);
                 if scan.size == 0 {
                     return Line::End;
                 }
-                line_of(item(&self.buffer, scan.size))
+                line_in(&self.buffer, scan.size)
             }
             Ending::Fault => {
                 self.stopped = Some(Stop::ReadFault);

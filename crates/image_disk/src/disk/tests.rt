@@ -32,6 +32,7 @@ const WANTED: Wanted = Wanted {
 struct Fake {
     bytes: Cell<[u8; FILE_BYTES]>,
     calls: Cell<u32>,
+    syncs: Cell<u32>,
     failing: u32,
 }
 
@@ -43,6 +44,7 @@ impl Fake {
         Fake {
             bytes: Cell::new(bytes),
             calls: Cell::new(0),
+            syncs: Cell::new(0),
             failing,
         }
     }
@@ -88,10 +90,11 @@ impl OpenFile for Fake {
     }
 
     fn sync_all(&self) -> io::Result<()> {
-        Ok(())
+        self.sync_data()
     }
 
     fn sync_data(&self) -> io::Result<()> {
+        self.syncs.set(self.syncs.get().saturating_add(1));
         self.moves(0)?;
         Ok(())
     }
@@ -162,6 +165,40 @@ fn each_error_of_the_system_is_one_fault(rt: HostRuntime) {
         assert_eq!(rt; disk.faults(), u64::from(failing <= 21));
         assert_eq!(rt; disk.transfers(), 4);
     }
+}
+
+/// How often the file beneath a disk was synced, and how many calls it had in all.
+fn calls_of(disk: &ImageDisk<Fake>) -> Option<(u32, u32)> {
+    let file = disk.file.as_ref()?;
+    Some((file.syncs.get(), file.calls.get()))
+}
+
+#[test]
+fn a_settling_is_one_call_that_syncs(rt: HostRuntime) {
+    let mut disk = ImageDisk::with_length(Fake::failing_at(0), 1584);
+    assert_eq!(rt; disk.sectors(), 3);
+    assert_eq!(rt; disk.write_label(0, &LEADER), Ok(()));
+    assert_eq!(rt; calls_of(&disk), Some((0, 1)));
+    assert_eq!(rt; disk.settle(), Ok(()));
+    assert_eq!(rt; calls_of(&disk), Some((1, 2)));
+}
+
+#[test]
+fn a_write_that_fails_leaves_a_front_of_it(rt: HostRuntime) {
+    let page: Page = [0x41; 512];
+    let mut disk = ImageDisk::with_length(Fake::failing_at(3), 1584);
+    assert_eq!(rt; disk.sectors(), 3);
+    assert_eq!(rt; disk.write(0, &LEADER, &page), Err(DiskError::Failed));
+    let mut bytes = [0; FILE_BYTES];
+    bytes[..16].copy_from_slice(&LEADER_BYTES);
+    bytes[16..200].copy_from_slice(&[0x41; 184]);
+    bytes[528..544].copy_from_slice(&LEADER_BYTES);
+    assert_eq!(rt; bytes_of(&disk)[..], bytes[..]);
+    let mut disk = ImageDisk::with_length(Fake::failing_at(1), 1584);
+    assert_eq!(rt; disk.sectors(), 3);
+    assert_eq!(rt; disk.write_label(0, &LEADER), Err(DiskError::Failed));
+    bytes[..200].copy_from_slice(&[0; 200]);
+    assert_eq!(rt; bytes_of(&disk)[..], bytes[..]);
 }
 
 #[test]

@@ -87,6 +87,38 @@ fn a_writer_that_fails_has_taken_a_front(rt: HostRuntime) -> Result<(), Fail> {
     Ok(())
 }
 
+// Takes all, counts how often it is flushed, and fails at the second of these calls.
+#[derive(Drop)]
+struct Flushing {
+    flushes: u8,
+}
+
+impl Write for Flushing {
+    fn write(&mut self, buf: &[u8]) -> io::Result<usize> {
+        Ok(buf.len())
+    }
+
+    fn flush(&mut self) -> io::Result<()> {
+        self.flushes = self.flushes.saturating_add(1);
+        if self.flushes == 2 {
+            return Err(io::Error::from(ErrorKind::BrokenPipe));
+        }
+        Ok(())
+    }
+}
+
+#[test]
+fn each_piece_is_flushed_and_a_flush_that_fails_is_a_fault(rt: HostRuntime) -> Result<(), Fail> {
+    let mut writer = Flushing { flushes: 0 };
+    let mut sink = WriterSink::over(&mut writer);
+    assert_eq!(rt; sink.put(b"abc"), Ok(()));
+    assert_eq!(rt; sink.put(b"d"), Err(SinkFault));
+    assert_eq!(rt; sink.put(b"e"), Ok(()));
+    drop(sink);
+    assert_eq!(rt; writer.flushes, 3);
+    Ok(())
+}
+
 #[test]
 fn a_sink_takes_no_piece_beyond_its_room(rt: HostRuntime) -> Result<(), Fail> {
     let mut sink = MemorySink::new(rt.alloc(), 4, &[2])?;

@@ -1,4 +1,4 @@
-use Rattle.std.proofs.Common.{rules, refl, arith}
+use Rattle.std.proofs.Common.{rules, refl}
 use Rattle.image_disk.proofs.ImageWords.{path_behind_colon, path_before_colon}
 use Rattle.image_disk.proofs.word.image_of.Goals as goal
 
