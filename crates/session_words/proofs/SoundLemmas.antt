@@ -6,16 +6,18 @@ use Rattle.std.proofs.lemmas.Bool.{and_parts, and_from, eq-eqb, eqb-true, leb-tr
 use Rattle.std.proofs.lemmas.List.{length-map}
 use Rattle.labelled_disk.specs.declared.label.Label.{Label}
 use Rattle.labelled_disk.specs.Label.{is_free}
-use Rattle.labelled_disk.specs.Layout.{first_data}
+use Rattle.labelled_disk.specs.Layout.{first_data, capacity}
 use Rattle.labelled_disk.specs.Sectors.{Sector, AreSectors}
 use Rattle.volume_root.specs.Sound.{Sound}
+use Rattle.volume_root.specs.Flag.{FlagLaws, with_flag}
+use Rattle.volume_root.proofs.FlagLemmas.{flag_keeps_volume}
 use Rattle.label_laws.specs.SoundParts.{IsSoundButFlag}
 use Rattle.file_map.specs.FileMap.{Triples}
 use Rattle.file_map.specs.InSectors.{MapNames, label_triples}
 use Rattle.swapper_kernel.specs.Stands.{labels_of}
 use Rattle.swapper_kernel.specs.DiffersLaws.{label_here, sector_of_label}
 use Rattle.session_words.specs.Parts.{HasTriples, IsTriple}
-use Rattle.session_words.specs.OpenLaws.{CanOpen}
+use Rattle.session_words.specs.OpenLaws.{CanOpen, FlagCleared}
 use Rattle.session_words.specs.SoundLaws.{SoundLaws}
 use Rattle.session_words.proofs.MapBitLemmas.{bits_by_page, bits_in_order}
 
@@ -90,8 +92,26 @@ but_flag d o = record {
   file_map = subst (MapNames d) (λ i id page sector. one_set d o.named (label_triples d) o.triples (label_has d) id page sector i) o.map;
 }
 
+-- The write of its root with the clean flag 0 opens it.
+cleared : (d : List Sector) → CanOpen d → FlagCleared d (with_flag false d)
+cleared d o = record {
+  long = f.sectors false;
+  others = f.others false;
+  root_open = record {
+    valid = (f.right false o.right).has_root;
+    has_serial = f.has_serial false;
+    has_counter = f.has_counter false;
+    has_room = ap capacity (f.sectors false);
+    open_flag = f.flag false;
+  };
+}
+  where
+    f : FlagLaws d
+    f = flag_keeps_volume d o.sectors o.right.has_root
+
 pub sound_laws : SoundLaws
 sound_laws = record {
+  cleared = cleared;
   opens = opens;
   sound = λ d o clean. let b = but_flag d o in record { labels = b.labels; clean = clean; free_or_needed = b.free_or_needed; bits = b.bits; file_map = b.file_map };
   but_flag = but_flag;

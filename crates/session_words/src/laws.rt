@@ -89,7 +89,7 @@ pub fn maps_are_shown()
     ensures { ShownLaws }
 {}
 
-/// A sound volume can be opened, and one that can be opened is sound once its flag is clean.
+/// A sound volume can be opened, the write of the root with the clean flag 0 opens it, and one that can be opened is sound once its flag is clean.
 pub fn sound_volumes_open()
     ensures { SoundLaws }
 {}
