@@ -8,6 +8,7 @@ use Rattle.page_tree.specs.Tree.{Node, node_at, items_of, before, heads, rows, I
 use Rattle.page_tree.specs.Path.{IsPath, IsReached, with_place}
 use Rattle.flat_mem.specs.Order.{entry_at, IsLastAtMost, NoneAtMost}
 use Rattle.page_tree.specs.Tells.{StandsIn}
+use Rattle.page_tree.specs.Broken.{Meets}
 use Rattle.page_tree.specs.Answer.{IsLastEntry, IsNextEntry, IsLastInPage, GoesTo}
 use Rattle.page_tree.proofs.Order.{above_from, at_most_through}
 use Rattle.page_tree.proofs.Once.{times_some, uses_level}
@@ -377,9 +378,10 @@ found_in_leaf e k b records levels nodes tower some key page into pages index ho
 found_in_leaf e k b records levels nodes tower some key page into pages index home reached false last = none_in_leaf e k b records levels nodes tower some key page pages index home reached last
 
 -- a record that was found in the page of a leaf stands in it
-pub stands_in : (e k : ℕ) (b page key into : List ℕ) (home : ℕ) (found : Bool) → found ≡ true → page ≡ page_at b home → kind_of page ≡ 1 → IsLastInPage e k page key into found → StandsIn e b into home
-stands_in e k b page key into home false is read kind last = absurd (false≢true is)
-stands_in e k b page key into home true is read kind last = record {
+pub stands_in : (e k : ℕ) (b page key into : List ℕ) (home : ℕ) (found : Bool) → found ≡ true → Meets k b 1 home → page ≡ page_at b home → kind_of page ≡ 1 → IsLastInPage e k page key into found → StandsIn e k b into home
+stands_in e k b page key into home false is met read kind last = absurd (false≢true is)
+stands_in e k b page key into home true is met read kind last = record {
+  met = met;
   at = last.0 - 1;
   leaf = ap kind_of (sym read) ∙ kind;
   below = rw (← read) (omega (arith, last.1, last.2));

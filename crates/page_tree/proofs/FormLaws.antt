@@ -1,8 +1,9 @@
 -- A well-formed tree has a header in form.
-use Rattle.std.proofs.Common.{◌≡◌, ℕ, ◌<◌, ◌≤◌, List, [], ◌∷◌, arith, refl, sym, subst}
+use Rattle.std.proofs.Common.{◌≡◌, ℕ, ◌/◌, ◌<◌, ◌≤◌, List, [], ◌∷◌, length, arith, refl, sym, subst}
 use Rattle.page_tree.specs.Page.{page_at, count_in, root_in, top_in, free_in, levels_in}
 use Rattle.page_tree.specs.Tree.{node_at, frees, IsChain, IsTree}
 use Rattle.page_tree.specs.Climb.{IsHead}
+use Rattle.page_tree.specs.Answer.{CanBegin}
 use Rattle.page_tree.specs.Broken.{AreInForm, IsHeaderForm, Meets}
 use Rattle.page_tree.proofs.Once.{frees_cons, mark}
 use Rattle.page_tree.proofs.StepLaws.{free_within}
@@ -33,8 +34,8 @@ pub numbers_form : (e pages : ℕ) (page : List ℕ) (count root top free levels
 numbers_form e pages page count root top free levels head form = rw (head.count_is, head.root_is, head.top_is, head.free_is, head.levels_is) at form
 
 -- the root is met
-pub root_met : (k : ℕ) (b : List ℕ) (levels root : ℕ) → levels ≡ levels_in (page_at b 0) → root ≡ root_in (page_at b 0) → Meets k b levels root
-root_met k b levels root is named = Meets.root levels root is named
+pub root_met : (k : ℕ) (b : List ℕ) (size levels root : ℕ) → length b ≡ size → CanBegin (size / 512) levels root → 1 ≤ levels → levels ≡ levels_in (page_at b 0) → root ≡ root_in (page_at b 0) → Meets k b levels root
+root_met k b size levels root long begins some is named = Meets.root levels root is named some (begins.root_some (omega (arith, some))) (omega (arith, long, begins.root_inside (omega (arith, some))))
 
 pub header_numbers : (page b : List ℕ) (count root top free levels : ℕ) → page ≡ page_at b 0 → count ≡ count_in page → root ≡ root_in page → top ≡ top_in page → free ≡ free_in page → levels ≡ levels_in page → IsHead (page_at b 0) count root top free levels
 header_numbers page b count root top free levels read count_is root_is top_is free_is levels_is = subst (λ (x : List ℕ). IsHead x count root top free levels) read

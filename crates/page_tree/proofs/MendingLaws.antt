@@ -14,6 +14,7 @@ use Rattle.page_tree.proofs.Cells.{kind_kept}
 use Rattle.page_tree.proofs.Inner.{links_fit}
 use Rattle.page_tree.proofs.Listing.{inner_lists}
 use Rattle.page_tree.proofs.Once.{page_same, page_other}
+use Rattle.page_tree.proofs.MetLaws.{met_behind, met_fits}
 
 pub like_same : (k : ℕ) (page was : List ℕ) → page ≡ was → IsLike k page was
 like_same k page was same = record { kind = ap kind_of same; count = ap filled same; links = λ i most. ap (λ (x : List ℕ). link_at k x i) same }
@@ -35,11 +36,11 @@ named_like k page key slot some most long width inside =
 -- at the start, and once a leaf's new first key is named above
 module _ (k : ℕ) (b : List ℕ) (pages levels root : ℕ) (paths index : List ℕ) (some_key : 1 ≤ k) (key_most : k ≤ 12) (levels_is : levels ≡ levels_in (page_at b 0)) (met : IsMetPath k b levels 1 root paths index)
     (inside : (l : ℕ) → 1 < l → l ≤ levels → get_or paths l 0 < pages) (long : 512 * pages ≤ length b) where
-  mending_like : (c : List ℕ) → ((q : ℕ) → IsLike k (page_at c q) (page_at b q)) → IsMending k b c levels 1 root paths index
-  mending_like c like = record { levels_is = levels_is; met = met; pages = λ q. inl (like q); path = λ l above most. like (get_or paths l 0) }
+  mending_like : (c : List ℕ) → length c ≡ length b → ((q : ℕ) → IsLike k (page_at c q) (page_at b q)) → IsMending k b c levels 1 root paths index
+  mending_like c same like = record { levels_is = levels_is; long = same; met = met; pages = λ q. inl (like q); path = λ l above most. like (get_or paths l 0) }
 
   pub mending_begun : IsMending k b b levels 1 root paths index
-  mending_begun = mending_like b (λ q. like_same k (page_at b q) (page_at b q) refl)
+  mending_begun = mending_like b refl (λ q. like_same k (page_at b q) (page_at b q) refl)
 
   pub met_can_name : CanName k b pages levels paths index
   met_can_name = record {
@@ -72,7 +73,7 @@ module _ (k : ℕ) (b : List ℕ) (pages levels root : ℕ) (paths index : List 
         length-overwritten (page_at b up) key (8 + k * (get_or index l 0 - 1)) (omega (arith, width, long_up, ends, (links_fit k some_key key_most).0)) ∙ long_up
 
     mending_turned : IsMending k b (overwritten b (512 * up) named) levels 1 root paths index
-    mending_turned = mending_like (overwritten b (512 * up) named) (λ q. elim (cases_eq q up) [
+    mending_turned = mending_like (overwritten b (512 * up) named) (length-overwritten b named (512 * up) (omega (arith, long_named, up_fits))) (λ q. elim (cases_eq q up) [
       | inl here ↦
           like_through k _ named (page_at b q) (ap (page_at (overwritten b (512 * up) named)) here ∙ page_same b named up long_named up_fits)
           (subst (λ (p : ℕ). IsLike k named (page_at b p)) (sym here) (named_like k (page_at b up) key (get_or index l 0 - 1) some_key key_most long_up width slot_in))
@@ -106,6 +107,7 @@ module _ (k : ℕ) (b c : List ℕ) (levels level root : ℕ) (paths index : Lis
   pub mending_up : IsMending k b (overwritten (overwritten c (512 * left_at) left) (512 * right_at) right) levels (level + 1) root paths index
   mending_up = record {
     levels_is = mending.levels_is;
+    long = length-overwritten half right (512 * right_at) (omega (arith, long_right, half_fits)) ∙ length-overwritten c left (512 * left_at) (omega (arith, long, fits)) ∙ mending.long;
     met = mending.met;
     pages = λ q. elim (cases_eq q left_at) [
       | inl is_left ↦ inr (level, some, omega arith, subst (Meets k b level) (sym is_left) left_met)
@@ -156,9 +158,9 @@ module _ (k : ℕ) (b c : List ℕ) (levels level root : ℕ) (paths index : Lis
     })
 
 -- a child of it
-pub child_of_like : (k : ℕ) (b : List ℕ) (level up : ℕ) (above : List ℕ) (i child : ℕ) → 1 ≤ level → Meets k b (level + 1) up → IsInnerForm k (page_at b up) → IsLike k above (page_at b up) → i ≤ filled above → child ≡ link_at k above i → Meets k b level child
-child_of_like k b level up above i child some met form like inside is =
-    Meets.child (level + 1) up i level child met refl some form (omega (arith, inside, like.count)) (is ∙ like.links i (omega (arith, inside, like.count, form.most)))
+pub child_of_like : (k : ℕ) (b : List ℕ) (level up : ℕ) (above : List ℕ) (i child : ℕ) → 1 ≤ level → Meets k b (level + 1) up → IsInnerForm k (page_at b up) → IsLike k above (page_at b up) → i ≤ filled above → child ≡ link_at k above i → 1 ≤ child → 512 * child + 512 ≤ length b → Meets k b level child
+child_of_like k b level up above i child some met form like inside is behind fits =
+    Meets.child (level + 1) up i level child met refl some form (omega (arith, inside, like.count)) (is ∙ like.links i (omega (arith, inside, like.count, form.most))) behind fits
 
 -- a page that is met at this level and read: it is as it was, or it was met at a lower level
 pub met_like : (e k pages : ℕ) (b c : List ℕ) (levels level root : ℕ) (paths index : List ℕ) → IsMending k b c levels level root paths index → (q : ℕ) (page : List ℕ) → Meets k b level q → page ≡ page_at c q → IsLike k page (page_at b q) ⊎ Breaks e k pages b q
@@ -168,13 +170,13 @@ met_like e k pages b c levels level root paths index mending q page met read = e
 ]
 
 -- one of two pages of the level stands on the path above
-pub again_broken : (e k pages : ℕ) (b c : List ℕ) (levels level root : ℕ) (paths index : List ℕ) → IsMending k b c levels level root paths index → 1 ≤ level → (at beside page : ℕ) → Meets k b level at → Meets k b level beside → IsMetAgain paths level levels at beside (Some page) → Breaks e k pages b page
+pub again_broken : (e k pages : ℕ) (b c : List ℕ) (levels level root : ℕ) (paths index : List ℕ) → IsMending k b c levels level root paths index → 1 ≤ level → (at beside page : ℕ) → Meets k b level at → (1 ≤ beside → 512 * beside + 512 ≤ length b → Meets k b level beside) → IsMetAgain paths level levels at beside (Some page) → Breaks e k pages b page
 again_broken e k pages b c levels level root paths index mending some at beside page at_met beside_met again =
     let l = again.1.0 in
     let there : Meets k b again.1.0 page = subst (Meets k b again.1.0) again.1.3 (mending.met.met again.1.0 (omega (arith, some, again.1.1)) again.1.2) in
     elim again.0 [
       | inl is_at ↦ Breaks.twice level again.1.0 (subst (Meets k b level) (sym is_at) at_met) there again.1.1
-      | inr is_beside ↦ Breaks.twice level again.1.0 (subst (Meets k b level) (sym is_beside) beside_met) there again.1.1
+      | inr is_beside ↦ Breaks.twice level again.1.0 (subst (Meets k b level) (sym is_beside) (beside_met (omega (arith, is_beside, met_behind k b l page there)) (omega (arith, is_beside, met_fits k b l page there)))) there again.1.1
     ]
 
 -- a leaf of one record below the root

@@ -3,9 +3,10 @@ use Rattle.std.proofs.Common.{◌≡◌, ◌⊎◌, inl, inr, ℕ, zero, suc, �
 use Rattle.std.proofs.lemmas.Bool.{cases_eq}
 use Rattle.std.proofs.lemmas.List.{length-map}
 use Rattle.std.proofs.lemmas.Nat.{mul-le}
-use Rattle.page_tree.specs.Page.{IsWidths, page_at, kind_of, filled, leaf_room, key_room, link_at, record_item, next_in, root_in, levels_in}
+use Rattle.page_tree.specs.Page.{IsWidths, page_at, kind_of, filled, leaf_room, key_room, link_at, record_item, next_in}
 use Rattle.page_tree.specs.Tree.{node_at, items_of, before, uses, frees, pages_to, IsChain, IsTree}
-use Rattle.page_tree.specs.Broken.{IsLeafForm, IsInnerForm, Meets, Frees, Breaks}
+use Rattle.page_tree.specs.Broken.{IsLeafForm, IsInnerForm, Meets, Frees, Breaks, StopsInsertion}
+use Rattle.page_tree.proofs.MetLaws.{met_low}
 use Rattle.page_tree.proofs.Once.{frees_cons, mark, apart_of_level}
 use Rattle.page_tree.proofs.Changed.{used_once, free_apart}
 use Rattle.page_tree.proofs.StepLaws.{free_within}
@@ -52,18 +53,12 @@ chain_next b first (p ∷ ps) chain (suc m) below =
     )
 
 module _ (e k pages : ℕ) (b : List ℕ) (xs : List (List ℕ)) (tree : IsTree e k pages b xs) (widths : IsWidths e k) (least : 9 ≤ pages) (few : pages ≤ 2 ^ 18) where
-  -- a page that is met is one of its level
-  met_node : (l p : ℕ) → Meets k b l p → 1 ≤ l → (l ≤ tree.levels) × (q : ℕ) × (q < length (tree.nodes l)) × (p ≡ (node_at (tree.nodes l) q).page)
-  met_node l p (Meets.root _ _ is named) some =
-      let same : l ≡ tree.levels = is ∙ tree.header.levels_is in
-      let some_level : 0 < tree.levels = omega (arith, same, some) in (
-        omega (arith, same),
-        0,
-        omega (arith, tree.header.one_root some_level, ap (λ (m : ℕ). length (tree.nodes m)) same),
-        named ∙ tree.header.root_is some_level ∙ ap (λ (m : ℕ). (node_at (tree.nodes m) 0).page) (sym same),
-      )
-  met_node l p (Meets.child m q i _ _ met next low form inside is) some =
-      let up = met_node m q met (omega (arith, next)) in
+  -- page p is one of level l
+  abbrev Stands : ℕ → ℕ → Type 0
+  Stands l p = (l ≤ tree.levels) × (q : ℕ) × (q < length (tree.nodes l)) × (p ≡ (node_at (tree.nodes l) q).page)
+
+  child_node : (m q i l p : ℕ) → Stands m q → m ≡ l + 1 → 1 ≤ l → i ≤ filled (page_at b q) → p ≡ link_at k (page_at b q) i → Stands l p
+  child_node m q i l p up next low inside is =
       let under : l ≡ m - 1 = omega (arith, next) in
       let inner = (tree.tower.stored m up.1 (omega (arith, next)) up.0 up.2).inner (omega (arith, next, low)) in
       let i_below : i < length (node_at (tree.nodes m) up.1).items = omega (arith, inside, inner.count, ap (λ (x : ℕ). filled (page_at b x)) up.3) in
@@ -75,10 +70,22 @@ module _ (e k pages : ℕ) (b : List ℕ) (xs : List (List ℕ)) (tree : IsTree 
         is ∙ link ∙ ap (λ (n : ℕ). (node_at (tree.nodes n) (before (tree.nodes m) up.1 + i)).page) (sym under),
       )
 
+  -- a page that is met is one of its level
+  met_node : (l p : ℕ) → Meets k b l p → 1 ≤ l → Stands l p
+  met_node l p (Meets.root _ _ is named low behind fits) some =
+      let same : l ≡ tree.levels = is ∙ tree.header.levels_is in
+      let some_level : 0 < tree.levels = omega (arith, same, some) in (
+        omega (arith, same),
+        0,
+        omega (arith, tree.header.one_root some_level, ap (λ (m : ℕ). length (tree.nodes m)) same),
+        named ∙ tree.header.root_is some_level ∙ ap (λ (m : ℕ). (node_at (tree.nodes m) 0).page) (sym same),
+      )
+  met_node l p (Meets.child m q i _ _ met next low form inside is behind fits) some = child_node m q i l p (met_node m q met (omega (arith, next))) next low inside is
+
   listed : (n p : ℕ) → Frees b n p → Listed tree.free n p
-  listed n p (Frees.first _ _ start named) =
+  listed n p (Frees.first _ _ start named fits) =
       subst (λ (i : ℕ). Listed tree.free i p) (sym start) (subst (Listed tree.free 0) (sym (named ∙ tree.header.free_is)) (chain_first b tree.first tree.free tree.chain))
-  listed n p (Frees.next m q _ _ was next some kind named) = elim (listed m q was) [
+  listed n p (Frees.next m q _ _ was next some kind named fits) = elim (listed m q was) [
     | inl here ↦
         let step = (chain_next b tree.first tree.free tree.chain m here.0).1 in
         subst (λ (i : ℕ). Listed tree.free i p) (sym next) (subst (Listed tree.free (m + 1)) (sym (named ∙ ap (λ (x : ℕ). next_in (page_at b x)) here.1)) step)
@@ -97,26 +104,6 @@ module _ (e k pages : ℕ) (b : List ℕ) (xs : List (List ℕ)) (tree : IsTree 
 
   is_free : (n p : ℕ) → Frees b n p → 1 ≤ p → 1 ≤ frees p tree.free
   is_free n p was some = let here = on_list n p was some in frees_some p tree.free n here.0 (sym here.1)
-
-  met_low : (l p : ℕ) → Meets k b l p → (1 ≤ l) ⊎ ((l ≡ levels_in (page_at b 0)) × (p ≡ root_in (page_at b 0)))
-  met_low l p (Meets.root _ _ is named) = inr (is, named)
-  met_low l p (Meets.child m q i _ _ met next low form inside is) = inl low
-
-  -- a page that is met stands on a level, and no page below the first is met but the root 0 of a tree of no level
-  met_page : (l p : ℕ) → Meets k b l p → 1 ≤ p → 1 ≤ l
-  met_page l p met some = elim (met_low l p met) [
-    | inl low ↦ low
-    | inr top ↦ elim (cases_eq l 0) [
-      | inl none ↦ absurd (omega (arith, some, top.1, tree.header.no_root (sym tree.header.levels_is ∙ sym top.0 ∙ none)))
-      | inr other ↦ omega (arith, other)
-    ]
-  ]
-
-  met_most : (l p : ℕ) → Meets k b l p → l ≤ tree.levels
-  met_most l p met = elim (cases_eq l 0) [
-    | inl none ↦ omega (arith, none)
-    | inr other ↦ (met_node l p met (omega (arith, other))).0
-  ]
 
   -- each level has a page
   some_nodes : 0 < tree.levels → (d l : ℕ) → l + d ≡ tree.levels → 0 < l → 1 ≤ length (tree.nodes l)
@@ -164,7 +151,7 @@ module _ (e k pages : ℕ) (b : List ℕ) (xs : List (List ℕ)) (tree : IsTree 
       let sum = filled_sum 1 (tree.nodes (l + 1)) (none_empty e k b xs tree.levels tree.nodes tree.tower (l + 1) (omega arith) (omega (arith, at))) in
       omega (arith, above, sum, listed_length e k b xs tree.levels tree.nodes tree.tower l some (omega (arith, at)))
 
-  pub unbroken : (page : ℕ) → Breaks e k pages b page → ⊥
+  unbroken : (page : ℕ) → Breaks e k pages b page → ⊥
   unbroken page (Breaks.header is unlike) = unlike (tree_form e k pages b xs tree)
   unbroken page (Breaks.level l met some unlike) =
       let here = met_node l page met some in
@@ -174,8 +161,7 @@ module _ (e k pages : ℕ) (b : List ℕ) (xs : List (List ℕ)) (tree : IsTree 
         inner = λ above. subst (λ (p : ℕ). IsInnerForm k (page_at b p)) (sym here.3) (inner_is_form k _ _ (stored.inner above));
       })
   unbroken page (Breaks.link l i met above form inside outside) =
-      let child = Meets.child l page i (l - 1) (link_at k (page_at b page) i) met (omega (arith, above)) (omega (arith, above)) form inside refl in
-      let here = met_node (l - 1) (link_at k (page_at b page) i) child (omega (arith, above)) in
+      let here = child_node l page i (l - 1) (link_at k (page_at b page) i) (met_node l page met (omega (arith, above))) (omega (arith, above)) (omega (arith, above)) inside refl in
       let within = within_tree e k pages b xs tree (l - 1) here.1 (omega (arith, above)) here.0 here.2 in
       elim outside [
         | inl none ↦ omega (arith, none, here.3, within.0)
@@ -183,15 +169,9 @@ module _ (e k pages : ℕ) (b : List ℕ) (xs : List (List ℕ)) (tree : IsTree 
       ]
   unbroken page (Breaks.twice l m low high less) =
       let there = met_node m page high (omega (arith, less)) in
-      elim (cases_eq l 0) [
-        | inl none ↦ elim (met_low l page low) [
-          | inl some ↦ omega (arith, some, none)
-          | inr top ↦ omega (arith, less, none, top.0, tree.header.levels_is, there.0)
-        ]
-        | inr other ↦
-            let here = met_node l page low (omega (arith, other)) in
-            apart_of_level page tree.nodes tree.levels l m here.1 there.1 (omega (arith, once page)) (omega (arith, other)) less there.0 here.2 there.2 (sym here.3) (sym there.3)
-      ]
+      let some = met_low k b l page low in
+      let here = met_node l page low some in
+      apart_of_level page tree.nodes tree.levels l m here.1 there.1 (omega (arith, once page)) some less there.0 here.2 there.2 (sym here.3) (sym there.3)
   unbroken page (Breaks.free n was some either) =
       let here = on_list n page was some in
       let step = chain_next b tree.first tree.free tree.chain n here.0 in
@@ -205,7 +185,7 @@ module _ (e k pages : ℕ) (b : List ℕ) (xs : List (List ℕ)) (tree : IsTree 
         ]
       ]
   unbroken page (Breaks.used n l was some met) =
-      let low = met_page l page met some in
+      let low = met_low k b l page met in
       let here = met_node l page met low in
       free_apart tree.levels tree.nodes tree.free page (once page) (is_free n page was some) l here.1 low here.0 here.2 (sym here.3)
   unbroken page (Breaks.again n m one two some less) =
@@ -216,16 +196,11 @@ module _ (e k pages : ℕ) (b : List ℕ) (xs : List (List ℕ)) (tree : IsTree 
       let above : tree.top < page = omega (arith, past, tree.header.top_is) in
       elim either [
         | inl met ↦
-            let low = met_page met.0 page met.1 (omega (arith, above)) in
+            let low = met_low k b met.0 page met.1 in
             let here = met_node met.0 page met.1 low in
             omega (arith, above, here.3, (within_tree e k pages b xs tree met.0 here.1 low here.0 here.2).1)
         | inr was ↦ omega (arith, above, (free_within tree.levels tree.nodes tree.free tree.top tree.shared page (is_free was.0 page was.1 (omega (arith, above)))).1)
       ]
-  unbroken page (Breaks.none_left n is was short) = elim (listed n 0 was) [
-    | inl here ↦ omega (arith, (free_within tree.levels tree.nodes tree.free tree.top tree.shared 0 (frees_some 0 tree.free n here.0 (sym here.1))).0)
-    | inr end ↦ omega (arith, short, end.0, tree.header.top_is, tree.shared.counted, room)
-  ]
-  unbroken page (Breaks.seventh met full) = no_seventh page met full
   unbroken page (Breaks.thin l met some below thin) =
       let here = met_node l page met some in
       let enough = tree.tower.filled l here.1 some (omega (arith, below, tree.header.levels_is)) here.2 in
@@ -246,3 +221,11 @@ module _ (e k pages : ℕ) (b : List ℕ) (xs : List (List ℕ)) (tree : IsTree 
       omega (arith, none, tree.header.count_is, listed_all, sum, one)
   unbroken page (Breaks.few is less) = omega (arith, less, all_records e k pages b xs tree, tree.header.count_is)
   unbroken page (Breaks.crowded is many) = omega (arith, many, few_all e k pages b xs tree least)
+
+  pub unstopped : (page : ℕ) → StopsInsertion e k pages b page → ⊥
+  unstopped page (StopsInsertion.broken broken) = unbroken page broken
+  unstopped page (StopsInsertion.none_left n is was short) = elim (listed n 0 was) [
+    | inl here ↦ omega (arith, (free_within tree.levels tree.nodes tree.free tree.top tree.shared 0 (frees_some 0 tree.free n here.0 (sym here.1))).0)
+    | inr end ↦ omega (arith, short, end.0, tree.header.top_is, tree.shared.counted, room)
+  ]
+  unstopped page (StopsInsertion.seventh met full) = no_seventh page met full

@@ -6,7 +6,7 @@ use Rattle.page_tree.specs.Keys.{Item, item_at, at_most}
 use Rattle.page_tree.specs.Page.{page_at, kind_of, filled, link_at, record_at, IsLeaf, IsInner}
 use Rattle.page_tree.specs.Tree.{Node, node_at, items_of, before, heads, IsTower, IsRooted}
 use Rattle.page_tree.specs.Path.{IsPath, IsLed, first_leaf_below, leaf_from}
-use Rattle.page_tree.specs.Broken.{IsInnerForm, IsLeafForm}
+use Rattle.page_tree.specs.Broken.{IsInnerForm, IsLeafForm, Meets}
 use Rattle.page_tree.specs.Met.{IsMetPath}
 use Rattle.page_tree.specs.Answer.{IfMem, IfMemory, IfFull}
 use Rattle.page_tree.specs.Tells.{StandsIn}
@@ -128,8 +128,8 @@ led_moved b levels nodes page paths index at p q same led = record { home = led.
 pub key_part : (e k : ℕ) (page key : List ℕ) (i : ℕ) (t : Bool) → k ≤ e → at_most (part page (8 + e * i) k) key ≡ t → at_most (take k (record_at e page i)) key ≡ t
 key_part e k page key i t within is = ap (λ (x : List ℕ). at_most x key) (take-take k e (drop (8 + e * i) page) within) ∙ is
 
-pub stands_at : (e : ℕ) (b page into : List ℕ) (home i : ℕ) → page ≡ page_at b home → kind_of page ≡ 1 → i < filled page → into ≡ record_at e page i → StandsIn e b into home
-stands_at e b page into home i read kind below is = record { at = i; leaf = ap kind_of (sym read) ∙ kind; below = rw (← read) below; is = is ∙ ap (λ (x : List ℕ). record_at e x i) read }
+pub stands_at : (e k : ℕ) (b page into : List ℕ) (home i : ℕ) → Meets k b 1 home → page ≡ page_at b home → kind_of page ≡ 1 → i < filled page → into ≡ record_at e page i → StandsIn e k b into home
+stands_at e k b page into home i met read kind below is = record { met = met; at = i; leaf = ap kind_of (sym read) ∙ kind; below = rw (← read) below; is = is ∙ ap (λ (x : List ℕ). record_at e x i) read }
 
 pub mem_wider : {X : Type 0} (P Q : X → Type 0) (why : TreeError X) → ((x : X) → P x → Q x) → IfMem P why → IfMem Q why
 mem_wider P Q Full f h = h

@@ -5,7 +5,7 @@ use Rattle.std.proofs.lemmas.Nat.{mul-le}
 use Rattle.flat_mem.specs.Memory.{overwritten}
 use Rattle.flat_mem.specs.Parts.{length-overwritten}
 use Rattle.page_tree.specs.Page.{page_at, kind_of, filled, top_in, free_in, next_in}
-use Rattle.page_tree.specs.Broken.{Meets, Frees, Breaks, IsInnerForm, IfMalformed}
+use Rattle.page_tree.specs.Broken.{Meets, Frees, Breaks, StopsInsertion, IsInnerForm, IfMalformed}
 use Rattle.page_tree.specs.Met.{IsMetPath}
 use Rattle.page_tree.specs.Answer.{FromMemory}
 use Rattle.page_tree.specs.declared.error.TreeError.{TreeError}
@@ -31,19 +31,19 @@ spent_met e k pages b level n q up here more (IsSpent.list m less before some_pa
 spent_met e k pages b level n q up here more (IsSpent.above past) = Breaks.above (inl (up, here)) past
 
 -- at the start
-pub way_begun : (k : ℕ) (b : List ℕ) (free top : ℕ) → free ≡ free_in (page_at b 0) → top ≡ top_in (page_at b 0) → IsUnderWay k b b 0 0 free top
-way_begun k b free top free_is top_is = record { n = 0; n_most = omega arith; free_is = Frees.first 0 free refl free_is; top_is = omega (arith, top_is); pages = λ q. inl refl }
+pub way_begun : (k : ℕ) (b : List ℕ) (free top : ℕ) → free ≡ free_in (page_at b 0) → 512 * free + 512 ≤ length b → top ≡ top_in (page_at b 0) → IsUnderWay k b b 0 0 free top
+way_begun k b free top free_is fits top_is = record { n = 0; n_most = omega arith; long = refl; free_is = Frees.first 0 free refl free_is fits; top_is = omega (arith, top_is); pages = λ q. inl refl }
 
 module _ (k : ℕ) (b c : List ℕ) (level t free top : ℕ) (way : IsUnderWay k b c level t free top) where
   -- the list is at its end: the page above the greatest is taken
   pub takes_above : (page : ℕ) → page ≡ top + 1 → IsTakenOn k b c level t page free page
   takes_above page is = record {
-    way = record { n = way.n; n_most = omega (arith, way.n_most); free_is = way.free_is; top_is = omega (arith, way.top_is, is); pages = way.pages };
+    way = record { n = way.n; n_most = omega (arith, way.n_most); long = way.long; free_is = way.free_is; top_is = omega (arith, way.top_is, is); pages = way.pages };
     spent = IsSpent.above (omega (arith, way.top_is, way.n_most, is));
   }
 
-  pub none_left : (e pages : ℕ) → free ≡ 0 → pages ≤ top + 1 → t ≤ 5 → Breaks e k pages b 0
-  none_left e pages ends most few = Breaks.none_left way.n refl (subst (Frees b way.n) ends way.free_is) (omega (arith, way.top_is, most, few))
+  pub none_left : (e pages : ℕ) → free ≡ 0 → pages ≤ top + 1 → t ≤ 5 → StopsInsertion e k pages b 0
+  none_left e pages ends most few = StopsInsertion.none_left way.n refl (subst (Frees b way.n) ends way.free_is) (omega (arith, way.top_is, most, few))
 
   -- the first of the list is taken
   module _ (some : 1 ≤ free) where
@@ -53,12 +53,13 @@ module _ (k : ℕ) (b c : List ℕ) (level t free top : ℕ) (way : IsUnderWay k
       | inr written ↦ absurd (written.0 kind)
     ]
 
-    pub takes_first : (next : ℕ) → kind_of (page_at c free) ≡ 0 → next ≡ next_in (page_at c free) → IsTakenOn k b c level t free next top
-    takes_first next kind is = record {
+    pub takes_first : (next : ℕ) → kind_of (page_at c free) ≡ 0 → next ≡ next_in (page_at c free) → 512 * next + 512 ≤ length c → IsTakenOn k b c level t free next top
+    takes_first next kind is fits = record {
       way = record {
         n = way.n + 1;
         n_most = omega (arith, way.n_most);
-        free_is = Frees.next way.n free (way.n + 1) next way.free_is refl some (ap kind_of (sym (same kind)) ∙ kind) (is ∙ ap next_in (same kind));
+        long = way.long;
+        free_is = Frees.next way.n free (way.n + 1) next way.free_is refl some (ap kind_of (sym (same kind)) ∙ kind) (is ∙ ap next_in (same kind)) (omega (arith, fits, way.long));
         top_is = omega (arith, way.top_is);
         pages = λ q. elim (way.pages q) [
           | inl as_before ↦ inl as_before
@@ -68,14 +69,14 @@ module _ (k : ℕ) (b c : List ℕ) (level t free top : ℕ) (way : IsUnderWay k
       spent = IsSpent.list way.n (omega arith) way.free_is some;
     }
 
-    pub not_free : (e pages : ℕ) → kind_of (page_at c free) ≢ 0 → Breaks e k pages b free
+    pub not_free : (e pages : ℕ) → kind_of (page_at c free) ≢ 0 → StopsInsertion e k pages b free
     not_free e pages unlike = elim (way.pages free) [
-      | inl as_before ↦ Breaks.free way.n way.free_is some (inl (λ kind. unlike (ap kind_of as_before ∙ kind)))
-      | inr written ↦ spent_free e k pages b level way.n free way.free_is some written.1
+      | inl as_before ↦ StopsInsertion.broken (Breaks.free way.n way.free_is some (inl (λ kind. unlike (ap kind_of as_before ∙ kind))))
+      | inr written ↦ StopsInsertion.broken (spent_free e k pages b level way.n free way.free_is some written.1)
     ]
 
-    pub next_outside : (e pages next : ℕ) → kind_of (page_at c free) ≡ 0 → next ≡ next_in (page_at c free) → pages ≤ next → Breaks e k pages b free
-    next_outside e pages next kind is past = Breaks.free way.n way.free_is some (inr (omega (arith, past, is ∙ ap next_in (same kind))))
+    pub next_outside : (e pages next : ℕ) → kind_of (page_at c free) ≡ 0 → next ≡ next_in (page_at c free) → pages ≤ next → StopsInsertion e k pages b free
+    next_outside e pages next kind is past = StopsInsertion.broken (Breaks.free way.n way.free_is some (inr (omega (arith, past, is ∙ ap next_in (same kind)))))
 
 -- both halves of a page that is met are written, one into the page that was taken
 pub halves_written : (k : ℕ) (b c : List ℕ) (level up t page free top at : ℕ) (left right : List ℕ) → IsTakenOn k b c level t page free top → up ≡ level + 1 → Meets k b up at → length left ≡ 512 → length right ≡ 512
@@ -83,6 +84,7 @@ pub halves_written : (k : ℕ) (b c : List ℕ) (level up t page free top at : �
 halves_written k b c level up t page free top at left right taken next met long long_right left_kind right_kind fits page_fits = record {
   n = taken.way.n;
   n_most = taken.way.n_most;
+  long = length-overwritten half right (512 * page) (omega (arith, long_right, half_fits)) ∙ length-overwritten c left (512 * at) (omega (arith, long, fits)) ∙ taken.way.long;
   free_is = taken.way.free_is;
   top_is = taken.way.top_is;
   pages = λ q. elim (cases_eq q page) [
@@ -132,6 +134,11 @@ from_memory P Full h = tt
 from_memory P (Malformed page) h = absurd h
 from_memory P (Mem error) h = tt
 
+pub malformed_wider : {X : Type 0} (P Q : ℕ → Type 0) (why : TreeError X) → ((page : ℕ) → P page → Q page) → IfMalformed P why → IfMalformed Q why
+malformed_wider P Q Full wider h = tt
+malformed_wider P Q (Malformed page) wider h = wider page h
+malformed_wider P Q (Mem error) wider h = tt
+
 -- what a climb spends
 pub spends : (before after old c m next : ℕ) → next ≡ m + 1 → before ≤ old + m * c → after ≤ before + c → after ≤ old + next * c
 spends before after old c m next is had paid = rw is (omega (arith, had, paid))
@@ -140,10 +147,10 @@ pub spends_most : (spent old c m : ℕ) → m ≤ 5 → spent ≤ old + m * c �
 spends_most spent old c m few had = omega (arith, had, mul-le m c 5 c few (omega arith))
 
 -- a root on level 6 that was full breaks the form
-pub root_full : (e k pages : ℕ) (b : List ℕ) (levels level root : ℕ) (paths index : List ℕ) → IsMetPath k b levels 1 root paths index → Meets k b levels root → level ≡ levels → levels ≡ 6 → (1 < level → WasFull e k pages b (get_or paths level 0)) → Breaks e k pages b root
+pub root_full : (e k pages : ℕ) (b : List ℕ) (levels level root : ℕ) (paths index : List ℕ) → IsMetPath k b levels 1 root paths index → Meets k b levels root → level ≡ levels → levels ≡ 6 → (1 < level → WasFull e k pages b (get_or paths level 0)) → StopsInsertion e k pages b root
 root_full e k pages b levels level root paths index path met at_top six full =
     let named : get_or paths level 0 ≡ root = ap (λ (l : ℕ). get_or paths l 0) at_top ∙ path.top (omega (arith, six)) in
     elim (rw named at (full (omega (arith, at_top, six)))) [
-      | inl filled_is ↦ Breaks.seventh (rw six at met) filled_is
-      | inr broken ↦ broken
+      | inl filled_is ↦ StopsInsertion.seventh (rw six at met) filled_is
+      | inr broken ↦ StopsInsertion.broken broken
     ]

@@ -33,7 +33,7 @@ IfMemory P Full = Unit {0}
 IfMemory P (Malformed page) = Unit {0}
 IfMemory P (Mem error) = P error
 
--- an index that the tree does not have is a break of page 0; the memory may fail too
+-- page 0, the header, is named; or the memory fails
 abbrev pub IsPast : {X : Type 0} → TreeError X → Type 0
 IsPast Full = ⊥
 IsPast (Malformed page) = page ≡ 0
@@ -55,6 +55,7 @@ IsLastInPage e k page key into false = at_most (take k (record_at e page 0)) key
 -- the header that was read lets a search begin
 pub record CanBegin (pages levels root : ℕ) : Type 0 where
   pub levels_most : levels ≤ 6
+  pub root_some : 0 < levels → 1 ≤ root
   pub root_inside : 0 < levels → root < pages
 
 -- a record with this key goes to this index of the list

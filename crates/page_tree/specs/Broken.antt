@@ -1,5 +1,5 @@
 -- What breaks the form of a tree, by the way in which it is met.
-use Rattle.std.specs.Prelude.{◌≡◌, ◌≢◌, ℕ, ◌+◌, ◌<◌, ◌≤◌, ◌⊎◌, List, length}
+use Rattle.std.specs.Prelude.{◌≡◌, ◌≢◌, ℕ, ◌+◌, ◌*◌, ◌<◌, ◌≤◌, ◌⊎◌, List, length}
 use Rattle.page_tree.specs.Page.{page_at, kind_of, filled, leaf_room, key_room, link_at, count_in, root_in, top_in, free_in, levels_in, next_in}
 use Rattle.page_tree.specs.Put.{capacity_of}
 use Rattle.page_tree.specs.Neighbours.{IsThin}
@@ -37,15 +37,21 @@ pub record IsPageForm (e k l : ℕ) (page : List ℕ) : Type 0 where
   pub leaf : l ≡ 1 → IsLeafForm e page
   pub inner : 1 < l → IsInnerForm k page
 
--- page p is met at level l: it is the root that the header names, or a child of an inner page that is met
-pub data Meets (k : ℕ) (b : List ℕ) : ℕ → ℕ → Type 0 where
-  root : (l p : ℕ) → l ≡ levels_in (page_at b 0) → p ≡ root_in (page_at b 0) → Meets k b l p
-  child : (m q i l p : ℕ) → Meets k b m q → m ≡ l + 1 → 1 ≤ l → IsInnerForm k (page_at b q) → i ≤ filled (page_at b q) → p ≡ link_at k (page_at b q) i → Meets k b l p
+-- the bytes have a page p
+abbrev pub HasPage : List ℕ → ℕ → Type 0
+HasPage b p = 512 * p + 512 ≤ length b
 
--- page p has place n in the list of free pages: the header names it, or the free page of the place before
+-- page p is met at level l: it is the root that the header names, or a child of an inner page that is met. It is a page of
+-- the bytes, and not the header
+pub data Meets (k : ℕ) (b : List ℕ) : ℕ → ℕ → Type 0 where
+  root : (l p : ℕ) → l ≡ levels_in (page_at b 0) → p ≡ root_in (page_at b 0) → 1 ≤ l → 1 ≤ p → HasPage b p → Meets k b l p
+  child : (m q i l p : ℕ) → Meets k b m q → m ≡ l + 1 → 1 ≤ l → IsInnerForm k (page_at b q) → i ≤ filled (page_at b q) → p ≡ link_at k (page_at b q) i → 1 ≤ p → HasPage b p → Meets k b l p
+
+-- page p of the bytes has place n in the list of free pages: the header names it, or the free page of the place before. At
+-- its end it is 0
 pub data Frees (b : List ℕ) : ℕ → ℕ → Type 0 where
-  first : (n p : ℕ) → n ≡ 0 → p ≡ free_in (page_at b 0) → Frees b n p
-  next : (m q n p : ℕ) → Frees b m q → n ≡ m + 1 → 1 ≤ q → kind_of (page_at b q) ≡ 0 → p ≡ next_in (page_at b q) → Frees b n p
+  first : (n p : ℕ) → n ≡ 0 → p ≡ free_in (page_at b 0) → HasPage b p → Frees b n p
+  next : (m q n p : ℕ) → Frees b m q → n ≡ m + 1 → 1 ≤ q → kind_of (page_at b q) ≡ 0 → p ≡ next_in (page_at b q) → HasPage b p → Frees b n p
 
 -- the page breaks the form of the tree that these bytes are
 pub data Breaks (e k pages : ℕ) (b : List ℕ) (page : ℕ) : Type 0 where
@@ -65,10 +71,6 @@ pub data Breaks (e k pages : ℕ) (b : List ℕ) (page : ℕ) : Type 0 where
   again : (n m : ℕ) → Frees b n page → Frees b m page → 1 ≤ page → n < m → Breaks e k pages b page
   -- it is met, or listed as free, and lies above the greatest page that was ever used
   above : ((l : ℕ) × Meets k b l page) ⊎ ((n : ℕ) × Frees b n page) → top_in (page_at b 0) < page → Breaks e k pages b page
-  -- it is the header, and fewer than six pages are left, those of the list and those above the greatest that was used
-  none_left : (n : ℕ) → page ≡ 0 → Frees b n 0 → pages + n ≤ top_in (page_at b 0) + 6 → Breaks e k pages b page
-  -- it is full on level 6, so that one more record would need a seventh
-  seventh : Meets k b 6 page → filled (page_at b page) ≡ key_room k → Breaks e k pages b page
   -- it stands below the root, and is filled less than half
   thin : (l : ℕ) → Meets k b l page → 1 ≤ l → l < levels_in (page_at b 0) → IsThin e k l (filled (page_at b page)) → Breaks e k pages b page
   -- it is the header, and counts no record where there is a level
@@ -77,6 +79,14 @@ pub data Breaks (e k pages : ℕ) (b : List ℕ) (page : ℕ) : Type 0 where
   few : page ≡ 0 → records_in b (leaves_in k b) < count_in (page_at b 0) → Breaks e k pages b page
   -- it is the header, and the tree that it names has no fewer leaves than the memory has pages
   crowded : page ≡ 0 → pages ≤ length (leaves_in k b) → Breaks e k pages b page
+
+-- the page stops an insertion, and no other call: it breaks the form, or shows that something is wanted that the tree cannot have
+pub data StopsInsertion (e k pages : ℕ) (b : List ℕ) (page : ℕ) : Type 0 where
+  broken : Breaks e k pages b page → StopsInsertion e k pages b page
+  -- it is the header, and fewer than six pages are left, those of the list and those above the greatest that was used
+  none_left : (n : ℕ) → page ≡ 0 → Frees b n 0 → pages + n ≤ top_in (page_at b 0) + 6 → StopsInsertion e k pages b page
+  -- it is full on level 6, so that one more record would need a seventh
+  seventh : Meets k b 6 page → filled (page_at b page) ≡ key_room k → StopsInsertion e k pages b page
 
 -- a fact of the page that is named
 abbrev pub IfMalformed : {X : Type 0} → (ℕ → Type 0) → TreeError X → Type 0

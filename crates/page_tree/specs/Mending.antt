@@ -1,5 +1,5 @@
 -- A removal that has written pages, over the bytes of its start.
-use Rattle.std.specs.Prelude.{◌≡◌, ◌≢◌, ℕ, ◌<◌, ◌≤◌, ◌⊎◌, ◌-◌, List, get_or, Bool, true, false, Option, Some, None}
+use Rattle.std.specs.Prelude.{◌≡◌, ◌≢◌, ℕ, ◌<◌, ◌≤◌, ◌⊎◌, ◌-◌, List, length, get_or, Bool, true, false, Option, Some, None}
 use Rattle.page_tree.specs.Page.{page_at, kind_of, filled, key_room, link_at, levels_in}
 use Rattle.page_tree.specs.Broken.{Meets}
 use Rattle.page_tree.specs.Met.{IsMetPath}
@@ -17,6 +17,7 @@ IsBelow k b level q = (l : ℕ) × (1 ≤ l) × (l < level) × Meets k b l q
 -- pages are as they were at the start, but for keys and for pages of lower levels, of which none stands on the path above
 pub record IsMending (k : ℕ) (b c : List ℕ) (levels level root : ℕ) (paths index : List ℕ) : Type 0 where
   pub levels_is : levels ≡ levels_in (page_at b 0)
+  pub long : length c ≡ length b
   pub met : IsMetPath k b levels 1 root paths index
   pub pages : (q : ℕ) → IsLike k (page_at c q) (page_at b q) ⊎ IsBelow k b level q
   pub path : (l : ℕ) → level < l → l ≤ levels → IsLike k (page_at c (get_or paths l 0)) (page_at b (get_or paths l 0))

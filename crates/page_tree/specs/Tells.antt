@@ -3,6 +3,7 @@ use Rattle.std.specs.Prelude.{◌≡◌, ℕ, ◌<◌, ◌≤◌, Bool, true, fa
 use Rattle.flat_mem.specs.Order.{IsRising, IsBehind}
 use Rattle.page_tree.specs.Page.{page_at, kind_of, filled, record_at}
 use Rattle.page_tree.specs.Tree.{IsTree}
+use Rattle.page_tree.specs.Broken.{Meets}
 use Rattle.page_tree.specs.Put.{capacity_of}
 use Rattle.page_tree.specs.Removed.{IsLastOf, NoneOf}
 use Rattle.page_tree.specs.declared.error.TreeError.{TreeError}
@@ -29,8 +30,9 @@ IsFull e pages lists xs Full = (length xs ≡ capacity_of e pages) × lists xs
 IsFull e pages lists xs (Malformed page) = ⊥
 IsFull e pages lists xs (Mem error) = Unit {0}
 
--- this is a record of the leaf that stands in this page
-pub record StandsIn (e : ℕ) (b entry : List ℕ) (page : ℕ) : Type 0 where
+-- this is a record of the leaf that stands in this page, to which a way leads from the root
+pub record StandsIn (e k : ℕ) (b entry : List ℕ) (page : ℕ) : Type 0 where
+  pub met : Meets k b 1 page
   pub at : ℕ
   pub leaf : kind_of (page_at b page) ≡ 1
   pub below : at < filled (page_at b page)

@@ -1,5 +1,5 @@
 -- An insertion that has written pages, over the bytes of its start.
-use Rattle.std.specs.Prelude.{◌≡◌, ◌≢◌, ℕ, ◌+◌, ◌<◌, ◌≤◌, ◌⊎◌, List, Bool, true, false}
+use Rattle.std.specs.Prelude.{◌≡◌, ◌≢◌, ℕ, ◌+◌, ◌<◌, ◌≤◌, ◌⊎◌, List, length, Bool, true, false}
 use Rattle.page_tree.specs.Page.{page_at, kind_of, filled, key_room, top_in}
 use Rattle.page_tree.specs.Broken.{Meets, Frees, Breaks}
 
@@ -13,6 +13,7 @@ pub data IsSpent (k : ℕ) (b : List ℕ) (level n q : ℕ) : Type 0 where
 pub record IsUnderWay (k : ℕ) (b c : List ℕ) (level t free top : ℕ) : Type 0 where
   pub n : ℕ
   pub n_most : n ≤ t
+  pub long : length c ≡ length b
   pub free_is : Frees b n free
   pub top_is : top + n ≡ top_in (page_at b 0) + t
   pub pages : (q : ℕ) → (page_at c q ≡ page_at b q) ⊎ ((kind_of (page_at c q) ≢ 0) × IsSpent k b level n q)

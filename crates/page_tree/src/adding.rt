@@ -1,7 +1,7 @@
 // An insertion from the header on.
 ghost use Rattle.std.specs.Prelude.{◌≡◌, ℕ, ◌+◌, ◌-◌, ◌*◌, ◌/◌, ◌^◌, ◌<◌, ◌≤◌, List, length, take, IfOk, IfErr, MatchResult};
 ghost use Rattle.page_tree.specs.Page.{IsWidths, page_at, kind_of, filled, leaf_room, count_in};
-ghost use Rattle.page_tree.specs.Broken.{Meets, Breaks, IfMalformed};
+ghost use Rattle.page_tree.specs.Broken.{Meets, StopsInsertion, IfMalformed};
 ghost use Rattle.page_tree.specs.Way.{IsUnderWay, GoesOn};
 ghost use Rattle.page_tree.specs.Tree.{IsTree};
 ghost use Rattle.page_tree.specs.Path.{IsReached};
@@ -38,7 +38,7 @@ fn put_low<M: FlatMem, const E: usize, const K: usize>(
     requires few { header.old.levels ≤ 6 }
     requires free { header.old.free < M.size mem.old / 512 }
     ensures low { (b : List ℕ) → M.tells mem.old b → (records : List (List ℕ)) (ready : IsReady E K (M.size mem.old / 512) b records header.old.levels header.old.root header.old.free header.old.top) (paths index : List ℕ) → IsReached b header.old.levels ready.nodes key.old page.old paths index at → MatchResult result (IsLow E K (M.size mem.old / 512) (M.tells mem.new) records entry.now key.old header.old.levels paths index key.new link.new header.old.root header.new.free header.new.top) FromMemory }
-    ensures on { (b : List ℕ) → M.tells mem.old b → IsUnderWay K b b 0 0 header.old.free header.old.top → Meets K b 1 at → kind_of page.old ≡ 1 → MatchResult result (GoesOn K (M.tells mem.new) b 1 header.new.free header.new.top) (IfMalformed (Breaks E K (M.size mem.old / 512) b)) }
+    ensures on { (b : List ℕ) → M.tells mem.old b → IsUnderWay K b b 0 0 header.old.free header.old.top → Meets K b 1 at → kind_of page.old ≡ 1 → MatchResult result (GoesOn K (M.tells mem.new) b 1 header.new.free header.new.top) (IfMalformed (StopsInsertion E K (M.size mem.old / 512) b)) }
     ensures free { IfOk result (λ _. header.new.free < M.size mem.old / 512) }
     ensures count { header.new.count ≡ header.old.count }
     ensures root { header.new.root ≡ header.old.root }
@@ -78,7 +78,7 @@ fn put_first<M: FlatMem, const E: usize, const K: usize>(
     requires none { header.old.levels ≡ 0 }
     requires free { header.old.free < M.size mem.old / 512 }
     ensures put { (b : List ℕ) → M.tells mem.old b → (records : List (List ℕ)) → IsTree E K (M.size mem.old / 512) b records → IsHead (page_at b 0) header.old.count header.old.root header.old.top header.old.free header.old.levels → MatchResult result (λ _. IsPutIn E K (M.size mem.old / 512) (M.tells mem.new) records entry.now header.new.levels header.new.root header.new.free header.new.top) FromMemory }
-    ensures on { (b : List ℕ) → M.tells mem.old b → IsUnderWay K b b 0 0 header.old.free header.old.top → IfErr result (IfMalformed (Breaks E K (M.size mem.old / 512) b)) }
+    ensures on { (b : List ℕ) → M.tells mem.old b → IsUnderWay K b b 0 0 header.old.free header.old.top → IfErr result (IfMalformed (StopsInsertion E K (M.size mem.old / 512) b)) }
     ensures count { header.new.count ≡ header.old.count }
     ensures levels { IfOk result (λ _. header.new.levels ≤ 6) }
     ensures kept { M.beside mem.old mem.new }
@@ -112,7 +112,7 @@ fn put_in<M: FlatMem, const E: usize, const K: usize>(
     requires begins { CanBegin (M.size mem.old / 512) header.old.levels header.old.root }
     requires free { header.old.free < M.size mem.old / 512 }
     ensures put { (b : List ℕ) → M.tells mem.old b → (records : List (List ℕ)) → IsTree E K (M.size mem.old / 512) b records → IsHead (page_at b 0) header.old.count header.old.root header.old.top header.old.free header.old.levels → length records < capacity_of E (M.size mem.old / 512) → MatchResult result (λ _. IsPutIn E K (M.size mem.old / 512) (M.tells mem.new) records entry.now header.new.levels header.new.root header.new.free header.new.top) FromMemory }
-    ensures on { (b : List ℕ) → M.tells mem.old b → IsHead (page_at b 0) header.old.count header.old.root header.old.top header.old.free header.old.levels → IfErr result (IfMalformed (Breaks E K (M.size mem.old / 512) b)) }
+    ensures on { (b : List ℕ) → M.tells mem.old b → IsHead (page_at b 0) header.old.count header.old.root header.old.top header.old.free header.old.levels → IfErr result (IfMalformed (StopsInsertion E K (M.size mem.old / 512) b)) }
     ensures count { header.new.count ≡ header.old.count }
     ensures few { IfOk result (λ _. header.new.levels ≤ 6) }
     ensures kept { M.beside mem.old mem.new }
@@ -155,7 +155,7 @@ pub fn insert<M: FlatMem, const E: usize, const K: usize>(
     ensures answer { (b : List ℕ) → M.tells mem.old b → (records : List (List ℕ)) → IsTree E K (M.size mem.old / 512) b records → MatchResult result (λ _. IsPut E K (M.size mem.old / 512) (M.tells mem.new) records entry.now) (FullOr E (M.size mem.old / 512) (M.tells mem.new) b records) }
     ensures full { (b : List ℕ) → M.tells mem.old b → IfErr result (IfFull (capacity_of E (M.size mem.old / 512) ≤ count_in (page_at b 0))) }
     ensures full_same { (b : List ℕ) → M.tells mem.old b → IfErr result (IfFull (M.tells mem.new b)) }
-    ensures broken { (b : List ℕ) → M.tells mem.old b → IfErr result (IfMalformed (Breaks E K (M.size mem.old / 512) b)) }
+    ensures broken { (b : List ℕ) → M.tells mem.old b → IfErr result (IfMalformed (StopsInsertion E K (M.size mem.old / 512) b)) }
     ensures kept { M.beside mem.old mem.new }
     ensures cause { IfErr result (IfMemory (M.accounted mem.old mem.new)) }
     ensures cost { M.spent mem.new ≤ M.spent mem.old + 33 * M.cost }

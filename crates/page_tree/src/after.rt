@@ -32,7 +32,7 @@ pub fn look_after<M: FlatMem, const E: usize, const K: usize>(
     requires small { M.size mem.old ≤ 2 ^ 27 }
     requires some_pages { 9 * 512 ≤ M.size mem.old }
     ensures answer { (b : List ℕ) → M.tells mem.old b → (records : List (List ℕ)) → IsTree E K (M.size mem.old / 512) b records → MatchResult result (λ found. IsNextEntry K records key.now into.new (is_some found)) FromMemory }
-    ensures home { (b : List ℕ) → M.tells mem.old b → IfOk result (λ found. IfSome found (StandsIn E b into.new)) }
+    ensures home { (b : List ℕ) → M.tells mem.old b → IfOk result (λ found. IfSome found (StandsIn E K b into.new)) }
     ensures broken { (b : List ℕ) → M.tells mem.old b → IfErr result (IfMalformed (Breaks E K (M.size mem.old / 512) b)) }
     ensures unchanged { (b : List ℕ) → M.tells mem.old b → M.tells mem.new b }
     ensures kept { M.beside mem.old mem.new }

@@ -72,6 +72,7 @@ fn load_beside<M: FlatMem, const E: usize, const K: usize>(
     requires child { index ≤ key_room K }
     ensures read { (b : List ℕ) → M.tells mem.old b → IfOk result (λ at. page.new ≡ page_at b at) }
     ensures there { IfOk result (λ at. (at ≡ link_at K above.now index) × (at < M.size mem.old / 512)) }
+    ensures behind { IfOk result (λ at. 1 ≤ at) }
     ensures leaf { IfOk result (λ _. level ≡ 1 → filled page.new ≤ leaf_room E) }
     ensures inner { IfOk result (λ _. level ≢ 1 → filled page.new ≤ key_room K) }
     ensures well { (b : List ℕ) → M.tells mem.old b → (xs : List Item) → 1 ≤ link_at K above.now index → link_at K above.now index < M.size mem.old / 512 → IsPageOf E K level (page_at b (link_at K above.now index)) xs → IfErr result FromMemory }

@@ -9,7 +9,7 @@ ghost use Rattle.page_tree.specs.Put.{capacity_of};
 ghost use Rattle.page_tree.specs.Broken.{AreInForm, Meets, Breaks, IfMalformed};
 ghost use Rattle.page_tree.specs.Met.{IsMetPath};
 ghost use Rattle.page_tree.specs.Tells.{StandsIn};
-ghost use Rattle.page_tree.specs.Answer.{IsLastEntry, IsLastInPage, CanBegin, FromMemory, IfMem};
+ghost use Rattle.page_tree.specs.Answer.{IsLastEntry, IsLastInPage, CanBegin, FromMemory, IfMem, IsPast};
 
 use crate::error::TreeError;
 use crate::pages::{Page, count_at_most, filled_of, link_of, load};
@@ -165,6 +165,7 @@ pub fn read_header<M: FlatMem, const E: usize, const K: usize>(
     ensures form { IfOk result (λ h. CanBegin (M.size mem.old / 512) h.levels h.root) }
     ensures whole { IfOk result (λ h. AreInForm E (M.size mem.old / 512) h.count h.root h.top h.free h.levels) }
     ensures well { (b : List ℕ) → M.tells mem.old b → (records : List (List ℕ)) → IsTree E K (M.size mem.old / 512) b records → IfErr result FromMemory }
+    ensures named { IfErr result IsPast }
     ensures broken { (b : List ℕ) → M.tells mem.old b → IfErr result (IfMalformed (Breaks E K (M.size mem.old / 512) b)) }
     ensures unchanged { (b : List ℕ) → M.tells mem.old b → M.tells mem.new b }
     ensures kept { M.beside mem.old mem.new }
@@ -212,7 +213,7 @@ pub fn look_up<M: FlatMem, const E: usize, const K: usize>(
     requires small { M.size mem.old ≤ 2 ^ 27 }
     requires some_pages { 9 * 512 ≤ M.size mem.old }
     ensures answer { (b : List ℕ) → M.tells mem.old b → (records : List (List ℕ)) → IsTree E K (M.size mem.old / 512) b records → MatchResult result (λ found. IsLastEntry K records key.now into.new (is_some found)) FromMemory }
-    ensures home { (b : List ℕ) → M.tells mem.old b → IfOk result (λ found. IfSome found (StandsIn E b into.new)) }
+    ensures home { (b : List ℕ) → M.tells mem.old b → IfOk result (λ found. IfSome found (StandsIn E K b into.new)) }
     ensures broken { (b : List ℕ) → M.tells mem.old b → IfErr result (IfMalformed (Breaks E K (M.size mem.old / 512) b)) }
     ensures unchanged { (b : List ℕ) → M.tells mem.old b → M.tells mem.new b }
     ensures kept { M.beside mem.old mem.new }

@@ -126,6 +126,7 @@ pub fn remove<M: FlatMem, const E: usize, const K: usize>(
     requires some_pages { 9 * 512 ≤ M.size mem.old }
     ensures answer { (b : List ℕ) → M.tells mem.old b → (records : List (List ℕ)) → IsTree E K (M.size mem.old / 512) b records → index < length records → MatchResult result (λ _. IsOutAt E K (M.size mem.old / 512) (M.tells mem.new) records index) FromMemory }
     ensures past { (b : List ℕ) → M.tells mem.old b → (records : List (List ℕ)) → IsTree E K (M.size mem.old / 512) b records → length records ≤ index → MatchResult result (λ _. ⊥) IsPast }
+    ensures past_any { (b : List ℕ) → M.tells mem.old b → count_in (page_at b 0) ≤ index → MatchResult result (λ _. ⊥) IsPast }
     ensures past_same { (b : List ℕ) → M.tells mem.old b → count_in (page_at b 0) ≤ index → M.tells mem.new b }
     ensures broken { (b : List ℕ) → M.tells mem.old b → IfErr result (IfMalformed (λ page. Breaks E K (M.size mem.old / 512) b page ⊎ ((page ≡ 0) × (count_in (page_at b 0) ≤ index)))) }
     ensures kept { M.beside mem.old mem.new }

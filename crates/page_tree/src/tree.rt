@@ -4,7 +4,7 @@ ghost use Rattle.flat_mem.specs.Order.{entry_at, key_at, IsFound};
 ghost use Rattle.page_tree.specs.Answer.{IsLastEntry, IsNextEntry, FromMemory, IfMem, IfMemory, IfFull, IsPast};
 ghost use Rattle.page_tree.specs.Page.{IsWidths, page_at, count_in};
 ghost use Rattle.page_tree.specs.Put.{capacity_of};
-ghost use Rattle.page_tree.specs.Broken.{Breaks, IfMalformed};
+ghost use Rattle.page_tree.specs.Broken.{Breaks, StopsInsertion, IfMalformed};
 ghost use Rattle.page_tree.specs.Tells.{IsInserted, IsFull, IsTakenOut, IsPutOver, StandsIn};
 
 use crate::error::TreeError;
@@ -73,6 +73,7 @@ impl<M: FlatMem, const E: usize, const K: usize> PageTree<M, E, K> {
         ensures count { (xs : List (List ℕ)) → Lists self.old xs → MatchResult result (λ n. n ≡ length xs) FromMemory }
         ensures header { (b : List ℕ) → M.tells (tree_memory self.old) b → IfOk result (λ n. n ≡ count_in (page_at b 0)) }
         ensures malformed { (b : List ℕ) → M.tells (tree_memory self.old) b → IfErr result (IfMalformed (Breaks E K (M.size (tree_memory self.old) / 512) b)) }
+        ensures inside { (b : List ℕ) → M.tells (tree_memory self.old) b → IfErr result (IfMalformed (λ page. page < M.size (tree_memory self.old) / 512)) }
         ensures cause { IfErr result (IfMem (M.accounted (tree_memory self.old) (tree_memory self.new))) }
         ensures same_list { (xs : List (List ℕ)) → Lists self.old xs → Lists self.new xs }
         ensures same_bytes { (b : List ℕ) → M.tells (tree_memory self.old) b → M.tells (tree_memory self.new) b }
@@ -90,6 +91,7 @@ impl<M: FlatMem, const E: usize, const K: usize> PageTree<M, E, K> {
     ) -> Result<bool, TreeError<M::Error>>
         ensures found { (xs : List (List ℕ)) → Lists self.old xs → MatchResult result (IsLastEntry K xs key.now into.new) FromMemory }
         ensures malformed { (b : List ℕ) → M.tells (tree_memory self.old) b → IfErr result (IfMalformed (Breaks E K (M.size (tree_memory self.old) / 512) b)) }
+        ensures inside { (b : List ℕ) → M.tells (tree_memory self.old) b → IfErr result (IfMalformed (λ page. page < M.size (tree_memory self.old) / 512)) }
         ensures cause { IfErr result (IfMem (M.accounted (tree_memory self.old) (tree_memory self.new))) }
         ensures same_list { (xs : List (List ℕ)) → Lists self.old xs → Lists self.new xs }
         ensures same_bytes { (b : List ℕ) → M.tells (tree_memory self.old) b → M.tells (tree_memory self.new) b }
@@ -109,8 +111,9 @@ impl<M: FlatMem, const E: usize, const K: usize> PageTree<M, E, K> {
         into: &mut [u8; E],
     ) -> Result<Option<u32>, TreeError<M::Error>>
         ensures found { (xs : List (List ℕ)) → Lists self.old xs → MatchResult result (λ page. IsLastEntry K xs key.now into.new (is_some page)) FromMemory }
-        ensures page { (b : List ℕ) → M.tells (tree_memory self.old) b → IfOk result (λ page. IfSome page (StandsIn E b into.new)) }
+        ensures page { (b : List ℕ) → M.tells (tree_memory self.old) b → IfOk result (λ page. IfSome page (StandsIn E K b into.new)) }
         ensures malformed { (b : List ℕ) → M.tells (tree_memory self.old) b → IfErr result (IfMalformed (Breaks E K (M.size (tree_memory self.old) / 512) b)) }
+        ensures inside { (b : List ℕ) → M.tells (tree_memory self.old) b → IfErr result (IfMalformed (λ page. page < M.size (tree_memory self.old) / 512)) }
         ensures cause { IfErr result (IfMem (M.accounted (tree_memory self.old) (tree_memory self.new))) }
         ensures same_list { (xs : List (List ℕ)) → Lists self.old xs → Lists self.new xs }
         ensures same_bytes { (b : List ℕ) → M.tells (tree_memory self.old) b → M.tells (tree_memory self.new) b }
@@ -128,6 +131,7 @@ impl<M: FlatMem, const E: usize, const K: usize> PageTree<M, E, K> {
     ) -> Result<bool, TreeError<M::Error>>
         ensures found { (xs : List (List ℕ)) → Lists self.old xs → MatchResult result (IsNextEntry K xs key.now into.new) FromMemory }
         ensures malformed { (b : List ℕ) → M.tells (tree_memory self.old) b → IfErr result (IfMalformed (Breaks E K (M.size (tree_memory self.old) / 512) b)) }
+        ensures inside { (b : List ℕ) → M.tells (tree_memory self.old) b → IfErr result (IfMalformed (λ page. page < M.size (tree_memory self.old) / 512)) }
         ensures cause { IfErr result (IfMem (M.accounted (tree_memory self.old) (tree_memory self.new))) }
         ensures same_list { (xs : List (List ℕ)) → Lists self.old xs → Lists self.new xs }
         ensures same_bytes { (b : List ℕ) → M.tells (tree_memory self.old) b → M.tells (tree_memory self.new) b }
@@ -147,8 +151,9 @@ impl<M: FlatMem, const E: usize, const K: usize> PageTree<M, E, K> {
         into: &mut [u8; E],
     ) -> Result<Option<u32>, TreeError<M::Error>>
         ensures found { (xs : List (List ℕ)) → Lists self.old xs → MatchResult result (λ page. IsNextEntry K xs key.now into.new (is_some page)) FromMemory }
-        ensures page { (b : List ℕ) → M.tells (tree_memory self.old) b → IfOk result (λ page. IfSome page (StandsIn E b into.new)) }
+        ensures page { (b : List ℕ) → M.tells (tree_memory self.old) b → IfOk result (λ page. IfSome page (StandsIn E K b into.new)) }
         ensures malformed { (b : List ℕ) → M.tells (tree_memory self.old) b → IfErr result (IfMalformed (Breaks E K (M.size (tree_memory self.old) / 512) b)) }
+        ensures inside { (b : List ℕ) → M.tells (tree_memory self.old) b → IfErr result (IfMalformed (λ page. page < M.size (tree_memory self.old) / 512)) }
         ensures cause { IfErr result (IfMem (M.accounted (tree_memory self.old) (tree_memory self.new))) }
         ensures same_list { (xs : List (List ℕ)) → Lists self.old xs → Lists self.new xs }
         ensures same_bytes { (b : List ℕ) → M.tells (tree_memory self.old) b → M.tells (tree_memory self.new) b }
@@ -163,7 +168,8 @@ impl<M: FlatMem, const E: usize, const K: usize> PageTree<M, E, K> {
         ensures inserted { (xs : List (List ℕ)) → Lists self.old xs → MatchResult result (λ _. IsInserted E K (M.size (tree_memory self.old) / 512) (Lists self.new) xs entry.now) (IsFull E (M.size (tree_memory self.old) / 512) (Lists self.new) xs) }
         ensures full { (b : List ℕ) → M.tells (tree_memory self.old) b → IfErr result (IfFull (capacity_of E (M.size (tree_memory self.old) / 512) ≤ count_in (page_at b 0))) }
         ensures full_same { (b : List ℕ) → M.tells (tree_memory self.old) b → IfErr result (IfFull (M.tells (tree_memory self.new) b)) }
-        ensures malformed { (b : List ℕ) → M.tells (tree_memory self.old) b → IfErr result (IfMalformed (Breaks E K (M.size (tree_memory self.old) / 512) b)) }
+        ensures malformed { (b : List ℕ) → M.tells (tree_memory self.old) b → IfErr result (IfMalformed (StopsInsertion E K (M.size (tree_memory self.old) / 512) b)) }
+        ensures inside { (b : List ℕ) → M.tells (tree_memory self.old) b → IfErr result (IfMalformed (λ page. page < M.size (tree_memory self.old) / 512)) }
         ensures cause { IfErr result (IfMemory (M.accounted (tree_memory self.old) (tree_memory self.new))) }
         ensures kept { M.beside (tree_memory self.old) (tree_memory self.new) }
         ensures cost { M.spent (tree_memory self.new) ≤ M.spent (tree_memory self.old) + 33 * M.cost }
@@ -176,6 +182,7 @@ impl<M: FlatMem, const E: usize, const K: usize> PageTree<M, E, K> {
         ensures removed { (xs : List (List ℕ)) → Lists self.old xs → MatchResult result (IsTakenOut K (Lists self.new) xs key.now) FromMemory }
         ensures absent { (b : List ℕ) → M.tells (tree_memory self.old) b → IfOk result (λ found. found ≡ false → M.tells (tree_memory self.new) b) }
         ensures malformed { (b : List ℕ) → M.tells (tree_memory self.old) b → IfErr result (IfMalformed (Breaks E K (M.size (tree_memory self.old) / 512) b)) }
+        ensures inside { (b : List ℕ) → M.tells (tree_memory self.old) b → IfErr result (IfMalformed (λ page. page < M.size (tree_memory self.old) / 512)) }
         ensures cause { IfErr result (IfMem (M.accounted (tree_memory self.old) (tree_memory self.new))) }
         ensures kept { M.beside (tree_memory self.old) (tree_memory self.new) }
         ensures cost { M.spent (tree_memory self.new) ≤ M.spent (tree_memory self.old) + 36 * M.cost }
@@ -188,6 +195,7 @@ impl<M: FlatMem, const E: usize, const K: usize> PageTree<M, E, K> {
         ensures replaced { (xs : List (List ℕ)) → Lists self.old xs → MatchResult result (IsPutOver K (Lists self.new) xs entry.now) FromMemory }
         ensures absent { (b : List ℕ) → M.tells (tree_memory self.old) b → IfOk result (λ found. found ≡ false → M.tells (tree_memory self.new) b) }
         ensures malformed { (b : List ℕ) → M.tells (tree_memory self.old) b → IfErr result (IfMalformed (Breaks E K (M.size (tree_memory self.old) / 512) b)) }
+        ensures inside { (b : List ℕ) → M.tells (tree_memory self.old) b → IfErr result (IfMalformed (λ page. page < M.size (tree_memory self.old) / 512)) }
         ensures cause { IfErr result (IfMem (M.accounted (tree_memory self.old) (tree_memory self.new))) }
         ensures kept { M.beside (tree_memory self.old) (tree_memory self.new) }
         ensures cost { M.spent (tree_memory self.new) ≤ M.spent (tree_memory self.old) + 8 * M.cost }
@@ -199,7 +207,9 @@ impl<M: FlatMem, const E: usize, const K: usize> PageTree<M, E, K> {
     pub fn nth(&mut self, index: u32, into: &mut [u8; E]) -> Result<(), TreeError<M::Error>>
         ensures entry { (xs : List (List ℕ)) → Lists self.old xs → index < length xs → MatchResult result (λ _. into.new ≡ entry_at xs index) FromMemory }
         ensures past { (xs : List (List ℕ)) → Lists self.old xs → length xs ≤ index → MatchResult result (λ _. ⊥) IsPast }
+        ensures past_any { (b : List ℕ) → M.tells (tree_memory self.old) b → count_in (page_at b 0) ≤ index → MatchResult result (λ _. ⊥) IsPast }
         ensures malformed { (b : List ℕ) → M.tells (tree_memory self.old) b → IfErr result (IfMalformed (λ page. Breaks E K (M.size (tree_memory self.old) / 512) b page ⊎ ((page ≡ 0) × (count_in (page_at b 0) ≤ index)))) }
+        ensures inside { (b : List ℕ) → M.tells (tree_memory self.old) b → IfErr result (IfMalformed (λ page. page < M.size (tree_memory self.old) / 512)) }
         ensures cause { IfErr result (IfMem (M.accounted (tree_memory self.old) (tree_memory self.new))) }
         ensures same_list { (xs : List (List ℕ)) → Lists self.old xs → Lists self.new xs }
         ensures same_bytes { (b : List ℕ) → M.tells (tree_memory self.old) b → M.tells (tree_memory self.new) b }
@@ -213,6 +223,7 @@ impl<M: FlatMem, const E: usize, const K: usize> PageTree<M, E, K> {
     pub fn find_last_at_most(&mut self, key: &[u8; K]) -> Result<Option<u32>, TreeError<M::Error>>
         ensures found { (xs : List (List ℕ)) → Lists self.old xs → MatchResult result (IsFound K xs key.now) FromMemory }
         ensures malformed { (b : List ℕ) → M.tells (tree_memory self.old) b → IfErr result (IfMalformed (Breaks E K (M.size (tree_memory self.old) / 512) b)) }
+        ensures inside { (b : List ℕ) → M.tells (tree_memory self.old) b → IfErr result (IfMalformed (λ page. page < M.size (tree_memory self.old) / 512)) }
         ensures cause { IfErr result (IfMem (M.accounted (tree_memory self.old) (tree_memory self.new))) }
         ensures same_list { (xs : List (List ℕ)) → Lists self.old xs → Lists self.new xs }
         ensures same_bytes { (b : List ℕ) → M.tells (tree_memory self.old) b → M.tells (tree_memory self.new) b }
@@ -226,8 +237,10 @@ impl<M: FlatMem, const E: usize, const K: usize> PageTree<M, E, K> {
     pub fn replace(&mut self, index: u32, entry: &[u8; E]) -> Result<(), TreeError<M::Error>>
         ensures replaced { (xs : List (List ℕ)) → Lists self.old xs → index < length xs → take K entry.now ≡ key_at K xs index → MatchResult result (λ _. Lists self.new (slice_set xs index entry.now)) FromMemory }
         ensures past { (xs : List (List ℕ)) → Lists self.old xs → length xs ≤ index → MatchResult result (λ _. ⊥) IsPast }
+        ensures past_any { (b : List ℕ) → M.tells (tree_memory self.old) b → count_in (page_at b 0) ≤ index → MatchResult result (λ _. ⊥) IsPast }
         ensures past_same { (b : List ℕ) → M.tells (tree_memory self.old) b → count_in (page_at b 0) ≤ index → M.tells (tree_memory self.new) b }
         ensures malformed { (b : List ℕ) → M.tells (tree_memory self.old) b → IfErr result (IfMalformed (λ page. Breaks E K (M.size (tree_memory self.old) / 512) b page ⊎ ((page ≡ 0) × (count_in (page_at b 0) ≤ index)))) }
+        ensures inside { (b : List ℕ) → M.tells (tree_memory self.old) b → IfErr result (IfMalformed (λ page. page < M.size (tree_memory self.old) / 512)) }
         ensures cause { IfErr result (IfMem (M.accounted (tree_memory self.old) (tree_memory self.new))) }
         ensures kept { M.beside (tree_memory self.old) (tree_memory self.new) }
         ensures cost { M.spent (tree_memory self.new) ≤ M.spent (tree_memory self.old) + 12 * (M.size (tree_memory self.old) / 512) * M.cost }
@@ -239,8 +252,10 @@ impl<M: FlatMem, const E: usize, const K: usize> PageTree<M, E, K> {
     pub fn remove(&mut self, index: u32) -> Result<(), TreeError<M::Error>>
         ensures removed { (xs : List (List ℕ)) → Lists self.old xs → index < length xs → MatchResult result (λ _. Lists self.new (remove xs index)) FromMemory }
         ensures past { (xs : List (List ℕ)) → Lists self.old xs → length xs ≤ index → MatchResult result (λ _. ⊥) IsPast }
+        ensures past_any { (b : List ℕ) → M.tells (tree_memory self.old) b → count_in (page_at b 0) ≤ index → MatchResult result (λ _. ⊥) IsPast }
         ensures past_same { (b : List ℕ) → M.tells (tree_memory self.old) b → count_in (page_at b 0) ≤ index → M.tells (tree_memory self.new) b }
         ensures malformed { (b : List ℕ) → M.tells (tree_memory self.old) b → IfErr result (IfMalformed (λ page. Breaks E K (M.size (tree_memory self.old) / 512) b page ⊎ ((page ≡ 0) × (count_in (page_at b 0) ≤ index)))) }
+        ensures inside { (b : List ℕ) → M.tells (tree_memory self.old) b → IfErr result (IfMalformed (λ page. page < M.size (tree_memory self.old) / 512)) }
         ensures cause { IfErr result (IfMem (M.accounted (tree_memory self.old) (tree_memory self.new))) }
         ensures kept { M.beside (tree_memory self.old) (tree_memory self.new) }
         ensures cost { M.spent (tree_memory self.new) ≤ M.spent (tree_memory self.old) + 15 * (M.size (tree_memory self.old) / 512) * M.cost }

@@ -175,7 +175,7 @@ pub fn next_leaf<M: FlatMem, const E: usize, const K: usize>(
     requires most { levels ≤ 6 }
     requires path { (n : ℕ) → 1 < n → n ≤ levels → get_or path.old.pages n 0 < M.size mem.old / 512 }
     ensures leaf { (b : List ℕ) → M.tells mem.old b → (records : List (List ℕ)) (root at : ℕ) (nodes : ℕ → List Node) (home : ℕ → ℕ) → IsRooted E K (M.size mem.old / 512) b records levels root nodes → IsPath nodes levels 1 path.old.pages path.old.index at home → MatchResult result (IsLedOn b levels nodes page.new path.new.pages path.new.index (home 1)) FromMemory }
-    ensures met { (b : List ℕ) → M.tells mem.old b → (root : ℕ) → IsMetPath K b levels 1 root path.old.pages path.old.index → MatchResult result (λ _. IsMetPath K b levels 1 root path.new.pages path.new.index) (IfMalformed (Breaks E K (M.size mem.old / 512) b)) }
+    ensures met { (b : List ℕ) → M.tells mem.old b → (root : ℕ) → IsMetPath K b levels 1 root path.old.pages path.old.index → MatchResult result (λ found. IfSome found (Meets K b 1) × IsMetPath K b levels 1 root path.new.pages path.new.index) (IfMalformed (Breaks E K (M.size mem.old / 512) b)) }
     ensures walked { (b : List ℕ) → M.tells mem.old b → (root at : ℕ) (passed : List ℕ) → IsWalked K b levels root path.old.pages path.old.index at passed → MatchResult result (IsWalkedOn K b levels root path.new.pages path.new.index at passed) (IfMalformed (Breaks E K (M.size mem.old / 512) b)) }
     ensures path { IfOk result (λ _. (n : ℕ) → 1 < n → n ≤ levels → get_or path.new.pages n 0 < M.size mem.old / 512) }
     ensures inside { IfOk result (λ found. IfSome found (λ leaf. leaf < M.size mem.old / 512)) }

@@ -3,9 +3,10 @@ use Rattle.std.proofs.lemmas.List.Edits.{length-insert}
 use Rattle.page_tree.specs.Page.{IsBlank}
 use Rattle.page_tree.specs.Tree.{IsTree}
 use Rattle.page_tree.specs.Put.{capacity_of}
+use Rattle.page_tree.specs.Broken.{StopsInsertion}
 use Rattle.page_tree.proofs.Low.{full_or}
 use Rattle.page_tree.proofs.Moved.{closed_moved}
-use Rattle.page_tree.proofs.WayLaws.{from_memory}
+use Rattle.page_tree.proofs.WayLaws.{from_memory, malformed_wider}
 use Rattle.page_tree.proofs.WalkLaws.{memory_wider, never_full}
 use Rattle.page_tree.proofs.adding.insert.Goals as goal
 
@@ -107,3 +108,6 @@ returns-in-Err-put_in-clause-full_same g c = λ b h. never_full _ _ c.in-Err-put
 
 pub returns-in-Err-finish-clause-full_same : goal.returns-in-Err-finish-clause-full_same
 returns-in-Err-finish-clause-full_same g c = λ b h. never_full _ _ c.in-Err-finish.error c.in-Err-finish.ensures.cause
+
+pub returns-in-Err-clause-broken : goal.returns-in-Err-clause-broken
+returns-in-Err-clause-broken g c = λ b h. malformed_wider _ _ c.in-Err.error (λ page broken. StopsInsertion.broken broken) (c.in-Err.ensures.broken b h)

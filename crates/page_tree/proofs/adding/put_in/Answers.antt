@@ -6,10 +6,10 @@ use Rattle.page_tree.specs.Put.{capacity_of}
 use Rattle.page_tree.specs.Climb.{TellsClosed}
 use Rattle.page_tree.proofs.Low.{ready}
 use Rattle.page_tree.proofs.Moved.{climb_moved, closed_moved, step_done, step_more, match_weaker}
-use Rattle.page_tree.specs.Broken.{Meets}
+use Rattle.page_tree.specs.Broken.{Meets, StopsInsertion}
 use Rattle.page_tree.specs.Met.{IsMetPath}
 use Rattle.page_tree.proofs.FormLaws.{root_met}
-use Rattle.page_tree.proofs.WayLaws.{way_begun, goes_on}
+use Rattle.page_tree.proofs.WayLaws.{way_begun, goes_on, malformed_wider}
 use Rattle.page_tree.proofs.adding.put_in.Goals as goal
 
 pub returns-then-header-eq0-clause-put : goal.returns-then-header-eq0-clause-put
@@ -85,24 +85,24 @@ returns-clause-put g c = λ b h records tree is room.
     done
 
 pub returns-then-header-eq0-clause-on : goal.returns-then-header-eq0-clause-on
-returns-then-header-eq0-clause-on g c = λ b h is. c.put_first.ensures.on b h (way_begun g.row.K b _ _ (sym is.free_is) (sym is.top_is))
+returns-then-header-eq0-clause-on g c = λ b h is. c.put_first.ensures.on b h (way_begun g.row.K b _ _ (sym is.free_is) (omega (arith, g.met.M.FlatMem.told_length c.args.mem.now b h, c.requires.free)) (sym is.top_is))
 
 pub returns-in-Err-clause-on : goal.returns-in-Err-clause-on
-returns-in-Err-clause-on g c = λ b h is. c.in-Err.ensures.broken b h (root_met g.row.K b _ _ (sym is.levels_is) (sym is.root_is))
+returns-in-Err-clause-on g c = λ b h is. malformed_wider _ _ c.in-Err.error (λ page broken. StopsInsertion.broken broken) (c.in-Err.ensures.broken b h (root_met g.row.K b (g.M.FlatMem.size c.args.mem.now) c.args.header.now.levels c.args.header.now.root (g.met.M.FlatMem.told_length c.args.mem.now b h) c.requires.begins (omega (arith, c.if-header-eq0.false)) (sym is.levels_is) (sym is.root_is)))
 
 pub returns-in-Err-put_low-clause-on : goal.returns-in-Err-put_low-clause-on
 returns-in-Err-put_low-clause-on g c = λ b h is.
-    let met = c.in-Ok.ensures.met b h (root_met g.row.K b _ _ (sym is.levels_is) (sym is.root_is)) in
+    let met = c.in-Ok.ensures.met b h (root_met g.row.K b (g.M.FlatMem.size c.args.mem.now) c.args.header.now.levels c.args.header.now.root (g.met.M.FlatMem.told_length c.args.mem.now b h) c.requires.begins (omega (arith, c.if-header-eq0.false)) (sym is.levels_is) (sym is.root_is)) in
     let size = g.met.M.FlatMem.same_size _ _ c.descend.ensures.kept in
-    rw size (c.in-Err-put_low.ensures.on b (c.descend.ensures.unchanged b h) (way_begun g.row.K b _ _ (sym is.free_is) (sym is.top_is)) met.0 (c.in-Ok.ensures.read b h).1)
+    rw size (c.in-Err-put_low.ensures.on b (c.descend.ensures.unchanged b h) (way_begun g.row.K b _ _ (sym is.free_is) (omega (arith, g.met.M.FlatMem.told_length c.args.mem.now b h, c.requires.free)) (sym is.top_is)) met.0 (c.in-Ok.ensures.read b h).1)
 
 pub returns-clause-on : goal.returns-clause-on
 returns-clause-on g c = λ b h is.
-    let top = root_met g.row.K b c.args.header.now.levels c.args.header.now.root (sym is.levels_is) (sym is.root_is) in
+    let top = root_met g.row.K b (g.M.FlatMem.size c.args.mem.now) c.args.header.now.levels c.args.header.now.root (g.met.M.FlatMem.told_length c.args.mem.now b h) c.requires.begins (omega (arith, c.if-header-eq0.false)) (sym is.levels_is) (sym is.root_is) in
     let met = c.in-Ok.ensures.met b h top in
     let size = g.met.M.FlatMem.same_size _ _ c.descend.ensures.kept in
     let size_low = g.met.M.FlatMem.same_size _ _ c.put_low.ensures.kept in
-    let on = goes_on g.row.K (g.M.FlatMem.tells c.put_low.new.mem) b 1 _ _ c.in-Ok-put_low.done c.if-done.false (c.in-Ok-put_low.ensures.on b (c.descend.ensures.unchanged b h) (way_begun g.row.K b _ _ (sym is.free_is) (sym is.top_is)) met.0 (c.in-Ok.ensures.read b h).1) in
+    let on = goes_on g.row.K (g.M.FlatMem.tells c.put_low.new.mem) b 1 _ _ c.in-Ok-put_low.done c.if-done.false (c.in-Ok-put_low.ensures.on b (c.descend.ensures.unchanged b h) (way_begun g.row.K b _ _ (sym is.free_is) (omega (arith, g.met.M.FlatMem.told_length c.args.mem.now b h, c.requires.free)) (sym is.top_is)) met.0 (c.in-Ok.ensures.read b h).1) in
     let top_now : Meets g.row.K b c.put_low.new.header.levels c.put_low.new.header.root = rw (c.put_low.ensures.same_levels, c.put_low.ensures.root) top in
     let path_now : IsMetPath g.row.K b c.put_low.new.header.levels 1 c.put_low.new.header.root c.descend.new.path.pages c.descend.new.path.index = rw (c.put_low.ensures.same_levels, c.put_low.ensures.root) met.1 in
     rw (size ∙ size_low) (c.climb.ensures.on g.row.E b on.0 on.1 on.2 top_now path_now)

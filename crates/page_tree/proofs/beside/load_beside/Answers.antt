@@ -15,7 +15,7 @@ returns-then-at-eq0-clause-broken g c = λ root levels paths indexes b d h mendi
 
 pub returns-then-count-clause-broken : goal.returns-then-count-clause-broken
 returns-then-count-clause-broken g c = λ root levels paths indexes b d h mending up_met form like inside.
-    let met = child_of_like g.row.K b c.args.level c.args.up c.args.above.now c.args.index c.link_of-at.result c.requires.some up_met form like inside c.link_of-at.ensures in
+    let met = child_of_like g.row.K b c.args.level c.args.up c.args.above.now c.args.index c.link_of-at.result c.requires.some up_met form like inside c.link_of-at.ensures (omega (arith, c.if-at-eq0.false)) (omega (arith, g.met.M.FlatMem.told_length c.args.mem.now d h, mending.long, c.if-at-pages.false, c.len.ensures)) in
     elim (met_like g.row.E g.row.K (g.M.FlatMem.size c.args.mem.now / 512) b d levels c.args.level root paths indexes mending c.link_of-at.result c.load.new.page met (c.in-Ok.ensures.read d h)) [
       | inr broken ↦ broken
       | inl same ↦ leaf_broken g.row.E g.row.K (g.M.FlatMem.size c.args.mem.now / 512) b c.args.level c.link_of-at.result c.if-level-eq1.true met (λ leaf_form.
@@ -28,7 +28,7 @@ returns-then-count-clause-broken g c = λ root levels paths indexes b d h mendin
 
 pub returns-then-count-2-clause-broken : goal.returns-then-count-2-clause-broken
 returns-then-count-2-clause-broken g c = λ root levels paths indexes b d h mending up_met form like inside.
-    let met = child_of_like g.row.K b c.args.level c.args.up c.args.above.now c.args.index c.link_of-at.result c.requires.some up_met form like inside c.link_of-at.ensures in
+    let met = child_of_like g.row.K b c.args.level c.args.up c.args.above.now c.args.index c.link_of-at.result c.requires.some up_met form like inside c.link_of-at.ensures (omega (arith, c.if-at-eq0.false)) (omega (arith, g.met.M.FlatMem.told_length c.args.mem.now d h, mending.long, c.if-at-pages.false, c.len.ensures)) in
     elim (met_like g.row.E g.row.K (g.M.FlatMem.size c.args.mem.now / 512) b d levels c.args.level root paths indexes mending c.link_of-at.result c.load.new.page met (c.in-Ok.ensures.read d h)) [
       | inr broken ↦ broken
       | inl same ↦ inner_broken g.row.E g.row.K (g.M.FlatMem.size c.args.mem.now / 512) b c.args.level c.link_of-at.result met (omega (arith, c.requires.some, c.if-level-ne1.true)) (λ inner_form.

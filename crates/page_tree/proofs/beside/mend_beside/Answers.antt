@@ -120,7 +120,7 @@ pub returns-in-Ok-even_out-clause-on : goal.returns-in-Ok-even_out-clause-on
 returns-in-Ok-even_out-clause-on g c = λ root beside paths indexes b d h mending under up_is like at_met beside_is apart.
     let met = up_met g.row.K b d c.args.header.now.levels c.args.level root paths indexes mending c.requires.some under c.args.up up_is in
     let form = up_form g.row.K b d c.args.header.now.levels c.args.level root paths indexes mending c.requires.some under c.args.up up_is in
-    let right_met = child_of_like g.row.K b c.args.level c.args.up c.args.above.now 1 c.in-Ok.right_at c.requires.some met form like c.requires.children c.in-Ok.ensures.there.0 in
+    let right_met = child_of_like g.row.K b c.args.level c.args.up c.args.above.now 1 c.in-Ok.right_at c.requires.some met form like c.requires.children c.in-Ok.ensures.there.0 c.in-Ok.ensures.behind (omega (arith, g.met.M.FlatMem.told_length c.args.mem.now d h, mending.long, c.in-Ok.ensures.there.1)) in
     let right_is : link_at g.row.K c.args.above.now beside ≡ c.in-Ok.right_at = ap (link_at g.row.K c.args.above.now) (beside_is.at_first c.if-index-eq0.true) ∙ sym c.in-Ok.ensures.there.0 in
     let apart_now = subst (AreNotAbove paths c.args.level c.args.header.now.levels c.args.at) right_is apart in
     c.in-Ok-even_out.ensures.on root c.args.header.now.levels paths indexes b d (c.load_beside.ensures.unchanged d h) mending c.requires.some at_met right_met apart_now
@@ -129,7 +129,7 @@ pub returns-in-Err-even_out-clause-on : goal.returns-in-Err-even_out-clause-on
 returns-in-Err-even_out-clause-on g c = λ root beside paths indexes b d h mending under up_is like at_met beside_is apart.
     let met = up_met g.row.K b d c.args.header.now.levels c.args.level root paths indexes mending c.requires.some under c.args.up up_is in
     let form = up_form g.row.K b d c.args.header.now.levels c.args.level root paths indexes mending c.requires.some under c.args.up up_is in
-    let right_met = child_of_like g.row.K b c.args.level c.args.up c.args.above.now 1 c.in-Ok.right_at c.requires.some met form like c.requires.children c.in-Ok.ensures.there.0 in
+    let right_met = child_of_like g.row.K b c.args.level c.args.up c.args.above.now 1 c.in-Ok.right_at c.requires.some met form like c.requires.children c.in-Ok.ensures.there.0 c.in-Ok.ensures.behind (omega (arith, g.met.M.FlatMem.told_length c.args.mem.now d h, mending.long, c.in-Ok.ensures.there.1)) in
     let right_is : link_at g.row.K c.args.above.now beside ≡ c.in-Ok.right_at = ap (link_at g.row.K c.args.above.now) (beside_is.at_first c.if-index-eq0.true) ∙ sym c.in-Ok.ensures.there.0 in
     let apart_now = subst (AreNotAbove paths c.args.level c.args.header.now.levels c.args.at) right_is apart in
     from_memory (Breaks g.row.E g.row.K (g.M.FlatMem.size c.args.mem.now / 512) b) c.in-Err-even_out.error (c.in-Err-even_out.ensures.on root c.args.header.now.levels paths indexes b d (c.load_beside.ensures.unchanged d h) mending c.requires.some at_met right_met apart_now)
@@ -138,7 +138,7 @@ pub returns-in-Ok-even_out-2-clause-on : goal.returns-in-Ok-even_out-2-clause-on
 returns-in-Ok-even_out-2-clause-on g c = λ root beside paths indexes b d h mending under up_is like at_met beside_is apart.
     let met = up_met g.row.K b d c.args.header.now.levels c.args.level root paths indexes mending c.requires.some under c.args.up up_is in
     let form = up_form g.row.K b d c.args.header.now.levels c.args.level root paths indexes mending c.requires.some under c.args.up up_is in
-    let left_met = child_of_like g.row.K b c.args.level c.args.up c.args.above.now (c.args.index - 1) c.in-Ok-load_beside.left_at c.requires.some met form like (omega (arith, c.requires.child)) c.in-Ok-load_beside.ensures.there.0 in
+    let left_met = child_of_like g.row.K b c.args.level c.args.up c.args.above.now (c.args.index - 1) c.in-Ok-load_beside.left_at c.requires.some met form like (omega (arith, c.requires.child)) c.in-Ok-load_beside.ensures.there.0 c.in-Ok-load_beside.ensures.behind (omega (arith, g.met.M.FlatMem.told_length c.args.mem.now d h, mending.long, c.in-Ok-load_beside.ensures.there.1)) in
     let left_is : link_at g.row.K c.args.above.now beside ≡ c.in-Ok-load_beside.left_at = ap (link_at g.row.K c.args.above.now) (beside_is.behind (omega (arith, c.if-index-eq0.false))) ∙ sym c.in-Ok-load_beside.ensures.there.0 in
     let apart_now = not_above_turned paths c.args.level c.args.header.now.levels c.args.at c.in-Ok-load_beside.left_at (subst (AreNotAbove paths c.args.level c.args.header.now.levels c.args.at) left_is apart) in
     c.in-Ok-even_out-2.ensures.on root c.args.header.now.levels paths indexes b d (c.load_beside-2.ensures.unchanged d h) mending c.requires.some left_met at_met apart_now
@@ -147,7 +147,7 @@ pub returns-in-Err-even_out-2-clause-on : goal.returns-in-Err-even_out-2-clause-
 returns-in-Err-even_out-2-clause-on g c = λ root beside paths indexes b d h mending under up_is like at_met beside_is apart.
     let met = up_met g.row.K b d c.args.header.now.levels c.args.level root paths indexes mending c.requires.some under c.args.up up_is in
     let form = up_form g.row.K b d c.args.header.now.levels c.args.level root paths indexes mending c.requires.some under c.args.up up_is in
-    let left_met = child_of_like g.row.K b c.args.level c.args.up c.args.above.now (c.args.index - 1) c.in-Ok-load_beside.left_at c.requires.some met form like (omega (arith, c.requires.child)) c.in-Ok-load_beside.ensures.there.0 in
+    let left_met = child_of_like g.row.K b c.args.level c.args.up c.args.above.now (c.args.index - 1) c.in-Ok-load_beside.left_at c.requires.some met form like (omega (arith, c.requires.child)) c.in-Ok-load_beside.ensures.there.0 c.in-Ok-load_beside.ensures.behind (omega (arith, g.met.M.FlatMem.told_length c.args.mem.now d h, mending.long, c.in-Ok-load_beside.ensures.there.1)) in
     let left_is : link_at g.row.K c.args.above.now beside ≡ c.in-Ok-load_beside.left_at = ap (link_at g.row.K c.args.above.now) (beside_is.behind (omega (arith, c.if-index-eq0.false))) ∙ sym c.in-Ok-load_beside.ensures.there.0 in
     let apart_now = not_above_turned paths c.args.level c.args.header.now.levels c.args.at c.in-Ok-load_beside.left_at (subst (AreNotAbove paths c.args.level c.args.header.now.levels c.args.at) left_is apart) in
     from_memory (Breaks g.row.E g.row.K (g.M.FlatMem.size c.args.mem.now / 512) b) c.in-Err-even_out-2.error (c.in-Err-even_out-2.ensures.on root c.args.header.now.levels paths indexes b d (c.load_beside-2.ensures.unchanged d h) mending c.requires.some left_met at_met apart_now)

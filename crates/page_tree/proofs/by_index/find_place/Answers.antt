@@ -46,7 +46,7 @@ pub returns-in-Err-clause-placed : goal.returns-in-Err-clause-placed
 returns-in-Err-clause-placed g c = λ b h records here below. c.in-Err.ensures.leaf b h records here.nodes here.rooted
 
 pub returns-in-Err-clause-broken : goal.returns-in-Err-clause-broken
-returns-in-Err-clause-broken g c = λ b h is less. c.in-Err.ensures.walked b h (root_met g.row.K b c.args.header.levels c.args.header.root (sym is.levels_is) (sym is.root_is))
+returns-in-Err-clause-broken g c = λ b h is less. c.in-Err.ensures.walked b h (root_met g.row.K b (g.M.FlatMem.size c.args.mem.now) c.args.header.levels c.args.header.root (g.met.M.FlatMem.told_length c.args.mem.now b h) c.requires.begins c.requires.some (sym is.levels_is) (sym is.root_is))
 
 pub returns-then-rest-count-clause-placed : goal.returns-then-rest-count-clause-placed
 returns-then-rest-count-clause-placed g c = λ b h records here below.
@@ -75,7 +75,7 @@ returns-in-Err-next_leaf-clause-broken g c = λ b h is less.
     let told = c.first_leaf.ensures.unchanged b h in
     let size = g.met.M.FlatMem.same_size _ _ c.first_leaf.ensures.kept in
     let size_now = g.met.M.FlatMem.same_size _ _ c.leaves.invariant.kept in
-    let start = c.in-Ok.ensures.walked b h (root_met g.row.K b c.args.header.levels c.args.header.root (sym is.levels_is) (sym is.root_is)) in
+    let start = c.in-Ok.ensures.walked b h (root_met g.row.K b (g.M.FlatMem.size c.args.mem.now) c.args.header.levels c.args.header.root (g.met.M.FlatMem.told_length c.args.mem.now b h) c.requires.begins c.requires.some (sym is.levels_is) (sym is.root_is)) in
     let was = c.leaves.invariant.walked b told c.args.header.root start (c.in-Ok.ensures.read b h) in
     rw (size ∙ size_now) (c.in-Err-next_leaf.ensures.walked b (c.leaves.invariant.unchanged b told) c.args.header.root c.leaves.at was.0 was.1)
 
@@ -97,7 +97,7 @@ returns-in-None-clause-placed g c = λ b h records here below.
 pub returns-in-None-clause-broken : goal.returns-in-None-clause-broken
 returns-in-None-clause-broken g c = λ b h is less.
     let told = c.first_leaf.ensures.unchanged b h in
-    let start = c.in-Ok.ensures.walked b h (root_met g.row.K b c.args.header.levels c.args.header.root (sym is.levels_is) (sym is.root_is)) in
+    let start = c.in-Ok.ensures.walked b h (root_met g.row.K b (g.M.FlatMem.size c.args.mem.now) c.args.header.levels c.args.header.root (g.met.M.FlatMem.told_length c.args.mem.now b h) c.requires.begins c.requires.some (sym is.levels_is) (sym is.root_is)) in
     let read = c.in-Ok.ensures.read b h in
     let was = c.leaves.invariant.walked b told c.args.header.root start read in
     let all = rw c.in-None.is at (c.in-Ok-next_leaf.ensures.walked b (c.leaves.invariant.unchanged b told) c.args.header.root c.leaves.at was.0 was.1) in
@@ -116,13 +116,13 @@ returns-clause-placed g c = λ b h records here below.
 pub returns-clause-broken : goal.returns-clause-broken
 returns-clause-broken g c = λ b h is less.
     let told = c.first_leaf.ensures.unchanged b h in
-    let start = c.in-Ok.ensures.walked b h (root_met g.row.K b c.args.header.levels c.args.header.root (sym is.levels_is) (sym is.root_is)) in
+    let start = c.in-Ok.ensures.walked b h (root_met g.row.K b (g.M.FlatMem.size c.args.mem.now) c.args.header.levels c.args.header.root (g.met.M.FlatMem.told_length c.args.mem.now b h) c.requires.begins c.requires.some (sym is.levels_is) (sym is.root_is)) in
     let was = c.leaves.invariant.walked b told c.args.header.root start (c.in-Ok.ensures.read b h) in
     crowd_broken g.row.K b c.args.header.levels c.args.header.root is.levels_is is.root_is g.row.E _ was.0 (fewer_passed g.row.K b c.args.header.levels c.args.header.root _ _ c.leaves.at was.0 c.requires.some was.1) (omega (arith, was.2, c.leaves-test.false, c.len.ensures))
 
 pub returns-then-rest-count-clause-met : goal.returns-then-rest-count-clause-met
 returns-then-rest-count-clause-met g c = λ b h is.
     let told = c.first_leaf.ensures.unchanged b h in
-    let start = c.in-Ok.ensures.walked b h (root_met g.row.K b c.args.header.levels c.args.header.root (sym is.levels_is) (sym is.root_is)) in
+    let start = c.in-Ok.ensures.walked b h (root_met g.row.K b (g.M.FlatMem.size c.args.mem.now) c.args.header.levels c.args.header.root (g.met.M.FlatMem.told_length c.args.mem.now b h) c.requires.begins c.requires.some (sym is.levels_is) (sym is.root_is)) in
     let was = c.leaves.invariant.walked b told c.args.header.root start (c.in-Ok.ensures.read b h) in
     (was.1.met, was.1.path)

@@ -63,3 +63,12 @@ returns-clause-past g c = λ b h records tree past. absurd (omega (arith, past, 
 
 pub returns-clause-cost : goal.returns-clause-cost
 returns-clause-cost g c = walk_spends _ _ _ _ _ 6 12 g.M.FlatMem.cost c.read_header.ensures.cost c.find_place.ensures.cost (g.met.M.FlatMem.same_size _ _ c.read_header.ensures.kept) (omega (arith, c.requires.some_pages))
+
+pub returns-in-Err-clause-past_any : goal.returns-in-Err-clause-past_any
+returns-in-Err-clause-past_any g c = λ b h past. c.in-Err.ensures.named
+
+pub returns-in-Err-find_place-clause-past_any : goal.returns-in-Err-find_place-clause-past_any
+returns-in-Err-find_place-clause-past_any g c = λ b h past. absurd (omega (arith, past, (c.in-Ok.ensures.fields b h).count_is, c.if-index-header.false))
+
+pub returns-clause-past_any : goal.returns-clause-past_any
+returns-clause-past_any g c = λ b h past. absurd (omega (arith, past, (c.in-Ok.ensures.fields b h).count_is, c.if-index-header.false))

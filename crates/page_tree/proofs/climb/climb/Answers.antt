@@ -3,7 +3,7 @@ use Rattle.page_tree.specs.Answer.{FromMemory}
 use Rattle.page_tree.specs.Climb.{TellsClosed}
 use Rattle.page_tree.specs.Put.{capacity_of}
 use Rattle.page_tree.proofs.Moved.{climb_moved, closed_moved, step_done, step_more}
-use Rattle.page_tree.specs.Broken.{Breaks}
+use Rattle.page_tree.specs.Broken.{StopsInsertion}
 use Rattle.page_tree.specs.Met.{IsMetPath}
 use Rattle.page_tree.specs.Way.{IsUnderWay}
 use Rattle.page_tree.proofs.WayLaws.{goes_on, root_full, spends, spends_most}
@@ -84,7 +84,7 @@ returns-clause-on g c = λ e b d h way top path.
     let size = g.met.M.FlatMem.same_size _ _ c.up.invariant.kept in
     let at_top : c.up.level ≡ c.up.header.levels = omega (arith, c.up-test.false, c.up.invariant.order.1) in
     let way_now : IsUnderWay g.row.K b was.0 c.up.header.levels c.up.header.levels c.up.header.free c.up.header.top = rw at_top at was.2 in
-    let six : 6 ≤ c.up.header.levels → Breaks e g.row.K (g.M.FlatMem.size c.args.mem.now / 512) b c.up.header.root = λ six.
+    let six : 6 ≤ c.up.header.levels → StopsInsertion e g.row.K (g.M.FlatMem.size c.args.mem.now / 512) b c.up.header.root = λ six.
     rw c.up.invariant.root (root_full e g.row.K _ b c.args.header.now.levels c.up.level c.args.header.now.root c.args.path.now.pages c.args.path.now.index path top (at_top ∙ c.up.invariant.levels) (omega (arith, six, c.up.invariant.levels, c.requires.few)) was.3) in
     rw size (c.grow.ensures.on e b was.0 was.1 way_now (rw (← size) six))
 

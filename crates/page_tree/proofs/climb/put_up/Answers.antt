@@ -8,7 +8,7 @@ use Rattle.page_tree.specs.Climb.{child_item}
 use Rattle.page_tree.proofs.Inner.{inner_put}
 use Rattle.page_tree.proofs.StepLaws.{up_take, up_inner, up_place, up_put, up_split}
 use Rattle.page_tree.proofs.Put.{child_named}
-use Rattle.page_tree.specs.Broken.{IsInnerForm}
+use Rattle.page_tree.specs.Broken.{IsInnerForm, StopsInsertion}
 use Rattle.page_tree.proofs.WayLaws.{read_again, form_again}
 use Rattle.page_tree.proofs.Listing.{inner_lists, inner_kinds}
 use Rattle.page_tree.proofs.climb.put_up.Goals as goal
@@ -61,7 +61,7 @@ pub returns-then-page-ne2-clause-on : goal.returns-then-page-ne2-clause-on
 returns-then-page-ne2-clause-on g c = λ e root b d h way path.
     let read : c.load.new.page ≡ page_at d (get_or c.args.path.now.pages (c.args.level + 1) 0) = c.in-Ok.ensures.read d h in
     elim (read_again e g.row.K (g.M.FlatMem.size c.args.mem.now / 512) b d c.args.header.now.levels c.args.level root c.args.header.now.free c.args.header.now.top c.args.path.now.pages c.args.path.now.index way path c.requires.some c.requires.under) [
-      | inr broken ↦ broken
+      | inr broken ↦ StopsInsertion.broken broken
       | inl same ↦
           let again = form_again g.row.K b d c.load.new.page c.args.header.now.levels c.args.level root c.args.path.now.pages c.args.path.now.index path c.requires.some c.requires.under read same in
           elim c.then-page-ne2.branch [

@@ -55,3 +55,12 @@ returns-in-Ok-set_in-clause-cost g c = walk_spends _ _ _ _ _ 7 12 g.M.FlatMem.co
 
 pub returns-in-Err-set_in-clause-cost : goal.returns-in-Err-set_in-clause-cost
 returns-in-Err-set_in-clause-cost g c = walk_spends _ _ _ _ _ 7 12 g.M.FlatMem.cost c.read_header.ensures.cost c.set_in.ensures.cost (g.met.M.FlatMem.same_size _ _ c.read_header.ensures.kept) (omega (arith, c.requires.some_pages))
+
+pub returns-in-Err-clause-past_any : goal.returns-in-Err-clause-past_any
+returns-in-Err-clause-past_any g c = λ b h past. c.in-Err.ensures.named
+
+pub returns-in-Ok-set_in-clause-past_any : goal.returns-in-Ok-set_in-clause-past_any
+returns-in-Ok-set_in-clause-past_any g c = λ b h past. absurd (omega (arith, past, (c.in-Ok.ensures.fields b h).count_is, c.if-index-header.false))
+
+pub returns-in-Err-set_in-clause-past_any : goal.returns-in-Err-set_in-clause-past_any
+returns-in-Err-set_in-clause-past_any g c = λ b h past. absurd (omega (arith, past, (c.in-Ok.ensures.fields b h).count_is, c.if-index-header.false))

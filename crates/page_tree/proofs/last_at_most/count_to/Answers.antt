@@ -62,7 +62,7 @@ pub returns-in-Err-clause-counted : goal.returns-in-Err-clause-counted
 returns-in-Err-clause-counted g c = λ b h records here. c.in-Err.ensures.leaf b h records here.nodes here.rooted
 
 pub returns-in-Err-clause-broken : goal.returns-in-Err-clause-broken
-returns-in-Err-clause-broken g c = λ b h is. c.in-Err.ensures.walked b h (root_met g.row.K b c.args.header.levels c.args.header.root (sym is.levels_is) (sym is.root_is))
+returns-in-Err-clause-broken g c = λ b h is. c.in-Err.ensures.walked b h (root_met g.row.K b (g.M.FlatMem.size c.args.mem.now) c.args.header.levels c.args.header.root (g.met.M.FlatMem.told_length c.args.mem.now b h) c.requires.begins c.requires.some (sym is.levels_is) (sym is.root_is))
 
 pub returns-then-place-count-clause-counted : goal.returns-then-place-count-clause-counted
 returns-then-place-count-clause-counted g c = λ b h records here.
@@ -88,7 +88,7 @@ returns-in-Err-next_leaf-clause-broken g c = λ b h is.
     let told = c.first_leaf.ensures.unchanged b h in
     let size = g.met.M.FlatMem.same_size _ _ c.first_leaf.ensures.kept in
     let size_now = g.met.M.FlatMem.same_size _ _ c.leaves.invariant.kept in
-    let start = c.in-Ok.ensures.walked b h (root_met g.row.K b c.args.header.levels c.args.header.root (sym is.levels_is) (sym is.root_is)) in
+    let start = c.in-Ok.ensures.walked b h (root_met g.row.K b (g.M.FlatMem.size c.args.mem.now) c.args.header.levels c.args.header.root (g.met.M.FlatMem.told_length c.args.mem.now b h) c.requires.begins c.requires.some (sym is.levels_is) (sym is.root_is)) in
     let was = c.leaves.invariant.walked b told c.args.header.root _ start in
     rw (size ∙ size_now) (c.in-Err-next_leaf.ensures.walked b (c.leaves.invariant.unchanged b told) c.args.header.root was.0 was.1 was.2)
 
@@ -116,6 +116,6 @@ returns-clause-counted g c = λ b h records here.
 
 pub returns-clause-broken : goal.returns-clause-broken
 returns-clause-broken g c = λ b h is.
-    let start = c.in-Ok.ensures.walked b h (root_met g.row.K b c.args.header.levels c.args.header.root (sym is.levels_is) (sym is.root_is)) in
+    let start = c.in-Ok.ensures.walked b h (root_met g.row.K b (g.M.FlatMem.size c.args.mem.now) c.args.header.levels c.args.header.root (g.met.M.FlatMem.told_length c.args.mem.now b h) c.requires.begins c.requires.some (sym is.levels_is) (sym is.root_is)) in
     let was = c.leaves.invariant.walked b (c.first_leaf.ensures.unchanged b h) c.args.header.root _ start in
     crowd_broken g.row.K b c.args.header.levels c.args.header.root is.levels_is is.root_is g.row.E _ was.1 (fewer_passed g.row.K b c.args.header.levels c.args.header.root _ _ was.0 was.1 c.requires.some was.2) (omega (arith, was.3, c.leaves-test.false, c.len.ensures))

@@ -33,11 +33,13 @@ returns-else-last_in_page-clause-answer g c = λ b h records tree.
 
 pub returns-then-last_in_page-clause-home : goal.returns-then-last_in_page-clause-home
 returns-then-last_in_page-clause-home g c = λ b h.
+    let told = c.in-Ok.ensures.header b h in
     let read = c.in-Ok-descend.ensures.read b (c.read_header.ensures.unchanged b h) in
-    stands_in g.row.E g.row.K b c.descend.new.page c.args.key.now c.last_in_page.new.into c.in-Ok-descend.at c.last_in_page.result c.if-last_in_page.true read.0 read.1 c.last_in_page.ensures
+    let met = c.in-Ok-descend.ensures.met b (c.read_header.ensures.unchanged b h) (root_met g.row.K b (g.M.FlatMem.size c.args.mem.now) c.in-Ok.header.levels c.in-Ok.header.root (g.met.M.FlatMem.told_length c.args.mem.now b h) c.in-Ok.ensures.form (omega (arith, c.if-header-eq0.false)) told.0 told.1) in
+    stands_in g.row.E g.row.K b c.descend.new.page c.args.key.now c.last_in_page.new.into c.in-Ok-descend.at c.last_in_page.result c.if-last_in_page.true met.0 read.0 read.1 c.last_in_page.ensures
 
 pub returns-in-Err-descend-clause-broken : goal.returns-in-Err-descend-clause-broken
 returns-in-Err-descend-clause-broken g c = λ b h.
     let told = c.in-Ok.ensures.header b h in
     let size = g.met.M.FlatMem.same_size _ _ c.read_header.ensures.kept in
-    rw (size) (c.in-Err-descend.ensures.broken b (c.read_header.ensures.unchanged b h) (root_met g.row.K b c.in-Ok.header.levels c.in-Ok.header.root told.0 told.1))
+    rw (size) (c.in-Err-descend.ensures.broken b (c.read_header.ensures.unchanged b h) (root_met g.row.K b (g.M.FlatMem.size c.args.mem.now) c.in-Ok.header.levels c.in-Ok.header.root (g.met.M.FlatMem.told_length c.args.mem.now b h) c.in-Ok.ensures.form (omega (arith, c.if-header-eq0.false)) told.0 told.1))

@@ -1,4 +1,4 @@
-use Rattle.std.proofs.Common.{◌≡◌, ◌⊎◌, refl, inl, inr, ℕ, ◌+◌, ◌-◌, ◌/◌, ◌<◌, ◌≤◌, List, length, remove, arith, sym, ◌∙◌, ap, subst}
+use Rattle.std.proofs.Common.{◌≡◌, refl, inl, inr, ℕ, ◌+◌, ◌-◌, ◌/◌, ◌<◌, ◌≤◌, List, length, remove, arith, sym, ◌∙◌, ap, subst}
 use Rattle.std.proofs.lemmas.List.Edits.{length-remove}
 use Rattle.page_tree.specs.Page.{IsBlank}
 use Rattle.page_tree.specs.Tree.{IsTree}
@@ -100,3 +100,15 @@ returns-in-Err-remove_in-clause-broken g c = λ b h.
 pub returns-in-Err-finish-clause-broken : goal.returns-in-Err-finish-clause-broken
 returns-in-Err-finish-clause-broken g c = λ b h.
     broken_or _ _ c.in-Err-finish.error (from_memory (Breaks g.row.E g.row.K (g.M.FlatMem.size c.args.mem.now / 512) b) c.in-Err-finish.error c.in-Err-finish.ensures.memory)
+
+pub returns-in-Err-clause-past_any : goal.returns-in-Err-clause-past_any
+returns-in-Err-clause-past_any g c = λ b h past. c.in-Err.ensures.named
+
+pub returns-in-Err-remove_in-clause-past_any : goal.returns-in-Err-remove_in-clause-past_any
+returns-in-Err-remove_in-clause-past_any g c = λ b h past. absurd (omega (arith, past, (c.in-Ok.ensures.fields b h).count_is, c.if-index-header.false))
+
+pub returns-in-Err-finish-clause-past_any : goal.returns-in-Err-finish-clause-past_any
+returns-in-Err-finish-clause-past_any g c = λ b h past. absurd (omega (arith, past, (c.in-Ok.ensures.fields b h).count_is, c.if-index-header.false))
+
+pub returns-clause-past_any : goal.returns-clause-past_any
+returns-clause-past_any g c = λ b h past. absurd (omega (arith, past, (c.in-Ok.ensures.fields b h).count_is, c.if-index-header.false))

@@ -6,7 +6,8 @@ use Rattle.page_tree.specs.Put.{capacity_of}
 use Rattle.page_tree.specs.Climb.{IsClosed}
 use Rattle.page_tree.proofs.Single.{out_true, out_false, empty_told}
 use Rattle.std.proofs.lemmas.Bool.{false≢true}
-use Rattle.page_tree.specs.Broken.{Meets, Breaks}
+use Rattle.page_tree.specs.Broken.{Breaks}
+use Rattle.page_tree.proofs.FormLaws.{root_met}
 use Rattle.page_tree.proofs.WayLaws.{from_memory}
 use Rattle.page_tree.proofs.removing.remove_key.Goals as goal
 
@@ -93,7 +94,7 @@ pub returns-in-Err-remove_in-clause-broken : goal.returns-in-Err-remove_in-claus
 returns-in-Err-remove_in-clause-broken g c = λ b h.
     let is = c.in-Ok.ensures.header b h in
     let size = g.met.M.FlatMem.same_size _ _ c.read_header.ensures.kept in
-    rw size (c.in-Err-remove_in.ensures.broken b (c.read_header.ensures.unchanged b h) is.0 (Meets.root _ _ is.0 is.1))
+    rw size (c.in-Err-remove_in.ensures.broken b (c.read_header.ensures.unchanged b h) is.0 (root_met g.row.K b (g.M.FlatMem.size c.args.mem.now) c.in-Ok.header.levels c.in-Ok.header.root (g.met.M.FlatMem.told_length c.args.mem.now b h) c.in-Ok.ensures.form (omega (arith, c.if-header-eq0.false)) is.0 is.1))
 
 pub returns-then-header-eq0-2-clause-broken : goal.returns-then-header-eq0-2-clause-broken
 returns-then-header-eq0-2-clause-broken g c = λ b h.

@@ -32,4 +32,4 @@ pub returns-in-Err-replace_in-clause-broken : goal.returns-in-Err-replace_in-cla
 returns-in-Err-replace_in-clause-broken g c = λ b h.
     let told = c.in-Ok.ensures.header b h in
     let size = g.met.M.FlatMem.same_size _ _ c.read_header.ensures.kept in
-    rw size (c.in-Err-replace_in.ensures.broken b (c.read_header.ensures.unchanged b h) (root_met g.row.K b c.in-Ok.header.levels c.in-Ok.header.root told.0 told.1))
+    rw size (c.in-Err-replace_in.ensures.broken b (c.read_header.ensures.unchanged b h) (root_met g.row.K b (g.M.FlatMem.size c.args.mem.now) c.in-Ok.header.levels c.in-Ok.header.root (g.met.M.FlatMem.told_length c.args.mem.now b h) c.in-Ok.ensures.form (omega (arith, c.if-header-eq0.false)) told.0 told.1))

@@ -128,7 +128,7 @@ returns-in-Some-clause-on g c = λ root b d h mending at_met.
     let met = up_met g.row.K b d c.args.header.now.levels c.args.level root c.args.path.now.pages c.args.path.now.index mending c.requires.some c.requires.under c.in-Ok.up c.in-Ok.ensures.there.0 in
     let form = up_form g.row.K b d c.args.header.now.levels c.args.level root c.args.path.now.pages c.args.path.now.index mending c.requires.some c.requires.under c.in-Ok.up c.in-Ok.ensures.there.0 in
     let beside = beside_inside (get_or c.args.path.now.index (c.args.level + 1) 0) c.beside_of.result (filled c.load_above.new.above) c.beside_of.ensures c.in-Ok.ensures.form.0 c.in-Ok.ensures.form.2 in
-    let beside_met = child_of_like g.row.K b c.args.level c.in-Ok.up c.load_above.new.above c.beside_of.result c.link_of-beside.result c.requires.some met form like beside.0 c.link_of-beside.ensures in
+    let beside_met = λ (behind : 1 ≤ c.link_of-beside.result) (fits : 512 * c.link_of-beside.result + 512 ≤ length b). child_of_like g.row.K b c.args.level c.in-Ok.up c.load_above.new.above c.beside_of.result c.link_of-beside.result c.requires.some met form like beside.0 c.link_of-beside.ensures behind fits in
     again_broken g.row.E g.row.K (g.M.FlatMem.size c.args.mem.now / 512) b d c.args.header.now.levels c.args.level root c.args.path.now.pages c.args.path.now.index mending c.requires.some c.args.at.now c.link_of-beside.result c.in-Some.page at_met beside_met c.in-Some.ensures
 
 pub returns-in-Err-mend_beside-clause-on : goal.returns-in-Err-mend_beside-clause-on

@@ -1,6 +1,8 @@
 use Rattle.std.proofs.Common.{◌*◌, ◌/◌, ◌≤◌, length, arith}
 use Rattle.flat_mem.specs.Memory.{overwritten}
 use Rattle.page_tree.specs.Page.{filled}
+use Rattle.page_tree.specs.Broken.{Breaks}
+use Rattle.page_tree.proofs.WayLaws.{from_memory}
 use Rattle.page_tree.proofs.Noted.{pending_closed, ample_enough}
 use Rattle.page_tree.proofs.thin.mend_up.Goals as goal
 
@@ -12,3 +14,6 @@ returns-in-Ok-clause-mended g c = λ b h records pending.
       pending_closed g.row.E g.row.K (g.M.FlatMem.size c.args.mem.now / 512) b records c.args.header.now.levels c.args.level c.args.path.now.pages c.args.path.now.index c.args.at.now c.args.page.now c.args.header.now.root c.args.header.now.free c.args.header.now.top pending
           c.requires.some (omega (arith, c.requires.under)) size c.told-page (ample_enough g.row.E g.row.K c.args.level (filled c.args.page.now) c.args.header.now.levels (c.is_ample.ensures.ample c.if-is_ample.true)),
     )
+
+pub returns-in-Err-clause-on : goal.returns-in-Err-clause-on
+returns-in-Err-clause-on g c = λ root b d h mending at_met. from_memory (Breaks g.row.E g.row.K (g.M.FlatMem.size c.args.mem.now / 512) b) c.in-Err.error c.in-Err.ensures.memory

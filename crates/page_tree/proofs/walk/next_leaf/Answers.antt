@@ -51,8 +51,8 @@ returns-clause-met g c = λ b h root path.
     let form = rw c.in-Some.is at c.in-Ok.ensures.form in
     let fits = rw c.in-Some.is at (c.in-Ok.ensures.met b h g.row.E root path) in
     let above : 1 < c.in-Some.level = omega (arith, form.0) in
-    (c.in-Ok-go_down.ensures.met b (c.turning_level.ensures.unchanged b h) c.args.levels root form.1 (path.met c.in-Some.level above form.1) (met_cut g.row.K b c.args.levels 1 c.in-Some.level root _ _ above path) (λ above. fits)
-    (λ same. ap (λ (i : ℕ). get_or c.args.path.now.pages i 0) same ∙ path.top (omega (arith, above, form.1)))).1
+    c.in-Ok-go_down.ensures.met b (c.turning_level.ensures.unchanged b h) c.args.levels root form.1 (path.met c.in-Some.level above form.1) (met_cut g.row.K b c.args.levels 1 c.in-Some.level root _ _ above path) (λ above. fits)
+    (λ same. ap (λ (i : ℕ). get_or c.args.path.now.pages i 0) same ∙ path.top (omega (arith, above, form.1)))
 
 pub returns-clause-path : goal.returns-clause-path
 returns-clause-path g c =

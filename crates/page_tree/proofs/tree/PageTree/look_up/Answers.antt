@@ -1,3 +1,5 @@
+use Rattle.std.proofs.Common.{arith}
+use Rattle.page_tree.proofs.MetLaws.{broken_inside}
 use Rattle.page_tree.proofs.Listed.{lists_kept}
 use Rattle.page_tree.proofs.tree.PageTree.look_up.Goals as goal
 
@@ -12,3 +14,6 @@ returns-in-Ok-clause-same_list g c = λ xs lists. lists_kept g.row.E g.row.K _ _
 
 pub returns-in-Err-clause-same_list : goal.returns-in-Err-clause-same_list
 returns-in-Err-clause-same_list g c = λ xs lists. lists_kept g.row.E g.row.K _ _ _ _ xs (g.met.M.FlatMem.same_size _ _ c.look_up.ensures.kept) c.look_up.ensures.unchanged lists
+
+pub returns-in-Err-clause-inside : goal.returns-in-Err-clause-inside
+returns-in-Err-clause-inside g c = λ b h. broken_inside g.row.E g.row.K _ b c.in-Err.error (g.met.M.FlatMem.told_length _ b h) (omega (arith, c.args.self.now.least)) (c.in-Err.ensures.broken b h)

@@ -1,3 +1,5 @@
+use Rattle.std.proofs.Common.{arith}
+use Rattle.page_tree.proofs.MetLaws.{err_wider, past_inside}
 use Rattle.page_tree.proofs.Listed.{lists_out_at}
 use Rattle.page_tree.proofs.Moved.{match_weaker}
 use Rattle.page_tree.proofs.tree.PageTree.remove.Goals as goal
@@ -9,3 +11,6 @@ returns-clause-removed g c = λ xs lists below.
 
 pub returns-clause-past : goal.returns-clause-past
 returns-clause-past g c = λ xs lists past. c.remove.ensures.past lists.bytes lists.told xs lists.tree past
+
+pub returns-clause-inside : goal.returns-clause-inside
+returns-clause-inside g c = λ b h. err_wider c.remove.result _ _ (λ why named. past_inside g.row.E g.row.K _ b _ why (g.met.M.FlatMem.told_length _ b h) (omega (arith, c.args.self.now.least)) named) (c.remove.ensures.broken b h)
