@@ -1,17 +1,15 @@
 -- The pages of a file from one on are cut off, run by run from the end.
-use Rattle.std.proofs.Common.{◌≡◌, ◌≢◌, ◌⊎◌, inl, inr, ℕ, ◌+◌, ◌-◌, ◌*◌, ◌<◌, ◌≤◌, ◌^◌, Bool, true, false, not, ◌&&◌, ◌||◌, ◌==◌, nat_le, List, length, map, take, set, remove, Some, None, refl, sym, ◌∙◌, ap, subst, arith}
+use Rattle.std.proofs.Common.{◌≡◌, ◌≢◌, ◌⊎◌, inl, inr, ℕ, ◌+◌, ◌-◌, ◌<◌, ◌≤◌, ◌^◌, Bool, true, false, not, ◌&&◌, ◌||◌, ◌==◌, nat_le, List, length, map, take, set, remove, Some, None, refl, sym, ◌∙◌, ap, subst, arith}
 use Rattle.std.proofs.lemmas.Bool.{cases_lt, false≢true, eqb-true, eq-eqb, leb-true, le-leb}
 use Rattle.std.proofs.lemmas.List.{length-map, map-set, length-set}
 use Rattle.std.proofs.lemmas.List.Edits.{length-remove}
-use Rattle.std.proofs.Math.Nat.{add-mul, mul_assoc}
-use Rattle.std.proofs.lemmas.Nat.{mul-le}
 use Rattle.flat_mem.specs.Order.{IsRising, key_at}
 use Rattle.file_map.specs.declared.run.Run.{Run}
 use Rattle.file_map.specs.Run.{IsRun, holds, sector_at, key_bytes, run_bytes}
 use Rattle.file_map.specs.FileMap.{AreNamed, Triples, run_names, names_triple, run_at, without_from}
 use Rattle.file_map.specs.Entries.{IsLastOf, NoneOf, IsReplaced, IsTakenOut}
 use Rattle.file_map.specs.Searches.{IsLastRun}
-use Rattle.file_map.specs.Edits.{IsShorter, IsStep}
+use Rattle.file_map.specs.Edits.{IsStep}
 use Rattle.file_map.proofs.Runs.{rank_of, HasPage, has_page, page_held, and_parts, and_both, key_of_entry}
 use Rattle.file_map.proofs.Keys.{rank}
 use Rattle.file_map.proofs.Records.{key_of_run}
@@ -120,6 +118,26 @@ module _ (n : ℕ) (lists : List (List ℕ) → Type 0) (named : Triples) (map_i
     cut_out true rest false h = absurd (false≢true (h refl))
     cut_out false rest t h = refl
 
+    -- what the other runs name of the file is named, and before this run
+    module _ (same : r.id ≡ file) where
+      others_named : (page sector : ℕ) → names_triple (remove runs last.0) file page sector ≡ true → named file page sector ≡ true
+      others_named page sector h = names_is file page sector ∙ or_second (run_names r file page sector) _ h
+
+      others_before : (page sector : ℕ) → names_triple (remove runs last.0) file page sector ≡ true → page < r.first
+      others_before page sector h = elim (in_run page sector (others_named page sector h)) [
+        | inl held ↦ absurd (rest_apart n runs map_is.form last.0 file page sector below h (subst (λ (x : Run). holds x file page ≡ true) last.2 held))
+        | inr before ↦ omega (arith, before, same)
+      ]
+
+      first_named : named file r.first (sector_at r r.first) ≡ true
+      first_named =
+          let held : holds r file r.first ≡ true = page_held r file r.first record { same = same; from = omega arith; below = omega (arith, form.some) } in
+          let own : run_names r file r.first (sector_at r r.first) ≡ true = and_both (holds r file r.first) (sector_at r r.first == sector_at r r.first) held (eq-eqb (sector_at r r.first) (sector_at r r.first) refl) in
+          names_is file r.first (sector_at r r.first) ∙ ap (λ (x : Bool). x || names_triple (remove runs last.0) file r.first (sector_at r r.first)) own
+
+      first_high : r.first ≤ 4294967295
+      first_high = omega (arith, form.pages_fit, form.some)
+
     module _ (now : List (List ℕ) → Type 0) where
       pub removed_named : (key : List ℕ) → key ≡ key_bytes r.id r.first → (i : ℕ) → IsLastOf 12 (map run_bytes map_is.runs) key i → now (remove (map run_bytes map_is.runs) i) → AreNamed n now (names_triple (remove map_is.runs last.0))
       removed_named key is i meant listed = record {
@@ -152,6 +170,12 @@ module _ (n : ℕ) (lists : List (List ℕ) → Type 0) (named : Triples) (map_i
             left = length (remove runs last.0);
             counted = subst counts (length-map (remove runs last.0) run_bytes) (counted (map run_bytes (remove runs last.0)) map_now.listed);
             fewer = removed_count ∙ sym long ∙ sym count_is;
+            page = r.first;
+            sector = sector_at r r.first;
+            was = first_named same;
+            high = first_high same;
+            before = others_before same;
+            among = others_named same;
           }
       removed_step counts counted key is same behind count count_is false answer = absurd (none_of_last key is answer.0)
 
@@ -247,50 +271,3 @@ module _ (n : ℕ) (lists : List (List ℕ) → Type 0) (named : Triples) (map_i
         short_step entry is false answer =
             let told = subst (λ (x : List ℕ). IsReplaced 12 now (map run_bytes runs) x false) is answer in
             absurd (none_of_last (take 12 (run_bytes short)) key_same told.0)
-
--- ---- the loop
-
--- so many records are left, and the same triples would be left by a cut of what there is now
-pub record IsCutting (n : ℕ) (lists : List (List ℕ) → Type 0) (counts : ℕ → Type 0) (named : Triples) (file from left : ℕ) : Type 0 where
-  pub now : Triples
-  pub map_is : AreNamed n lists now
-  pub same : (id page sector : ℕ) → without_from now file from id page sector ≡ without_from named file from id page sector
-  pub counted : counts left
-
-pub begin_cutting : (n : ℕ) (lists : List (List ℕ) → Type 0) (counts : ℕ → Type 0) (named : Triples) (file from left : ℕ) → AreNamed n lists named → counts left → IsCutting n lists counts named file from left
-begin_cutting n lists counts named file from left map_is counted = record { now = named; map_is = map_is; same = λ id page sector. refl; counted = counted }
-
-pub cut_more : (n : ℕ) (lists : List (List ℕ) → Type 0) (counts : ℕ → Type 0) (now named : Triples) (file from left : ℕ) → ((id page sector : ℕ) → without_from now file from id page sector ≡ without_from named file from id page sector)
-    → IsShorter n lists counts now file from left → IsCutting n lists counts named file from (left - 1)
-cut_more n lists counts now named file from left same short = record {
-  now = short.now;
-  map_is = short.map_is;
-  same = λ id page sector. short.same id page sector ∙ same id page sector;
-  counted = let is : short.left ≡ left - 1 = omega (arith, short.fewer) in subst counts is short.counted;
-}
-
--- a map without records names nothing
-pub cut_all : (n : ℕ) (lists : List (List ℕ) → Type 0) (counts : ℕ → Type 0) (named : Triples) (file from : ℕ) → ((xs : List (List ℕ)) → lists xs → counts (length xs)) → ((i j : ℕ) → counts i → counts j → i ≡ j)
-    → IsCutting n lists counts named file from 0 → AreNamed n lists (without_from named file from)
-cut_all n lists counts named file from count once at = renamed n lists at.now (without_from named file from) at.map_is (λ id page sector.
-    sym (at.same id page sector) ∙ none_to_cut at.now file from (λ p s low h.
-    let by = named_by at.map_is.runs file p s (sym (at.map_is.are file p s) ∙ h) in
-    let none : length (map run_bytes at.map_is.runs) ≡ 0 = once _ _ (count (map run_bytes at.map_is.runs) at.map_is.listed) at.counted in
-    omega (arith, none, length-map at.map_is.runs run_bytes, by.below)) id page sector)
-
-pub cut_paid : (cost left most spent after start : ℕ) → 0 < left → after ≤ spent + cost → spent + left * cost ≤ start + most * cost → after + (left - 1) * cost ≤ start + most * cost
-cut_paid cost left most spent after start some paid had =
-    let split : left * cost ≡ (left - 1) * cost + cost = turn in
-    omega (arith, split, paid, had)
-  where
-    turn : left * cost ≡ (left - 1) * cost + cost
-    turn = let is : left ≡ (left - 1) + 1 = omega (arith, some) in ap (λ (x : ℕ). x * cost) is ∙ add-mul (left - 1) 1 cost ∙ omega arith
-
-pub begin_paid : (cost left most start : ℕ) → left ≤ most → start + left * cost ≤ start + most * cost
-begin_paid cost left most start few = omega (arith, mul-le left cost most cost few (omega arith))
-
--- in accesses of a tree
-pub cut_spent : (most c before after : ℕ) → after ≤ before + c + most * (7 * c + 8 * c + 36 * c) → after ≤ before + (1 + most * (7 + 8 + 36)) * c
-cut_spent most c before after paid =
-    let each : most * (7 * c + 8 * c + 36 * c) ≡ most * 51 * c = ap (λ (x : ℕ). most * x) (omega arith) ∙ sym (mul_assoc most 51 c) in
-    omega (arith, paid, each)

@@ -7,6 +7,7 @@ pub mod Named
 pub mod Edits
 pub mod Adding
 pub mod Cutting
+pub mod CutLoop
 pub mod Few
 pub mod Trees
 pub mod Room

@@ -1,11 +1,12 @@
 -- Why a call of the map answered an error.
-use Rattle.std.specs.Prelude.{◌≡◌, ◌⊎◌, ℕ, ◌<◌, List}
+use Rattle.std.specs.Prelude.{◌≡◌, ◌⊎◌, ℕ, ◌+◌, ◌<◌, List}
 use Rattle.page_tree.specs.declared.error.TreeError.{TreeError}
 use Rattle.page_tree.specs.declared.error.TreeError.TheVariants.{Full as TreeFull, Malformed as TreeMalformed, Mem as TreeMem}
 use Rattle.file_map.specs.declared.error.MapError.{MapError}
 use Rattle.file_map.specs.declared.error.MapError.TheVariants.{Full, Malformed, Mem}
 use Rattle.file_map.specs.Entries.{Sight, Entry, Count, Broken}
-use Rattle.file_map.specs.Run.{IsRecord}
+use Rattle.file_map.specs.declared.run.Run.{Run}
+use Rattle.file_map.specs.Run.{IsRecord, run_bytes}
 use Rattle.file_map.specs.FileMap.{most_records}
 
 -- an error of the list of records as one of the map
@@ -26,6 +27,14 @@ abbrev pub IsCause : {X : Type 0} → ℕ → Type 0 → (Sight → Type 0) → 
 IsCause n full shows accounted Full = full
 IsCause n full shows accounted (Malformed page) = IsBroken n shows page
 IsCause n full shows accounted (Mem error) = accounted error
+
+-- a record of the file is shown that ends behind page `from`, so that a cut there takes something out
+pub record IsToCut (id from : ℕ) (shows : Sight → Type 0) : Type 0 where
+  pub run : Run
+  pub page : ℕ
+  pub shown : shows (Entry page (run_bytes run))
+  pub of_file : run.id ≡ id
+  pub behind : from < run.first + run.pages
 
 -- no record may be added: whatever count is told, it is that of the data sectors
 abbrev pub IsMost : ℕ → (ℕ → Type 0) → Type 0

@@ -1,9 +1,9 @@
 //! The pages of a file from one on are cut off.
-ghost use Rattle.std.specs.Prelude.{◌≡◌, ℕ, ◌+◌, ◌*◌, ◌<◌, ◌≤◌, true, false, List, map, IfOk, IfErr, IfSome, MatchResult};
+ghost use Rattle.std.specs.Prelude.{◌≡◌, ◌⊎◌, ℕ, ◌+◌, ◌*◌, ◌<◌, ◌≤◌, true, false, List, map, IfOk, IfErr, IfSome, MatchResult};
 ghost use Rattle.labelled_disk.specs.Layout.{IsCount};
-ghost use Rattle.file_map.specs.FileMap.{AreNamed, Triples, without_from, most_records};
+ghost use Rattle.file_map.specs.FileMap.{AreNamed, IsSize, Triples, without_from, most_records};
 ghost use Rattle.file_map.specs.Edits.{IsStep};
-ghost use Rattle.file_map.specs.Cause.{IsCause, IsOwn};
+ghost use Rattle.file_map.specs.Cause.{IsCause, IsToCut, IsOwn};
 
 use crate::count::count_of;
 use crate::entries::CutEntries;
@@ -24,6 +24,7 @@ fn cut_last<T: CutEntries>(
     ensures step { (named : Triples) → AreNamed sectors (T.lists entries.old) named → (n : ℕ) → T.counts entries.old n → MatchResult result (IsStep sectors (T.lists entries.new) (T.counts entries.new) named id from n) IsOwn }
     ensures kept { T.beside entries.old entries.new }
     ensures cause { IfErr result (IsCause sectors ⊥ (T.shows entries.old) (T.accounted entries.old entries.new)) }
+    ensures more { IfOk result (λ more. more ≡ true → IsToCut id from (T.shows entries.old)) }
     ensures cost { T.spent entries.new ≤ T.spent entries.old + T.look_cost + T.replace_cost + T.remove_cost }
 {
     let run = match last_run(entries, sectors, id, LEADER)? {
@@ -58,7 +59,9 @@ pub fn cut<T: CutEntries>(
     ensures cut { (named : Triples) → AreNamed sectors (T.lists entries.old) named → MatchResult result (λ _. AreNamed sectors (T.lists entries.new) (without_from named id from)) IsOwn }
     ensures kept { T.beside entries.old entries.new }
     ensures cause { IfErr result (λ error. (m : T) × T.beside entries.old m × T.beside m entries.new × IsCause sectors ⊥ (T.shows m) (T.accounted entries.old entries.new) error) }
+    ensures begun { IfErr result (λ error. IsCause sectors ⊥ (T.shows entries.old) (T.accounted entries.old entries.new) error ⊎ IsToCut id from (T.shows entries.old)) }
     ensures cost { T.spent entries.new ≤ T.spent entries.old + T.count_cost + most_records sectors * (T.look_cost + T.replace_cost + T.remove_cost) }
+    ensures cost_sized { (named : Triples) (size : ℕ) → AreNamed sectors (T.lists entries.old) named → IsSize named id size → T.spent entries.new ≤ T.spent entries.old + T.count_cost + (size + 2) * (T.look_cost + T.replace_cost + T.remove_cost) }
 {
     let mut left = count_of(entries, sectors)?;
     'cutting: while left > 0 {

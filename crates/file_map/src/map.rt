@@ -1,11 +1,11 @@
 //! The map.
-ghost use Rattle.std.specs.Prelude.{◌≡◌, ℕ, ◌+◌, ◌*◌, ◌/◌, ◌<◌, ◌≤◌, true, List, replicate, IfOk, IfErr, IfSome, MatchResult};
+ghost use Rattle.std.specs.Prelude.{◌≡◌, ◌⊎◌, ℕ, ◌+◌, ◌*◌, ◌/◌, ◌<◌, ◌≤◌, true, List, replicate, IfOk, IfErr, IfSome, MatchResult};
 ghost use Rattle.page_tree.specs.Page.{page_at};
 ghost use Rattle.labelled_disk.specs.Layout.{IsCount, vfm};
 ghost use Rattle.file_map.specs.Run.{IsRun, holds, run_bytes};
 ghost use Rattle.file_map.specs.FileMap.{Triples, IsFound, IsSize, IsNext, IsNew, no_triples, with_run, without_from, most_records};
 ghost use Rattle.file_map.specs.Entries.{Entry};
-ghost use Rattle.file_map.specs.Cause.{IsCause, IsOwn, IsFullOr, IsMost, IfFull};
+ghost use Rattle.file_map.specs.Cause.{IsCause, IsToCut, IsOwn, IsFullOr, IsMost, IfFull};
 
 use crate::error::MapError;
 use crate::run::Run;
@@ -112,7 +112,10 @@ impl<M: FlatMem> FileMap<M> {
         ensures sectors { map_sectors self.new ≡ map_sectors self.old }
         ensures kept { M.beside (map_memory self.old) (map_memory self.new) }
         ensures cause { IfErr result (λ error. (m : M) × M.beside (map_memory self.old) m × M.beside m (map_memory self.new) × IsCause (map_sectors self.old) ⊥ (ShownBy (M.tells m) (M.size m / 512)) (M.accounted (map_memory self.old) (map_memory self.new)) error) }
+        // it is a cause in the bytes at the start, or a record of the file, whole or in part, was to be taken out of them
+        ensures begun { IfErr result (λ error. IsCause (map_sectors self.old) ⊥ (Shows self.old) (M.accounted (map_memory self.old) (map_memory self.new)) error ⊎ IsToCut id from (Shows self.old)) }
         ensures cost { M.spent (map_memory self.new) ≤ M.spent (map_memory self.old) + (1 + most_records (map_sectors self.old) * (7 + 8 + 36)) * M.cost }
+        ensures cost_sized { (named : Triples) (size : ℕ) → Names self.old named → IsSize named id size → M.spent (map_memory self.new) ≤ M.spent (map_memory self.old) + (1 + (size + 2) * (7 + 8 + 36)) * M.cost }
     {
         let mut tree = PageTree::<&mut M, 24, 12>::over(&mut self.mem);
         cut::cut(&mut tree, self.sectors, id, from)

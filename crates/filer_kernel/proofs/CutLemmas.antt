@@ -1,5 +1,5 @@
 -- Why a file is not cut in the file map.
-use Rattle.std.proofs.Common.{◌≡◌, ℕ, ◌/◌, List, Ok, Err, IfErr, MatchResult, refl, ◌∙◌, subst}
+use Rattle.std.proofs.Common.{◌≡◌, ◌⊎◌, inl, inr, ℕ, ◌/◌, List, Ok, Err, IfErr, MatchResult, refl, ◌∙◌, subst}
 use Rattle.std.specs.declared.result.Result.{Result}
 use Rattle.labelled_disk.specs.declared.layout.Layout.{Layout}
 use Rattle.labelled_disk.specs.declared.evidence.Evidence.TheVariants.{Mismatch, Malformed as MalformedPage, Missing}
@@ -10,7 +10,7 @@ use Rattle.labelled_disk.specs.State.{DiskState}
 use Rattle.frame_pool.specs.Frames.{Slots}
 use Rattle.file_map.specs.declared.error.MapError.{MapError}
 use Rattle.file_map.specs.declared.error.MapError.TheVariants.{Full, Malformed, Mem}
-use Rattle.file_map.specs.Cause.{IsCause, IsBroken, IsOwn}
+use Rattle.file_map.specs.Cause.{IsCause, IsBroken, IsToCut, IsOwn}
 use Rattle.file_map.specs.Map.{ShownBy}
 use Rattle.swapper_kernel.specs.declared.manager.Manager.{Manager}
 use Rattle.swapper_kernel.specs.declared.manager.Manager.TheVariants.{FileMap}
@@ -19,9 +19,9 @@ use Rattle.swapper_kernel.specs.Homes.{AreNamed}
 use Rattle.swapper_kernel.specs.Stands.{Stands}
 use Rattle.swapper_kernel.specs.Halts.{IsMismatch, HasCause, held_or}
 use Rattle.swapper_kernel.specs.Window.{Tells, Beside, IsAccounted, size_in}
-use Rattle.filer_kernel.specs.Causes.{MapShows, CutHalts, IsFaultOrMismatch}
+use Rattle.filer_kernel.specs.Causes.{MapShows, MapHalts, CutHalts, IsFaultOrMismatch}
 use Rattle.filer_kernel.specs.Halted.{halted}
-use Rattle.filer_kernel.proofs.FileLemmas.{window_pages, broken_same, window_right}
+use Rattle.filer_kernel.proofs.FileLemmas.{IsWindowCause, window_pages, broken_same, window_right, search_halts}
 
 -- an error of the map over a window, by what the window was at some moment
 pub record IsAtMoment (n : ℕ) (which : Manager) (a : DiskState) (s : Slots) (x : Layout) (e : DiskState) (t : Slots) (y : Layout) (error : MapError Halt) : Type 0 where
@@ -86,3 +86,30 @@ cut_right (Ok value) P n x d e s t y own is = tt
 cut_right (Err Full) P n x d e s t y own is = absurd own
 cut_right (Err (Malformed page)) P n x d e s t y own is = absurd own
 cut_right (Err (Mem h)) P n x d e s t y own is = window_right (held_or s (IsMapHome FileMap x)) d e h is.cause.cause
+
+-- it has its cause in the map as it was at the start, or the file had a record there to be taken out
+abbrev pub IsBegun : ℕ → ℕ → ℕ → Manager → DiskState → Slots → Layout → DiskState → MapError Halt → Type 0
+IsBegun n id from which d s x e error = IsWindowCause n ⊥ which d s x e error ⊎ IsToCut id from (ShownBy (Tells which d s x) (size_in which d.sectors x / 512))
+
+pub begun_here : {T : Type 0} (r : Result T (MapError Halt)) (n id from : ℕ) (e : DiskState) {which also : Manager} {a b : DiskState} {s t : Slots} {x y : Layout} → which ≡ also → a ≡ b → s ≡ t → x ≡ y
+    → IfErr r (IsBegun n id from which a s x e) → IfErr r (IsBegun n id from also b t y e)
+begun_here r n id from e w d s l h = rw (← w, ← d, ← s, ← l) h
+
+to_cut : {p q id from : ℕ} {tells : List ℕ → Type 0} → p ≡ q → IsToCut id from (ShownBy tells p) → IsToCut id from (ShownBy tells q)
+to_cut same h = rw (← same) h
+
+pub begun_halts : {T : Type 0} (r : Result T (MapError Halt)) (n id from : ℕ) (x : Layout) (d e : DiskState) (s : Slots) → n ≡ x.sectors → d.sectors ≡ x.sectors
+    → IfErr r (IsBegun n id from FileMap d s x e) → IfErr (halted r) (λ h. MapHalts x d s e h ⊎ IsToCut id from (MapShows x d s))
+begun_halts (Ok value) n id from x d e s of size is = tt
+begun_halts (Err Full) n id from x d e s of size is = elim is [
+  | inl cause ↦ absurd cause
+  | inr cut ↦ inr (to_cut (window_pages FileMap d.sectors x size) cut)
+]
+begun_halts (Err (Malformed page)) n id from x d e s of size is = elim is [
+  | inl cause ↦ inl (refl, broken_same of (window_pages FileMap d.sectors x size) cause)
+  | inr cut ↦ inr (to_cut (window_pages FileMap d.sectors x size) cut)
+]
+begun_halts (Err (Mem h)) n id from x d e s of size is = elim is [
+  | inl cause ↦ inl (search_halts x d e s h cause.cause)
+  | inr cut ↦ inr (to_cut (window_pages FileMap d.sectors x size) cut)
+]

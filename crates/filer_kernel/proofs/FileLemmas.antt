@@ -88,7 +88,7 @@ becomes_named {also = also} {e = e} {x = x} {y = y} same beside m stands named n
     }
 
 -- a halt of the window is one of a search of the map
-search_halts : (x : Layout) (d e : DiskState) (s : Slots) (h : Halt) → HasCause (IsMismatch (held_or s (IsMapHome FileMap x)) d) d e h → MapHalts x d s e h
+pub search_halts : (x : Layout) (d e : DiskState) (s : Slots) (h : Halt) → HasCause (IsMismatch (held_or s (IsMapHome FileMap x)) d) d e h → MapHalts x d s e h
 search_halts x d e s halt.Disk is = is
 search_halts x d e s (halt.Damaged (Mismatch sector wanted found)) is = is
 search_halts x d e s (halt.Damaged (MalformedPage window page)) is = absurd is

@@ -1,9 +1,10 @@
 //! Runs that are added to the file map, and pages that are cut off.
-ghost use Rattle.std.specs.Prelude.{◌≡◌, ℕ, ◌+◌, ◌*◌, ◌≤◌, ◌<◌, ◌==◌, Bool, not, List, filter, IfOk, IfErr, OnOk};
+ghost use Rattle.std.specs.Prelude.{◌≡◌, ◌⊎◌, ℕ, ◌+◌, ◌*◌, ◌≤◌, ◌<◌, ◌==◌, Bool, not, List, filter, IfOk, IfErr, OnOk};
 ghost use Rattle.labelled_disk.specs.Sectors.{Sector};
 ghost use Rattle.labelled_disk.specs.declared.evidence.Halt.TheVariants as halt;
 ghost use Rattle.file_map.specs.Run.{IsRun};
-ghost use Rattle.file_map.specs.FileMap.{Triples, IsNew, with_run, without_from, most_records};
+ghost use Rattle.file_map.specs.FileMap.{Triples, IsNew, IsSize, with_run, without_from, most_records};
+ghost use Rattle.file_map.specs.Cause.{IsToCut};
 ghost use Rattle.file_map.specs.Laws.{AreOnce, AreAmong, data_count};
 ghost use Rattle.swapper_kernel.specs.declared.manager.Manager.TheVariants.{FileMap as FileMapPages};
 ghost use Rattle.swapper_kernel.specs.Maps.{IsMapHome};
@@ -13,7 +14,7 @@ ghost use Rattle.swapper_kernel.specs.Window.{Beside};
 ghost use Rattle.filer_kernel.specs.Becomes.{Becomes};
 ghost use Rattle.filer_kernel.specs.Cached.{runs_of};
 ghost use Rattle.filer_kernel.specs.Triples.{MapIs};
-ghost use Rattle.filer_kernel.specs.Causes.{MapCounts, AddHalts, CutHalts, IsFaultOrMismatch, IsFaultOrMost};
+ghost use Rattle.filer_kernel.specs.Causes.{MapShows, MapCounts, MapHalts, AddHalts, CutHalts, IsFaultOrMismatch, IsFaultOrMost};
 
 use crate::FilerOver;
 use crate::halted::halted;
@@ -60,9 +61,13 @@ impl<D: Disk, A: Allocator> FilerOver<D, A> {
         ensures runs { (n : ℕ) → runs_of n self.new.runs ≡ filter (λ r. not (r.id == id)) (runs_of n self.old.runs) }
         ensures sound { (m : List Sector) (named : Triples) → Stands (D.state self.old.swapper.under) self.old.swapper.pool m → MapIs self.old.swapper.layout named m → AreNamed m (IsMapHome FileMapPages self.old.swapper.layout) → IfErr result (λ e. e ≡ halt.Disk) }
         ensures right { (m : List Sector) (named : Triples) → Stands (D.state self.old.swapper.under) self.old.swapper.pool m → MapIs self.old.swapper.layout named m → IfErr result IsFaultOrMismatch }
+        // it has its cause in the map as it was at the start, or a record of the file, whole or in part, was to be taken out of it
+        ensures begun { IfErr result (λ why. MapHalts self.old.swapper.layout (D.state self.old.swapper.under) self.old.swapper.pool (D.state self.new.swapper.under) why ⊎ IsToCut id from (MapShows self.old.swapper.layout (D.state self.old.swapper.under) self.old.swapper.pool)) }
         ensures cause { IfErr result (CutHalts self.old.swapper.layout (D.state self.old.swapper.under) self.old.swapper.pool (D.state self.new.swapper.under) self.new.swapper.pool) }
         ensures beside { Beside FileMapPages (D.state self.old.swapper.under) self.old.swapper.pool self.old.swapper.layout (D.state self.new.swapper.under) self.new.swapper.pool self.new.swapper.layout }
         ensures cost { (D.state self.new.swapper.under).transfers ≤ (D.state self.old.swapper.under).transfers + 2 * (1 + 51 * most_records self.old.swapper.layout.sectors) }
+        ensures cost_sized { (m : List Sector) (named : Triples) (size : ℕ) → Stands (D.state self.old.swapper.under) self.old.swapper.pool m → MapIs self.old.swapper.layout named m → IsSize named id size
+            → (D.state self.new.swapper.under).transfers ≤ (D.state self.old.swapper.under).transfers + 2 * (1 + 51 * (size + 2)) }
     {
         self.runs.forget(id);
         let layout = self.swapper.layout();

@@ -1,4 +1,5 @@
-use Rattle.std.proofs.Common.{◌∙◌, ◌-◌, refl, ap, sym, subst, map, length, arith}
+use Rattle.std.proofs.lemmas.Bool.{false≢true}
+use Rattle.std.proofs.Common.{◌+◌, ◌<◌, ◌∙◌, ◌-◌, refl, ap, sym, subst, map, length, arith}
 use Rattle.file_map.specs.Run.{run_bytes, key_bytes}
 use Rattle.file_map.specs.Searches.{IsLastRun}
 use Rattle.file_map.proofs.Cutting.{uncut, done_none, done_other, done_before, removed_step, short_step}
@@ -38,3 +39,23 @@ returns-clause-step g c = λ named map_is n counted.
     short_step c.args.sectors _ named map_is (g.met.T.SearchedEntries.rising c.args.entries.now) c.args.id c.args.from (omega (arith, c.ranges.id.fits)) c.in-Some.run' last (g.T.SearchedEntries.lists c.replace_key.new.self)
     record { id = c.args.id; first = c.in-Some.run'.first; pages = c.args.from - c.in-Some.run'.first; sector = c.in-Some.run'.sector } refl refl refl refl c.if-run-id.false (omega (arith, c.if-run-from.false))
     (omega (arith, c.if-end-from.false, c.end.ensures, c.from.ensures)) c.to_bytes.result c.to_bytes.ensures c.in_ok-replace_key.field-0 (c.in_ok-replace_key.ensures.answer xs (c.last_run.ensures.same xs map_is.listed))
+
+pub returns-in-None-clause-more : goal.returns-in-None-clause-more
+returns-in-None-clause-more g c = λ same. absurd (false≢true same)
+
+pub returns-then-run-id-clause-more : goal.returns-then-run-id-clause-more
+returns-then-run-id-clause-more g c = λ same. absurd (false≢true same)
+
+pub returns-then-run-from-clause-more : goal.returns-then-run-from-clause-more
+returns-then-run-from-clause-more g c = λ more.
+    let there = rw c.in-Some.is at c.in_ok-run.ensures.shown in
+    record {
+      run = c.in-Some.run';
+      page = there.0;
+      shown = there.1;
+      of_file = c.if-run-id.false;
+      behind = omega (arith, c.if-end-from.false, c.end.ensures, c.from.ensures);
+    }
+
+pub returns-clause-more : goal.returns-clause-more
+returns-clause-more g c = λ same. absurd (false≢true same)

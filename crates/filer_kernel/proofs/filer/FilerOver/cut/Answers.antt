@@ -1,16 +1,17 @@
-use Rattle.std.proofs.Common.{rules, IfErr, OnOk, List, ◌∙◌, ap}
+use Rattle.std.proofs.Common.{rules, ℕ, ◌⊎◌, ◌+◌, ◌*◌, ◌≤◌, IfErr, OnOk, List, ◌∙◌, ap, arith}
 use Rattle.labelled_disk.specs.declared.layout.Layout.{Layout}
 use Rattle.labelled_disk.specs.Sectors.{Sector}
-use Rattle.file_map.specs.FileMap.{Triples, without_from}
+use Rattle.file_map.specs.Cause.{IsToCut}
+use Rattle.file_map.specs.FileMap.{IsSize, Triples, without_from}
 use Rattle.swapper_kernel.specs.declared.manager.Manager.TheVariants.{FileMap}
 use Rattle.swapper_kernel.specs.Stands.{Stands}
 use Rattle.filer_kernel.specs.Becomes.{Becomes}
-use Rattle.filer_kernel.specs.Causes.{CutHalts}
+use Rattle.filer_kernel.specs.Causes.{MapShows, MapHalts, CutHalts}
 use Rattle.filer_kernel.specs.Triples.{MapIs}
 use Rattle.filer_kernel.proofs.Lent.{lent}
 use Rattle.filer_kernel.proofs.Outcomes.{err_wider}
 use Rattle.filer_kernel.proofs.FileLemmas.{names_told, becomes_named, match_on_ok}
-use Rattle.filer_kernel.proofs.CutLemmas.{IsAtMoment, moment_here, cut_halts, cut_sound, cut_right}
+use Rattle.filer_kernel.proofs.CutLemmas.{IsBegun, begun_here, begun_halts, IsAtMoment, moment_here, cut_halts, cut_sound, cut_right}
 use Rattle.filer_kernel.proofs.filer.FilerOver.cut.Given as given
 use Rattle.filer_kernel.proofs.filer.FilerOver.cut.Goals as goal
 
@@ -63,3 +64,26 @@ returns-clause-cause g c =
     let halts : IfErr c.halted.result (CutHalts x (g.D.Disk.state c.args.self.now.swapper.under) c.args.self.now.swapper.pool (g.D.Disk.state c.cut.new.self.mem.swapper.now.under) c.cut.new.self.mem.swapper.now.pool) =
     rw c.halted.ensures (cut_halts c.cut.result _ x _ _ _ _ _ of c.requires.size (moment g c)) in
     search (rules, halts)
+
+begun : (g : given.Over) (c : goal.After-halted g) → IfErr c.cut.result (IsBegun c.over-map.result.sectors c.args.id c.args.from FileMap (g.D.Disk.state c.args.self.now.swapper.under) c.args.self.now.swapper.pool c.args.self.now.swapper.layout (g.D.Disk.state c.cut.new.self.mem.swapper.now.under))
+begun g c = begun_here c.cut.result c.over-map.result.sectors c.args.id c.args.from (g.D.Disk.state c.cut.new.self.mem.swapper.now.under) (search rules) (search rules) (search rules) (search rules) c.cut.ensures.begun
+
+pub returns-clause-begun : goal.returns-clause-begun
+returns-clause-begun g c =
+    let x = c.args.self.now.swapper.layout in
+    let of = c.over-map.ensures.sectors ∙ ap (λ (l : Layout). l.sectors) c.layout-layout.ensures in
+    let halts : IfErr c.halted.result (λ h. MapHalts x (g.D.Disk.state c.args.self.now.swapper.under) c.args.self.now.swapper.pool (g.D.Disk.state c.cut.new.self.mem.swapper.now.under) h ⊎ IsToCut c.args.id c.args.from (MapShows x (g.D.Disk.state c.args.self.now.swapper.under) c.args.self.now.swapper.pool)) =
+    rw c.halted.ensures (begun_halts c.cut.result _ c.args.id c.args.from x _ _ _ of c.requires.size (begun g c)) in
+    search (rules, halts)
+
+-- on the disk of the map that was lent
+sized : (g : given.Over) (c : goal.After-halted g) (m : List Sector) (named : Triples) (size : ℕ) → Stands (g.D.Disk.state c.args.self.now.swapper.under) c.args.self.now.swapper.pool m → MapIs c.args.self.now.swapper.layout named m → IsSize named c.args.id size
+    → (g.D.Disk.state c.cut.new.self.mem.swapper.now.under).transfers ≤ (g.D.Disk.state c.args.self.now.swapper.under).transfers + 2 * (1 + 51 * (size + 2))
+sized g c m named size stands map is =
+    let told = names_told c.requires.size m named stands map in
+    let paid = c.cut.ensures.cost_sized named size (rw (c.over-map.ensures.sectors, c.layout-layout.ensures, c.over-map.ensures.memory, c.window0.ensures.value, c.window0.ensures.which) told) is in
+    let spent = rw (c.over-map.ensures.memory, c.window0.ensures.value, c.window0.ensures.which) at paid in
+    omega (arith, spent)
+
+pub returns-clause-cost_sized : goal.returns-clause-cost_sized
+returns-clause-cost_sized g c = λ m named size stands map is. let all = sized g c m named size stands map is in search (rules, all)
