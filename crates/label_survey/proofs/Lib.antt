@@ -10,3 +10,4 @@ mod SortLemmas
 mod TripleLemmas
 mod CounterLemmas
 mod RunLemmas
+mod LawLemmas

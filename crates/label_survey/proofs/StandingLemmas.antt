@@ -87,7 +87,7 @@ module _ (d : List Sector) where
 
   -- Needed, and not needed.
 
-  needed_by : (i : ℕ) (s : Sector) (f : File) → slice_get (data_sectors d) i ≡ Some s → disk_file false d s.0.id ≡ Some f
+  pub needed_by : (i : ℕ) (s : Sector) (f : File) → slice_get (data_sectors d) i ≡ Some s → disk_file false d s.0.id ≡ Some f
       → is_needed false (data_sectors d) i ≡ (is_first (leads_file false s.0.id) (data_sectors d) i || (nat_lt s.0.page (size f) && is_first (is_page s.0.id s.0.page) (data_sectors d) i))
   needed_by i s f here is =
       ap (λ (o : Option Sector). option_map_or (λ s. option_map_or (λ f. is_first (leads_file false s.0.id) (data_sectors d) i || (nat_lt s.0.page (size f) && is_first (is_page s.0.id s.0.page) (data_sectors d) i)) (file_among false (data_sectors d) s.0.id) false) o false) here
@@ -240,7 +240,7 @@ module _ (d : List Sector) where
   -- Files of needed sectors.
 
   -- at its place on the disk
-  data_here : (i : ℕ) (s : Sector) → HasData d i s → slice_get (data_sectors d) (i - first_data (length d)) ≡ Some s
+  pub data_here : (i : ℕ) (s : Sector) → HasData d i s → slice_get (data_sectors d) (i - first_data (length d)) ≡ Some s
   data_here i s has =
       let back : first_data (length d) + (i - first_data (length d)) ≡ i = omega (arith, has.is_data) in
       dropped d (first_data (length d)) (i - first_data (length d)) ∙ ap (slice_get d) back ∙ has.here

@@ -164,7 +164,7 @@ module _ (d : List Sector) (standings : List Standing) (are : AreStandings d sta
   pages = places_agree is_page (λ m s. standing d (m - first_data (length d)) s) (λ i s. needs_place false d i && not (eqb s.0.page leader_page)) (first_data (length d)) standings (data_sectors d) by_place
       (λ m s. page_stands (needs_place false d m) (eqb s.0.page leader_page) (is_free s.0) (is_of_some_file false d s))
 
-  freed : places_by is_freed (first_data (length d)) standings ≡ unneeded_sectors false d
+  pub freed : places_by is_freed (first_data (length d)) standings ≡ unneeded_sectors false d
   freed = places_agree is_freed (λ m s. standing d (m - first_data (length d)) s) (λ i s. not (is_free s.0) && not (needs_place false d i)) (first_data (length d)) standings (data_sectors d) by_place
       (λ m s. freed_stands (needs_place false d m) (eqb s.0.page leader_page) (is_free s.0) (is_of_some_file false d s))
 

@@ -1,5 +1,5 @@
 -- Triples of the sectors that are kept, collected and sorted.
-use Rattle.std.proofs.Common.{◌≡◌, ℕ, zero, suc, ◌+◌, ◌-◌, Bool, true, false, cond, List, [], ◌∷◌, ◌++◌, map, length, take, Some, refl, sym, ◌∙◌, ap, subst, arith, eqb}
+use Rattle.std.proofs.Common.{◌≡◌, ℕ, zero, suc, ◌+◌, ◌-◌, ◌≤◌, Bool, true, false, cond, List, [], ◌∷◌, ◌++◌, map, length, take, Some, refl, sym, ◌∙◌, ap, subst, arith, eqb}
 use Rattle.std.specs.Prelude.{slice_get, slice_index_or, option_map}
 use Rattle.std.specs.List.{All}
 use Rattle.std.specs.List.Sorted.{IsPermutation}
@@ -125,7 +125,7 @@ triples_rise n (l ∷ ls) (x ∷ xs) = either (is_kept x) (triples_rise (n + 1) 
     either true up = (omega arith, up)
     either false up = rises_earlier (λ (t : Triple). t.sector) n (n + 1) (triples_from (n + 1) ls xs) (omega arith) up
 
-kept_stands : (n l f o : Bool) → is_kept (cond n (cond l Leader Page) (cond f Free (cond o Lost Stray))) ≡ n
+pub kept_stands : (n l f o : Bool) → is_kept (cond n (cond l Leader Page) (cond f Free (cond o Lost Stray))) ≡ n
 kept_stands true true f o = refl
 kept_stands true false f o = refl
 kept_stands false l true o = refl
@@ -187,3 +187,13 @@ module _ (d : List Sector) (labels : List Label) (standings : List Standing) (la
 
       every : (k : ℕ) (t : Triple) → slice_get sorted k ≡ Some t → IsFrom first labels standings t
       every k t here = subst (IsFrom first labels standings) (get_or_from_slice_get sorted k t t here) (All-permutation (IsFrom first labels standings) collected sorted moved given k t (slice_get_within sorted k t here))
+
+-- as many as the labels at most
+pub triples_few : (n : ℕ) (ls : List Label) (xs : List Standing) → length (triples_from n ls xs) ≤ length ls
+triples_few n [] xs = omega arith
+triples_few n (l ∷ ls) [] = omega arith
+triples_few n (l ∷ ls) (x ∷ xs) = either (is_kept x) (triples_few (n + 1) ls xs)
+  where
+    either : (b : Bool) → length (triples_from (n + 1) ls xs) ≤ length ls → length (cond b (triple_of n l ∷ triples_from (n + 1) ls xs) (triples_from (n + 1) ls xs)) ≤ suc (length ls)
+    either true few = omega (arith, few)
+    either false few = omega (arith, few)

@@ -5,3 +5,4 @@ pub mod Survey
 pub mod Triples
 pub mod Counter
 pub mod Runs
+pub mod Laws

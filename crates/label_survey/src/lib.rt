@@ -3,6 +3,7 @@
 
 mod counter;
 mod entries;
+mod laws;
 mod reading;
 mod runs;
 mod standing;
@@ -12,6 +13,7 @@ mod triples;
 mod walk;
 
 pub use counter::raise_counter;
+pub use laws::standings_tell;
 pub use reading::{SurveyFault, read_labels};
 pub use runs::{Run, runs_of};
 pub use standing::Standing;

@@ -1,5 +1,5 @@
 //! Where the leaders and pages of files stand.
-ghost use Rattle.std.specs.Prelude.{◌≡◌, ◌+◌, ◌<◌, ◌^◌, List, length, map, IfOk};
+ghost use Rattle.std.specs.Prelude.{◌≡◌, ◌+◌, ◌≤◌, ◌<◌, ◌^◌, List, length, map, IfOk};
 ghost use Rattle.std.specs.List.Sorted.{IsPermutation};
 ghost use Rattle.labelled_disk.specs.Layout.{data_sectors, first_data};
 ghost use Rattle.labelled_disk.specs.Sectors.{Sector};
@@ -62,6 +62,7 @@ pub fn needed_triples<A: Allocator>(
     requires few { first + length labels.now < 2 ^ 32 }
     requires same_length { length standings.now ≡ length labels.now }
     ensures order { IfOk result (λ triples. AreUp triples.items) }
+    ensures few { IfOk result (λ triples. length triples.items ≤ length labels.now) }
     ensures needed { IfOk result (λ triples. (d : List Sector) → first ≡ first_data (length d)
         → labels.now ≡ map (λ s. s.0) (data_sectors d) → AreStandings d standings.now
         → AreNeeded d triples.items) }

@@ -1,0 +1,44 @@
+use Rattle.std.proofs.Common.{◌≡◌, ◌⊎◌, inl, inr, ℕ, ◌<◌, ◌^◌, List, Some, length, rules, arith, refl, sym, ◌∙◌, ap, subst}
+use Rattle.labelled_disk.specs.Layout.{IsCount, layout_of, first_data}
+use Rattle.labelled_disk.specs.Sectors.{Sector}
+use Rattle.scavenger.specs.Orders.{AreFor, scavenge_writes}
+use Rattle.scavenger.specs.Plan.{orders}
+use Rattle.scavenger.proofs.LayoutLemmas.{of_layout}
+use Rattle.scavenger.proofs.PlanLemmas.{ok_then}
+use Rattle.scavenger.proofs.TopLemmas.{are_for, appended_behind, part_behind, restored_by, on_err, accords_by}
+use Rattle.scavenger.proofs.restoring.scavenge.Given as given
+use Rattle.scavenger.proofs.restoring.scavenge.Goals as goal
+
+-- the orders that were carried out are those for the disk
+is_for : (g : given.Over) (c : goal.After-finish g) (d : List Sector) → (g.D.Disk.state c.args.disk.now).contents ≡ Some d → AreFor d (orders c.in_ok-root.root c.in-Ok.layout.first c.in_ok-plan.plan)
+is_for g c d told =
+    let same : c.in_ok-root.root.sectors ≡ length d = c.in_ok-root.ensures.valid.count ∙ sym (g.met.D.Disk.whole c.args.disk.now d told) in
+    let parts = of_layout c.in-Ok.layout c.in_ok-root.root.sectors c.in-Ok.ensures.layout.1 in
+    let serial : c.in_ok-root.root.serial < 2 ^ 32 = search rules in
+    let counter : c.in_ok-plan.plan.counter < 2 ^ 32 = search rules in
+    are_for c.standings_tell.ensures.freed d c.in_ok-root.root c.in-Ok.layout.first c.in_ok-plan.plan (parts.first ∙ ap first_data same) (c.in_ok-root.ensures.root d told).0 serial counter
+    (c.in_ok-plan.ensures.plan d (c.in_ok-root.ensures.cost.only.contents ∙ told))
+
+pub returns-clause-restored : goal.returns-clause-restored
+returns-clause-restored g c = ok_then c.finish.result c.finish.ensures.carries.all (λ made d told.
+    restored_by c.scavenging_restores.ensures (g.D.Disk.state c.args.disk.now) (g.D.Disk.state c.finish.new.disk) d (orders c.in_ok-root.root c.in-Ok.layout.first c.in_ok-plan.plan) told
+    (g.met.D.Disk.in_form c.args.disk.now d told) (c.in_ok-root.ensures.root d told).1 (is_for g c d told)
+    (appended_behind _ _ _ _ c.in_ok-root.ensures.cost.only (appended_behind _ _ _ _ c.in_ok-plan.ensures.cost.only made)))
+
+pub returns-clause-made : goal.returns-clause-made
+returns-clause-made g c = ok_then c.finish.result c.finish.ensures.carries.all (λ made d told. (
+  orders c.in_ok-root.root c.in-Ok.layout.first c.in_ok-plan.plan,
+  is_for g c d told,
+  appended_behind _ _ _ _ c.in_ok-root.ensures.cost.only (appended_behind _ _ _ _ c.in_ok-plan.ensures.cost.only made),
+))
+
+pub returns-clause-part : goal.returns-clause-part
+returns-clause-part g c = λ is d told.
+    inr (
+      orders c.in_ok-root.root c.in-Ok.layout.first c.in_ok-plan.plan,
+      is_for g c d told,
+      part_behind _ _ _ _ c.in_ok-root.ensures.cost.only (part_behind _ _ _ _ c.in_ok-plan.ensures.cost.only (on_err c.finish.result _ is c.finish.ensures.carries.part)),
+    )
+
+pub returns-clause-judged : goal.returns-clause-judged
+returns-clause-judged g c = λ count d told s here. accords_by c.finish.result _ c.finish.ensures.err (c.in_ok-root.ensures.judged count d told s here)

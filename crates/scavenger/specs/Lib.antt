@@ -1,0 +1,9 @@
+pub mod Stays
+pub mod Orders
+pub mod Restored
+pub mod Carries
+pub mod Plan
+pub mod Naming
+pub mod Marks
+pub mod Opening
+pub mod Reported

@@ -1,0 +1,38 @@
+-- What is restored, and what stands at each moment before.
+use Rattle.std.specs.Prelude.{◌≡◌, ◌↔◌, ◌⊎◌, ◌≤◌, ℕ, List, length, slice_get}
+use Rattle.labelled_disk.specs.Sectors.{Sector, AreSectors}
+use Rattle.labelled_disk.specs.Layout.{capacity}
+use Rattle.labelled_disk.specs.File.{total_room}
+use Rattle.labelled_disk.specs.FilesOn.{files_on}
+use Rattle.labelled_disk.specs.Moment.{moment}
+use Rattle.labelled_disk.specs.Root.{IsRoot, LabelsRight, root_page, short_at, serial_of, counter_of}
+use Rattle.labelled_disk.specs.WriteRuns.{after_writes}
+use Rattle.volume_root.specs.Sound.{Sound}
+use Rattle.label_laws.specs.SoundParts.{IsSoundButRoom}
+use Rattle.label_survey.specs.Counter.{IsRaised}
+use Rattle.scavenger.specs.Orders.{Orders, AreFor, scavenge_writes}
+
+-- The files of g, the volume's serial, and a counter above its files; sound where there is room for the files. Where the
+-- labels were right, there is, and the counter is the same.
+pub record IsRestored (g h : List Sector) : Type 0 where
+  pub sectors : length h ≡ length g
+  pub files : files_on h ≡ files_on g
+  pub has_serial : serial_of h ≡ serial_of g
+  pub has_counter : IsRaised g (serial_of g) (counter_of g) (counter_of h)
+  pub parts : IsSoundButRoom h
+  pub sound : Sound h ↔ (total_room (files_on g) ≤ capacity (length g))
+  pub right : LabelsRight g → Sound h × (counter_of h ≡ counter_of g)
+
+-- the files of g, and labels that are right where those of g were; a moment whose clean flag is 1 is g or h
+pub record IsOnTheWay (g h now : List Sector) : Type 0 where
+  pub files : files_on now ≡ files_on g
+  pub right : LabelsRight g → LabelsRight now
+  pub clean : short_at (root_page now) 10 ≡ 1 → (now ≡ g) ⊎ (now ≡ h)
+
+-- so it is for each disk with a valid root, whatever its labels are
+pub record ScavengingRestores (g : List Sector) (o : Orders) : Type 0 where
+  pub restored : IsRestored g (after_writes (scavenge_writes o) g)
+  pub moments : (k : ℕ) → IsOnTheWay g (after_writes (scavenge_writes o) g) (moment g (scavenge_writes o) k)
+
+abbrev pub RestoresEach : Type 0
+RestoresEach = (g : List Sector) (o : Orders) → AreSectors g → IsRoot (length g) (slice_get g 0) → AreFor g o → ScavengingRestores g o

@@ -1,0 +1,17 @@
+//! The call that restores a volume from its labels, whatever stands in its maps.
+#![tactic(auto)]
+
+mod bits;
+mod fault;
+mod laws;
+mod names;
+mod opening;
+mod plan;
+mod report;
+mod restoring;
+mod writing;
+
+pub use fault::ScavengeFault;
+pub use laws::scavenging_restores;
+pub use report::{Lost, Report};
+pub use restoring::scavenge;

@@ -1,0 +1,145 @@
+//! A volume is restored from its labels.
+ghost use Rattle.std.specs.Prelude.{◌≡◌, ◌⊎◌, ℕ, ◌-◌, ◌≤◌, List, [], Some, Err, true, false, length, slice_get, IfOk, IfErr, OnOk};
+ghost use Rattle.labelled_disk.specs.Calls.{OnlyReads, ReadsAtMost, Rose, TellsSame};
+ghost use Rattle.labelled_disk.specs.Layout.{IsCount, layout_of, first_data};
+ghost use Rattle.labelled_disk.specs.Sectors.{Sector};
+ghost use Rattle.labelled_disk.specs.WriteRuns.{Appended};
+ghost use Rattle.volume_root.specs.Format.{PartMade};
+ghost use Rattle.volume_root.specs.Later.{IsLater};
+ghost use Rattle.volume_root.specs.RootPage.{judged, IsValidRoot};
+ghost use Rattle.scavenger.specs.Opening.{Accords, IsDiskOrMemory};
+ghost use Rattle.scavenger.specs.Carries.{Carries};
+ghost use Rattle.scavenger.specs.Plan.{orders, IsSized, IsPlanOf};
+ghost use Rattle.scavenger.specs.Orders.{Orders, AreFor, scavenge_writes};
+ghost use Rattle.scavenger.specs.Reported.{lost_in, Reports};
+ghost use Rattle.scavenger.specs.Restored.{IsRestored};
+
+use crate::laws::scavenging_restores;
+use crate::opening::read_any_root;
+use crate::plan::Plan;
+use crate::{Report, ScavengeFault};
+use label_survey::{SurveyFault, read_labels, standings_tell};
+use labelled_disk::{Disk, Layout};
+use std::alloc::Allocator;
+use volume_root::{Root, RootFault};
+
+// Reads all labels, and plans.
+fn make_plan<A: Allocator + Clone, D: Disk>(
+    alloc: A,
+    disk: &mut D,
+    layout: &Layout,
+    root: &Root,
+    report: &mut Report<A>,
+) -> Result<Plan<A>, ScavengeFault>
+    requires counted { IsCount (D.state disk.old).sectors }
+    requires layout { layout.now ≡ layout_of (D.state disk.old).sectors }
+    requires empty { lost_in report.old ≡ [] }
+    ensures sized { IfOk result (IsSized (D.state disk.old).sectors) }
+    ensures counter { IfOk result (λ plan. root.now.counter ≤ plan.counter) }
+    ensures plan { IfOk result (λ plan. (g : List Sector) → (D.state disk.old).contents ≡ Some g
+        → IsPlanOf g root.now plan) }
+    ensures report { OnOk result ((g : List Sector) → (D.state disk.old).contents ≡ Some g
+        → Reports g report.new) }
+    ensures err { IfErr result IsDiskOrMemory }
+    ensures cause { result ≡ Err ScavengeFault.Disk
+        → Rose (D.state disk.old).faults (D.state disk.new).faults }
+    ensures cost { ReadsAtMost ((D.state disk.old).sectors - first_data (D.state disk.old).sectors)
+        (D.state disk.old) (D.state disk.new) }
+{
+    let Ok(own) = alloc.clone() else {
+        return Err(ScavengeFault::NoMemory);
+    };
+    let labels = match read_labels(own, disk, layout) {
+        Ok(labels) => labels,
+        Err(SurveyFault::Disk) => return Err(ScavengeFault::Disk),
+        Err(SurveyFault::NoMemory) => return Err(ScavengeFault::NoMemory),
+    };
+    match Plan::of(alloc, layout, root, labels, report) {
+        Ok(plan) => Ok(plan),
+        Err(_) => Err(ScavengeFault::NoMemory),
+    }
+}
+
+// Carries a plan out, and waits until all is on the medium.
+fn finish<A: Allocator + Clone, D: Disk>(
+    plan: Plan<A>,
+    disk: &mut D,
+    layout: &Layout,
+    root: &Root,
+) -> Result<(), ScavengeFault>
+    requires layout { layout.now ≡ layout_of (D.state disk.old).sectors }
+    requires root { IsValidRoot (D.state disk.old).sectors root.now }
+    requires sized { IsSized (D.state disk.old).sectors plan }
+    requires counter { root.now.counter ≤ plan.counter }
+    ensures carries { Carries (scavenge_writes (orders root.now layout.now.first plan))
+        (D.state disk.old) result (D.state disk.new) }
+    ensures synced { OnOk result ((D.state disk.new).synced ≡ true) }
+    ensures err { IfErr result (λ why. why ≡ ScavengeFault.Disk) }
+{
+    let Ok(()) = plan.carry_out(disk, layout, root) else {
+        return Err(ScavengeFault::Disk);
+    };
+    let Ok(()) = disk.settle() else {
+        return Err(ScavengeFault::Disk);
+    };
+    Ok(())
+}
+
+/// Restores a volume from its labels, whatever stands in its maps, and tells in an empty report
+/// what was found. The permanent files stay as they are; each other data sector is freed.
+///
+/// All labels are read, and both maps are made in memory, before the first write. Then the root is
+/// written with the clean flag 0, if that was 1; each freed sector, rising, gets a free label; each
+/// sector of both maps its label and its new page; and the root comes last, clean.
+///
+/// On a volume of 65,536 sectors this takes some 7 MB at most, and 105 bytes for each sector of a
+/// larger one, all given back at the end.
+pub fn scavenge<A: Allocator + Clone, D: Disk>(
+    alloc: A,
+    disk: &mut D,
+    report: &mut Report<A>,
+) -> Result<(), ScavengeFault>
+    requires empty { lost_in report.old ≡ [] }
+
+    // What is restored, and what is told of it.
+    ensures restored { OnOk result ((g : List Sector) → (D.state disk.old).contents ≡ Some g
+        → (h : List Sector) × ((D.state disk.new).contents ≡ Some h) × IsRestored g h) }
+    ensures report { OnOk result ((g : List Sector) → (D.state disk.old).contents ≡ Some g
+        → Reports g report.new) }
+    ensures synced { OnOk result ((D.state disk.new).synced ≡ true) }
+
+    // The writes: all of them, or where the disk failed none or some first ones.
+    ensures made { OnOk result ((g : List Sector) → (D.state disk.old).contents ≡ Some g
+        → (o : Orders) × AreFor g o
+        × Appended (scavenge_writes o) (D.state disk.old) (D.state disk.new)) }
+    ensures part { result ≡ Err ScavengeFault.Disk
+        → (g : List Sector) → (D.state disk.old).contents ≡ Some g
+        → TellsSame (D.state disk.old) (D.state disk.new) ⊎ ((o : Orders) × AreFor g o
+        × PartMade (scavenge_writes o) (D.state disk.old) (D.state disk.new)) }
+
+    // The root that was read is refused.
+    ensures count { ¬ IsCount (D.state disk.old).sectors
+        → result ≡ Err (ScavengeFault.Root (RootFault.BadCount (D.state disk.old).sectors)) }
+    ensures bad_count { (n : ℕ) → result ≡ Err (ScavengeFault.Root (RootFault.BadCount n))
+        → ¬ IsCount (D.state disk.old).sectors × (n ≡ (D.state disk.old).sectors) }
+    ensures judged { IsCount (D.state disk.old).sectors → (g : List Sector)
+        → (D.state disk.old).contents ≡ Some g → (s : Sector) → slice_get g 0 ≡ Some s
+        → Accords result (judged false (length g) s) }
+    ensures refused { (why : RootFault) → result ≡ Err (ScavengeFault.Root why)
+        → OnlyReads (D.state disk.old) (D.state disk.new) }
+
+    ensures unwritten { result ≡ Err ScavengeFault.NoMemory
+        → OnlyReads (D.state disk.old) (D.state disk.new) }
+    ensures cause { result ≡ Err ScavengeFault.Disk
+        → Rose (D.state disk.old).faults (D.state disk.new).faults }
+    ensures later { IsLater (D.state disk.old) (D.state disk.new) }
+{
+    scavenging_restores();
+    standings_tell();
+    let root = read_any_root(disk)?;
+    let Ok(layout) = Layout::of(root.sectors) else {
+        unreachable!();
+    };
+    let plan = make_plan(alloc, disk, &layout, &root, report)?;
+    finish(plan, disk, &layout, &root)
+}

@@ -1,0 +1,119 @@
+//! The writes that restore a volume.
+ghost use Rattle.std.specs.Prelude.{◌≡◌, ◌+◌, ◌*◌, ◌-◌, ◌≤◌, ◌<◌, ◌^◌, ◌∷◌, [], true, length};
+ghost use Rattle.flat_mem.specs.Vec.{vec_mem_bytes};
+ghost use Rattle.labelled_disk.specs.Runs.{freeing};
+ghost use Rattle.page_tree.specs.Page.{page_at};
+ghost use Rattle.volume_root.specs.Format.{map_label};
+ghost use Rattle.volume_root.specs.RootPage.{IsValidRoot, root_write};
+ghost use Rattle.label_survey.specs.Survey.{is_freed, places_by};
+ghost use Rattle.scavenger.specs.Carries.{Carries};
+ghost use Rattle.scavenger.specs.Orders.{opening, map_writes};
+
+use flat_mem::{FlatMem, VecMem};
+use label_survey::Standing;
+use labelled_disk::{Disk, DiskError, FileId, Label, Page};
+use std::alloc::Allocator;
+use volume_root::{Root, write_root};
+
+fn put_root<D: Disk>(disk: &mut D, root: &Root) -> Result<(), DiskError>
+    requires { IsValidRoot (D.state disk.old).sectors root.now }
+    ensures { Carries (root_write root.now ∷ []) (D.state disk.old) result (D.state disk.new) }
+{
+    match write_root(disk, root) {
+        Ok(()) => Ok(()),
+        Err(_) => Err(DiskError::Failed),
+    }
+}
+
+/// Clears the clean flag, where it is set.
+pub(crate) fn open_root<D: Disk>(disk: &mut D, root: &Root) -> Result<(), DiskError>
+    requires { IsValidRoot (D.state disk.old).sectors root.now }
+    ensures { Carries (opening root.now) (D.state disk.old) result (D.state disk.new) }
+{
+    if !root.clean {
+        return Ok(());
+    }
+    let opened = Root {
+        clean: false,
+        ..*root
+    };
+    put_root(disk, &opened)
+}
+
+/// Writes the root, clean, with this counter.
+pub(crate) fn close_root<D: Disk>(disk: &mut D, root: &Root, counter: u32) -> Result<(), DiskError>
+    requires valid { IsValidRoot (D.state disk.old).sectors root.now }
+    requires counter { 1 ≤ counter }
+    ensures { Carries (root_write (record root.now { clean = true; counter = counter }) ∷ [])
+        (D.state disk.old) result (D.state disk.new) }
+{
+    let closed = Root {
+        clean: true,
+        counter,
+        ..*root
+    };
+    put_root(disk, &closed)
+}
+
+/// Writes a free label over each sector that is freed, rising; the first of them all is sector
+/// `first`.
+pub(crate) fn free_sectors<D: Disk>(
+    disk: &mut D,
+    first: u32,
+    standings: &[Standing],
+) -> Result<(), DiskError>
+    requires { first + length standings.now ≤ (D.state disk.old).sectors }
+    ensures { Carries (freeing (places_by is_freed first standings.now))
+        (D.state disk.old) result (D.state disk.new) }
+{
+    for i in 0..standings.len() {
+        if standings[i].is_freed() {
+            disk.write_label(first + i as u32, &Label::FREE)?;
+        }
+    }
+    Ok(())
+}
+
+fn map_label(id: FileId, page: u32) -> Label
+    ensures { result ≡ map_label id page }
+{
+    Label {
+        id,
+        page,
+        kind: 0,
+        flags: 0,
+        last: 0,
+    }
+}
+
+fn page_of<A: Allocator>(map: &mut VecMem<A>, index: u32) -> Page
+    requires { 512 * index + 512 ≤ length (vec_mem_bytes map.old) }
+    ensures page { result ≡ page_at (vec_mem_bytes map.old) index }
+    ensures same { vec_mem_bytes map.new ≡ vec_mem_bytes map.old }
+{
+    let mut page = [0; 512];
+    match map.read(512 * u64::from(index), &mut page) {
+        Ok(()) => page,
+        Err(never) => match never {},
+    }
+}
+
+/// Writes the pages of a map with their labels, rising; page 0 stands in sector `first`.
+pub(crate) fn write_map<A: Allocator, D: Disk>(
+    disk: &mut D,
+    id: FileId,
+    first: u32,
+    pages: u32,
+    map: &mut VecMem<A>,
+) -> Result<(), DiskError>
+    requires inside { first + pages ≤ (D.state disk.old).sectors }
+    requires whole { length (vec_mem_bytes map.old) ≡ 512 * pages }
+    ensures { Carries (map_writes id first (vec_mem_bytes map.old) pages)
+        (D.state disk.old) result (D.state disk.new) }
+{
+    for i in 0..pages {
+        let page = page_of(map, i);
+        disk.write(first + i, &map_label(id, i), &page)?;
+    }
+    Ok(())
+}
