@@ -27,12 +27,13 @@ use Rattle.flat_machine.proofs.Lists.{rising_map}
 use Rattle.flat_machine.proofs.NextLemmas.{next_keeps_machine}
 use Rattle.flat_machine.proofs.TestLemmas.{two_none, then_none}
 use Rattle.swapper_kernel.specs.Stands.{labels_of}
+use Rattle.volume_root.specs.RootPage.{root_label}
 use Rattle.session_words.specs.Volume.{volume_page}
 use Rattle.swapper_kernel.specs.Kinds.{Kind, kind_of, HasKind, the_tables, a_file, files_alone, tables_alone, maps_alone}
 use Rattle.session_words.specs.Parts.{Shape, Shapes, shape_of, shapes_of, HasLabel, HasLabels, HasMapLabels, HasBits, HasTriples, TablesMeaning, is_owned, is_marked}
 use Rattle.session_words.specs.PlaceLaws.{IsMade, with_shape, shape_by}
 use Rattle.session_words.specs.StandsFor.{IsForBy, StandsFor}
-use Rattle.session_words.specs.GrowLaws.{grown_names}
+use Rattle.session_words.specs.GrowLaws.{IsFree, grown_names}
 use Rattle.session_words.specs.CreateLaws.{LeaderMade, Creates, CreateStands}
 use Rattle.swapper_kernel.specs.DiffersLaws.{label_here, sector_of_label}
 use Rattle.swapper_kernel.proofs.KindLemmas.{kind_is_data}
@@ -44,6 +45,7 @@ use Rattle.session_words.proofs.CallLemmas.{kind_tables}
 use Rattle.session_words.proofs.GrownLemmas.{page_label_named, grown_get, map_labels_grown}
 use Rattle.session_words.proofs.GrowLemmas.{all_grown}
 use Rattle.session_words.proofs.PlaceLemmas.{labels_created}
+use Rattle.session_words.proofs.RootLabelLemmas.{behind_root, free_then, labels_then, map_labels_then, bits_then, triples_then}
 use Rattle.session_words.proofs.BookLemmas.{bits_set, triples_made}
 use Rattle.session_words.proofs.SettledLemmas.{machine_shapes}
 
@@ -82,11 +84,14 @@ module _ (spaces_of : TablesMeaning) (marks : ℕ → Bool) (named : Triples) (x
   not_three : new_id m ≢ 3
   not_three e = let low = high in omega (arith, low, e)
 
-  made : IsMade (labels_of x) leader (page_label (new_id m) kind leader_page) (is_owned (shapes_of m.files))
+  free : IsFree (slice_set (labels_of x) 0 root_label) leader
+  free = free_then (labels_of x) root_label leader g.free
+
+  made : IsMade (slice_set (labels_of x) 0 root_label) leader (page_label (new_id m) kind leader_page) (is_owned (shapes_of m.files))
   made = record {
-    old = g.free.label;
-    there = g.free.there;
-    free = g.free.free;
+    old = free.label;
+    there = free.there;
+    free = free.free;
     taken = taken;
     named = page_label_named (new_id m) kind leader_page;
     fresh = ap (λ (b : Bool). (b && nat_lt leader_page 96) || option_map_or (λ (f : Shape). leader_page == leader_page || nat_lt leader_page f.size) (shapes_of m.files (new_id m)) false) (ne_eqb (new_id m) 3 not_three)
@@ -94,14 +99,15 @@ module _ (spaces_of : TablesMeaning) (marks : ℕ → Bool) (named : Triples) (x
   }
 
   long_y : length y ≡ length x
-  long_y = sym (length-map y (λ s. s.0)) ∙ ap (λ (l : List Label). length l) g.labels ∙ length-set (labels_of x) leader (page_label (new_id m) kind leader_page) ∙ length-map x (λ s. s.0)
+  long_y = sym (length-map y (λ s. s.0)) ∙ ap (λ (l : List Label). length l) g.labels ∙ length-set (slice_set (labels_of x) 0 root_label) leader (page_label (new_id m) kind leader_page)
+      ∙ length-set (labels_of x) 0 root_label ∙ length-map x (λ s. s.0)
 
   -- a data sector that is no leader is as before
   kept : (kind_is : Kind) → maps_alone kind_is ≡ false → (k : ℕ) (t : Sector) → first_data (length y) ≤ k → HasKind y k t kind_is → HasKind x k t kind_is ⊎ (t.0 ≡ page_label (new_id m) kind leader_page)
-  kept kind_is other k t behind has = elim (grown_get (new_id m) kind leader_page (leader ∷ []) (labels_of x) k t.0 (ap (λ (l : List Label). slice_get l k) (sym g.labels) ∙ label_here y k t has.here)) [
+  kept kind_is other k t behind has = elim (grown_get (new_id m) kind leader_page (leader ∷ []) (slice_set (labels_of x) 0 root_label) k t.0 (ap (λ (l : List Label). slice_get l k) (sym g.labels) ∙ label_here y k t has.here)) [
     | inr (j, at, new) ↦ inr (only_leader j t.0 at new)
     | inl (was, nowhere) ↦
-        let s = sector_of_label x k t.0 was in
+        let s = sector_of_label x k t.0 (sym (behind_root (labels_of x) root_label k (λ e. let low = first_positive false 0 0 (length y) in omega (arith, e, behind, low))) ∙ was) in
         let same_kind : kind_of (length x) k t.0 ≡ kind_is = ap (λ (n : ℕ). kind_of n k t.0) (sym long_y) ∙ has.is in
         let low = first_positive false 0 0 (length y) in
         let same : s.0 ≡ t = same_Some s.0 t (sym (g.pages k s.0 s.1 (λ e. omega (arith, e, behind, low)) (λ e. nowhere 0 (ap (λ (n : ℕ). Some n) (sym e))) (ap (λ (l : Label). maps_alone (kind_of (length x) k l)) s.2 ∙ ap maps_alone same_kind ∙ other)) ∙ has.here) in
@@ -129,16 +135,16 @@ module _ (spaces_of : TablesMeaning) (marks : ℕ → Bool) (named : Triples) (x
     machine = after_machine;
     sectors = g.sectors;
     root = g.root;
-    map_labels = subst HasMapLabels (sym g.labels) (map_labels_grown (new_id m) kind leader_page (leader ∷ []) (labels_of x) (g.free, tt) h.map_labels);
+    map_labels = subst HasMapLabels (sym g.labels) (map_labels_grown (new_id m) kind leader_page (leader ∷ []) (slice_set (labels_of x) 0 root_label) (free, tt) (map_labels_then (labels_of x) root_label h.map_labels));
     labels = subst (λ (l : List Label). HasLabels l (shapes_of (put_file (new_file m 0 kind) m.files))) (sym g.labels)
-        (subst (λ (s : Shapes). HasLabels (slice_set (labels_of x) leader (page_label (new_id m) kind leader_page)) s) (sym shapes_made)
-        (labels_created (labels_of x) leader (page_label (new_id m) kind leader_page) (shapes_of m.files) h.labels made not_three no_shape refl));
+        (subst (λ (s : Shapes). HasLabels (slice_set (slice_set (labels_of x) 0 root_label) leader (page_label (new_id m) kind leader_page)) s) (sym shapes_made)
+        (labels_created (slice_set (labels_of x) 0 root_label) leader (page_label (new_id m) kind leader_page) (shapes_of m.files) (labels_then (labels_of x) root_label 96 (shapes_of m.files) h.labels) made not_three no_shape refl));
     bits = subst (HasBits (λ k. k == leader || marks k)) (sym g.labels)
-        (bits_set (labels_of x) marks (λ k. k == leader || marks k) leader (page_label (new_id m) kind leader_page) g.free.label h.bits g.free.there
+        (bits_set (slice_set (labels_of x) 0 root_label) marks (λ k. k == leader || marks k) leader (page_label (new_id m) kind leader_page) free.label (bits_then (labels_of x) root_label marks h.bits) free.there
         (ap (λ (b : Bool). b || marks leader) (eq-eqb leader leader refl) ∙ ap not (sym taken))
         (λ k below other. ap (λ (b : Bool). b || marks k) (ne_eqb k leader other)));
     triples = subst (HasTriples (λ j p s. (j == new_id m && p == leader_page && s == leader) || named j p s)) (sym g.labels)
-        (triples_made (labels_of x) named (λ j p s. (j == new_id m && p == leader_page && s == leader) || named j p s) leader g.free.label (page_label (new_id m) kind leader_page) h.triples g.free.there g.free.free taken (λ j p s. refl));
+        (triples_made (slice_set (labels_of x) 0 root_label) named (λ j p s. (j == new_id m && p == leader_page && s == leader) || named j p s) leader free.label (page_label (new_id m) kind leader_page) (triples_then (labels_of x) root_label named h.triples) free.there free.free taken (λ j p s. refl));
     cells = record {
       agrees = λ k t w p has now page firm.
           let behind = kind_is_data (length y) k t.0 a_file (λ e. true≢false (ap files_alone e)) (λ e. true≢false (ap files_alone e)) (λ e. true≢false (ap files_alone e)) has.is in
@@ -200,7 +206,7 @@ module _ (spaces_of : TablesMeaning) where
       let same : record (with_new_file m 0 kind) { files = change_file (new_id m) (lengthened (length is)) (put_file (new_file m 0 kind) m.files) } ≡ with_new_file m (length is) kind =
       ap (λ (fs : List File). record (with_new_file m 0 kind) { files = fs }) files in
       subst (λ (n : Machine). StandsFor spaces_of new after n) (sym becomes)
-      (goes_stands spaces_of (Creates m kind leader is) volume_page run old new before after m (with_new_file m (length is) kind) (frames_brought before after m.spaces known)
+      (goes_stands spaces_of (Creates m.serial (m.counter + 1) m.capacity (new_id m) kind leader is) volume_page run old new before after m (with_new_file m (length is) kind) (frames_brought before after m.spaces known)
       (λ x y creates k.
       let led = leader_made spaces_of (is_marked x) k.named x creates.middle m kind leader creates.led k.by first in
       let long : length creates.middle ≡ length x = long_y spaces_of (is_marked x) k.named x creates.middle m kind leader creates.led k.by first in

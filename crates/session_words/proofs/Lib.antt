@@ -26,6 +26,7 @@ pub mod FrameLemmas
 pub mod FreeLemmas
 pub mod CutLemmas
 pub mod SizeLemmas
+pub mod RootLabelLemmas
 pub mod CreateLemmas
 pub mod MarkedLabelLemmas
 pub mod MarkLemmas
