@@ -32,7 +32,7 @@ up_at named id page (i ∷ is) up (suc j) s at =
     let below = rest.0 in
     (omega (arith, below), subst (λ (p : ℕ). named id p s ≡ true) (let z : page + 1 + j ≡ page + suc j = omega arith in z) rest.1)
 
-one_alone : (xs : List ℕ) → length xs ≡ 1 → (x : ℕ) × (xs ≡ x ∷ [])
+pub one_alone : (xs : List ℕ) → length xs ≡ 1 → (x : ℕ) × (xs ≡ x ∷ [])
 one_alone [] long = absurd (omega (arith, long))
 one_alone (x ∷ []) long = (x, refl)
 one_alone (x ∷ y ∷ xs) long = absurd (omega (arith, long))

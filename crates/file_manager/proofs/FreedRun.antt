@@ -1,5 +1,5 @@
 -- What the freeing of a run leads to.
-use Rattle.std.proofs.Common.{◌≡◌, inl, inr, ℕ, zero, suc, ◌+◌, ◌-◌, ◌<◌, ◌≤◌, true, false, List, [], ◌∷◌, ◌++◌, length, take, Some, refl, sym, ◌∙◌, ap, subst, arith}
+use Rattle.std.proofs.Common.{◌≡◌, ◌⊎◌, inl, inr, ⊎_elim, ℕ, zero, suc, ◌+◌, ◌-◌, ◌<◌, ◌≤◌, true, false, List, [], ◌∷◌, ◌++◌, length, take, Some, refl, sym, ◌∙◌, ap, subst, arith}
 use Rattle.std.specs.Prelude.{slice_get, ◌==◌, ◌&&◌, nat_le, nat_lt}
 use Rattle.std.proofs.lemmas.Option.{same_Some}
 use Rattle.std.proofs.lemmas.List.FromFn.{length-range_with_len}
@@ -22,7 +22,7 @@ use Rattle.flat_machine.specs.declared.space.Space.{Space}
 use Rattle.swapper_kernel.specs.declared.manager.Manager.{Manager}
 use Rattle.swapper_kernel.specs.declared.manager.Manager.TheVariants.{AllocationMap, FileMap}
 use Rattle.swapper_kernel.specs.Maps.{id_of, pages_of, start_of, IsMapHome}
-use Rattle.swapper_kernel.specs.Homes.{IsLayout, IsNamed}
+use Rattle.swapper_kernel.specs.Homes.{IsLayout, IsNamed, wanted_at}
 use Rattle.swapper_kernel.specs.Stands.{Stands, labels_of}
 use Rattle.swapper_kernel.specs.DiffersLaws.{label_here, sector_of_label, same_length, names_id, names_page}
 use Rattle.swapper_kernel.specs.Goes.{Makes, Goes}
@@ -38,11 +38,11 @@ use Rattle.filer_kernel.specs.Becomes.{Becomes}
 use Rattle.filer_kernel.specs.Marks.{Marks, BitsAre, marked}
 use Rattle.filer_kernel.specs.Triples.{MapIs, AreOf}
 use Rattle.filer_kernel.proofs.MapLemmas.{same_elements}
-use Rattle.session_words.specs.FrameLaws.{is_shown}
+use Rattle.session_words.specs.FrameLaws.{IsThere, is_shown}
 use Rattle.session_words.specs.Volume.{volume_page}
 use Rattle.session_words.proofs.FrameLemmas.{frame_laws}
 use Rattle.file_manager.specs.Book.{BringsOwn}
-use Rattle.file_manager.specs.Freeing.{IsNone, FreesSectors, AreNamedUp, HasPageAt, MayFree, IsPartOf, NamesAll, Freed, MakesFree, MakesSomeFree, run_sectors}
+use Rattle.file_manager.specs.Freeing.{IsNone, FreesSectors, AreNamedUp, HasPageAt, IsHidden, MayFree, IsPartOf, NamesAll, Freed, MakesFree, MakesSomeFree, run_sectors}
 use Rattle.file_manager.proofs.BookLemmas.{own_maps, known_after}
 use Rattle.file_manager.proofs.FreedSectors.{row_has, row_clears, labels_at, freed_elsewhere, freed_long, freed_here, freeing_append, long_append, up_append, take_freeing, frees_then, frees_none}
 
@@ -60,12 +60,12 @@ map_makes {which = which} beside = makes_wider volume_page (map_volume which) be
 pub map_brings : {which : Manager} {layout later : Layout} {a b : DiskState} {s t : Slots} → Beside which a s layout b t later → BringsOwn s t
 map_brings {which = which} {layout = layout} {s = s} {t = t} beside = own_maps which layout s t beside.brings
 
-append_none : (xs : List DiskWrite) → xs ++ [] ≡ xs
+pub append_none : (xs : List DiskWrite) → xs ++ [] ≡ xs
 append_none [] = refl
 append_none (x ∷ xs) = ap (λ (l : List DiskWrite). x ∷ l) (append_none xs)
 
 -- where the pages of a map stay, it shows the same
-shows_still : (which : Manager) (layout : Layout) (m n : List Sector) (b : List ℕ) → ((k : ℕ) (s : Sector) → k < pages_of which layout → slice_get m (start_of which layout + k) ≡ Some s → slice_get n (start_of which layout + k) ≡ Some s)
+pub shows_still : (which : Manager) (layout : Layout) (m n : List Sector) (b : List ℕ) → ((k : ℕ) (s : Sector) → k < pages_of which layout → slice_get m (start_of which layout + k) ≡ Some s → slice_get n (start_of which layout + k) ≡ Some s)
     → Shows which m layout b → Shows which n layout b
 shows_still which layout m n b stays shows = record {
   count = shows.count;
@@ -82,7 +82,7 @@ pub first_is : (layout : Layout) → IsLayout layout → layout.first ≡ 1 + la
 first_is layout is = ap (λ (l : Layout). l.first) is.1 ∙ sym (ap (λ (l : Layout). 1 + l.vam + l.vfm) is.1)
 
 -- a home of a map is in front of the data
-map_low : (which : Manager) (layout : Layout) → IsLayout layout → (home : Home) → IsMapHome which layout home → home.sector < layout.first
+pub map_low : (which : Manager) (layout : Layout) → IsLayout layout → (home : Home) → IsMapHome which layout home → home.sector < layout.first
 map_low AllocationMap layout is home (page, below, at) = let f = first_is layout is in let place : home.sector ≡ 1 + page = ap (λ (h : Home). h.sector) at in omega (arith, f, place, below)
 map_low FileMap layout is home (page, below, at) = let f = first_is layout is in let place : home.sector ≡ 1 + layout.vam + page = ap (λ (h : Home). h.sector) at in omega (arith, f, place, below)
 
@@ -101,7 +101,19 @@ run_part named id page n r found few k below =
     within : (a b c : ℕ) → a ≤ b → b < c → (nat_le a b && nat_lt b c) ≡ true
     within a b c from inside = grind (arith, nat_tests)
 
-module _ (layout : Layout) (is : IsLayout layout) (named : Triples) (spaces : List Space) (id page end : ℕ) (file : 16 ≤ id) (m : List Sector) (d0 : DiskState) (s0 : Slots) (kept : CachedRuns)
+-- pages of a map alone came: a file that was hidden is so still
+pub hidden_then : {which : Manager} {layout later : Layout} {a b : DiskState} {s t : Slots} (spaces : List Space) {id : ℕ} → (id ≡ 3) ⊎ (16 ≤ id) → Beside which a s layout b t later → IsHidden s spaces id → IsHidden t spaces id
+hidden_then spaces file beside (inl h) = inl h
+hidden_then {which = which} {layout = layout} spaces {id = id} file beside (inr none) = inr (λ page there. elim (beside.brings.homes there.frame.home (record { slot = there.slot; frame = there.frame; has = there.has; at = refl })) [
+  | inl was ↦ none page (record { slot = was.slot; frame = was.frame; has = was.has; same_id = ap (λ (h : Home). h.id) was.at ∙ there.same_id; same_page = ap (λ (h : Home). h.page) was.at ∙ there.same_page })
+  | inr own ↦ apart which there.frame.home own (sym there.same_id)
+])
+  where
+    apart : (which : Manager) (home : Home) → IsMapHome which layout home → id ≡ home.id → ⊥
+    apart AllocationMap home (page, below, at) same = let own : home.id ≡ 1 = ap (λ (h : Home). h.id) at in ⊎_elim (λ (q : id ≡ 3). omega (arith, own, same, q)) (λ (q : 16 ≤ id). omega (arith, own, same, q)) file
+    apart FileMap home (page, below, at) same = let own : home.id ≡ 2 = ap (λ (h : Home). h.id) at in ⊎_elim (λ (q : id ≡ 3). omega (arith, own, same, q)) (λ (q : 16 ≤ id). omega (arith, own, same, q)) file
+
+module _ (layout : Layout) (is : IsLayout layout) (named : Triples) (spaces : List Space) (id page end : ℕ) (file : (id ≡ 3) ⊎ (16 ≤ id)) (m : List Sector) (d0 : DiskState) (s0 : Slots) (kept : CachedRuns)
     (may : MayFree d0 s0 layout kept named spaces id page end m) (run : Run) (part : IsPartOf layout.sectors id page end run) (all : NamesAll named run)
     (d1 : DiskState) (s1 : Slots) (l1 : Layout) (beside : Beside FileMap d0 s0 layout d1 s1 l1) (stands : Stands d1 s1 m) where
   run_label : (k : ℕ) → k < run.pages → HasPageAt layout m id (page + k) (run.sector + k)
@@ -119,8 +131,17 @@ module _ (layout : Layout) (is : IsLayout layout) (named : Triples) (spaces : Li
   none_over k below i f has at =
       let one = (run_label k below).1 in
       let own : one.0.0.id ≡ id = names_id one.0.0 (record { id = id; page = page + k }) one.2 in
-      let shown : is_shown spaces one.0.0.id one.0.0.page ≡ false = ap (λ (n : ℕ). is_shown spaces n one.0.0.page) own ∙ may.hidden one.0.0.page in
-      frame_laws.none_over stands.sectors s1 m spaces (run.sector + k) one.0 stands.merged (known_after s0 s1 spaces (map_brings beside) may.frames) one.1 shown (inr (omega (arith, own, file))) i f has at
+      ⊎_elim
+      (λ (h : (16 ≤ id) × ((page : ℕ) → is_shown spaces id page ≡ false)).
+      let high = h.0 in
+      let shown : is_shown spaces one.0.0.id one.0.0.page ≡ false = ap (λ (n : ℕ). is_shown spaces n one.0.0.page) own ∙ h.1 one.0.0.page in
+      frame_laws.none_over stands.sectors s1 m spaces (run.sector + k) one.0 stands.merged (known_after s0 s1 spaces (map_brings beside) may.frames) one.1 shown (inr (omega (arith, own, high))) i f has at)
+      (λ (none : (page : ℕ) → IsThere s1 id page → ⊥).
+      let home = stands.merged.frames i f has in
+      let label : home.label ≡ one.0.0 = ap (λ (t : Sector). t.0) (same_Some {A = Sector} (home.label, f.bytes) one.0 (sym home.keeps ∙ ap (slice_get m) at ∙ one.1)) in
+      let ids : f.home.id ≡ id = sym (names_id home.label (wanted_at f.home) home.named) ∙ ap (λ (l : Label). l.id) label ∙ own in
+      none f.home.page (record { slot = i; frame = f; has = has; same_id = ids; same_page = refl }))
+      (hidden_then spaces file beside may.hidden)
 
   pub ones : HaveOnes (λ k. ones_of (record { id = run.id; page = run.first + k })) m run.sector run.pages
   ones k below =
@@ -240,7 +261,7 @@ module _ (layout : Layout) (is : IsLayout layout) (named : Triples) (spaces : Li
           bits = final.is;
           map_labels = names_now;
           frames = known_after s0 s3 spaces brings may.frames;
-          hidden = may.hidden;
+          hidden = hidden_then spaces file beside_then (hidden_then spaces file beside may.hidden);
           mapped = λ p above below. may.mapped p (omega (arith, above)) below;
           labelled = labelled_now;
         };

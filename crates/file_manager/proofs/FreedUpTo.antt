@@ -27,7 +27,7 @@ per_page zero v some = absurd (omega (arith, some))
 per_page (suc zero) v some = omega arith
 per_page (suc (suc q)) v some = let rest = per_page (suc q) v (omega arith) in omega (arith, rest)
 
-cost_then : (t0 t u a p v : ℕ) → 1 ≤ p → t ≤ t0 + a * (16 + 4 * v) → u ≤ t + (14 + 2 * p + 4 * v) → u ≤ t0 + (a + p) * (16 + 4 * v)
+pub cost_then : (t0 t u a p v : ℕ) → 1 ≤ p → t ≤ t0 + a * (16 + 4 * v) → u ≤ t + (14 + 2 * p + 4 * v) → u ≤ t0 + (a + p) * (16 + 4 * v)
 cost_then t0 t u a p v some before here = let one = per_page p v some in omega (arith, one, before, here)
 
 pub to_cost : (t0 t u from page end v : ℕ) → from ≤ page → page < end → t ≤ t0 + (page - from) * (16 + 4 * v) → u ≤ t + (14 + 2 * (end - page) + 4 * v) → u ≤ t0 + (end - from) * (16 + 4 * v)

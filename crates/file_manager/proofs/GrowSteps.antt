@@ -63,7 +63,7 @@ names_append id page (k ∷ is) js named i p s =
     names_append id (page + 1) is js (λ j p s. (j == id && p == page && s == k) || named j p s) i p s
     ∙ ap (λ (n : ℕ). grown_names id n js (grown_names id (page + 1) is (λ j p s. (j == id && p == page && s == k) || named j p s)) i p s) z
 
-free_append : (id kind page : ℕ) (is js : List ℕ) (labels : List Label) → AreFree id kind page is labels → AreFree id kind (page + length is) js (grown_labels id kind page is labels) → AreFree id kind page (is ++ js) labels
+pub free_append : (id kind page : ℕ) (is js : List ℕ) (labels : List Label) → AreFree id kind page is labels → AreFree id kind (page + length is) js (grown_labels id kind page is labels) → AreFree id kind page (is ++ js) labels
 free_append id kind page [] js labels first next = let z : page + 0 ≡ page = omega arith in subst (λ (n : ℕ). AreFree id kind n js labels) z next
 free_append id kind page (i ∷ is) js labels first next =
     let z : page + suc (length is) ≡ page + 1 + length is = omega arith in (

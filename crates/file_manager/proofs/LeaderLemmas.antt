@@ -176,20 +176,21 @@ creates_all {a = a} {b = b} {s = s} {t = t} id kind pages is leader one first th
 }
 
 -- a stop at the leader
-pub stopped_leader : {a b : DiskState} {s t : Slots} (id kind : ℕ) → MakesSome id kind leader_page 1 a s b t → CreatesSome id kind a s b t
-stopped_leader {a = a} {b = b} {s = s} {t = t} id kind some = either some.sectors some.few some.count some.makes
+pub stopped_leader : {a b : DiskState} {s t : Slots} (id kind pages : ℕ) → MakesSome id kind leader_page 1 a s b t → CreatesSome id kind pages a s b t
+stopped_leader {a = a} {b = b} {s = s} {t = t} id kind pages some = either some.sectors some.few some.count some.makes
   where
-    either : (is : List ℕ) → length is ≤ 1 → (n : ℕ) → Makes volume_page (take n (growth id kind leader_page is)) a s b t → CreatesSome id kind a s b t
-    either [] few zero makes = record { leader = 0; sectors = []; count = 0; makes = makes }
-    either [] few (suc n) makes = record { leader = 0; sectors = []; count = 0; makes = makes }
-    either (i ∷ []) few n makes = record { leader = i; sectors = []; count = n; makes = makes }
+    either : (is : List ℕ) → length is ≤ 1 → (n : ℕ) → Makes volume_page (take n (growth id kind leader_page is)) a s b t → CreatesSome id kind pages a s b t
+    either [] few zero makes = record { leader = 0; sectors = []; few = omega arith; count = 0; makes = makes }
+    either [] few (suc n) makes = record { leader = 0; sectors = []; few = omega arith; count = 0; makes = makes }
+    either (i ∷ []) few n makes = record { leader = i; sectors = []; few = omega arith; count = n; makes = makes }
     either (i ∷ j ∷ is) few n makes = absurd (omega (arith, few))
 
 -- a stop behind it
-pub stopped_pages : {a b c : DiskState} {s t u : Slots} (id kind pages : ℕ) (is : List ℕ) (leader : ℕ) → is ≡ leader ∷ [] → Makes volume_page (growth id kind leader_page is) a s b t → MakesSome id kind 0 pages b t c u → CreatesSome id kind a s c u
+pub stopped_pages : {a b c : DiskState} {s t u : Slots} (id kind pages : ℕ) (is : List ℕ) (leader : ℕ) → is ≡ leader ∷ [] → Makes volume_page (growth id kind leader_page is) a s b t → MakesSome id kind 0 (pages - 0) b t c u → CreatesSome id kind pages a s c u
 stopped_pages {a = a} {b = b} {s = s} {t = t} id kind pages is leader one first some = record {
   leader = leader;
   sectors = some.sectors;
+  few = let few = some.few in omega (arith, few);
   count = suc some.count;
   makes = makes_then (subst (λ (js : List ℕ). Makes volume_page (growth id kind leader_page js) a s b t) one first) some.makes;
 }

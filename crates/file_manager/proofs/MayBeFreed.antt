@@ -16,9 +16,8 @@ use Rattle.swapper_kernel.specs.DiffersLaws.{sector_of_label}
 use Rattle.filer_kernel.specs.declared.cached.CachedRuns.{CachedRuns}
 use Rattle.filer_kernel.specs.Cached.{runs_of}
 use Rattle.session_words.specs.Parts.{Shape, Shapes, is_owned}
-use Rattle.session_words.specs.FrameLaws.{is_shown}
 use Rattle.file_manager.specs.Book.{Books}
-use Rattle.file_manager.specs.Freeing.{MayFree, MayFreeAll, HasPageAt}
+use Rattle.file_manager.specs.Freeing.{IsHidden, MayFree, MayFreeAll, HasPageAt}
 use Rattle.file_manager.proofs.BookLemmas.{kept_are}
 use Rattle.file_manager.proofs.RunStages.{first_is, maps_named, marks_shown, bits_shown, map_is}
 
@@ -42,7 +41,7 @@ lead_owned shapes id f is = rw is (either (id == 3 && nat_lt leader_page 96))
     either false = refl
 
 module _ (disk : DiskState) (slots : Slots) (layout : Layout) (kept : CachedRuns) (shapes : Shapes) (spaces : List Space) (x : List Sector) (is : IsLayout layout) (books : Books disk slots layout kept shapes spaces x)
-    (id : ℕ) (hidden : (page : ℕ) → is_shown spaces id page ≡ false) where
+    (id : ℕ) (hidden : IsHidden slots spaces id) where
   labelled : (page s : ℕ) → books.booked.named id page s ≡ true → HasPageAt layout x id page s
   labelled page s is_named =
       let t = books.booked.triples.only id page s is_named in
@@ -52,7 +51,7 @@ module _ (disk : DiskState) (slots : Slots) (layout : Layout) (kept : CachedRuns
       let low : layout.first ≤ s = subst (λ (n : ℕ). n ≤ s) (ap first_data (length-map x (λ s. s.0)) ∙ sym (first_is layout is (runs_of layout.sectors kept) shapes x books.booked)) t.there.is_data in
       (low, (here.0, here.1, ap (λ (l : Label). names l (record { id = id; page = page })) here.2 ∙ named))
 
-  may_be_freed : (from end : ℕ) → ((page : ℕ) → from ≤ page → page < end → is_owned shapes id page ≡ true) → MayFree disk slots layout kept books.booked.named spaces id from end x
+  pub may_be_freed : (from end : ℕ) → ((page : ℕ) → from ≤ page → page < end → is_owned shapes id page ≡ true) → MayFree disk slots layout kept books.booked.named spaces id from end x
   may_be_freed from end owned = record {
     stands = books.stands;
     long = books.booked.long;

@@ -1,5 +1,5 @@
 -- What a run that is made leads to.
-use Rattle.std.proofs.Common.{◌≡◌, ◌≢◌, inl, inr, ℕ, ◌+◌, ◌*◌, ◌^◌, ◌<◌, ◌≤◌, Bool, true, false, ◌||◌, List, [], ◌∷◌, ◌++◌, length, take, Some, refl, sym, ◌∙◌, ap, subst, arith}
+use Rattle.std.proofs.Common.{◌≡◌, ◌≢◌, ◌⊎◌, inl, inr, ℕ, ◌+◌, ◌*◌, ◌^◌, ◌<◌, ◌≤◌, Bool, true, false, ◌||◌, List, [], ◌∷◌, ◌++◌, length, take, Some, refl, sym, ◌∙◌, ap, subst, arith}
 use Rattle.std.specs.Prelude.{slice_get, ◌&&◌, ◌==◌}
 use Rattle.std.proofs.lemmas.Option.{same_Some, slice_get_within}
 use Rattle.std.proofs.lemmas.Bool.{true≢false}
@@ -8,7 +8,7 @@ use Rattle.std.proofs.lemmas.List.FromFn.{length-range_with_len}
 use Rattle.labelled_disk.specs.declared.disk.DiskWrite.{DiskWrite}
 use Rattle.labelled_disk.specs.declared.label.Label.{Label}
 use Rattle.labelled_disk.specs.declared.layout.Layout.{Layout}
-use Rattle.labelled_disk.specs.Label.{is_free, is_file_id}
+use Rattle.labelled_disk.specs.Label.{is_free}
 use Rattle.labelled_disk.specs.Layout.{first_data, vam}
 use Rattle.labelled_disk.specs.Runs.{growth, zero_bytes}
 use Rattle.labelled_disk.specs.Sectors.{Sector, AreSectors}
@@ -34,24 +34,24 @@ use Rattle.swapper_kernel.specs.HaltLaws.{brings_then, brings_wider}
 use Rattle.swapper_kernel.specs.OnceLaws.{stands_once}
 use Rattle.swapper_kernel.specs.Window.{Shows, Beside}
 use Rattle.label_calls.specs.Labels.{free_ones}
-use Rattle.label_calls.specs.Runs.{AreUncovered, HaveOnes, RelabelsRun, MadeSome}
+use Rattle.label_calls.specs.Runs.{AreOfFile, AreUncovered, HaveOnes, RelabelsRun, MadeSome}
 use Rattle.filer_kernel.specs.declared.cached.CachedRuns.{CachedRuns}
 use Rattle.filer_kernel.specs.Cached.{runs_of}
 use Rattle.filer_kernel.specs.Becomes.{Becomes}
 use Rattle.filer_kernel.specs.Marks.{BitsAre, marked, IsLowestRun}
 use Rattle.filer_kernel.specs.Triples.{MapIs}
 use Rattle.filer_kernel.specs.PlaceLaws.{data_first}
-use Rattle.session_words.proofs.FoundLemmas.{above_reserved}
 use Rattle.filer_kernel.proofs.MapLemmas.{same_elements}
+use Rattle.session_words.proofs.FoundLemmas.{above_reserved}
 use Rattle.flat_machine.specs.declared.space.Space.{Space}
 use Rattle.session_words.specs.Parts.{Shapes, IsTriple, is_marked}
 use Rattle.session_words.specs.FrameLaws.{HasFrames, IsKnown}
-use Rattle.session_words.specs.GrowLaws.{IsFree, Grows, grown_labels, grown_marks, grown_names}
+use Rattle.session_words.specs.GrowLaws.{IsFree, AreFree, Grows, grown_labels, grown_marks, grown_names}
 use Rattle.session_words.specs.ShownLaws.{map_alone}
 use Rattle.session_words.specs.Volume.{volume_page}
 use Rattle.session_words.proofs.KnownLemmas.{frames_brought}
 use Rattle.session_words.proofs.ShownLemmas.{shown_laws}
-use Rattle.file_manager.specs.Book.{Books, AreTrue, BringsOwn, Leads}
+use Rattle.file_manager.specs.Book.{BooksUpto, AreTrue, BringsOwn, Leads}
 use Rattle.file_manager.specs.Making.{ShowsNoFree, MakesSome, sectors_of}
 use Rattle.file_manager.proofs.MapOnce.{named_once}
 use Rattle.file_manager.proofs.RowLemmas.{in_row, row_marks, row_names, row_free, growth_labels, growth_elsewhere, growth_fresh}
@@ -104,8 +104,8 @@ run_makes {run = run} {a = a} {d = d} {s = s} {u = u} first middle last =
     subst (λ (ws : List DiskWrite). Makes volume_page ws a s d u) (append_none run)
     (makes_then (map_makes first) (makes_then (makes_wider volume_page (λ id page none. absurd none) middle) (map_makes last)))
 
-module _ (layout : Layout) (is : IsLayout layout) (kept : CachedRuns) (shapes : Shapes) (spaces : List Space) (x : List Sector) (d0 : DiskState) (s0 : Slots)
-    (books : Books d0 s0 layout kept shapes spaces x) (hidden : ShowsNoFree spaces) (run : Run) (most : ℕ) (d1 : DiskState) (s1 : Slots) (l1 : Layout)
+module _ {tables : ℕ} (layout : Layout) (is : IsLayout layout) (kept : CachedRuns) (shapes : Shapes) (spaces : List Space) (x : List Sector) (d0 : DiskState) (s0 : Slots)
+    (books : BooksUpto tables d0 s0 layout kept shapes spaces x) (hidden : ShowsNoFree spaces) (run : Run) (most : ℕ) (d1 : DiskState) (s1 : Slots) (l1 : Layout)
     (beside : Beside AllocationMap d0 s0 layout d1 s1 l1) (form : IsDataRun layout.first layout.sectors most (run.sector, run.pages))
     (lowest : IsLowestRun layout (marks_shown layout is (runs_of layout.sectors kept) shapes x books.booked) most (run.sector, run.pages))
     (taken : Becomes AllocationMap layout x (BitsAre layout (marked true run.sector run.pages (marks_shown layout is (runs_of layout.sectors kept) shapes x books.booked))) d1 s1) where
@@ -113,6 +113,10 @@ module _ (layout : Layout) (is : IsLayout layout) (kept : CachedRuns) (shapes : 
   free k below =
       let above = form.above in let inside = form.inside in
       free_by_mark layout is (runs_of layout.sectors kept) shapes x books.booked (run.sector + k) (omega (arith, above)) (omega (arith, inside, below)) (lowest.free (run.sector + k) (omega arith) (omega (arith, below)))
+
+  -- the run was free
+  pub row_was_free : (kind : ℕ) → AreFree run.id kind run.first (sectors_of run) (labels_of x)
+  row_was_free kind = row_free run.id kind run.first run.sector run.pages (labels_of x) free
 
   free_taken : (k : ℕ) → k < run.pages → IsFree (labels_of taken.memory) (run.sector + k)
   free_taken k below = subst (λ (l : List Label). IsFree l (run.sector + k)) (sym taken.differs.labels) (free k below)
@@ -278,7 +282,7 @@ module _ (layout : Layout) (is : IsLayout layout) (kept : CachedRuns) (shapes : 
       }
 
 -- all of a list
-take_all : (xs : List DiskWrite) → take (length xs) xs ≡ xs
+pub take_all : (xs : List DiskWrite) → take (length xs) xs ≡ xs
 take_all [] = refl
 take_all (x ∷ xs) = ap (λ (l : List DiskWrite). x ∷ l) (take_all xs)
 
@@ -309,15 +313,24 @@ module _ {layout l1 : Layout} {a b c : DiskState} {s t u : Slots} (run : Run) (k
     makes = subst (λ (ws : List DiskWrite). Makes volume_page ws a s d v) (sym (take_all (growth run.id kind run.first (sectors_of run)))) (added_makes made last);
   }
 
+-- pages of the space tables or of a file
+pub above_maps : (id kind page pages : ℕ) → AreOfFile id kind page pages → (id ≡ 3) ⊎ (16 ≤ id)
+above_maps id kind page pages (inl tables) = inl tables.0
+above_maps id kind page pages (inr file) = inr (above_reserved id file)
+
+pub fewer_of_file : (id kind page most pages : ℕ) → pages ≤ most → AreOfFile id kind page most → AreOfFile id kind page pages
+fewer_of_file id kind page most pages few (inl tables) = let within = tables.2 in inl (tables.0, tables.1, omega (arith, few, within))
+fewer_of_file id kind page most pages few (inr file) = inr file
+
 -- a run of data sectors for the next pages
-pub run_in_form : (layout : Layout) (id page most : ℕ) (taken : ℕ × ℕ) → IsLayout layout → IsDataRun layout.first layout.sectors most taken → is_file_id id ≡ true → id < 2 ^ 64 → page + most ≤ 2 ^ 32
+pub run_in_form : (layout : Layout) (id page most : ℕ) (taken : ℕ × ℕ) → IsLayout layout → IsDataRun layout.first layout.sectors most taken → (id ≡ 3) ⊎ (16 ≤ id) → id < 2 ^ 64 → page + most ≤ 2 ^ 32
     → IsRun layout.sectors (record { id = id; first = page; pages = taken.1; sector = taken.0 })
 run_in_form layout id page most taken is form of_file fits numbers =
     let few = form.few in
     let above = form.above in
     let first = data_first layout is in
     record {
-      of_file = inr (above_reserved id of_file);
+      of_file = of_file;
       id_fits = fits;
       some = form.some;
       pages_fit = omega (arith, few, numbers);

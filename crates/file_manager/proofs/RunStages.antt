@@ -36,11 +36,11 @@ use Rattle.session_words.proofs.FrameLemmas.{frame_laws}
 use Rattle.label_calls.specs.Labels.{IsUncovered}
 use Rattle.filer_kernel.specs.Marks.{Marks, BitsAre}
 use Rattle.filer_kernel.specs.Triples.{MapIs}
-use Rattle.session_words.specs.Parts.{Shapes, HasLabel, is_owned, is_marked}
+use Rattle.session_words.specs.Parts.{Shapes, HasLabel, is_owned_upto, is_marked}
 use Rattle.session_words.specs.GrowLaws.{IsFree}
 use Rattle.session_words.proofs.ShownLemmas.{shown_laws}
-use Rattle.file_manager.specs.Book.{IsBooked}
-use Rattle.file_manager.specs.Making.{AreUnowned, ShowsNoFree, free_count}
+use Rattle.file_manager.specs.Book.{IsBookedUpto}
+use Rattle.file_manager.specs.Making.{AreUnownedUpto, ShowsNoFree, free_count}
 
 -- a label that names a page of a file is not free
 not_free : (l : Label) (id page : ℕ) → 0 < id → names l (record { id = id; page = page }) ≡ true → is_free l ≡ false
@@ -51,7 +51,7 @@ there_is [] k below = absurd (omega (arith, below))
 there_is (x ∷ xs) zero below = (x, refl)
 there_is (x ∷ xs) (suc k) below = there_is xs k (omega (arith, below))
 
-count_more : (p : ℕ → Bool) (y : ℕ) (ys : List ℕ) → count_by p (y ∷ ys) ≡ cond (p y) 1 0 + count_by p ys
+pub count_more : (p : ℕ → Bool) (y : ℕ) (ys : List ℕ) → count_by p (y ∷ ys) ≡ cond (p y) 1 0 + count_by p ys
 count_more p y ys = sum_by-cons (λ x. cond (p x) 1 0) y ys
 
 -- some one is counted
@@ -106,7 +106,7 @@ uncovered d slots spaces m stands frames hidden k free i f has at =
     let shown : is_shown spaces s.0.0.id s.0.0.page ≡ false = ap (λ (n : ℕ). is_shown spaces n s.0.0.page) none ∙ hidden s.0.0.page in
     frame_laws.none_over stands.sectors slots m spaces k s.0 stands.merged frames s.1 shown (inl none) i f has at
 
-module _ (layout : Layout) (is : IsLayout layout) (runs : List Run) (shapes : Shapes) (x : List Sector) (booked : IsBooked layout runs shapes x) where
+module _ {tables : ℕ} (layout : Layout) (is : IsLayout layout) (runs : List Run) (shapes : Shapes) (x : List Sector) (booked : IsBookedUpto tables layout runs shapes x) where
   n : ℕ
   n = length x
 
@@ -202,7 +202,7 @@ module _ (layout : Layout) (is : IsLayout layout) (runs : List Run) (shapes : Sh
       record { bytes = bytes; shows = shows; names = (shown_laws.names layout x bytes named is booked.long booked.sectors shows).1 names }
 
   -- no page that no shape has is named
-  pub new_run : (id page pages sector : ℕ) → AreUnowned shapes id page pages → IsNew booked.named (record { id = id; first = page; pages = pages; sector = sector })
+  pub new_run : (id page pages sector : ℕ) → AreUnownedUpto tables shapes id page pages → IsNew booked.named (record { id = id; first = page; pages = pages; sector = sector })
   new_run id page pages sector unowned = λ p s held. either p s held (booked.named id p s) refl
     where
       either : (p s : ℕ) → holds (record { id = id; first = page; pages = pages; sector = sector }) id p ≡ true → (b : Bool) → booked.named id p s ≡ b → booked.named id p s ≡ false
@@ -212,7 +212,7 @@ module _ (layout : Layout) (is : IsLayout layout) (runs : List Run) (shapes : Sh
           let within = both_parts p both.1 in
           let t = booked.triples.only id p s e in
           let owned = (booked.labels.pages.only s t.label t.there t.taken).is in
-          let here : is_owned shapes id p ≡ true = (λ i. is_owned shapes (sym t.same_id i) (sym t.same_page i)) ∙ owned in
+          let here : is_owned_upto tables shapes id p ≡ true = (λ i. is_owned_upto tables shapes (sym t.same_id i) (sym t.same_page i)) ∙ owned in
           absurd (true≢false (sym here ∙ unowned p within.0 within.1))
         where
           both_parts : (p : ℕ) → (nat_le page p && nat_lt p (page + pages)) ≡ true → (page ≤ p) × (p < page + pages)

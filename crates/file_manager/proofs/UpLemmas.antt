@@ -35,7 +35,7 @@ use Rattle.session_words.proofs.FoundLemmas.{owner, above_reserved}
 use Rattle.session_words.proofs.GrownLemmas.{book_grown, grown_long, map_labels_grown, with_here}
 use Rattle.session_words.specs.Found.{AreShapes}
 use Rattle.file_manager.proofs.BookLemmas.{root_label_grown}
-use Rattle.file_manager.specs.Book.{Books, Leads}
+use Rattle.file_manager.specs.Book.{Books, BooksUpto, Leads}
 use Rattle.file_manager.specs.Making.{AreUnowned, MayGrow, free_count, sectors_of}
 use Rattle.file_manager.proofs.GrowSteps.{growth_append, grows_then, long_grown}
 use Rattle.file_manager.proofs.RunStages.{first_is, vam_is, in_bits}
@@ -49,7 +49,7 @@ one b = cond b 1 0
 count_more : (p : ℕ → Bool) (y : ℕ) (ys : List ℕ) → count_by p (y ∷ ys) ≡ one (p y) + count_by p ys
 count_more p y ys = sum_by-cons (λ x. one (p x)) y ys
 
-count_same : (p q : ℕ → Bool) (a n : ℕ) → ((k : ℕ) → a ≤ k → k < a + n → p k ≡ q k) → count_by p (range_with_len a n) ≡ count_by q (range_with_len a n)
+pub count_same : (p q : ℕ → Bool) (a n : ℕ) → ((k : ℕ) → a ≤ k → k < a + n → p k ≡ q k) → count_by p (range_with_len a n) ≡ count_by q (range_with_len a n)
 count_same p q a zero same = refl
 count_same p q a (suc n) same =
     let x = count_more p a (range_with_len (a + 1) n) in
@@ -107,7 +107,7 @@ free_falls id kind page (i ∷ is) labels marks some free say =
         (cases_eq k i)
 
 -- the memory has so many free sectors fewer
-pub free_left : (layout : Layout) (is_layout : IsLayout layout) (kept : CachedRuns) (shapes : Shapes) (spaces : List Space) (x : List Sector) (d0 : DiskState) (s0 : Slots) (books : Books d0 s0 layout kept shapes spaces x)
+pub free_left : {tables : ℕ} (layout : Layout) (is_layout : IsLayout layout) (kept : CachedRuns) (shapes : Shapes) (spaces : List Space) (x : List Sector) (d0 : DiskState) (s0 : Slots) (books : BooksUpto tables d0 s0 layout kept shapes spaces x)
     (id kind page : ℕ) (is : List ℕ) → 0 < id → (y : List Sector) → Grows id kind page is x y → free_count layout y + length is ≡ free_count layout x
 free_left layout is_layout kept shapes spaces x d0 s0 books id kind page is some y grows =
     let booked = books.booked in

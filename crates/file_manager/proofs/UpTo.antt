@@ -47,7 +47,7 @@ per_page (suc (suc q)) v some = let rest = per_page (suc q) v (omega arith) in o
 cost_then : (t0 t u a p v : ℕ) → 1 ≤ p → t ≤ t0 + a * (8 * v + 100) → u ≤ t + (8 * v + 2 * p + 98) → u ≤ t0 + (a + p) * (8 * v + 100)
 cost_then t0 t u a p v some before here = let one = per_page p v some in omega (arith, one, before, here)
 
-take_past : (xs ys : List DiskWrite) (j : ℕ) → take (length xs + j) (xs ++ ys) ≡ xs ++ take j ys
+pub take_past : (xs ys : List DiskWrite) (j : ℕ) → take (length xs + j) (xs ++ ys) ≡ xs ++ take j ys
 take_past [] ys j = ap (λ (k : ℕ). take k ys) (let z : 0 + j ≡ j = omega arith in z)
 take_past (x ∷ xs) ys j = ap (λ (k : ℕ). take k (x ∷ (xs ++ ys))) (let z : suc (length xs) + j ≡ suc (length xs + j) = omega arith in z) ∙ ap (λ (l : List DiskWrite). x ∷ l) (take_past xs ys j)
 

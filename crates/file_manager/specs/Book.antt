@@ -17,7 +17,7 @@ use Rattle.swapper_kernel.specs.Goes.{Goes, Change}
 use Rattle.swapper_kernel.specs.Homes.{Brings}
 use Rattle.filer_kernel.specs.declared.cached.CachedRuns.{CachedRuns}
 use Rattle.filer_kernel.specs.Cached.{runs_of}
-use Rattle.session_words.specs.Parts.{Shapes, HasLabels, HasMapLabels, HasBits, HasTriples, IsTriple, is_marked}
+use Rattle.session_words.specs.Parts.{Shapes, HasLabelsUpto, HasMapLabels, HasBits, HasTriples, IsTriple, is_marked}
 use Rattle.session_words.specs.Found.{AreShapes}
 use Rattle.session_words.specs.FrameLaws.{HasFrames}
 use Rattle.session_words.specs.Volume.{volume_page}
@@ -26,25 +26,34 @@ use Rattle.session_words.specs.Volume.{volume_page}
 abbrev pub AreTrue : List Label → List Run → Type 0
 AreTrue labels runs = (k : ℕ) (r : Run) → slice_get runs k ≡ Some r → (page : ℕ) → holds r r.id page ≡ true → IsTriple labels r.id page (sector_at r page)
 
--- The labels are those of the space tables and of files of these shapes, and both maps say so. The runs that are kept are true.
-pub record IsBooked (layout : Layout) (runs : List Run) (shapes : Shapes) (memory : List Sector) : Type 0 where
+-- The labels are those of so many pages of the space tables and of files of these shapes, and both maps say so. The runs
+-- that are kept are true.
+pub record IsBookedUpto (tables : ℕ) (layout : Layout) (runs : List Run) (shapes : Shapes) (memory : List Sector) : Type 0 where
   pub sectors : AreSectors memory
   pub long : length memory ≡ layout.sectors
   pub files : AreShapes shapes
   pub root_label : IsSomeAnd (slice_get (labels_of memory) 0) (λ l. IsTrue (names l (record { id = 4; page = 0 })))
   pub map_labels : HasMapLabels (labels_of memory)
-  pub labels : HasLabels (labels_of memory) shapes
+  pub labels : HasLabelsUpto tables (labels_of memory) shapes
   pub bits : HasBits (is_marked memory) (labels_of memory)
   pub named : Triples
   pub map : MapNames memory named
   pub triples : HasTriples named (labels_of memory)
   pub kept : AreTrue (labels_of memory) runs
 
+-- of all 96 of them
+abbrev pub IsBooked : Layout → List Run → Shapes → List Sector → Type 0
+IsBooked layout runs shapes memory = IsBookedUpto 96 layout runs shapes memory
+
 -- disk and frames make this memory, which is such; and each frame is of a page of the volume's own, or of one that a window of these spaces shows
-pub record Books (disk : DiskState) (slots : Slots) (layout : Layout) (runs : CachedRuns) (shapes : Shapes) (spaces : List Space) (memory : List Sector) : Type 0 where
+pub record BooksUpto (tables : ℕ) (disk : DiskState) (slots : Slots) (layout : Layout) (runs : CachedRuns) (shapes : Shapes) (spaces : List Space) (memory : List Sector) : Type 0 where
   pub stands : Stands disk slots memory
-  pub booked : IsBooked layout (runs_of layout.sectors runs) shapes memory
+  pub booked : IsBookedUpto tables layout (runs_of layout.sectors runs) shapes memory
   pub frames : HasFrames slots spaces
+
+-- with all 96 pages of the space tables
+abbrev pub Books : DiskState → Slots → Layout → CachedRuns → Shapes → List Space → List Sector → Type 0
+Books disk slots layout runs shapes spaces memory = BooksUpto 96 disk slots layout runs shapes spaces memory
 
 -- pages of the maps and of the space tables alone came into frames
 abbrev pub BringsOwn : Slots → Slots → Type 0

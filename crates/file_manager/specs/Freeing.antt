@@ -1,5 +1,5 @@
 -- Pages of a file that become free: what that does to a memory whose file map stays.
-use Rattle.std.specs.Prelude.{◌≡◌, ◌≢◌, ℕ, ◌+◌, ◌≤◌, ◌<◌, true, false, List, [], ◌∷◌, length, Some, slice_get}
+use Rattle.std.specs.Prelude.{◌≡◌, ◌≢◌, ◌⊎◌, ℕ, ◌+◌, ◌≤◌, ◌<◌, true, false, List, [], ◌∷◌, length, Some, slice_get}
 use Rattle.std.specs.List.{range_with_len}
 use Rattle.labelled_disk.specs.declared.layout.Layout.{Layout}
 use Rattle.labelled_disk.specs.Label.{leader_page}
@@ -23,7 +23,7 @@ use Rattle.filer_kernel.specs.declared.cached.CachedRuns.{CachedRuns}
 use Rattle.filer_kernel.specs.Cached.{runs_of}
 use Rattle.filer_kernel.specs.Marks.{Marks, BitsAre}
 use Rattle.filer_kernel.specs.Triples.{MapIs, AreOf}
-use Rattle.session_words.specs.FrameLaws.{HasFrames, is_shown}
+use Rattle.session_words.specs.FrameLaws.{HasFrames, IsThere, is_shown}
 use Rattle.session_words.specs.Volume.{volume_page}
 use Rattle.file_manager.specs.Book.{BringsOwn}
 
@@ -53,8 +53,12 @@ AreNamedUp named id page (i ∷ is) = (named id page i ≡ true) × AreNamedUp n
 abbrev pub HasPageAt : Layout → List Sector → ℕ → ℕ → ℕ → Type 0
 HasPageAt layout memory id page sector = (layout.first ≤ sector) × HasOne (ones_of (record { id = id; page = page })) memory sector
 
--- The pages of a file from one up to another may be freed: the file map has them and says what their labels say, and no
--- window of these spaces shows the file.
+-- no window of these spaces shows the file, which is one of a client's; or no frame has a page of it
+abbrev pub IsHidden : Slots → List Space → ℕ → Type 0
+IsHidden slots spaces id = ((16 ≤ id) × ((page : ℕ) → is_shown spaces id page ≡ false)) ⊎ ((page : ℕ) → IsThere slots id page → ⊥)
+
+-- The pages of a file from one up to another may be freed: the file map has them and says what their labels say, and the
+-- file is hidden.
 pub record MayFree (disk : DiskState) (slots : Slots) (layout : Layout) (runs : CachedRuns) (named : Triples) (spaces : List Space) (id from end : ℕ) (memory : List Sector) : Type 0 where
   pub stands : Stands disk slots memory
   pub long : length memory ≡ layout.sectors
@@ -64,7 +68,7 @@ pub record MayFree (disk : DiskState) (slots : Slots) (layout : Layout) (runs : 
   pub bits : BitsAre layout marks memory
   pub map_labels : (which : Manager) → AreNamed memory (IsMapHome which layout)
   pub frames : HasFrames slots spaces
-  pub hidden : (page : ℕ) → is_shown spaces id page ≡ false
+  pub hidden : IsHidden slots spaces id
   pub mapped : (page : ℕ) → from ≤ page → page < end → (sector : ℕ) × (named id page sector ≡ true)
   pub labelled : (page sector : ℕ) → from ≤ page → page < end → named id page sector ≡ true → HasPageAt layout memory id page sector
 
@@ -103,6 +107,26 @@ pub record MakesFree (pages : ℕ) (old : DiskState) (before : Slots) (new : Dis
 pub record MakesSomeFree (old : DiskState) (before : Slots) (new : DiskState) (after : Slots) : Type 0 where
   pub sectors : List ℕ
   pub makes : Makes volume_page (freeing sectors) old before new after
+
+-- the labels of the first of the pages from this one up to another were freed, in the sectors that the file map names
+pub record FreedSome (named : Triples) (id page end : ℕ) (old : DiskState) (before : Slots) (new : DiskState) (after : Slots) : Type 0 where
+  pub sectors : List ℕ
+  pub few : page + length sectors ≤ end
+  pub up : AreNamedUp named id page sectors
+  pub makes : Makes volume_page (freeing sectors) old before new after
+
+-- the label of the leader was freed, and those of the first of so many pages
+pub record LeaderFreed (named : Triples) (id pages : ℕ) (old : DiskState) (before : Slots) (new : DiskState) (after : Slots) : Type 0 where
+  pub leader : ℕ
+  pub leads : named id leader_page leader ≡ true
+  pub sectors : List ℕ
+  pub few : length sectors ≤ pages
+  pub up : AreNamedUp named id 0 sectors
+  pub makes : Makes volume_page (freeing (leader ∷ sectors)) old before new after
+
+-- that, or none was
+abbrev pub FreedFirst : Triples → ℕ → ℕ → DiskState → Slots → DiskState → Slots → Type 0
+FreedFirst named id pages old before new after = Makes volume_page [] old before new after ⊎ LeaderFreed named id pages old before new after
 
 -- The leader of a file was freed, and then so many pages from 0 up.
 pub record FreedAll (layout : Layout) (named : Triples) (spaces : List Space) (id pages : ℕ) (old : DiskState) (before : Slots) (new : DiskState) (after : Slots) (runs : CachedRuns) : Type 0 where

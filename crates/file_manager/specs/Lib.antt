@@ -1,4 +1,14 @@
 pub mod Book
 pub mod Freeing
 pub mod Answer
+pub mod Finding
+pub mod Attributes
 pub mod Making
+pub mod Deleting
+pub mod Creating
+pub mod Broken
+pub mod CreateBroken
+pub mod Shrinking
+pub mod Resizing
+pub mod Tables
+pub mod Causes

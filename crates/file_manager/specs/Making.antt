@@ -15,14 +15,18 @@ use Rattle.filer_kernel.specs.declared.cached.CachedRuns.{CachedRuns}
 use Rattle.session_words.specs.Found.{AreShapes}
 use Rattle.session_words.specs.GrowLaws.{Grows}
 use Rattle.file_manager.specs.Book.{Books, Leads}
-use Rattle.session_words.specs.Parts.{Shape, Shapes, is_owned, is_marked}
+use Rattle.session_words.specs.Parts.{Shape, Shapes, is_owned_upto, is_marked}
 use Rattle.flat_machine.specs.declared.space.Space.{Space}
 use Rattle.session_words.specs.FrameLaws.{is_shown}
 use Rattle.session_words.specs.Volume.{volume_page}
 
--- so many pages of the file, from this one on, are there for no shape
+-- so many pages of the file, from this one on, are there for no shape, nor among the first so many of the space tables
+abbrev pub AreUnownedUpto : ℕ → Shapes → ℕ → ℕ → ℕ → Type 0
+AreUnownedUpto tables shapes id page pages = (p : ℕ) → page ≤ p → p < page + pages → is_owned_upto tables shapes id p ≡ false
+
+-- nor among all 96
 abbrev pub AreUnowned : Shapes → ℕ → ℕ → ℕ → Type 0
-AreUnowned shapes id page pages = (p : ℕ) → page ≤ p → p < page + pages → is_owned shapes id p ≡ false
+AreUnowned shapes id page pages = AreUnownedUpto 96 shapes id page pages
 
 -- no window shows a page that a free label would name
 abbrev pub ShowsNoFree : List Space → Type 0
@@ -93,10 +97,12 @@ pub record CreatedBy (id kind pages : ℕ) (old : DiskState) (before : Slots) (l
   pub long : length sectors ≡ pages
   pub leads : Leads (LedAndGrown id kind leader sectors) (creation id kind leader sectors) old before layout new after runs
 
--- the first of the labels of such a creation were written, the sectors being these
-pub record CreatesSome (id kind : ℕ) (old : DiskState) (before : Slots) (new : DiskState) (after : Slots) : Type 0 where
+-- the first of the labels of such a creation were written, the sectors being these: one for the leader and at most so many
+-- for the pages
+pub record CreatesSome (id kind pages : ℕ) (old : DiskState) (before : Slots) (new : DiskState) (after : Slots) : Type 0 where
   pub leader : ℕ
   pub sectors : List ℕ
+  pub few : length sectors ≤ pages
   pub count : ℕ
   pub makes : Makes volume_page (take count (creation id kind leader sectors)) old before new after
 

@@ -1,10 +1,11 @@
 //! All pages of a file that become free, its leader first.
-ghost use Rattle.std.specs.Prelude.{◌≡◌, ℕ, ◌+◌, ◌*◌, ◌≤◌, List, IfErr, OnErr, OnOk};
+ghost use Rattle.std.specs.Prelude.{◌≡◌, ℕ, ◌+◌, ◌*◌, ◌≤◌, List, IfErr, OnErr, OnOk, Err};
 ghost use Rattle.labelled_disk.specs.declared.evidence.Halt.TheVariants as halt;
+ghost use Rattle.labelled_disk.specs.Calls.{Rose};
 ghost use Rattle.labelled_disk.specs.Sectors.{Sector};
 ghost use Rattle.file_map.specs.FileMap.{Triples};
 ghost use Rattle.flat_machine.specs.declared.space.Space.{Space};
-ghost use Rattle.file_manager.specs.Freeing.{MayFreeAll, FreedAll, MakesFree, MakesSomeFree};
+ghost use Rattle.file_manager.specs.Freeing.{MayFreeAll, FreedAll, FreedFirst, MakesFree, MakesSomeFree};
 
 use crate::release::{free_run, free_up};
 use filer_kernel::FilerOver;
@@ -26,8 +27,11 @@ pub(crate) fn free_all<D: Disk, A: Allocator>(
         → OnOk result (FreedAll filer.old.swapper.layout named spaces id pages (D.state filer.old.swapper.under) filer.old.swapper.pool (D.state filer.new.swapper.under) filer.new.swapper.pool filer.new.runs) }
     ensures sound { (named : Triples) (spaces : List Space) (m : List Sector) → MayFreeAll (D.state filer.old.swapper.under) filer.old.swapper.pool filer.old.swapper.layout filer.old.runs named spaces id pages m
         → IfErr result (λ e. e ≡ halt.Disk) }
+    ensures first { (named : Triples) (spaces : List Space) (m : List Sector) → MayFreeAll (D.state filer.old.swapper.under) filer.old.swapper.pool filer.old.swapper.layout filer.old.runs named spaces id pages m
+        → OnErr result (FreedFirst named id pages (D.state filer.old.swapper.under) filer.old.swapper.pool (D.state filer.new.swapper.under) filer.new.swapper.pool) }
     ensures makes { OnOk result (MakesFree (1 + pages) (D.state filer.old.swapper.under) filer.old.swapper.pool (D.state filer.new.swapper.under) filer.new.swapper.pool) }
     ensures stopped { OnErr result (MakesSomeFree (D.state filer.old.swapper.under) filer.old.swapper.pool (D.state filer.new.swapper.under) filer.new.swapper.pool) }
+    ensures counted { result ≡ Err halt.Disk → Rose (D.state filer.old.swapper.under).faults (D.state filer.new.swapper.under).faults }
     ensures layout { filer.new.swapper.layout ≡ filer.old.swapper.layout }
     ensures cost { (D.state filer.new.swapper.under).transfers ≤ (D.state filer.old.swapper.under).transfers + (1 + pages) * (16 + 4 * filer.old.swapper.layout.vam) }
 {

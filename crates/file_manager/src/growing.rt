@@ -1,10 +1,12 @@
 //! Files that get more pages.
-ghost use Rattle.std.specs.Prelude.{◌≡◌, ◌+◌, ◌-◌, ◌*◌, ◌≤◌, ◌<◌, true, List, IfErr, OnErr, OnOk, min};
+ghost use Rattle.std.specs.Prelude.{◌≡◌, ◌+◌, ◌-◌, ◌*◌, ◌≤◌, ◌<◌, true, List, IfErr, OnErr, OnOk, min, Err};
 ghost use Rattle.labelled_disk.specs.declared.evidence.Halt.TheVariants as halt;
+ghost use Rattle.labelled_disk.specs.Calls.{Rose};
 ghost use Rattle.labelled_disk.specs.Label.{is_file_id};
 ghost use Rattle.labelled_disk.specs.Sectors.{Sector};
 ghost use Rattle.flat_machine.specs.declared.space.Space.{Space};
 ghost use Rattle.session_words.specs.Parts.{Shape, Shapes};
+ghost use Rattle.file_manager.specs.Broken.{GrewSome};
 ghost use Rattle.file_manager.specs.Making.{MayGrow, GrownBy, MakesAll, MakesSome};
 
 use crate::Volume;
@@ -30,8 +32,11 @@ pub fn grow<D: Disk, A: Allocator>(
         → OnOk result (GrownBy id kind size (pages - size) (D.state filer.old.swapper.under) filer.old.swapper.pool filer.old.swapper.layout (D.state filer.new.swapper.under) filer.new.swapper.pool filer.new.runs) }
     ensures sound { (x : List Sector) (shapes : Shapes) (spaces : List Space) (f : Shape) → MayGrow (D.state filer.old.swapper.under) filer.old.swapper.pool filer.old.swapper.layout filer.old.runs shapes spaces id f pages x → f.size ≡ size
         → IfErr result (λ e. e ≡ halt.Disk) }
+    ensures broken { (x : List Sector) (shapes : Shapes) (spaces : List Space) (f : Shape) → MayGrow (D.state filer.old.swapper.under) filer.old.swapper.pool filer.old.swapper.layout filer.old.runs shapes spaces id f pages x → f.size ≡ size
+        → OnErr result (GrewSome id kind size (pages - size) x (D.state filer.old.swapper.under) filer.old.swapper.pool (D.state filer.new.swapper.under) filer.new.swapper.pool) }
     ensures makes { OnOk result (MakesAll id kind size (pages - size) (D.state filer.old.swapper.under) filer.old.swapper.pool (D.state filer.new.swapper.under) filer.new.swapper.pool) }
     ensures stopped { OnErr result (MakesSome id kind size (pages - size) (D.state filer.old.swapper.under) filer.old.swapper.pool (D.state filer.new.swapper.under) filer.new.swapper.pool) }
+    ensures counted { result ≡ Err halt.Disk → Rose (D.state filer.old.swapper.under).faults (D.state filer.new.swapper.under).faults }
     ensures used { OnOk result (volume.new ≡ record volume.old { used = min (volume.old.used + (pages - size)) volume.old.layout.capacity }) }
     ensures same_volume { OnErr result (volume.new ≡ volume.old) }
     ensures layout { filer.new.swapper.layout ≡ filer.old.swapper.layout }

@@ -1,6 +1,7 @@
 //! Pages of a file that are made: free sectors are taken, labelled, and put into the file map.
-ghost use Rattle.std.specs.Prelude.{◌≡◌, ℕ, ◌+◌, ◌-◌, ◌*◌, ◌^◌, ◌≤◌, ◌<◌, true, false, List, IfOk, IfErr, OnErr, OnOk};
+ghost use Rattle.std.specs.Prelude.{◌≡◌, ℕ, ◌+◌, ◌-◌, ◌*◌, ◌^◌, ◌≤◌, ◌<◌, true, false, List, IfOk, IfErr, OnErr, OnOk, Err};
 ghost use Rattle.labelled_disk.specs.declared.evidence.Halt.TheVariants as halt;
+ghost use Rattle.labelled_disk.specs.Calls.{Rose};
 ghost use Rattle.labelled_disk.specs.Label.{is_file_id};
 ghost use Rattle.labelled_disk.specs.Runs.{growth};
 ghost use Rattle.labelled_disk.specs.Sectors.{Sector};
@@ -13,15 +14,16 @@ ghost use Rattle.swapper_kernel.specs.Goes.{Makes};
 ghost use Rattle.swapper_kernel.specs.Stands.{Stands};
 ghost use Rattle.swapper_kernel.specs.Window.{Beside};
 ghost use Rattle.label_calls.specs.Labels.{free_ones};
-ghost use Rattle.label_calls.specs.Runs.{AreUncovered, HaveOnes, RelabelsRun, MadeSome};
+ghost use Rattle.label_calls.specs.Runs.{AreOfFile, AreUncovered, HaveOnes, RelabelsRun, MadeSome};
 ghost use Rattle.filer_kernel.specs.Becomes.{Becomes};
 ghost use Rattle.filer_kernel.specs.Marks.{Marks, BitsAre, marked, IsLowestRun};
 ghost use Rattle.session_words.specs.Parts.{Shape, Shapes};
 ghost use Rattle.session_words.specs.GrowLaws.{Grows};
 ghost use Rattle.session_words.specs.Volume.{volume_page};
 ghost use Rattle.frame_pool.specs.Frames.{ArePages};
-ghost use Rattle.file_manager.specs.Book.{Books, Leads};
-ghost use Rattle.file_manager.specs.Making.{AreUnowned, ShowsNoFree, free_count, sectors_of, IsRunFor, MayGrow, GrownBy, MakesAll, MakesSome};
+ghost use Rattle.file_manager.specs.Book.{Books, BooksUpto, Leads};
+ghost use Rattle.file_manager.specs.Broken.{GrewSome};
+ghost use Rattle.file_manager.specs.Making.{AreUnowned, AreUnownedUpto, ShowsNoFree, free_count, sectors_of, IsRunFor, MayGrow, GrownBy, MakesAll, MakesSome};
 
 use alloc_map::AllocError;
 use file_map::Run;
@@ -31,7 +33,7 @@ use labelled_disk::{Disk, Evidence, FileId, Halt};
 use std::alloc::Allocator;
 
 /// The identifier of the space tables.
-const TABLES: FileId = 3;
+pub(crate) const TABLES: FileId = 3;
 
 // Takes the lowest free data sector, and free ones behind it, at most so many together.
 fn take_run<D: Disk, A: Allocator>(
@@ -45,6 +47,7 @@ fn take_run<D: Disk, A: Allocator>(
         → IfOk result (λ run. Becomes AllocationMap filer.old.swapper.layout m (BitsAre filer.old.swapper.layout (marked true run.0 run.1 marks)) (D.state filer.new.swapper.under) filer.new.swapper.pool) }
     ensures sound { (m : List Sector) (marks : Marks) (k : ℕ) → Stands (D.state filer.old.swapper.under) filer.old.swapper.pool m → BitsAre filer.old.swapper.layout marks m → AreNamed m (IsMapHome AllocationMap filer.old.swapper.layout)
         → filer.old.swapper.layout.first ≤ k → k < filer.old.swapper.layout.sectors → marks k ≡ false → IfErr result (λ e. e ≡ halt.Disk) }
+    ensures counted { result ≡ Err halt.Disk → Rose (D.state filer.old.swapper.under).faults (D.state filer.new.swapper.under).faults }
     ensures form { IfOk result (IsDataRun filer.old.swapper.layout.first filer.old.swapper.layout.sectors most) }
     ensures kept { Beside AllocationMap (D.state filer.old.swapper.under) filer.old.swapper.pool filer.old.swapper.layout (D.state filer.new.swapper.under) filer.new.swapper.pool filer.new.swapper.layout }
     ensures runs { filer.new.runs ≡ filer.old.runs }
@@ -70,11 +73,12 @@ fn label_run<D: Disk, A: Allocator>(
     requires data { filer.old.swapper.layout.first ≤ run.sector }
     requires inside { run.sector + run.pages ≤ filer.old.swapper.layout.sectors }
     requires numbers { run.first + run.pages ≤ 2 ^ 32 }
-    requires of_file { is_file_id run.id ≡ true }
+    requires of_file { AreOfFile run.id kind run.first run.pages }
     ensures made { OnOk result (RelabelsRun run.sector run.pages (growth run.id kind run.first (sectors_of run)) (D.state filer.old.swapper.under) filer.old.swapper.pool (D.state filer.new.swapper.under)) }
     ensures stopped { OnErr result (MadeSome (growth run.id kind run.first (sectors_of run)) (D.state filer.old.swapper.under) filer.old.swapper.pool (D.state filer.new.swapper.under)) }
     ensures sound { (m : List Sector) → Stands (D.state filer.old.swapper.under) filer.old.swapper.pool m → AreUncovered filer.old.swapper.pool run.sector run.pages
         → HaveOnes (λ k. free_ones) m run.sector run.pages → IfErr result (λ e. e ≡ halt.Disk) }
+    ensures counted { result ≡ Err halt.Disk → Rose (D.state filer.old.swapper.under).faults (D.state filer.new.swapper.under).faults }
     ensures frames { filer.new.swapper.pool ≡ filer.old.swapper.pool }
     ensures layout { filer.new.swapper.layout ≡ filer.old.swapper.layout }
     ensures runs { filer.new.runs ≡ filer.old.runs }
@@ -88,15 +92,15 @@ fn label_run<D: Disk, A: Allocator>(
 }
 
 // How many frames there are. The bytes of each are a page's.
-fn frames_of<D: Disk, A: Allocator>(filer: &mut FilerOver<D, A>) -> u32
+pub(crate) fn frames_of<D: Disk, A: Allocator>(filer: &mut FilerOver<D, A>) -> u32
     ensures pages { ArePages filer.old.swapper.pool }
     ensures same { filer.new ≡ filer.old }
 {
     filer.swapper_over().frames().frames()
 }
 
-// Makes some of the next pages of a file, at least one and at most so many: the lowest free data sector is taken, and free
-// ones behind it, they get the labels of the pages, and the file map has them.
+// Makes some of the next pages of a file or of the space tables, at least one and at most so many: the lowest free data
+// sector is taken, and free ones behind it, they get the labels of the pages, and the file map has them.
 pub(crate) fn make_run<D: Disk, A: Allocator>(
     filer: &mut FilerOver<D, A>,
     id: FileId,
@@ -107,13 +111,16 @@ pub(crate) fn make_run<D: Disk, A: Allocator>(
     requires size { (D.state filer.old.swapper.under).sectors ≡ filer.old.swapper.layout.sectors }
     requires some { 1 ≤ most }
     requires numbers { page + most ≤ 2 ^ 32 }
-    requires of_file { is_file_id id ≡ true }
-    ensures made { (x : List Sector) (shapes : Shapes) (spaces : List Space) → Books (D.state filer.old.swapper.under) filer.old.swapper.pool filer.old.swapper.layout filer.old.runs shapes spaces x → ShowsNoFree spaces
-        → AreUnowned shapes id page most → 1 ≤ free_count filer.old.swapper.layout x
+    requires of_file { AreOfFile id kind page most }
+    ensures made { (tables : ℕ) (x : List Sector) (shapes : Shapes) (spaces : List Space) → BooksUpto tables (D.state filer.old.swapper.under) filer.old.swapper.pool filer.old.swapper.layout filer.old.runs shapes spaces x → ShowsNoFree spaces
+        → AreUnownedUpto tables shapes id page most → 1 ≤ free_count filer.old.swapper.layout x
         → IfOk result (λ run. Leads (Grows id kind page (sectors_of run)) (growth id kind page (sectors_of run)) (D.state filer.old.swapper.under) filer.old.swapper.pool filer.old.swapper.layout (D.state filer.new.swapper.under) filer.new.swapper.pool filer.new.runs) }
+    ensures counted { result ≡ Err halt.Disk → Rose (D.state filer.old.swapper.under).faults (D.state filer.new.swapper.under).faults }
     ensures form { IfOk result (IsRunFor filer.old.swapper.layout.sectors id page most) }
-    ensures sound { (x : List Sector) (shapes : Shapes) (spaces : List Space) → Books (D.state filer.old.swapper.under) filer.old.swapper.pool filer.old.swapper.layout filer.old.runs shapes spaces x → ShowsNoFree spaces
-        → AreUnowned shapes id page most → 1 ≤ free_count filer.old.swapper.layout x → IfErr result (λ e. e ≡ halt.Disk) }
+    ensures sound { (tables : ℕ) (x : List Sector) (shapes : Shapes) (spaces : List Space) → BooksUpto tables (D.state filer.old.swapper.under) filer.old.swapper.pool filer.old.swapper.layout filer.old.runs shapes spaces x → ShowsNoFree spaces
+        → AreUnownedUpto tables shapes id page most → 1 ≤ free_count filer.old.swapper.layout x → IfErr result (λ e. e ≡ halt.Disk) }
+    ensures broken { (x : List Sector) (shapes : Shapes) (spaces : List Space) → Books (D.state filer.old.swapper.under) filer.old.swapper.pool filer.old.swapper.layout filer.old.runs shapes spaces x → ShowsNoFree spaces
+        → AreUnowned shapes id page most → 1 ≤ free_count filer.old.swapper.layout x → OnErr result (GrewSome id kind page most x (D.state filer.old.swapper.under) filer.old.swapper.pool (D.state filer.new.swapper.under) filer.new.swapper.pool) }
     ensures makes { IfOk result (λ run. Makes volume_page (growth id kind page (sectors_of run)) (D.state filer.old.swapper.under) filer.old.swapper.pool (D.state filer.new.swapper.under) filer.new.swapper.pool) }
     ensures stopped { OnErr result (MakesSome id kind page most (D.state filer.old.swapper.under) filer.old.swapper.pool (D.state filer.new.swapper.under) filer.new.swapper.pool) }
     ensures layout { filer.new.swapper.layout ≡ filer.old.swapper.layout }
@@ -159,8 +166,11 @@ pub(crate) fn make_up<D: Disk, A: Allocator>(
         → OnOk result (GrownBy id kind from (end - from) (D.state filer.old.swapper.under) filer.old.swapper.pool filer.old.swapper.layout (D.state filer.new.swapper.under) filer.new.swapper.pool filer.new.runs) }
     ensures sound { (x : List Sector) (shapes : Shapes) (spaces : List Space) (f : Shape) → MayGrow (D.state filer.old.swapper.under) filer.old.swapper.pool filer.old.swapper.layout filer.old.runs shapes spaces id f end x → f.size ≡ from
         → IfErr result (λ e. e ≡ halt.Disk) }
+    ensures broken { (x : List Sector) (shapes : Shapes) (spaces : List Space) (f : Shape) → MayGrow (D.state filer.old.swapper.under) filer.old.swapper.pool filer.old.swapper.layout filer.old.runs shapes spaces id f end x → f.size ≡ from
+        → OnErr result (GrewSome id kind from (end - from) x (D.state filer.old.swapper.under) filer.old.swapper.pool (D.state filer.new.swapper.under) filer.new.swapper.pool) }
     ensures makes { OnOk result (MakesAll id kind from (end - from) (D.state filer.old.swapper.under) filer.old.swapper.pool (D.state filer.new.swapper.under) filer.new.swapper.pool) }
     ensures stopped { OnErr result (MakesSome id kind from (end - from) (D.state filer.old.swapper.under) filer.old.swapper.pool (D.state filer.new.swapper.under) filer.new.swapper.pool) }
+    ensures counted { result ≡ Err halt.Disk → Rose (D.state filer.old.swapper.under).faults (D.state filer.new.swapper.under).faults }
     ensures layout { filer.new.swapper.layout ≡ filer.old.swapper.layout }
     ensures runs { filer.new.runs ≡ filer.old.runs }
     ensures cost { (D.state filer.new.swapper.under).transfers ≤ (D.state filer.old.swapper.under).transfers + (end - from) * (8 * filer.old.swapper.layout.vam + 100) }

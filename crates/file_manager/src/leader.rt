@@ -1,16 +1,22 @@
 //! Where the leader of a file stands.
-ghost use Rattle.std.specs.Prelude.{◌≡◌, ℕ, ◌+◌, ◌≤◌, ◌<◌, List, [], IfOk, IfErr, IfSome, MatchResult, OnOk};
+ghost use Rattle.std.specs.Prelude.{◌≡◌, ℕ, ◌+◌, ◌≤◌, ◌<◌, List, [], IfOk, IfErr, IfSome, MatchResult, OnOk, Ok, Err, None};
+ghost use Rattle.labelled_disk.specs.Calls.{Rose};
+ghost use Rattle.labelled_disk.specs.Label.{leader_page};
 ghost use Rattle.labelled_disk.specs.Sectors.{Sector};
 ghost use Rattle.labelled_disk.specs.declared.evidence.Halt.TheVariants as halt;
 ghost use Rattle.flat_machine.specs.declared.space.Space.{Space};
+ghost use Rattle.swapper_kernel.specs.declared.manager.Manager.TheVariants.{FileMap as FileMapPages};
 ghost use Rattle.swapper_kernel.specs.Goes.{Makes};
+ghost use Rattle.swapper_kernel.specs.Homes.{home_at};
 ghost use Rattle.swapper_kernel.specs.Stands.{labels_of};
+ghost use Rattle.swapper_kernel.specs.Window.{Tells, Beside};
 ghost use Rattle.session_words.specs.Parts.{Shapes};
 ghost use Rattle.session_words.specs.Volume.{volume_page};
 ghost use Rattle.filer_kernel.specs.Cached.{runs_of};
-ghost use Rattle.filer_kernel.specs.Causes.{MapHalts};
+ghost use Rattle.filer_kernel.specs.Causes.{MapHalts, IsRunHome};
 ghost use Rattle.file_manager.specs.Answer.{IsLeaderOf};
 ghost use Rattle.file_manager.specs.Book.{Books, BringsOwn};
+ghost use Rattle.file_manager.specs.Causes.{NamesNone};
 
 use filer_kernel::FilerOver;
 use labelled_disk::{Disk, FileId, Halt};
@@ -31,9 +37,14 @@ pub(crate) fn leader_of<D: Disk, A: Allocator>(
     ensures same { (x : List Sector) (shapes : Shapes) (spaces : List Space) → Books (D.state filer.old.swapper.under) filer.old.swapper.pool filer.old.swapper.layout filer.old.runs shapes spaces x
         → Books (D.state filer.new.swapper.under) filer.new.swapper.pool filer.old.swapper.layout filer.new.runs shapes spaces x }
     ensures place { IfOk result (λ found. IfSome found (λ sector. (filer.old.swapper.layout.first ≤ sector) × (sector < filer.old.swapper.layout.sectors))) }
+    ensures same_bytes { (b : List ℕ) → Tells FileMapPages (D.state filer.old.swapper.under) filer.old.swapper.pool filer.old.swapper.layout b → Tells FileMapPages (D.state filer.new.swapper.under) filer.new.swapper.pool filer.old.swapper.layout b }
+    ensures beside { Beside FileMapPages (D.state filer.old.swapper.under) filer.old.swapper.pool filer.old.swapper.layout (D.state filer.new.swapper.under) filer.new.swapper.pool filer.new.swapper.layout }
+    ensures given { IfOk result (λ found. IfSome found (λ sector. IsRunHome filer.old.swapper.layout (D.state filer.old.swapper.under) filer.old.swapper.pool (runs_of filer.old.swapper.layout.sectors filer.old.runs) (home_at sector (record { id = id; page = leader_page })))) }
+    ensures missing { result ≡ Ok None → NamesNone filer.old.swapper.layout (D.state filer.old.swapper.under) filer.old.swapper.pool id leader_page }
     ensures makes { Makes volume_page [] (D.state filer.old.swapper.under) filer.old.swapper.pool (D.state filer.new.swapper.under) filer.new.swapper.pool }
     ensures brings { BringsOwn filer.old.swapper.pool filer.new.swapper.pool }
     ensures cause { IfErr result (MapHalts filer.old.swapper.layout (D.state filer.old.swapper.under) filer.old.swapper.pool (D.state filer.new.swapper.under)) }
+    ensures counted { result ≡ Err halt.Disk → Rose (D.state filer.old.swapper.under).faults (D.state filer.new.swapper.under).faults }
     ensures layout { filer.new.swapper.layout ≡ filer.old.swapper.layout }
     ensures cost { (D.state filer.new.swapper.under).transfers ≤ (D.state filer.old.swapper.under).transfers + 14 }
 {

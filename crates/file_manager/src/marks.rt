@@ -1,6 +1,7 @@
 //! Marks that a file gets for good.
-ghost use Rattle.std.specs.Prelude.{◌≡◌, ◌+◌, ◌≤◌, false, List, Some, IfErr, OnOk};
+ghost use Rattle.std.specs.Prelude.{◌≡◌, ◌+◌, ◌≤◌, false, List, Some, IfErr, OnErr, OnOk, Err};
 ghost use Rattle.labelled_disk.specs.declared.evidence.Halt.TheVariants as halt;
+ghost use Rattle.labelled_disk.specs.Calls.{Rose};
 ghost use Rattle.labelled_disk.specs.Label.{leader_page};
 ghost use Rattle.labelled_disk.specs.Sectors.{Sector};
 ghost use Rattle.flat_machine.specs.declared.space.Space.{Space};
@@ -11,6 +12,9 @@ ghost use Rattle.label_laws.specs.Marks.{permanent_label, immutable_label};
 ghost use Rattle.label_calls.specs.declared.page.Mark.TheVariants.{Permanent, Immutable};
 ghost use Rattle.file_manager.specs.Answer.{IsMarked, WritesMark};
 ghost use Rattle.file_manager.specs.Book.{Books};
+ghost use Rattle.file_manager.specs.Broken.{MarksFirst};
+ghost use Rattle.file_manager.specs.Causes.{LeaderHalts};
+ghost use Rattle.filer_kernel.specs.Cached.{runs_of};
 
 use crate::leader::{LEADER, leader_of};
 use filer_kernel::FilerOver;
@@ -31,7 +35,11 @@ fn mark<D: Disk, A: Allocator>(
         → OnOk result (IsMarked id (with_mark mark) x (D.state filer.old.swapper.under) filer.old.swapper.pool filer.old.swapper.layout (D.state filer.new.swapper.under) filer.new.swapper.pool filer.new.runs) }
     ensures sound { (x : List Sector) (shapes : Shapes) (spaces : List Space) (f : Shape) → Books (D.state filer.old.swapper.under) filer.old.swapper.pool filer.old.swapper.layout filer.old.runs shapes spaces x
         → shapes id ≡ Some f → IfErr result (λ e. e ≡ halt.Disk) }
+    ensures broken { (x : List Sector) (shapes : Shapes) (spaces : List Space) (f : Shape) → Books (D.state filer.old.swapper.under) filer.old.swapper.pool filer.old.swapper.layout filer.old.runs shapes spaces x
+        → shapes id ≡ Some f → OnErr result (MarksFirst id (with_mark mark) x (D.state filer.old.swapper.under) filer.old.swapper.pool (D.state filer.new.swapper.under) filer.new.swapper.pool) }
     ensures makes { WritesMark mark (D.state filer.old.swapper.under) filer.old.swapper.pool (D.state filer.new.swapper.under) filer.new.swapper.pool }
+    ensures cause { IfErr result (LeaderHalts filer.old.swapper.layout (runs_of filer.old.swapper.layout.sectors filer.old.runs) id (D.state filer.old.swapper.under) filer.old.swapper.pool (D.state filer.new.swapper.under)) }
+    ensures counted { result ≡ Err halt.Disk → Rose (D.state filer.old.swapper.under).faults (D.state filer.new.swapper.under).faults }
     ensures layout { filer.new.swapper.layout ≡ filer.old.swapper.layout }
     ensures cost { (D.state filer.new.swapper.under).transfers ≤ (D.state filer.old.swapper.under).transfers + 16 }
 {
@@ -62,7 +70,11 @@ pub fn make_permanent<D: Disk, A: Allocator>(
         → OnOk result (IsMarked id permanent_label x (D.state filer.old.swapper.under) filer.old.swapper.pool filer.old.swapper.layout (D.state filer.new.swapper.under) filer.new.swapper.pool filer.new.runs) }
     ensures sound { (x : List Sector) (shapes : Shapes) (spaces : List Space) (f : Shape) → Books (D.state filer.old.swapper.under) filer.old.swapper.pool filer.old.swapper.layout filer.old.runs shapes spaces x
         → shapes id ≡ Some f → IfErr result (λ e. e ≡ halt.Disk) }
+    ensures broken { (x : List Sector) (shapes : Shapes) (spaces : List Space) (f : Shape) → Books (D.state filer.old.swapper.under) filer.old.swapper.pool filer.old.swapper.layout filer.old.runs shapes spaces x
+        → shapes id ≡ Some f → OnErr result (MarksFirst id permanent_label x (D.state filer.old.swapper.under) filer.old.swapper.pool (D.state filer.new.swapper.under) filer.new.swapper.pool) }
     ensures makes { WritesMark Permanent (D.state filer.old.swapper.under) filer.old.swapper.pool (D.state filer.new.swapper.under) filer.new.swapper.pool }
+    ensures cause { IfErr result (LeaderHalts filer.old.swapper.layout (runs_of filer.old.swapper.layout.sectors filer.old.runs) id (D.state filer.old.swapper.under) filer.old.swapper.pool (D.state filer.new.swapper.under)) }
+    ensures counted { result ≡ Err halt.Disk → Rose (D.state filer.old.swapper.under).faults (D.state filer.new.swapper.under).faults }
     ensures layout { filer.new.swapper.layout ≡ filer.old.swapper.layout }
     ensures cost { (D.state filer.new.swapper.under).transfers ≤ (D.state filer.old.swapper.under).transfers + 16 }
 {
@@ -84,7 +96,11 @@ pub fn make_immutable<D: Disk, A: Allocator>(
         → OnOk result (IsMarked id immutable_label x (D.state filer.old.swapper.under) filer.old.swapper.pool filer.old.swapper.layout (D.state filer.new.swapper.under) filer.new.swapper.pool filer.new.runs) }
     ensures sound { (x : List Sector) (shapes : Shapes) (spaces : List Space) (f : Shape) → Books (D.state filer.old.swapper.under) filer.old.swapper.pool filer.old.swapper.layout filer.old.runs shapes spaces x
         → shapes id ≡ Some f → IfErr result (λ e. e ≡ halt.Disk) }
+    ensures broken { (x : List Sector) (shapes : Shapes) (spaces : List Space) (f : Shape) → Books (D.state filer.old.swapper.under) filer.old.swapper.pool filer.old.swapper.layout filer.old.runs shapes spaces x
+        → shapes id ≡ Some f → OnErr result (MarksFirst id immutable_label x (D.state filer.old.swapper.under) filer.old.swapper.pool (D.state filer.new.swapper.under) filer.new.swapper.pool) }
     ensures makes { WritesMark Immutable (D.state filer.old.swapper.under) filer.old.swapper.pool (D.state filer.new.swapper.under) filer.new.swapper.pool }
+    ensures cause { IfErr result (LeaderHalts filer.old.swapper.layout (runs_of filer.old.swapper.layout.sectors filer.old.runs) id (D.state filer.old.swapper.under) filer.old.swapper.pool (D.state filer.new.swapper.under)) }
+    ensures counted { result ≡ Err halt.Disk → Rose (D.state filer.old.swapper.under).faults (D.state filer.new.swapper.under).faults }
     ensures layout { filer.new.swapper.layout ≡ filer.old.swapper.layout }
     ensures cost { (D.state filer.new.swapper.under).transfers ≤ (D.state filer.old.swapper.under).transfers + 16 }
 {

@@ -1,6 +1,7 @@
 //! Pages of a file that become free: their labels, and their sectors in the allocation map.
-ghost use Rattle.std.specs.Prelude.{◌≡◌, ℕ, ◌+◌, ◌-◌, ◌*◌, ◌^◌, ◌≤◌, ◌<◌, true, List, IfOk, IfErr, OnErr, OnOk};
+ghost use Rattle.std.specs.Prelude.{◌≡◌, ◌⊎◌, ℕ, ◌+◌, ◌-◌, ◌*◌, ◌^◌, ◌≤◌, ◌<◌, true, List, IfOk, IfErr, OnErr, OnOk, Err};
 ghost use Rattle.labelled_disk.specs.declared.evidence.Halt.TheVariants as halt;
+ghost use Rattle.labelled_disk.specs.Calls.{Rose};
 ghost use Rattle.labelled_disk.specs.Runs.{freeing};
 ghost use Rattle.labelled_disk.specs.Sectors.{Sector};
 ghost use Rattle.file_map.specs.Run.{IsRun};
@@ -15,7 +16,7 @@ ghost use Rattle.label_calls.specs.Labels.{ones_of};
 ghost use Rattle.label_calls.specs.Runs.{AreUncovered, HaveOnes, RelabelsRun, MadeSome};
 ghost use Rattle.filer_kernel.specs.Cached.{runs_of};
 ghost use Rattle.filer_kernel.specs.Triples.{MapIs, AreOf};
-ghost use Rattle.file_manager.specs.Freeing.{MayFree, Freed, IsPartOf, NamesAll, MakesFree, MakesSomeFree, run_sectors};
+ghost use Rattle.file_manager.specs.Freeing.{MayFree, Freed, FreedSome, IsPartOf, NamesAll, MakesFree, MakesSomeFree, run_sectors};
 
 use file_map::Run;
 use filer_kernel::FilerOver;
@@ -32,6 +33,7 @@ fn part_of<D: Disk, A: Allocator>(
 ) -> Result<Run, Halt>
     requires size { (D.state filer.old.swapper.under).sectors ≡ filer.old.swapper.layout.sectors }
     requires some { 1 ≤ most }
+    ensures counted { result ≡ Err halt.Disk → Rose (D.state filer.old.swapper.under).faults (D.state filer.new.swapper.under).faults }
     ensures form { IfOk result (IsPartOf filer.old.swapper.layout.sectors id page (page + most)) }
     ensures named { (m : List Sector) (named : Triples) → Stands (D.state filer.old.swapper.under) filer.old.swapper.pool m → MapIs filer.old.swapper.layout named m → AreOf named (runs_of filer.old.swapper.layout.sectors filer.old.runs)
         → IfOk result (NamesAll named) }
@@ -68,6 +70,7 @@ fn free_labels<D: Disk, A: Allocator>(filer: &mut FilerOver<D, A>, run: Run) -> 
     ensures stopped { OnErr result (MadeSome (freeing (run_sectors run)) (D.state filer.old.swapper.under) filer.old.swapper.pool (D.state filer.new.swapper.under)) }
     ensures sound { (m : List Sector) → Stands (D.state filer.old.swapper.under) filer.old.swapper.pool m → AreUncovered filer.old.swapper.pool run.sector run.pages
         → HaveOnes (λ k. ones_of (record { id = run.id; page = run.first + k })) m run.sector run.pages → IfErr result (λ e. e ≡ halt.Disk) }
+    ensures counted { result ≡ Err halt.Disk → Rose (D.state filer.old.swapper.under).faults (D.state filer.new.swapper.under).faults }
     ensures frames { filer.new.swapper.pool ≡ filer.old.swapper.pool }
     ensures layout { filer.new.swapper.layout ≡ filer.old.swapper.layout }
     ensures runs { filer.new.runs ≡ filer.old.runs }
@@ -89,15 +92,18 @@ pub(crate) fn free_run<D: Disk, A: Allocator>(
     most: u32,
 ) -> Result<u32, Halt>
     requires size { (D.state filer.old.swapper.under).sectors ≡ filer.old.swapper.layout.sectors }
-    requires of_file { 16 ≤ id }
+    requires of_file { (id ≡ 3) ⊎ (16 ≤ id) }
     requires some { 1 ≤ most }
     ensures freed { (named : Triples) (spaces : List Space) (m : List Sector) → MayFree (D.state filer.old.swapper.under) filer.old.swapper.pool filer.old.swapper.layout filer.old.runs named spaces id page (page + most) m
         → IfOk result (λ pages. Freed filer.old.swapper.layout named spaces id page pages (page + most) (D.state filer.old.swapper.under) filer.old.swapper.pool (D.state filer.new.swapper.under) filer.new.swapper.pool filer.new.runs) }
     ensures some { IfOk result (λ pages. (1 ≤ pages) × (pages ≤ most)) }
     ensures sound { (named : Triples) (spaces : List Space) (m : List Sector) → MayFree (D.state filer.old.swapper.under) filer.old.swapper.pool filer.old.swapper.layout filer.old.runs named spaces id page (page + most) m
         → IfErr result (λ e. e ≡ halt.Disk) }
+    ensures first { (named : Triples) (spaces : List Space) (m : List Sector) → MayFree (D.state filer.old.swapper.under) filer.old.swapper.pool filer.old.swapper.layout filer.old.runs named spaces id page (page + most) m
+        → OnErr result (FreedSome named id page (page + most) (D.state filer.old.swapper.under) filer.old.swapper.pool (D.state filer.new.swapper.under) filer.new.swapper.pool) }
     ensures makes { IfOk result (λ pages. MakesFree pages (D.state filer.old.swapper.under) filer.old.swapper.pool (D.state filer.new.swapper.under) filer.new.swapper.pool) }
     ensures stopped { OnErr result (MakesSomeFree (D.state filer.old.swapper.under) filer.old.swapper.pool (D.state filer.new.swapper.under) filer.new.swapper.pool) }
+    ensures counted { result ≡ Err halt.Disk → Rose (D.state filer.old.swapper.under).faults (D.state filer.new.swapper.under).faults }
     ensures layout { filer.new.swapper.layout ≡ filer.old.swapper.layout }
     ensures spent { IfOk result (λ pages. (D.state filer.new.swapper.under).transfers ≤ (D.state filer.old.swapper.under).transfers + (14 + 2 * pages + 4 * filer.old.swapper.layout.vam)) }
     ensures cost { (D.state filer.new.swapper.under).transfers ≤ (D.state filer.old.swapper.under).transfers + (14 + 2 * most + 4 * filer.old.swapper.layout.vam) }
@@ -125,14 +131,17 @@ pub(crate) fn free_up<D: Disk, A: Allocator>(
     end: u32,
 ) -> Result<(), Halt>
     requires size { (D.state filer.old.swapper.under).sectors ≡ filer.old.swapper.layout.sectors }
-    requires of_file { 16 ≤ id }
+    requires of_file { (id ≡ 3) ⊎ (16 ≤ id) }
     requires order { from ≤ end }
     ensures freed { (named : Triples) (spaces : List Space) (m : List Sector) → MayFree (D.state filer.old.swapper.under) filer.old.swapper.pool filer.old.swapper.layout filer.old.runs named spaces id from end m
         → OnOk result (Freed filer.old.swapper.layout named spaces id from (end - from) end (D.state filer.old.swapper.under) filer.old.swapper.pool (D.state filer.new.swapper.under) filer.new.swapper.pool filer.new.runs) }
     ensures sound { (named : Triples) (spaces : List Space) (m : List Sector) → MayFree (D.state filer.old.swapper.under) filer.old.swapper.pool filer.old.swapper.layout filer.old.runs named spaces id from end m
         → IfErr result (λ e. e ≡ halt.Disk) }
+    ensures first { (named : Triples) (spaces : List Space) (m : List Sector) → MayFree (D.state filer.old.swapper.under) filer.old.swapper.pool filer.old.swapper.layout filer.old.runs named spaces id from end m
+        → OnErr result (FreedSome named id from end (D.state filer.old.swapper.under) filer.old.swapper.pool (D.state filer.new.swapper.under) filer.new.swapper.pool) }
     ensures makes { OnOk result (MakesFree (end - from) (D.state filer.old.swapper.under) filer.old.swapper.pool (D.state filer.new.swapper.under) filer.new.swapper.pool) }
     ensures stopped { OnErr result (MakesSomeFree (D.state filer.old.swapper.under) filer.old.swapper.pool (D.state filer.new.swapper.under) filer.new.swapper.pool) }
+    ensures counted { result ≡ Err halt.Disk → Rose (D.state filer.old.swapper.under).faults (D.state filer.new.swapper.under).faults }
     ensures layout { filer.new.swapper.layout ≡ filer.old.swapper.layout }
     ensures cost { (D.state filer.new.swapper.under).transfers ≤ (D.state filer.old.swapper.under).transfers + (end - from) * (16 + 4 * filer.old.swapper.layout.vam) }
 {

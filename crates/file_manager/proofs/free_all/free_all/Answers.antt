@@ -2,6 +2,8 @@ use Rattle.std.proofs.Common.{arith, ◌≤◌}
 use Rattle.labelled_disk.specs.Label.{leader_page}
 use Rattle.file_manager.proofs.FreedRun.{stops_then}
 use Rattle.file_manager.proofs.AllFreed.{may_rest, all_freed, all_made, one_page}
+use Rattle.file_manager.proofs.StoppedFree.{leader_some, pages_some}
+use Rattle.file_manager.proofs.Faults.{counted_then}
 use Rattle.file_manager.proofs.free_all.free_all.Goals as goal
 
 pub returns-in-Err-clause-sound : goal.returns-in-Err-clause-sound
@@ -28,3 +30,17 @@ returns-in-Ok-free_up-clause-freed g c = λ named spaces m all.
 
 pub returns-in-Ok-free_up-clause-makes : goal.returns-in-Ok-free_up-clause-makes
 returns-in-Ok-free_up-clause-makes g c = all_made c.args.pages (one_page c.in-Ok.ensures.some) c.in-Ok.ensures.makes c.in-Ok-free_up.ensures.makes
+
+pub returns-in-Err-clause-first : goal.returns-in-Err-clause-first
+returns-in-Err-clause-first g c = λ named spaces m all. leader_some named c.args.id c.args.pages (c.in-Err.ensures.first named spaces m all.leader)
+
+pub returns-in-Err-free_up-clause-first : goal.returns-in-Err-free_up-clause-first
+returns-in-Err-free_up-clause-first g c = λ named spaces m all.
+    let fits = c.ranges.pages.fits in
+    let few : c.args.pages ≤ leader_page = omega (arith, fits) in
+    let one = one_page c.in-Ok.ensures.some in
+    let h = c.in-Ok.ensures.freed named spaces m all.leader in
+    pages_some one h ((rw (c.in-Ok.ensures.layout) at c.in-Err-free_up.ensures.first) named spaces h.memory (may_rest c.args.filer.now.swapper.accepted m all few one h))
+
+pub returns-in-Err-free_up-clause-counted : goal.returns-in-Err-free_up-clause-counted
+returns-in-Err-free_up-clause-counted g c = counted_then _ _ _ c.in-Ok.ensures.makes.makes.went.faults c.in-Err-free_up.ensures.counted

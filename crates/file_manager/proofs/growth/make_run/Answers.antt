@@ -7,11 +7,13 @@ use Rattle.filer_kernel.specs.Cached.{runs_of}
 use Rattle.session_words.specs.Parts.{is_marked}
 use Rattle.file_manager.proofs.RowLemmas.{row_run}
 use Rattle.file_manager.proofs.RunStages.{one_free, marks_shown, bits_shown, maps_named, new_run, named_once, named_marked, room_left}
-use Rattle.file_manager.proofs.RunLeads.{map_makes, added_makes, stopped_labels, stopped_behind, run_in_form, none_over, ones_free, labelled, map_then, named_then, run_leads}
+use Rattle.file_manager.proofs.RunLeads.{above_maps, fewer_of_file, map_makes, added_makes, stopped_labels, stopped_behind, run_in_form, none_over, ones_free, labelled, map_then, named_then, run_leads, row_was_free}
+use Rattle.file_manager.proofs.GrowBroken.{none_grew, labels_grew, all_grew}
+use Rattle.file_manager.proofs.Faults.{counted, counted_then}
 use Rattle.file_manager.proofs.growth.make_run.Goals as goal
 
 pub returns-in-Err-clause-sound : goal.returns-in-Err-clause-sound
-returns-in-Err-clause-sound g c = λ x shapes spaces books hidden unowned some.
+returns-in-Err-clause-sound g c = λ tables x shapes spaces books hidden unowned some.
     let layout = c.args.filer.now.swapper.layout in
     let is = c.args.filer.now.swapper.accepted in
     let runs = runs_of layout.sectors c.args.filer.now.runs in
@@ -22,7 +24,7 @@ pub returns-in-Err-clause-stopped : goal.returns-in-Err-clause-stopped
 returns-in-Err-clause-stopped g c = record { sectors = []; few = omega arith; count = 0; makes = map_makes c.in-Err.ensures.kept }
 
 pub returns-in-Err-label_run-clause-sound : goal.returns-in-Err-label_run-clause-sound
-returns-in-Err-label_run-clause-sound g c = λ x shapes spaces books hidden unowned some.
+returns-in-Err-label_run-clause-sound g c = λ tables x shapes spaces books hidden unowned some.
     let layout = c.args.filer.now.swapper.layout in
     let is = c.args.filer.now.swapper.accepted in
     let kept = c.args.filer.now.runs in
@@ -40,14 +42,17 @@ pub returns-in-Err-label_run-clause-stopped : goal.returns-in-Err-label_run-clau
 returns-in-Err-label_run-clause-stopped g c =
     stopped_labels (record { id = c.args.id; first = c.args.page; pages = c.in-Ok.taken.1; sector = c.in-Ok.taken.0 }) c.args.kind c.in-Ok.ensures.kept c.in-Err-label_run.ensures.frames c.args.most c.in-Ok.ensures.form.few c.in-Err-label_run.ensures.stopped
 
+pub label_run-requires-clause-of_file : goal.label_run-requires-clause-of_file
+label_run-requires-clause-of_file g c = fewer_of_file c.args.id c.args.kind c.args.page c.args.most c.in-Ok.taken.1 c.in-Ok.ensures.form.few c.requires.of_file
+
 pub add-requires-clause-form : goal.add-requires-clause-form
 add-requires-clause-form g c =
     let lay = c.in-Ok-label_run.ensures.layout ∙ c.in-Ok.ensures.kept.layout in
     subst (λ (l : Layout). IsRun l.sectors (record { id = c.args.id; first = c.args.page; pages = c.in-Ok.taken.1; sector = c.in-Ok.taken.0 })) (sym lay)
-    (run_in_form c.args.filer.now.swapper.layout c.args.id c.args.page c.args.most c.in-Ok.taken c.args.filer.now.swapper.accepted c.in-Ok.ensures.form c.requires.of_file c.ranges.id.fits c.requires.numbers)
+    (run_in_form c.args.filer.now.swapper.layout c.args.id c.args.page c.args.most c.in-Ok.taken c.args.filer.now.swapper.accepted c.in-Ok.ensures.form (above_maps c.args.id c.args.kind c.args.page c.args.most c.requires.of_file) c.ranges.id.fits c.requires.numbers)
 
 pub returns-in-Err-add-clause-sound : goal.returns-in-Err-add-clause-sound
-returns-in-Err-add-clause-sound g c = λ x shapes spaces books hidden unowned some.
+returns-in-Err-add-clause-sound g c = λ tables x shapes spaces books hidden unowned some.
     let layout = c.args.filer.now.swapper.layout in
     let is = c.args.filer.now.swapper.accepted in
     let kept = c.args.filer.now.runs in
@@ -73,7 +78,7 @@ returns-in-Err-add-clause-stopped g c =
     stopped_behind (record { id = c.args.id; first = c.args.page; pages = c.in-Ok.taken.1; sector = c.in-Ok.taken.0 }) c.args.kind c.in-Ok.ensures.kept c.in-Ok-label_run.ensures.frames c.args.most c.in-Ok.ensures.form.few c.in-Ok-label_run.ensures.made c.in-Err-add.ensures.beside
 
 pub returns-clause-made : goal.returns-clause-made
-returns-clause-made g c = λ x shapes spaces books hidden unowned some.
+returns-clause-made g c = λ tables x shapes spaces books hidden unowned some.
     let layout = c.args.filer.now.swapper.layout in
     let is = c.args.filer.now.swapper.accepted in
     let kept = c.args.filer.now.runs in
@@ -98,7 +103,7 @@ returns-clause-made g c = λ x shapes spaces books hidden unowned some.
 
 pub returns-clause-form : goal.returns-clause-form
 returns-clause-form g c = record {
-  form = run_in_form c.args.filer.now.swapper.layout c.args.id c.args.page c.args.most c.in-Ok.taken c.args.filer.now.swapper.accepted c.in-Ok.ensures.form c.requires.of_file c.ranges.id.fits c.requires.numbers;
+  form = run_in_form c.args.filer.now.swapper.layout c.args.id c.args.page c.args.most c.in-Ok.taken c.args.filer.now.swapper.accepted c.in-Ok.ensures.form (above_maps c.args.id c.args.kind c.args.page c.args.most c.requires.of_file) c.ranges.id.fits c.requires.numbers;
   same_id = refl;
   same_first = refl;
   few = c.in-Ok.ensures.form.few;
@@ -108,3 +113,43 @@ pub returns-clause-makes : goal.returns-clause-makes
 returns-clause-makes g c =
     rw c.frames_of.ensures.same
     (added_makes (record { id = c.args.id; first = c.args.page; pages = c.in-Ok.taken.1; sector = c.in-Ok.taken.0 }) c.args.kind c.in-Ok.ensures.kept c.in-Ok-label_run.ensures.frames c.in-Ok-label_run.ensures.made c.in-Ok-add.ensures.beside)
+
+pub returns-in-Err-clause-broken : goal.returns-in-Err-clause-broken
+returns-in-Err-clause-broken g c = λ x shapes spaces books hidden unowned some. none_grew c.in-Err.ensures.kept
+
+pub returns-in-Err-label_run-clause-broken : goal.returns-in-Err-label_run-clause-broken
+returns-in-Err-label_run-clause-broken g c = λ x shapes spaces books hidden unowned some.
+    let layout = c.args.filer.now.swapper.layout in
+    let is = c.args.filer.now.swapper.accepted in
+    let kept = c.args.filer.now.runs in
+    let runs = runs_of layout.sectors kept in
+    let marks = marks_shown layout is runs shapes x books.booked in
+    let bits = bits_shown layout is runs shapes x books.booked in
+    let run = row_run c.args.id c.args.page c.in-Ok.taken.0 c.in-Ok.taken.1 in
+    let lowest = c.in-Ok.ensures.lowest x marks books.stands bits in
+    let taken = c.in-Ok.ensures.taken x marks books.stands bits in
+    labels_grew run c.args.kind c.in-Ok.ensures.kept c.in-Err-label_run.ensures.frames c.in-Ok.ensures.form.few
+    (row_was_free layout is kept shapes spaces x _ _ books hidden run c.args.most _ _ _ c.in-Ok.ensures.kept c.in-Ok.ensures.form lowest taken c.args.kind) c.in-Err-label_run.ensures.stopped
+
+pub returns-in-Err-add-clause-broken : goal.returns-in-Err-add-clause-broken
+returns-in-Err-add-clause-broken g c = λ x shapes spaces books hidden unowned some.
+    let layout = c.args.filer.now.swapper.layout in
+    let is = c.args.filer.now.swapper.accepted in
+    let kept = c.args.filer.now.runs in
+    let runs = runs_of layout.sectors kept in
+    let marks = marks_shown layout is runs shapes x books.booked in
+    let bits = bits_shown layout is runs shapes x books.booked in
+    let run = row_run c.args.id c.args.page c.in-Ok.taken.0 c.in-Ok.taken.1 in
+    let lowest = c.in-Ok.ensures.lowest x marks books.stands bits in
+    let taken = c.in-Ok.ensures.taken x marks books.stands bits in
+    all_grew run c.args.kind c.in-Ok.ensures.kept c.in-Ok-label_run.ensures.frames c.in-Ok.ensures.form.few
+    (row_was_free layout is kept shapes spaces x _ _ books hidden run c.args.most _ _ _ c.in-Ok.ensures.kept c.in-Ok.ensures.form lowest taken c.args.kind) c.in-Ok-label_run.ensures.made c.in-Err-add.ensures.beside
+
+pub returns-in-Err-label_run-clause-counted : goal.returns-in-Err-label_run-clause-counted
+returns-in-Err-label_run-clause-counted g c = counted_then _ _ _ c.in-Ok.ensures.kept.goes.makes.went.faults c.in-Err-label_run.ensures.counted
+
+pub returns-in-Err-add-clause-counted : goal.returns-in-Err-add-clause-counted
+returns-in-Err-add-clause-counted g c =
+    let first = c.in-Ok.ensures.kept.goes.makes.went.faults in
+    let second = c.in-Ok-label_run.ensures.made.makes.went.faults in
+    counted _ _ (g.D.Disk.state c.label_run.new.filer.swapper.under) (g.D.Disk.state c.add.new.self.swapper.under) _ (omega (arith, first, second)) c.in-Err-add.ensures.cause

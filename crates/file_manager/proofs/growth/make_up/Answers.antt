@@ -1,5 +1,7 @@
 use Rattle.std.proofs.Common.{rules, ◌≡◌, ◌<◌}
 use Rattle.file_manager.proofs.UpTo.{up_all, up_cost, up_none, up_more, up_sound, up_stopped}
+use Rattle.file_manager.proofs.GrowBroken.{up_broken}
+use Rattle.file_manager.proofs.Faults.{counted_then}
 use Rattle.file_manager.proofs.growth.make_up.Goals as goal
 
 pub loop-page-init : goal.loop-page-init
@@ -8,12 +10,12 @@ loop-page-init g c = up_none _ _ _ _ _ _ _ _ c.requires.order c.requires.size
 pub loop-page-preserved : goal.loop-page-preserved
 loop-page-preserved g c =
     let below : c.loop-page.page < c.args.end = search rules in
-    up_more _ _ _ _ c.loop-page.page _ _ _ c.args.filer.now.swapper.accepted _ _ _ _ _ c.loop-page.invariant c.requires.numbers c.in-Ok.run' _ _ _ _ below c.in-Ok.ensures.form c.in-Ok.ensures.makes c.in-Ok.ensures.made c.in-Ok.ensures.layout c.in-Ok.ensures.runs c.in-Ok.ensures.cost_made
+    up_more _ _ _ _ c.loop-page.page _ _ _ c.args.filer.now.swapper.accepted _ _ _ _ _ c.loop-page.invariant c.requires.numbers c.in-Ok.run' _ _ _ _ below c.in-Ok.ensures.form c.in-Ok.ensures.makes (c.in-Ok.ensures.made 96) c.in-Ok.ensures.layout c.in-Ok.ensures.runs c.in-Ok.ensures.cost_made
 
 pub returns-in-Err-clause-sound : goal.returns-in-Err-clause-sound
 returns-in-Err-clause-sound g c =
     let below : c.loop-page.page < c.args.end = search rules in
-    up_sound _ c.args.kind _ _ c.loop-page.page _ _ _ c.args.filer.now.swapper.accepted _ _ _ _ _ c.loop-page.invariant c.requires.numbers c.in-Err.halt below c.in-Err.ensures.sound
+    up_sound _ c.args.kind _ _ c.loop-page.page _ _ _ c.args.filer.now.swapper.accepted _ _ _ _ _ c.loop-page.invariant c.requires.numbers c.in-Err.halt below (c.in-Err.ensures.sound 96)
 
 pub returns-in-Err-clause-stopped : goal.returns-in-Err-clause-stopped
 returns-in-Err-clause-stopped g c =
@@ -28,3 +30,11 @@ pub returns-in-Err-clause-cost : goal.returns-in-Err-clause-cost
 returns-in-Err-clause-cost g c =
     let below : c.loop-page.page < c.args.end = search rules in
     up_cost _ c.args.kind _ _ c.loop-page.page _ _ _ c.args.filer.now.swapper.accepted _ _ _ _ _ c.loop-page.invariant c.requires.numbers (g.D.Disk.state c.make_run.new.filer.swapper.under) below c.in-Err.ensures.cost
+
+pub returns-in-Err-clause-broken : goal.returns-in-Err-clause-broken
+returns-in-Err-clause-broken g c =
+    let below : c.loop-page.page < c.args.end = search rules in
+    up_broken _ c.args.kind _ _ c.loop-page.page _ _ _ c.args.filer.now.swapper.accepted _ _ _ _ _ c.loop-page.invariant c.requires.numbers _ _ below c.in-Err.ensures.broken
+
+pub returns-in-Err-clause-counted : goal.returns-in-Err-clause-counted
+returns-in-Err-clause-counted g c = counted_then _ _ _ c.loop-page.invariant.makes.makes.went.faults c.in-Err.ensures.counted

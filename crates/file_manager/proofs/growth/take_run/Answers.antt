@@ -1,7 +1,8 @@
-use Rattle.std.proofs.Common.{refl, sym, ◌∙◌, ◌≡◌}
+use Rattle.std.proofs.Common.{refl, sym, ◌∙◌, ◌≡◌, arith}
 use Rattle.std.proofs.lemmas.Bool.{true≢false}
 use Rattle.alloc_map.specs.Runs.{IfMem}
 use Rattle.labelled_disk.specs.declared.evidence.Halt.TheVariants as halt
+use Rattle.file_manager.proofs.Faults.{counted, no_fault}
 use Rattle.file_manager.proofs.growth.take_run.Goals as goal
 
 pub returns-in-Err-NoRoom-clause-sound : goal.returns-in-Err-NoRoom-clause-sound
@@ -12,3 +13,11 @@ pub returns-in-Err-Mem-clause-sound : goal.returns-in-Err-Mem-clause-sound
 returns-in-Err-Mem-clause-sound g c = λ m marks k stands bits named above below free.
     let cause : IfMem (λ e. e ≡ halt.Disk) c.in-Err-Mem.field-0 = c.in-Err-Mem.ensures.sound m stands named in
     rw (c.in-Err-Mem.field-0-is, c.in-Err-Mem.halt-is) at cause
+
+pub returns-in-Err-NoRoom-clause-counted : goal.returns-in-Err-NoRoom-clause-counted
+returns-in-Err-NoRoom-clause-counted g c = no_fault
+
+pub returns-in-Err-Mem-clause-counted : goal.returns-in-Err-Mem-clause-counted
+returns-in-Err-Mem-clause-counted g c =
+    let cause = c.in-Err-Mem.ensures.cause in
+    counted _ _ (g.D.Disk.state c.args.filer.now.swapper.under) (g.D.Disk.state c.take.new.self.swapper.under) _ (omega arith) (rw (c.in-Err-Mem.field-0-is, c.in-Err-Mem.halt-is) at cause)

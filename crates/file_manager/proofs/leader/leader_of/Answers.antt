@@ -1,4 +1,4 @@
-use Rattle.std.proofs.Common.{◌≡◌, true, Option, subst, rules}
+use Rattle.std.proofs.Common.{◌≡◌, true, Option, refl, subst, rules, arith}
 use Rattle.std.specs.Prelude.{IfSome}
 use Rattle.file_map.specs.declared.run.Run.{Run}
 use Rattle.labelled_disk.specs.Label.{leader_page}
@@ -6,7 +6,10 @@ use Rattle.file_map.specs.Run.{holds, IsRun}
 use Rattle.file_map.specs.FileMap.{IsFound, IsNowhere}
 use Rattle.swapper_kernel.specs.declared.manager.Manager.TheVariants.{FileMap}
 use Rattle.swapper_kernel.specs.Homes.{IsLayout}
+use Rattle.filer_kernel.specs.Cached.{runs_of}
+use Rattle.filer_kernel.specs.Causes.{IsGiven}
 use Rattle.file_manager.proofs.BookLemmas.{map_is, kept_are, map_named, own_maps, books_stay, no_leader, run_place}
+use Rattle.file_manager.proofs.Faults.{counted}
 use Rattle.file_manager.proofs.leader.leader_of.Goals as goal
 
 pub returns-in-Ok-Some-clause-told : goal.returns-in-Ok-Some-clause-told
@@ -58,3 +61,21 @@ returns-in-Err-clause-same g c = λ x shapes spaces books.
     let b = books.booked in
     let map = map_is _ _ shapes x is b in
     books_stay _ _ _ _ _ _ _ shapes spaces x books (c.find.ensures.same x b.named books.stands map) (own_maps FileMap c.args.filer.now.swapper.layout _ _ c.find.ensures.beside.brings) (c.find.ensures.runs_are x b.named books.stands map (kept_are _ _ shapes x is b))
+
+pub returns-in-Err-clause-counted : goal.returns-in-Err-clause-counted
+returns-in-Err-clause-counted g c = counted _ _ (g.D.Disk.state c.args.filer.now.swapper.under) (g.D.Disk.state c.find.new.self.swapper.under) _ (omega arith) c.in-Err.ensures.cause
+
+pub returns-in-Ok-Some-clause-given : goal.returns-in-Ok-Some-clause-given
+returns-in-Ok-Some-clause-given g c =
+    let layout = c.args.filer.now.swapper.layout in
+    let old = g.D.Disk.state c.args.filer.now.swapper.under in
+    let kept = runs_of layout.sectors c.args.filer.now.runs in
+    record {
+      run = c.in-Ok-Some.run';
+      given = subst (λ (o : Option Run). IfSome o (λ run. IsGiven layout old c.args.filer.now.swapper.pool kept run)) c.in-Ok-Some.field-0-is c.in-Ok-Some.ensures.given;
+      has = subst (λ (o : Option Run). IfSome o (λ run. holds run c.args.id leader_page ≡ true)) c.in-Ok-Some.field-0-is c.in-Ok-Some.ensures.holds;
+      at = refl;
+    }
+
+pub returns-in-Ok-None-clause-missing : goal.returns-in-Ok-None-clause-missing
+returns-in-Ok-None-clause-missing g c = λ is m named stands map. c.find.ensures.nowhere m named stands map (search rules)

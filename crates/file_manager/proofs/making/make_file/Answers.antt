@@ -1,22 +1,24 @@
-use Rattle.std.proofs.Common.{◌-◌, ◌∙◌, arith}
+use Rattle.std.proofs.Common.{◌∙◌, arith}
 use Rattle.labelled_disk.specs.Label.{leader_page}
 use Rattle.session_words.proofs.FoundLemmas.{above_reserved}
 use Rattle.file_manager.specs.Making.{sectors_of}
+use Rattle.file_manager.proofs.CreateBroken.{leader_broken, pages_broken}
 use Rattle.file_manager.proofs.LeaderLemmas.{one_sector, unowned_file, led_by, file_made, file_sound, creates_all, stopped_leader, stopped_pages}
+use Rattle.file_manager.proofs.Faults.{counted_then}
 use Rattle.file_manager.proofs.making.make_file.Goals as goal
 
 pub returns-in-Err-clause-sound : goal.returns-in-Err-clause-sound
 returns-in-Err-clause-sound g c = λ x shapes spaces may.
     let enough = may.enough in
-    c.in-Err.ensures.sound x shapes spaces may.books may.hidden (unowned_file shapes c.args.id leader_page 1 (above_reserved c.args.id c.requires.of_file) may.none) (omega (arith, enough))
+    c.in-Err.ensures.sound 96 x shapes spaces may.books may.hidden (unowned_file shapes c.args.id leader_page 1 (above_reserved c.args.id c.requires.of_file) may.none) (omega (arith, enough))
 
 pub returns-in-Err-clause-stopped : goal.returns-in-Err-clause-stopped
-returns-in-Err-clause-stopped g c = stopped_leader c.args.id c.args.kind c.in-Err.ensures.stopped
+returns-in-Err-clause-stopped g c = stopped_leader c.args.id c.args.kind c.args.pages c.in-Err.ensures.stopped
 
 pub returns-in-Err-make_up-clause-sound : goal.returns-in-Err-make_up-clause-sound
 returns-in-Err-make_up-clause-sound g c = λ x shapes spaces may.
     let enough = may.enough in
-    let first = c.in-Ok.ensures.made x shapes spaces may.books may.hidden (unowned_file shapes c.args.id leader_page 1 (above_reserved c.args.id c.requires.of_file) may.none) (omega (arith, enough)) in
+    let first = c.in-Ok.ensures.made 96 x shapes spaces may.books may.hidden (unowned_file shapes c.args.id leader_page 1 (above_reserved c.args.id c.requires.of_file) may.none) (omega (arith, enough)) in
     let one = one_sector _ _ _ c.in-Ok._run c.in-Ok.ensures.form in
     let leads = led_by c.args.id c.args.kind c.in-Ok._run.sector (sectors_of c.in-Ok._run) one c.in-Ok.ensures.runs first in
     file_sound c.args.filer.now.swapper.layout c.args.filer.now.swapper.accepted c.args.filer.now.runs shapes spaces x _ _ c.args.id c.args.kind c.args.pages c.requires.of_file may c.in-Ok._run.sector _ _ leads c.in-Err-make_up.halt
@@ -25,12 +27,12 @@ returns-in-Err-make_up-clause-sound g c = λ x shapes spaces may.
 pub returns-in-Err-make_up-clause-stopped : goal.returns-in-Err-make_up-clause-stopped
 returns-in-Err-make_up-clause-stopped g c =
     let one = one_sector _ _ _ c.in-Ok._run c.in-Ok.ensures.form in
-    stopped_pages c.args.id c.args.kind (c.args.pages - 0) (sectors_of c.in-Ok._run) c.in-Ok._run.sector one c.in-Ok.ensures.makes c.in-Err-make_up.ensures.stopped
+    stopped_pages c.args.id c.args.kind c.args.pages (sectors_of c.in-Ok._run) c.in-Ok._run.sector one c.in-Ok.ensures.makes c.in-Err-make_up.ensures.stopped
 
 pub returns-clause-made : goal.returns-clause-made
 returns-clause-made g c = λ x shapes spaces may.
     let enough = may.enough in
-    let first = c.in-Ok.ensures.made x shapes spaces may.books may.hidden (unowned_file shapes c.args.id leader_page 1 (above_reserved c.args.id c.requires.of_file) may.none) (omega (arith, enough)) in
+    let first = c.in-Ok.ensures.made 96 x shapes spaces may.books may.hidden (unowned_file shapes c.args.id leader_page 1 (above_reserved c.args.id c.requires.of_file) may.none) (omega (arith, enough)) in
     let one = one_sector _ _ _ c.in-Ok._run c.in-Ok.ensures.form in
     let leads = led_by c.args.id c.args.kind c.in-Ok._run.sector (sectors_of c.in-Ok._run) one c.in-Ok.ensures.runs first in
     file_made c.args.filer.now.swapper.layout c.args.filer.now.swapper.accepted c.args.filer.now.runs shapes spaces x _ _ c.args.id c.args.kind c.args.pages c.requires.of_file may c.in-Ok._run.sector _ _ leads _ _ _
@@ -40,3 +42,21 @@ pub returns-clause-makes : goal.returns-clause-makes
 returns-clause-makes g c =
     let one = one_sector _ _ _ c.in-Ok._run c.in-Ok.ensures.form in
     creates_all c.args.id c.args.kind c.args.pages (sectors_of c.in-Ok._run) c.in-Ok._run.sector one c.in-Ok.ensures.makes c.in-Ok-make_up.ensures.makes
+
+pub returns-in-Err-make_up-clause-counted : goal.returns-in-Err-make_up-clause-counted
+returns-in-Err-make_up-clause-counted g c = counted_then _ _ _ c.in-Ok.ensures.makes.went.faults c.in-Err-make_up.ensures.counted
+
+pub returns-in-Err-clause-broken : goal.returns-in-Err-clause-broken
+returns-in-Err-clause-broken g c = λ x shapes spaces may.
+    let enough = may.enough in
+    leader_broken c.args.id c.args.kind c.args.pages x
+    (c.in-Err.ensures.broken x shapes spaces may.books may.hidden (unowned_file shapes c.args.id leader_page 1 (above_reserved c.args.id c.requires.of_file) may.none) (omega (arith, enough)))
+
+pub returns-in-Err-make_up-clause-broken : goal.returns-in-Err-make_up-clause-broken
+returns-in-Err-make_up-clause-broken g c = λ x shapes spaces may.
+    let enough = may.enough in
+    let first = c.in-Ok.ensures.made 96 x shapes spaces may.books may.hidden (unowned_file shapes c.args.id leader_page 1 (above_reserved c.args.id c.requires.of_file) may.none) (omega (arith, enough)) in
+    let one = one_sector _ _ _ c.in-Ok._run c.in-Ok.ensures.form in
+    let leads = led_by c.args.id c.args.kind c.in-Ok._run.sector (sectors_of c.in-Ok._run) one c.in-Ok.ensures.runs first in
+    pages_broken c.args.filer.now.swapper.layout c.args.filer.now.swapper.accepted c.args.filer.now.runs shapes spaces x _ _ c.args.id c.args.kind c.args.pages c.requires.of_file may c.in-Ok._run.sector _ _ leads _ _
+    (rw (c.in-Ok.ensures.layout, c.in-Ok.ensures.runs) at c.in-Err-make_up.ensures.broken)

@@ -1,11 +1,18 @@
-use Rattle.std.proofs.Common.{inr, Some, sym, ◌∙◌, ap, subst}
-use Rattle.std.specs.Prelude.{option_map}
+use Rattle.std.proofs.Common.{rules, inl, inr, ℕ, Option, Some, refl, sym, ◌∙◌, ap, subst}
+use Rattle.std.specs.Prelude.{option_map, IfSome}
 use Rattle.std.proofs.lemmas.Option.{none-some}
 use Rattle.labelled_disk.specs.declared.label.Label.{Label}
 use Rattle.labelled_disk.specs.Sectors.{Sector}
+use Rattle.labelled_disk.specs.Label.{leader_page}
+use Rattle.swapper_kernel.specs.Homes.{home_at}
 use Rattle.swapper_kernel.specs.Stands.{labels_of}
+use Rattle.filer_kernel.specs.Cached.{runs_of}
+use Rattle.filer_kernel.specs.Causes.{IsRunHome}
 use Rattle.file_manager.specs.Answer.{IsLeaderOf}
 use Rattle.file_manager.proofs.MarkLemmas.{marked_after, stopped_makes, leader_one}
+use Rattle.file_manager.proofs.MarkStops.{marks_first}
+use Rattle.file_manager.proofs.CauseLemmas.{search_halts, label_halts}
+use Rattle.file_manager.proofs.Faults.{counted, no_fault}
 use Rattle.file_manager.proofs.marks.mark.Goals as goal
 
 pub returns-in-Ok-None-clause-sound : goal.returns-in-Ok-None-clause-sound
@@ -23,6 +30,19 @@ returns-in-Err-mark_leader-clause-sound g c = λ x shapes spaces f books is.
     let sound = rw c.swapper_over-swapper.ensures.value at c.in-Err-mark_leader.ensures.sound in
     sound x now.stands (leader_one _ _ shapes x books.booked c.args.id c.in-Ok-Some.sector c.requires.client triple)
 
+pub returns-in-Ok-None-clause-broken : goal.returns-in-Ok-None-clause-broken
+returns-in-Ok-None-clause-broken g c = λ x shapes spaces f books is. inl c.leader_of.ensures.makes
+
+pub returns-in-Err-clause-broken : goal.returns-in-Err-clause-broken
+returns-in-Err-clause-broken g c = λ x shapes spaces f books is. inl c.leader_of.ensures.makes
+
+pub returns-in-Err-mark_leader-clause-broken : goal.returns-in-Err-mark_leader-clause-broken
+returns-in-Err-mark_leader-clause-broken g c = λ x shapes spaces f books is.
+    let now = c.leader_of.ensures.same x shapes spaces books in
+    let triple = subst (IsLeaderOf (labels_of x) shapes c.args.id) c.in-Ok-Some.field-0-is (c.in-Ok-Some.ensures.told x shapes spaces books) in
+    marks_first c.args.filer.now.swapper.layout _ _ _ _ _ _ _ shapes spaces x c.args.id c.in-Ok-Some.sector c.args.mark c.requires.client now c.leader_of.ensures.makes triple (rw c.swapper_over-swapper.ensures.value at c.mark_leader.ensures.frames)
+    (rw c.swapper_over-swapper.ensures.value at c.in-Err-mark_leader.ensures.stopped)
+
 pub returns-in-Err-mark_leader-clause-makes : goal.returns-in-Err-mark_leader-clause-makes
 returns-in-Err-mark_leader-clause-makes g c =
     stopped_makes _ _ _ _ _ _ c.in-Ok-Some.sector c.args.mark c.leader_of.ensures.makes (rw c.swapper_over-swapper.ensures.value at c.mark_leader.ensures.frames) (rw c.swapper_over-swapper.ensures.value at c.in-Err-mark_leader.ensures.stopped)
@@ -37,3 +57,26 @@ pub returns-clause-makes : goal.returns-clause-makes
 returns-clause-makes g c =
     let made = rw c.swapper_over-swapper.ensures.value at c.in-Ok.ensures.marked in
     stopped_makes _ _ _ _ _ _ c.in-Ok-Some.sector c.args.mark c.leader_of.ensures.makes (rw c.swapper_over-swapper.ensures.value at c.mark_leader.ensures.frames) (inr (made.0, λ d told. let one = made.1.found d told in ap (option_map (λ (s : Sector). s.0)) one.1 ∙ ap (λ (l : Label). Some l) one.2.0, inr made.1.makes))
+
+pub returns-in-Ok-None-clause-counted : goal.returns-in-Ok-None-clause-counted
+returns-in-Ok-None-clause-counted g c = no_fault
+
+pub returns-in-Err-mark_leader-clause-counted : goal.returns-in-Err-mark_leader-clause-counted
+returns-in-Err-mark_leader-clause-counted g c =
+    counted _ _ (g.D.Disk.state c.leader_of.new.filer.swapper.under) (g.D.Disk.state c.mark_leader.new.swapper.under) _ c.leader_of.ensures.makes.went.faults (rw c.swapper_over-swapper.ensures.value at c.in-Err-mark_leader.ensures.cause)
+
+pub returns-in-Ok-None-clause-cause : goal.returns-in-Ok-None-clause-cause
+returns-in-Ok-None-clause-cause g c = (refl, refl, c.leader_of.ensures.missing (search rules))
+
+pub returns-in-Err-clause-cause : goal.returns-in-Err-clause-cause
+returns-in-Err-clause-cause g c =
+    let layout = c.args.filer.now.swapper.layout in
+    search_halts layout (runs_of layout.sectors c.args.filer.now.runs) c.args.id (g.D.Disk.state c.args.filer.now.swapper.under) c.args.filer.now.swapper.pool (g.D.Disk.state c.leader_of.new.filer.swapper.under) c.in-Err.halt c.in-Err.ensures.cause
+
+pub returns-in-Err-mark_leader-clause-cause : goal.returns-in-Err-mark_leader-clause-cause
+returns-in-Err-mark_leader-clause-cause g c =
+    let layout = c.args.filer.now.swapper.layout in
+    let old = g.D.Disk.state c.args.filer.now.swapper.under in
+    let kept = runs_of layout.sectors c.args.filer.now.runs in
+    let given = subst (λ (o : Option ℕ). IfSome o (λ sector. IsRunHome layout old c.args.filer.now.swapper.pool kept (home_at sector (record { id = c.args.id; page = leader_page })))) c.in-Ok-Some.field-0-is c.in-Ok-Some.ensures.given in
+    label_halts layout kept c.args.id old c.args.filer.now.swapper.pool (g.D.Disk.state c.leader_of.new.filer.swapper.under) (g.D.Disk.state c.mark_leader.new.swapper.under) c.leader_of.new.filer.swapper.pool c.in-Ok-Some.sector c.leader_of.ensures.makes given c.in-Err-mark_leader.halt (rw c.swapper_over-swapper.ensures.value at c.in-Err-mark_leader.ensures.cause)

@@ -1,4 +1,9 @@
+use Rattle.std.proofs.Common.{arith}
+use Rattle.file_manager.proofs.Faults.{counted}
 use Rattle.file_manager.proofs.release.free_labels.Goals as goal
 
 pub returns-in-Err-clause-sound : goal.returns-in-Err-clause-sound
 returns-in-Err-clause-sound g c = λ m stands free ones. (rw (c.swapper_over-swapper.ensures.value) at c.in-Err.ensures.sound) m stands free ones
+
+pub returns-in-Err-clause-counted : goal.returns-in-Err-clause-counted
+returns-in-Err-clause-counted g c = counted _ _ (g.D.Disk.state c.args.filer.now.swapper.under) (g.D.Disk.state c.free_pages_up.new.swapper.under) _ (omega arith) (rw (c.swapper_over-swapper.ensures.value) at c.in-Err.ensures.cause)

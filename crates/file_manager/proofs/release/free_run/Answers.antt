@@ -6,6 +6,8 @@ use Rattle.filer_kernel.specs.Cached.{runs_of}
 use Rattle.filer_kernel.specs.Triples.{AreOf}
 use Rattle.filer_kernel.specs.PlaceLaws.{data_first}
 use Rattle.file_manager.proofs.FreedRun.{none_over, ones, labelled, named_then, run_freed, run_makes, run_stops, all_stop, map_stops}
+use Rattle.file_manager.proofs.StoppedFree.{some_none, some_labels, some_run}
+use Rattle.file_manager.proofs.Faults.{counted, counted_then}
 use Rattle.file_manager.proofs.release.free_run.Goals as goal
 
 pub returns-in-Err-clause-sound : goal.returns-in-Err-clause-sound
@@ -78,3 +80,25 @@ returns-clause-freed g c = λ named spaces m may.
 
 pub returns-clause-makes : goal.returns-clause-makes
 returns-clause-makes g c = run_makes c.in-Ok.run' c.part_of.ensures.beside c.in-Ok-free_labels.ensures.frames c.in-Ok-free_labels.ensures.freed c.in-Ok-give.ensures.kept
+
+pub returns-in-Err-clause-first : goal.returns-in-Err-clause-first
+returns-in-Err-clause-first g c = λ named spaces m may. some_none named c.args.id c.args.page (c.args.page + c.args.most) (omega arith) c.part_of.ensures.beside
+
+pub returns-in-Err-free_labels-clause-first : goal.returns-in-Err-free_labels-clause-first
+returns-in-Err-free_labels-clause-first g c = λ named spaces m may.
+    let all = c.in-Ok.ensures.named m named may.stands may.map may.kept in
+    some_labels named c.args.id c.args.page (c.args.page + c.args.most) (omega arith) c.part_of.ensures.beside _ c.in-Ok.run' c.in-Ok.ensures.form all c.in-Err-free_labels.ensures.frames c.in-Err-free_labels.ensures.stopped
+
+pub returns-in-Err-give-clause-first : goal.returns-in-Err-give-clause-first
+returns-in-Err-give-clause-first g c = λ named spaces m may.
+    let all = c.in-Ok.ensures.named m named may.stands may.map may.kept in
+    some_run named c.args.id c.args.page (c.args.page + c.args.most) (omega arith) c.part_of.ensures.beside _ c.in-Ok.run' c.in-Ok.ensures.form all c.in-Ok-free_labels.ensures.frames c.in-Ok-free_labels.ensures.freed c.in-Err-give.ensures.kept
+
+pub returns-in-Err-free_labels-clause-counted : goal.returns-in-Err-free_labels-clause-counted
+returns-in-Err-free_labels-clause-counted g c = counted_then _ _ _ c.part_of.ensures.beside.goes.makes.went.faults c.in-Err-free_labels.ensures.counted
+
+pub returns-in-Err-give-clause-counted : goal.returns-in-Err-give-clause-counted
+returns-in-Err-give-clause-counted g c =
+    let first = c.part_of.ensures.beside.goes.makes.went.faults in
+    let second = c.in-Ok-free_labels.ensures.freed.makes.went.faults in
+    counted _ _ (g.D.Disk.state c.free_labels.new.filer.swapper.under) (g.D.Disk.state c.give.new.self.swapper.under) _ (omega (arith, first, second)) c.in-Err-give.ensures.cause

@@ -1,6 +1,8 @@
 use Rattle.std.proofs.Common.{rules, ◌≡◌, ◌<◌}
 use Rattle.file_manager.proofs.FreedRun.{stops_then}
 use Rattle.file_manager.proofs.FreedUpTo.{to_none, to_then, to_rest, to_all, to_made, to_spent, to_stopped_cost}
+use Rattle.file_manager.proofs.StoppedFree.{some_then}
+use Rattle.file_manager.proofs.Faults.{counted_then}
 use Rattle.file_manager.proofs.release.free_up.Goals as goal
 
 pub loop-page-init : goal.loop-page-init
@@ -39,3 +41,12 @@ pub returns-clause-cost : goal.returns-clause-cost
 returns-clause-cost g c =
     let all : c.loop-page.page ≡ c.args.end = search rules in
     to_spent c.loop-page.invariant all
+
+pub returns-in-Err-clause-first : goal.returns-in-Err-clause-first
+returns-in-Err-clause-first g c = λ named spaces m may.
+    let below : c.loop-page.page < c.args.end = search rules in
+    let rest = to_rest c.loop-page.invariant below named spaces m may in
+    some_then c.loop-page.invariant below named spaces m may (c.in-Err.ensures.first named spaces rest.0 rest.1)
+
+pub returns-in-Err-clause-counted : goal.returns-in-Err-clause-counted
+returns-in-Err-clause-counted g c = counted_then _ _ _ c.loop-page.invariant.makes.makes.went.faults c.in-Err.ensures.counted

@@ -1,7 +1,8 @@
-use Rattle.std.proofs.Common.{◌≤◌, ◌-◌, sym, ◌∙◌, subst, rules}
+use Rattle.std.proofs.Common.{◌≤◌, ◌-◌, sym, ◌∙◌, subst, rules, arith}
 use Rattle.std.proofs.lemmas.Bool.{true≢false}
 use Rattle.file_map.specs.FileMap.{IsFound}
 use Rattle.file_manager.proofs.FreedRun.{run_part}
+use Rattle.file_manager.proofs.Faults.{counted, no_fault}
 use Rattle.file_manager.proofs.release.part_of.Goals as goal
 
 pub returns-in-Ok-Some-clause-named : goal.returns-in-Ok-Some-clause-named
@@ -17,3 +18,9 @@ returns-in-Ok-None-clause-sound g c = λ m named sector stands map labels is.
 
 pub returns-in-Err-clause-sound : goal.returns-in-Err-clause-sound
 returns-in-Err-clause-sound g c = λ m named sector stands map labels is. c.in-Err.ensures.sound m named stands map labels
+
+pub returns-in-Ok-None-clause-counted : goal.returns-in-Ok-None-clause-counted
+returns-in-Ok-None-clause-counted g c = no_fault
+
+pub returns-in-Err-clause-counted : goal.returns-in-Err-clause-counted
+returns-in-Err-clause-counted g c = counted _ _ (g.D.Disk.state c.args.filer.now.swapper.under) (g.D.Disk.state c.find.new.self.swapper.under) _ (omega arith) c.in-Err.ensures.cause

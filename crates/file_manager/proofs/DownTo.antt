@@ -1,0 +1,109 @@
+-- The pages of a file down to one, freed in a loop over runs.
+use Rattle.std.proofs.Common.{◌≡◌, ℕ, ◌+◌, ◌-◌, ◌*◌, ◌<◌, ◌≤◌, List, [], refl, sym, ◌∙◌, ap, subst, arith}
+use Rattle.labelled_disk.specs.declared.layout.Layout.{Layout}
+use Rattle.labelled_disk.specs.Sectors.{Sector}
+use Rattle.labelled_disk.specs.State.{DiskState}
+use Rattle.frame_pool.specs.Frames.{Slots}
+use Rattle.file_map.specs.FileMap.{Triples}
+use Rattle.flat_machine.specs.declared.space.Space.{Space}
+use Rattle.swapper_kernel.specs.GoesLaws.{makes_nothing}
+use Rattle.filer_kernel.specs.declared.cached.CachedRuns.{CachedRuns}
+use Rattle.session_words.specs.Volume.{volume_page}
+use Rattle.file_manager.specs.Freeing.{MayFree, MakesFree}
+use Rattle.file_manager.specs.Shrinking.{FreedDown, StoppedDown}
+use Rattle.file_manager.proofs.FreedRun.{makes_free_then}
+use Rattle.file_manager.proofs.FreedUpTo.{cost_then}
+use Rattle.file_manager.proofs.DownRun.{freed_down_then, freed_down_none, broken_then}
+
+pub record IsFreedDownTo (id from end page : ℕ) (d0 : DiskState) (s0 : Slots) (layout : Layout) (kept : CachedRuns) (d : DiskState) (s : Slots) (later : Layout) (runs : CachedRuns) : Type 0 where
+  pub above : from ≤ page
+  pub below : page ≤ end
+  pub same_layout : later ≡ layout
+  pub size : d.sectors ≡ later.sectors
+  pub cost : d.transfers ≤ d0.transfers + (end - page) * (16 + 4 * layout.vam)
+  pub makes : MakesFree (end - page) d0 s0 d s
+  pub told : (named : Triples) (spaces : List Space) (m : List Sector) → MayFree d0 s0 layout kept named spaces id from end m → FreedDown layout named spaces id from (end - page) end d0 s0 d s runs
+
+down_cost : (t0 t u from page end v : ℕ) → page ≤ end → from < page → t ≤ t0 + (end - page) * (16 + 4 * v) → u ≤ t + (14 + 2 * (page - from) + 4 * v) → u ≤ t0 + (end - from) * (16 + 4 * v)
+down_cost t0 t u from page end v above below before here =
+    let all = cost_then t0 t u (end - page) (page - from) v (omega (arith, below)) before here in
+    subst (λ (n : ℕ). u ≤ t0 + n * (16 + 4 * v)) (let z : end - page + (page - from) ≡ end - from = omega (arith, above, below) in z) all
+
+-- no page yet
+pub down_none : (id from end : ℕ) (d0 : DiskState) (s0 : Slots) (layout : Layout) (kept : CachedRuns) → from ≤ end → d0.sectors ≡ layout.sectors → IsFreedDownTo id from end end d0 s0 layout kept d0 s0 layout kept
+down_none id from end d0 s0 layout kept order size =
+    let z : 0 ≡ end - end = omega arith in
+    record {
+      above = order;
+      below = omega arith;
+      same_layout = refl;
+      size = size;
+      cost = omega arith;
+      makes = subst (λ (n : ℕ). MakesFree n d0 s0 d0 s0) z (record { sectors = []; long = refl; makes = makes_nothing volume_page d0 s0 });
+      told = λ named spaces m may. subst (λ (n : ℕ). FreedDown layout named spaces id from n end d0 s0 d0 s0 kept) z (freed_down_none m may);
+    }
+
+-- and a run more
+pub down_then : {id from end page pages : ℕ} {d0 d e : DiskState} {s0 s t : Slots} {layout later last : Layout} {kept runs more : CachedRuns} → IsFreedDownTo id from end page d0 s0 layout kept d s later runs
+    → from < page → (1 ≤ pages) × (pages ≤ page - from) → last ≡ later → e.transfers ≤ d.transfers + (14 + 2 * pages + 4 * later.vam) → MakesFree pages d s e t
+    → ((named : Triples) (spaces : List Space) (m : List Sector) → MayFree d s later runs named spaces id from page m → FreedDown later named spaces id from pages page d s e t more)
+    → IsFreedDownTo id from end (page - pages) d0 s0 layout kept e t last more
+down_then {id = id} {from = from} {end = end} {page = page} {pages = pages} {d0 = d0} {d = d} {e = e} {s0 = s0} {s = s} {t = t} {layout = layout} {later = later} {last = last} {kept = kept} {runs = runs} {more = more} h under some same cost makes told =
+    let few = some.1 in
+    let below = h.below in
+    let z : end - page + pages ≡ end - (page - pages) = omega (arith, below, few) in
+    let y : end - (end - page) ≡ page = omega (arith, below) in
+    let v : later.vam ≡ layout.vam = ap (λ (l : Layout). l.vam) h.same_layout in
+    record {
+      above = omega (arith, under, few);
+      below = omega (arith, below);
+      same_layout = same ∙ h.same_layout;
+      size = makes.makes.went.sectors ∙ h.size ∙ ap (λ (l : Layout). l.sectors) (sym same);
+      cost = subst (λ (n : ℕ). e.transfers ≤ d0.transfers + n * (16 + 4 * layout.vam)) z (cost_then d0.transfers d.transfers e.transfers (end - page) pages layout.vam some.0 h.cost (subst (λ (n : ℕ). e.transfers ≤ d.transfers + (14 + 2 * pages + 4 * n)) v cost));
+      makes = subst (λ (n : ℕ). MakesFree n d0 s0 e t) z (makes_free_then h.makes makes);
+      told = λ named spaces m may.
+          let first = h.told named spaces m may in
+          let rest : MayFree d s layout runs named spaces id from page first.memory = subst (λ (n : ℕ). MayFree d s layout runs named spaces id from n first.memory) y first.rest in
+          let next = told named spaces first.memory (subst (λ (l : Layout). MayFree d s l runs named spaces id from page first.memory) (sym h.same_layout) rest) in
+          let next_there = subst (λ (l : Layout). FreedDown l named spaces id from pages page d s e t more) h.same_layout next in
+          subst (λ (n : ℕ). FreedDown layout named spaces id from n end d0 s0 e t more) z
+          (freed_down_then first (subst (λ (n : ℕ). FreedDown layout named spaces id from pages n d s e t more) (sym y) next_there));
+    }
+
+module _ {id from end page : ℕ} {d0 d : DiskState} {s0 s : Slots} {layout later : Layout} {kept runs : CachedRuns} (h : IsFreedDownTo id from end page d0 s0 layout kept d s later runs) where
+  -- the rest may be freed
+  pub down_rest : (named : Triples) (spaces : List Space) (m : List Sector) → MayFree d0 s0 layout kept named spaces id from end m → (n : List Sector) × MayFree d s later runs named spaces id from page n
+  down_rest named spaces m may =
+      let first = h.told named spaces m may in
+      let below = h.below in
+      let y : end - (end - page) ≡ page = omega (arith, below) in
+      let rest : MayFree d s layout runs named spaces id from page first.memory = subst (λ (n : ℕ). MayFree d s layout runs named spaces id from n first.memory) y first.rest in
+      (first.memory, subst (λ (l : Layout). MayFree d s l runs named spaces id from page first.memory) (sym h.same_layout) rest)
+
+  -- all are freed
+  pub down_freed : page ≡ from → (named : Triples) (spaces : List Space) (m : List Sector) → MayFree d0 s0 layout kept named spaces id from end m → FreedDown layout named spaces id from (end - from) end d0 s0 d s runs
+  down_freed all named spaces m may = subst (λ (n : ℕ). FreedDown layout named spaces id from (end - n) end d0 s0 d s runs) all (h.told named spaces m may)
+
+  pub down_made : page ≡ from → MakesFree (end - from) d0 s0 d s
+  down_made all = subst (λ (n : ℕ). MakesFree (end - n) d0 s0 d s) all h.makes
+
+  pub down_spent : page ≡ from → d.transfers ≤ d0.transfers + (end - from) * (16 + 4 * layout.vam)
+  down_spent all = subst (λ (n : ℕ). d.transfers ≤ d0.transfers + (end - n) * (16 + 4 * layout.vam)) all h.cost
+
+  pub down_stopped_cost : (e : DiskState) → from < page → e.transfers ≤ d.transfers + (14 + 2 * (page - from) + 4 * later.vam) → e.transfers ≤ d0.transfers + (end - from) * (16 + 4 * layout.vam)
+  down_stopped_cost e below here =
+      let v : later.vam ≡ layout.vam = ap (λ (l : Layout). l.vam) h.same_layout in
+      down_cost d0.transfers d.transfers e.transfers from page end layout.vam h.below below h.cost (subst (λ (n : ℕ). e.transfers ≤ d.transfers + (14 + 2 * (page - from) + 4 * n)) v here)
+
+  -- a stop behind them
+  pub down_broken_off : {e : DiskState} {t : Slots} → ((named : Triples) (spaces : List Space) (m : List Sector) → MayFree d s later runs named spaces id from page m → StoppedDown named id (page - from) page d s e t)
+      → (named : Triples) (spaces : List Space) (m : List Sector) → MayFree d0 s0 layout kept named spaces id from end m → StoppedDown named id (end - from) end d0 s0 e t
+  down_broken_off {e = e} {t = t} stopped named spaces m may =
+      let first = h.told named spaces m may in
+      let rest = down_rest named spaces m may in
+      let above = h.above in
+      let below = h.below in
+      let y : page ≡ end - (end - page) = omega (arith, below) in
+      let z : end - page + (page - from) ≡ end - from = omega (arith, above, below) in
+      subst (λ (n : ℕ). StoppedDown named id n end d0 s0 e t) z
+      (broken_then first (subst (λ (n : ℕ). StoppedDown named id (page - from) n d s e t) y (stopped named spaces rest.0 rest.1)))

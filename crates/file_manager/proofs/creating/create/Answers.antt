@@ -1,0 +1,129 @@
+use Rattle.std.proofs.Common.{◌≡◌, ◌∙◌, subst, arith}
+use Rattle.std.specs.Prelude.{List, slice_set}
+use Rattle.labelled_disk.specs.Sectors.{Sector, AreSectors}
+use Rattle.swapper_kernel.specs.FormLaws.{memory_in_form}
+use Rattle.swapper_kernel.specs.Stands.{Stands, labels_of}
+use Rattle.flat_machine.specs.declared.space.Space.{Space}
+use Rattle.session_words.specs.Parts.{Shapes}
+use Rattle.session_words.proofs.FoundLemmas.{above_reserved}
+use Rattle.volume_root.specs.RootPage.{root_label, root_bytes}
+use Rattle.file_manager.specs.Creating.{counted, next_id}
+use Rattle.file_manager.specs.Making.{MayCreate}
+use Rattle.file_manager.proofs.CreateBroken.{root_broken, map_broken, file_broken}
+use Rattle.file_manager.proofs.NewBooks.{labels_cut, map_rooted, named_rooted, may_cut}
+use Rattle.file_manager.proofs.NewFile.{created_as, root_stops, map_stop, file_stops, new_made}
+use Rattle.file_manager.proofs.RootForm.{next_is_file, counted_valid, counted_has}
+use Rattle.file_manager.proofs.creating.create.Given as given
+use Rattle.file_manager.proofs.creating.create.Goals.{After-frames_of}
+use Rattle.file_manager.proofs.creating.create.Goals as goal
+
+pub returns-in-Err-clause-sound : goal.returns-in-Err-clause-sound
+returns-in-Err-clause-sound g c = λ x shapes spaces may. c.in-Err.ensures.fault
+
+pub returns-in-Err-clause-stopped : goal.returns-in-Err-clause-stopped
+returns-in-Err-clause-stopped g c = rw c.in-Err.ensures.frames (root_stops c.args.volume.now.root c.args.kind c.args.pages c.in-Err.ensures.stopped)
+
+pub write_over-requires-clause-valid : goal.write_over-requires-clause-valid
+write_over-requires-clause-valid g c = counted_valid c.args.filer.now.swapper.layout.sectors c.args.volume.now.root c.requires.valid
+
+pub returns-in-Err-cut-clause-stopped : goal.returns-in-Err-cut-clause-stopped
+returns-in-Err-cut-clause-stopped g c =
+    map_stop c.args.volume.now.root c.args.kind c.args.pages c.in-Ok.ensures.made.makes (rw (c.in-Ok.ensures.frames, c.in-Ok.ensures.layout) at c.in-Err-cut.ensures.beside)
+
+pub write_over-requires-clause-counter : goal.write_over-requires-clause-counter
+write_over-requires-clause-counter g c = let below = c.requires.counter in omega (arith, below)
+
+pub returns-in-Err-cut-clause-sound : goal.returns-in-Err-cut-clause-sound
+returns-in-Err-cut-clause-sound g c = λ x shapes spaces may.
+    let layout = c.args.filer.now.swapper.layout in
+    let is = c.args.filer.now.swapper.accepted in
+    let kept = c.args.filer.now.runs in
+    let root = c.args.volume.now.root in
+    let page = root_bytes (counted c.args.volume.now.root) in
+    let books = may.books in
+    let now = c.in-Ok.ensures.made.memory x books.stands in
+    let stands : Stands (g.D.Disk.state c.write_over.new.filer.swapper.under) c.args.filer.now.swapper.pool (slice_set x 0 (root_label, root_bytes (counted c.args.volume.now.root))) = subst (Stands (g.D.Disk.state c.write_over.new.filer.swapper.under) c.args.filer.now.swapper.pool) now.2 now.1 in
+    (rw (c.in-Ok.ensures.frames, c.in-Ok.ensures.layout) at c.in-Err-cut.ensures.sound) (slice_set x 0 (root_label, page)) books.booked.named stands
+    (map_rooted layout is kept shapes spaces x _ _ books page) (named_rooted layout is kept shapes spaces x _ _ books page)
+
+-- The root was written and the file map cut: in the memory then, the file may still be made, and of the labels the root's alone is new.
+behind : (g : given.Over) (c : After-frames_of g) (x : List Sector) (shapes : Shapes) (spaces : List Space)
+    → MayCreate (g.D.Disk.state c.args.filer.now.swapper.under) c.args.filer.now.swapper.pool c.args.filer.now.swapper.layout c.args.filer.now.runs shapes spaces (next_id c.args.volume.now.root) c.args.pages x
+    → (y : List Sector) × (labels_of y ≡ slice_set (labels_of x) 0 root_label) × MayCreate (g.D.Disk.state c.cut.new.self.swapper.under) c.cut.new.self.swapper.pool c.args.filer.now.swapper.layout c.cut.new.self.runs shapes spaces (next_id c.args.volume.now.root) c.args.pages y
+behind g c x shapes spaces may =
+    let layout = c.args.filer.now.swapper.layout in
+    let is = c.args.filer.now.swapper.accepted in
+    let kept = c.args.filer.now.runs in
+    let root = c.args.volume.now.root in
+    let page = root_bytes (counted c.args.volume.now.root) in
+    let books = may.books in
+    let now = c.in-Ok.ensures.made.memory x books.stands in
+    let stands : Stands (g.D.Disk.state c.write_over.new.filer.swapper.under) c.args.filer.now.swapper.pool (slice_set x 0 (root_label, root_bytes (counted c.args.volume.now.root))) = subst (Stands (g.D.Disk.state c.write_over.new.filer.swapper.under) c.args.filer.now.swapper.pool) now.2 now.1 in
+    let id : c.next_id-id.result ≡ next_id c.args.volume.now.root = c.next_id-id.ensures.next in
+    let high = above_reserved (next_id root) (next_is_file root c.requires.valid.serial c.requires.counter) in
+    let beside = rw (c.in-Ok.ensures.frames, c.in-Ok.ensures.layout) at c.in-Ok-cut.ensures.beside in
+    let cut = (rw (c.in-Ok.ensures.frames, c.in-Ok.ensures.layout, id) at c.in-Ok-cut.ensures.cut) (slice_set x 0 (root_label, page)) books.booked.named stands (map_rooted layout is kept shapes spaces x _ _ books page) in
+    let forgotten = rw (c.in-Ok.ensures.runs, id) at (c.in-Ok-cut.ensures.runs layout.sectors) in
+    let in_form : (y : List Sector) → Stands (g.D.Disk.state c.cut.new.self.swapper.under) c.cut.new.self.swapper.pool y → AreSectors y =
+    λ y stood. memory_in_form _ _ y stood (g.met.D.Disk.in_form c.cut.new.self.swapper.under stood.sectors stood.told) c.frames_of.ensures.pages in (
+      cut.memory,
+      labels_cut layout is kept shapes spaces x _ _ books page (next_id root) high may.none _ _ _ _ beside c.cut.new.self.runs cut forgotten in_form,
+      may_cut layout is kept shapes spaces x _ _ books page (next_id root) high may.none _ _ _ _ beside c.cut.new.self.runs cut forgotten in_form c.args.pages may,
+    )
+
+pub returns-in-Err-make_file-clause-sound : goal.returns-in-Err-make_file-clause-sound
+returns-in-Err-make_file-clause-sound g c = λ x shapes spaces may.
+    let id : c.next_id-id.result ≡ next_id c.args.volume.now.root = c.next_id-id.ensures.next in
+    let lay : c.cut.new.self.swapper.layout ≡ c.args.filer.now.swapper.layout = c.in-Ok-cut.ensures.beside.layout ∙ c.in-Ok.ensures.layout in
+    let now = behind g (goal.at.returns-in-Err-make_file-clause-sound g c).After-frames_of x shapes spaces may in
+    (rw (c.frames_of.ensures.same, lay, id) at c.in-Err-make_file.ensures.sound) now.0 shapes spaces now.2
+
+pub returns-in-Err-make_file-clause-stopped : goal.returns-in-Err-make_file-clause-stopped
+returns-in-Err-make_file-clause-stopped g c =
+    let id : c.next_id-id.result ≡ next_id c.args.volume.now.root = c.next_id-id.ensures.next in
+    let beside = rw (c.in-Ok.ensures.frames, c.in-Ok.ensures.layout) at c.in-Ok-cut.ensures.beside in
+    file_stops c.args.volume.now.root c.args.kind c.args.pages c.in-Ok.ensures.made.makes beside (rw (c.frames_of.ensures.same, id) at c.in-Err-make_file.ensures.stopped)
+
+pub returns-clause-created : goal.returns-clause-created
+returns-clause-created g c = λ x shapes spaces may.
+    let layout = c.args.filer.now.swapper.layout in
+    let is = c.args.filer.now.swapper.accepted in
+    let kept = c.args.filer.now.runs in
+    let root = c.args.volume.now.root in
+    let page = root_bytes (counted c.args.volume.now.root) in
+    let books = may.books in
+    let now = c.in-Ok.ensures.made.memory x books.stands in
+    let stands : Stands (g.D.Disk.state c.write_over.new.filer.swapper.under) c.args.filer.now.swapper.pool (slice_set x 0 (root_label, root_bytes (counted c.args.volume.now.root))) = subst (Stands (g.D.Disk.state c.write_over.new.filer.swapper.under) c.args.filer.now.swapper.pool) now.2 now.1 in
+    let id : c.next_id-id.result ≡ next_id c.args.volume.now.root = c.next_id-id.ensures.next in
+    let high = above_reserved (next_id root) (next_is_file root c.requires.valid.serial c.requires.counter) in
+    let beside = rw (c.in-Ok.ensures.frames, c.in-Ok.ensures.layout) at c.in-Ok-cut.ensures.beside in
+    let cut = (rw (c.in-Ok.ensures.frames, c.in-Ok.ensures.layout, id) at c.in-Ok-cut.ensures.cut) (slice_set x 0 (root_label, page)) books.booked.named stands (map_rooted layout is kept shapes spaces x _ _ books page) in
+    let forgotten = rw (c.in-Ok.ensures.runs, id) at (c.in-Ok-cut.ensures.runs layout.sectors) in
+    let lay : c.cut.new.self.swapper.layout ≡ layout = c.in-Ok-cut.ensures.beside.layout ∙ c.in-Ok.ensures.layout in
+    let then_may = may_cut layout is kept shapes spaces x _ _ books page (next_id root) high may.none _ _ _ _ beside c.cut.new.self.runs cut forgotten
+    (λ y stood. memory_in_form _ _ y stood (g.met.D.Disk.in_form c.cut.new.self.swapper.under stood.sectors stood.told) c.frames_of.ensures.pages) c.args.pages may in
+    let made = (rw (c.frames_of.ensures.same, lay, id) at c.in-Ok-make_file.ensures.made) cut.memory shapes spaces then_may in
+    created_as layout is kept shapes spaces x _ _ books root high may.none _ c.in-Ok.ensures.made _ _ _ beside c.cut.new.self.runs cut forgotten
+    (λ y stood. memory_in_form _ _ y stood (g.met.D.Disk.in_form c.cut.new.self.swapper.under stood.sectors stood.told) c.frames_of.ensures.pages)
+    (counted_has layout.sectors root c.requires.valid c.next_id-id.ensures.serial c.requires.counter) c.args.kind c.args.pages _ _ _ made
+
+pub returns-clause-makes : goal.returns-clause-makes
+returns-clause-makes g c =
+    let id : c.next_id-id.result ≡ next_id c.args.volume.now.root = c.next_id-id.ensures.next in
+    let beside = rw (c.in-Ok.ensures.frames, c.in-Ok.ensures.layout) at c.in-Ok-cut.ensures.beside in
+    new_made c.args.volume.now.root c.args.kind c.args.pages c.in-Ok.ensures.made.makes beside (rw (c.frames_of.ensures.same, id) at c.in-Ok-make_file.ensures.makes)
+
+pub returns-in-Err-clause-broken : goal.returns-in-Err-clause-broken
+returns-in-Err-clause-broken g c = λ x shapes spaces may. rw c.in-Err.ensures.frames (root_broken c.args.volume.now.root c.args.kind c.args.pages x c.in-Err.ensures.stopped)
+
+pub returns-in-Err-cut-clause-broken : goal.returns-in-Err-cut-clause-broken
+returns-in-Err-cut-clause-broken g c = λ x shapes spaces may.
+    map_broken c.args.volume.now.root c.args.kind c.args.pages x c.in-Ok.ensures.made.makes (rw (c.in-Ok.ensures.frames, c.in-Ok.ensures.layout) at c.in-Err-cut.ensures.beside)
+
+pub returns-in-Err-make_file-clause-broken : goal.returns-in-Err-make_file-clause-broken
+returns-in-Err-make_file-clause-broken g c = λ x shapes spaces may.
+    let id : c.next_id-id.result ≡ next_id c.args.volume.now.root = c.next_id-id.ensures.next in
+    let lay : c.cut.new.self.swapper.layout ≡ c.args.filer.now.swapper.layout = c.in-Ok-cut.ensures.beside.layout ∙ c.in-Ok.ensures.layout in
+    let beside = rw (c.in-Ok.ensures.frames, c.in-Ok.ensures.layout) at c.in-Ok-cut.ensures.beside in
+    let now = behind g (goal.at.returns-in-Err-make_file-clause-broken g c).After-frames_of x shapes spaces may in
+    file_broken c.args.volume.now.root c.args.kind c.args.pages x c.in-Ok.ensures.made.makes beside now.0 now.1 ((rw (c.frames_of.ensures.same, lay, id) at c.in-Err-make_file.ensures.broken) now.0 shapes spaces now.2)

@@ -1,0 +1,67 @@
+use Rattle.std.proofs.Common.{◌≤◌, refl, sym, subst, arith}
+use Rattle.labelled_disk.specs.declared.layout.Layout.{Layout}
+use Rattle.labelled_disk.specs.Label.{leader_page}
+use Rattle.file_map.specs.Run.{IsRun}
+use Rattle.swapper_kernel.specs.declared.manager.Manager.TheVariants.{FileMap}
+use Rattle.swapper_kernel.specs.DiffersLaws.{differs_then}
+use Rattle.swapper_kernel.specs.FormLaws.{memory_in_form}
+use Rattle.swapper_kernel.specs.Maps.{IsMapHome}
+use Rattle.swapper_kernel.specs.Window.{in_map}
+use Rattle.swapper_kernel.specs.WindowLaws.{beside_then, named_kept}
+use Rattle.filer_kernel.specs.PlaceLaws.{data_first}
+use Rattle.file_manager.specs.Shrinking.{leader_run}
+use Rattle.file_manager.proofs.CountedLemmas.{rose_of, rose_after}
+use Rattle.file_manager.proofs.CutSteps.{leader_in_form, few_left, leader_new, once_left, others_left}
+use Rattle.file_manager.proofs.cutting.cut_to.Goals as goal
+
+pub returns-in-Err-clause-sound : goal.returns-in-Err-clause-sound
+returns-in-Err-clause-sound g c = λ m named stands map labels once alone. c.in-Err.ensures.sound m named stands map labels
+
+pub returns-in-Err-clause-counted : goal.returns-in-Err-clause-counted
+returns-in-Err-clause-counted g c = rose_of _ (g.D.Disk.state c.args.filer.now.swapper.under) (g.D.Disk.state c.cut.new.self.swapper.under) c.in-Err.halt c.in-Err.ensures.cause
+
+pub add-requires-clause-form : goal.add-requires-clause-form
+add-requires-clause-form g c =
+    subst (λ (l : Layout). IsRun l.sectors (leader_run c.args.id c.args.leader)) (sym c.cut.ensures.beside.layout)
+    (leader_in_form c.args.filer.now.swapper.layout c.args.id c.args.leader c.args.filer.now.swapper.accepted c.requires.of_file c.ranges.id.fits c.requires.data c.requires.inside)
+
+pub returns-in-Err-add-clause-sound : goal.returns-in-Err-add-clause-sound
+returns-in-Err-add-clause-sound g c = λ m named stands map labels once alone.
+    let layout = c.args.filer.now.swapper.layout in
+    let lay = c.cut.ensures.beside.layout in
+    let fits = c.ranges.from.fits in
+    let few : c.args.from ≤ leader_page = omega (arith, fits) in
+    let b = c.in-Ok.ensures.cut m named stands map in
+    let first = data_first layout c.args.filer.now.swapper.accepted in
+    let above = c.requires.data in
+    (rw lay at c.in-Err-add.ensures.sound) b.memory _ _ b.stands b.is (leader_new named c.args.id c.args.from c.args.leader few)
+    (named_kept (IsMapHome FileMap layout) m b.memory b.differs.labels labels) (once_left named c.args.id c.args.from c.args.leader once) (others_left named c.args.id c.args.from c.args.leader few alone)
+    (few_left layout.sectors c.args.leader (omega (arith, first, above)) c.requires.inside)
+
+pub returns-in-Err-add-clause-counted : goal.returns-in-Err-add-clause-counted
+returns-in-Err-add-clause-counted g c = rose_after (g.D.Disk.state c.args.filer.now.swapper.under) (g.D.Disk.state c.cut.new.self.swapper.under) (g.D.Disk.state c.add.new.self.swapper.under) c.cut.ensures.beside.goes.makes.went.faults (rose_of _ (g.D.Disk.state c.cut.new.self.swapper.under) (g.D.Disk.state c.add.new.self.swapper.under) c.in-Err-add.halt c.in-Err-add.ensures.cause)
+
+pub returns-in-Err-add-clause-runs : goal.returns-in-Err-add-clause-runs
+returns-in-Err-add-clause-runs g c = λ n. rw c.add.ensures.runs (c.cut.ensures.runs n)
+
+pub returns-in-Err-add-clause-beside : goal.returns-in-Err-add-clause-beside
+returns-in-Err-add-clause-beside g c = beside_then refl c.cut.ensures.beside c.add.ensures.beside
+
+pub returns-clause-cut : goal.returns-clause-cut
+returns-clause-cut g c = λ m named stands map.
+    let layout = c.args.filer.now.swapper.layout in
+    let lay = c.cut.ensures.beside.layout in
+    let fits = c.ranges.from.fits in
+    let few : c.args.from ≤ leader_page = omega (arith, fits) in
+    let b = c.in-Ok.ensures.cut m named stands map in
+    let a = (rw lay at c.in-Ok-add.ensures.added) b.memory _ b.stands b.is (leader_new named c.args.id c.args.from c.args.leader few) in
+    rw c.frames_of.ensures.same (record { memory = a.memory; stands = a.stands; differs = differs_then (in_map FileMap layout) m b.memory a.memory b.differs a.differs; is = a.is })
+
+pub returns-clause-in_form : goal.returns-clause-in_form
+returns-clause-in_form g c = rw c.frames_of.ensures.same (λ y stands. memory_in_form _ _ y stands (g.met.D.Disk.in_form c.add.new.self.swapper.under stands.sectors stands.told) c.frames_of.ensures.pages)
+
+pub returns-clause-runs : goal.returns-clause-runs
+returns-clause-runs g c = λ n. rw (c.frames_of.ensures.same, c.add.ensures.runs) (c.cut.ensures.runs n)
+
+pub returns-clause-beside : goal.returns-clause-beside
+returns-clause-beside g c = rw c.frames_of.ensures.same (beside_then refl c.cut.ensures.beside c.add.ensures.beside)

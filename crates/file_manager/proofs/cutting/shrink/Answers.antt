@@ -1,0 +1,56 @@
+use Rattle.swapper_kernel.specs.declared.manager.Manager.TheVariants.{FileMap}
+use Rattle.file_manager.proofs.CountedLemmas.{rose_after}
+use Rattle.file_manager.proofs.FreedRun.{all_stop}
+use Rattle.file_manager.proofs.ShrinkLemmas.{may_free, leader_is_alone, named_apart, shrunk_by, stopped_in, stopped_cut, makes_cut}
+use Rattle.file_manager.proofs.cutting.shrink.Goals as goal
+
+pub returns-in-Err-clause-sound : goal.returns-in-Err-clause-sound
+returns-in-Err-clause-sound g c = λ x shapes spaces f may size t.
+    let layout = c.args.filer.now.swapper.layout in
+    let is = c.args.filer.now.swapper.accepted in
+    let free = may_free layout is c.args.filer.now.runs shapes spaces x _ _ c.args.id f c.args.pages c.requires.of_file may in
+    (rw (← size) at c.in-Err.ensures.sound) may.books.booked.named spaces x free
+
+pub returns-in-Err-clause-broken : goal.returns-in-Err-clause-broken
+returns-in-Err-clause-broken g c = λ x shapes spaces f may size t.
+    let layout = c.args.filer.now.swapper.layout in
+    let is = c.args.filer.now.swapper.accepted in
+    let free = may_free layout is c.args.filer.now.runs shapes spaces x _ _ c.args.id f c.args.pages c.requires.of_file may in
+    rw (← size) (stopped_in layout is c.args.filer.now.runs shapes spaces x _ _ c.args.id f c.args.pages c.requires.of_file may ((rw (← size) at c.in-Err.ensures.broken) may.books.booked.named spaces x free))
+
+pub returns-in-Err-cut_to-clause-sound : goal.returns-in-Err-cut_to-clause-sound
+returns-in-Err-cut_to-clause-sound g c = λ x shapes spaces f may size t.
+    let layout = c.args.filer.now.swapper.layout in
+    let is = c.args.filer.now.swapper.accepted in
+    let free = may_free layout is c.args.filer.now.runs shapes spaces x _ _ c.args.id f c.args.pages c.requires.of_file may in
+    let h = (rw (← size) at c.in-Ok.ensures.freed) may.books.booked.named spaces x free in
+    (rw c.in-Ok.ensures.layout at c.in-Err-cut_to.ensures.sound) h.memory may.books.booked.named h.rest.stands h.rest.map (h.rest.map_labels FileMap)
+    (named_apart layout is c.args.filer.now.runs shapes spaces x _ _ c.args.id f c.args.pages c.requires.of_file may c.args.leader t)
+    (leader_is_alone layout is c.args.filer.now.runs shapes spaces x _ _ c.args.id f c.args.pages c.requires.of_file may c.args.leader t)
+
+pub returns-in-Err-cut_to-clause-broken : goal.returns-in-Err-cut_to-clause-broken
+returns-in-Err-cut_to-clause-broken g c = λ x shapes spaces f may size t.
+    let layout = c.args.filer.now.swapper.layout in
+    let is = c.args.filer.now.swapper.accepted in
+    let free = may_free layout is c.args.filer.now.runs shapes spaces x _ _ c.args.id f c.args.pages c.requires.of_file may in
+    let h = (rw (← size) at c.in-Ok.ensures.freed) may.books.booked.named spaces x free in
+    rw (← size) (stopped_cut layout is c.args.filer.now.runs shapes spaces x _ _ c.args.id f c.args.pages c.requires.of_file may h c.cut_to.ensures.beside)
+
+pub returns-in-Err-cut_to-clause-stopped : goal.returns-in-Err-cut_to-clause-stopped
+returns-in-Err-cut_to-clause-stopped g c = all_stop (makes_cut c.in-Ok.ensures.makes c.cut_to.ensures.beside)
+
+pub returns-in-Err-cut_to-clause-counted : goal.returns-in-Err-cut_to-clause-counted
+returns-in-Err-cut_to-clause-counted g c = rose_after (g.D.Disk.state c.args.filer.now.swapper.under) (g.D.Disk.state c.free_down.new.filer.swapper.under) (g.D.Disk.state c.cut_to.new.filer.swapper.under) c.in-Ok.ensures.makes.makes.went.faults c.in-Err-cut_to.ensures.counted
+
+pub returns-clause-shrunk : goal.returns-clause-shrunk
+returns-clause-shrunk g c = λ x shapes spaces f may size t.
+    let layout = c.args.filer.now.swapper.layout in
+    let is = c.args.filer.now.swapper.accepted in
+    let free = may_free layout is c.args.filer.now.runs shapes spaces x _ _ c.args.id f c.args.pages c.requires.of_file may in
+    let h = (rw (← size) at c.in-Ok.ensures.freed) may.books.booked.named spaces x free in
+    let cut = (rw c.in-Ok.ensures.layout at c.in-Ok-cut_to.ensures.cut) h.memory may.books.booked.named h.rest.stands h.rest.map in
+    rw (← size) (shrunk_by layout is c.args.filer.now.runs shapes spaces x _ _ c.args.id f c.args.pages c.requires.of_file may c.args.leader t _ _ _ h _ _ _ _
+    (rw c.in-Ok.ensures.layout at c.in-Ok-cut_to.ensures.beside) cut c.in-Ok-cut_to.ensures.in_form (c.in-Ok-cut_to.ensures.runs layout.sectors))
+
+pub returns-clause-makes : goal.returns-clause-makes
+returns-clause-makes g c = makes_cut c.in-Ok.ensures.makes c.cut_to.ensures.beside

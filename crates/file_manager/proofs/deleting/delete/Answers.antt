@@ -1,0 +1,202 @@
+use Rattle.std.proofs.Common.{◌≡◌, ◌+◌, ◌*◌, inl, ◌∙◌, arith}
+use Rattle.swapper_kernel.specs.declared.manager.Manager.TheVariants.{FileMap}
+use Rattle.file_map.specs.FileMap.{most_records}
+use Rattle.swapper_kernel.specs.FormLaws.{memory_in_form}
+use Rattle.file_manager.proofs.BookLemmas.{map_is, map_named}
+use Rattle.file_manager.proofs.FreedRun.{map_makes, map_stops}
+use Rattle.file_manager.proofs.DeletedFile.{may_free, size_is, deletes_first, deletes_all, deleted_by, delete_makes, delete_stops, free_stops, told_cost, sized_cost}
+use Rattle.file_manager.proofs.Faults.{counted, counted_then}
+use Rattle.file_manager.proofs.deleting.delete.Goals as goal
+
+pub returns-in-Err-clause-sound : goal.returns-in-Err-clause-sound
+returns-in-Err-clause-sound g c = λ x shapes spaces f books found hidden.
+    let is = c.args.filer.now.swapper.accepted in
+    let b = books.booked in
+    c.in-Err.ensures.sound x b.named books.stands (map_is _ _ shapes x is b) (map_named _ x is b.long b.map_labels)
+
+pub returns-in-Err-clause-first : goal.returns-in-Err-clause-first
+returns-in-Err-clause-first g c = λ x shapes spaces f books found hidden. inl (map_makes c.size.ensures.beside)
+
+pub returns-in-Err-clause-stopped : goal.returns-in-Err-clause-stopped
+returns-in-Err-clause-stopped g c = map_stops c.size.ensures.beside
+
+pub returns-in-Err-free_all-clause-sound : goal.returns-in-Err-free_all-clause-sound
+returns-in-Err-free_all-clause-sound g c = λ x shapes spaces f books found hidden.
+    let layout = c.args.filer.now.swapper.layout in
+    let is = c.args.filer.now.swapper.accepted in
+    let b = books.booked in
+    let map = map_is _ _ shapes x is b in
+    let asked = c.in-Ok.ensures.size x b.named books.stands map in
+    let stands = c.size.ensures.same x b.named books.stands map in
+    let may = may_free layout is c.args.filer.now.runs shapes spaces x _ _ books c.args.id c.requires.client f found hidden _ _ _ _ c.size.ensures.runs c.size.ensures.beside stands c.in-Ok.pages asked in
+    (rw (c.size.ensures.beside.layout) at c.in-Err-free_all.ensures.sound) b.named spaces x may
+
+pub returns-in-Err-free_all-clause-first : goal.returns-in-Err-free_all-clause-first
+returns-in-Err-free_all-clause-first g c = λ x shapes spaces f books found hidden.
+    let layout = c.args.filer.now.swapper.layout in
+    let is = c.args.filer.now.swapper.accepted in
+    let b = books.booked in
+    let map = map_is _ _ shapes x is b in
+    let asked = c.in-Ok.ensures.size x b.named books.stands map in
+    let stands = c.size.ensures.same x b.named books.stands map in
+    let may = may_free layout is c.args.filer.now.runs shapes spaces x _ _ books c.args.id c.requires.client f found hidden _ _ _ _ c.size.ensures.runs c.size.ensures.beside stands c.in-Ok.pages asked in
+    deletes_first layout is c.args.filer.now.runs shapes spaces x _ _ books c.args.id c.requires.client f found hidden _ _ _ _ c.size.ensures.runs c.size.ensures.beside stands c.in-Ok.pages asked
+    ((rw (c.size.ensures.beside.layout) at c.in-Err-free_all.ensures.first) b.named spaces x may)
+
+pub returns-in-Err-free_all-clause-stopped : goal.returns-in-Err-free_all-clause-stopped
+returns-in-Err-free_all-clause-stopped g c = free_stops c.size.ensures.beside c.in-Err-free_all.ensures.stopped
+
+pub returns-in-Err-cut-clause-sound : goal.returns-in-Err-cut-clause-sound
+returns-in-Err-cut-clause-sound g c = λ x shapes spaces f books found hidden.
+    let layout = c.args.filer.now.swapper.layout in
+    let is = c.args.filer.now.swapper.accepted in
+    let b = books.booked in
+    let map = map_is _ _ shapes x is b in
+    let asked = c.in-Ok.ensures.size x b.named books.stands map in
+    let stands = c.size.ensures.same x b.named books.stands map in
+    let may = may_free layout is c.args.filer.now.runs shapes spaces x _ _ books c.args.id c.requires.client f found hidden _ _ _ _ c.size.ensures.runs c.size.ensures.beside stands c.in-Ok.pages asked in
+    let freed = (rw (c.size.ensures.beside.layout) at c.in-Ok-free_all.ensures.freed) b.named spaces x may in
+    let lay : c.free_all.new.filer.swapper.layout ≡ layout = c.in-Ok-free_all.ensures.layout ∙ c.size.ensures.beside.layout in
+    (rw lay at c.in-Err-cut.ensures.sound) freed.memory b.named freed.rest.stands freed.rest.map (freed.rest.map_labels FileMap)
+
+pub returns-in-Err-cut-clause-first : goal.returns-in-Err-cut-clause-first
+returns-in-Err-cut-clause-first g c = λ x shapes spaces f books found hidden.
+    let layout = c.args.filer.now.swapper.layout in
+    let is = c.args.filer.now.swapper.accepted in
+    let b = books.booked in
+    let map = map_is _ _ shapes x is b in
+    let asked = c.in-Ok.ensures.size x b.named books.stands map in
+    let stands = c.size.ensures.same x b.named books.stands map in
+    let may = may_free layout is c.args.filer.now.runs shapes spaces x _ _ books c.args.id c.requires.client f found hidden _ _ _ _ c.size.ensures.runs c.size.ensures.beside stands c.in-Ok.pages asked in
+    let freed = (rw (c.size.ensures.beside.layout) at c.in-Ok-free_all.ensures.freed) b.named spaces x may in
+    let lay : c.free_all.new.filer.swapper.layout ≡ layout = c.in-Ok-free_all.ensures.layout ∙ c.size.ensures.beside.layout in
+    deletes_all layout is c.args.filer.now.runs shapes spaces x _ _ books c.args.id c.requires.client f found hidden _ _ _ _ c.size.ensures.runs c.size.ensures.beside stands c.in-Ok.pages asked _ _ _ freed
+    (rw lay at c.in-Err-cut.ensures.beside)
+
+pub returns-in-Err-cut-clause-stopped : goal.returns-in-Err-cut-clause-stopped
+returns-in-Err-cut-clause-stopped g c =
+    let lay = c.in-Ok-free_all.ensures.layout ∙ c.size.ensures.beside.layout in
+    delete_stops c.in-Ok.pages c.size.ensures.beside c.in-Ok-free_all.ensures.makes (rw lay at c.in-Err-cut.ensures.beside)
+
+pub returns-clause-deleted : goal.returns-clause-deleted
+returns-clause-deleted g c = λ x shapes spaces f books found hidden.
+    let layout = c.args.filer.now.swapper.layout in
+    let is = c.args.filer.now.swapper.accepted in
+    let b = books.booked in
+    let map = map_is _ _ shapes x is b in
+    let asked = c.in-Ok.ensures.size x b.named books.stands map in
+    let stands = c.size.ensures.same x b.named books.stands map in
+    let may = may_free layout is c.args.filer.now.runs shapes spaces x _ _ books c.args.id c.requires.client f found hidden _ _ _ _ c.size.ensures.runs c.size.ensures.beside stands c.in-Ok.pages asked in
+    let freed = (rw (c.size.ensures.beside.layout) at c.in-Ok-free_all.ensures.freed) b.named spaces x may in
+    let lay : c.free_all.new.filer.swapper.layout ≡ layout = c.in-Ok-free_all.ensures.layout ∙ c.size.ensures.beside.layout in
+    let cut = (rw lay at c.in-Ok-cut.ensures.cut) freed.memory b.named freed.rest.stands freed.rest.map in
+    rw c.frames_of-volume.ensures.same
+    (deleted_by layout is c.args.filer.now.runs shapes spaces x _ _ books c.args.id c.requires.client f found hidden _ _ _ _ c.size.ensures.runs c.size.ensures.beside stands c.in-Ok.pages asked _ _ _ freed
+    _ _ _ c.cut.new.self.runs (rw lay at c.in-Ok-cut.ensures.beside) cut (c.in-Ok-cut.ensures.runs layout.sectors)
+    (λ y stood. memory_in_form _ _ y stood (g.met.D.Disk.in_form c.cut.new.self.swapper.under stood.sectors stood.told) c.frames_of-volume.ensures.pages))
+
+pub returns-clause-used : goal.returns-clause-used
+returns-clause-used g c = λ x shapes spaces f books found.
+    let is = c.args.filer.now.swapper.accepted in
+    let b = books.booked in
+    let map = map_is _ _ shapes x is b in
+    let asked = c.in-Ok.ensures.size x b.named books.stands map in
+    let size : c.in-Ok.pages ≡ f.size = size_is _ _ shapes x b c.args.id c.requires.client f found c.in-Ok.pages asked in
+    omega (arith, size)
+
+pub returns-clause-makes : goal.returns-clause-makes
+returns-clause-makes g c =
+    let lay = c.in-Ok-free_all.ensures.layout ∙ c.size.ensures.beside.layout in
+    rw c.frames_of-volume.ensures.same (c.in-Ok.pages, delete_makes c.in-Ok.pages c.size.ensures.beside c.in-Ok-free_all.ensures.makes (rw lay at c.in-Ok-cut.ensures.beside))
+
+pub returns-in-Err-free_all-clause-cost_told : goal.returns-in-Err-free_all-clause-cost_told
+returns-in-Err-free_all-clause-cost_told g c = λ x shapes spaces f books found.
+    let layout = c.args.filer.now.swapper.layout in
+    let is = c.args.filer.now.swapper.accepted in
+    let b = books.booked in
+    let map = map_is _ _ shapes x is b in
+    let asked = c.in-Ok.ensures.size x b.named books.stands map in
+    let size : c.in-Ok.pages ≡ f.size = size_is _ _ shapes x b c.args.id c.requires.client f found c.in-Ok.pages asked in
+    let two = rw (c.size.ensures.beside.layout) at c.free_all.ensures.cost in
+    told_cost (g.D.Disk.state c.args.filer.now.swapper.under).transfers (g.D.Disk.state c.size.new.self.swapper.under).transfers (g.D.Disk.state c.free_all.new.filer.swapper.under).transfers (g.D.Disk.state c.free_all.new.filer.swapper.under).transfers f.size c.in-Ok.pages (16 + 4 * layout.vam) (2 * (1 + 51 * most_records layout.sectors)) size c.size.ensures.cost two (omega arith)
+
+pub returns-in-Err-cut-clause-cost_told : goal.returns-in-Err-cut-clause-cost_told
+returns-in-Err-cut-clause-cost_told g c = λ x shapes spaces f books found.
+    let layout = c.args.filer.now.swapper.layout in
+    let is = c.args.filer.now.swapper.accepted in
+    let b = books.booked in
+    let map = map_is _ _ shapes x is b in
+    let asked = c.in-Ok.ensures.size x b.named books.stands map in
+    let size : c.in-Ok.pages ≡ f.size = size_is _ _ shapes x b c.args.id c.requires.client f found c.in-Ok.pages asked in
+    let two = rw (c.size.ensures.beside.layout) at c.free_all.ensures.cost in
+    let lay : c.free_all.new.filer.swapper.layout ≡ layout = c.free_all.ensures.layout ∙ c.size.ensures.beside.layout in
+    let three = rw lay at c.cut.ensures.cost in
+    told_cost (g.D.Disk.state c.args.filer.now.swapper.under).transfers (g.D.Disk.state c.size.new.self.swapper.under).transfers (g.D.Disk.state c.free_all.new.filer.swapper.under).transfers (g.D.Disk.state c.cut.new.self.swapper.under).transfers f.size c.in-Ok.pages (16 + 4 * layout.vam) (2 * (1 + 51 * most_records layout.sectors)) size c.size.ensures.cost two three
+
+pub returns-clause-cost_told : goal.returns-clause-cost_told
+returns-clause-cost_told g c = λ x shapes spaces f books found.
+    let layout = c.args.filer.now.swapper.layout in
+    let is = c.args.filer.now.swapper.accepted in
+    let b = books.booked in
+    let map = map_is _ _ shapes x is b in
+    let asked = c.in-Ok.ensures.size x b.named books.stands map in
+    let size : c.in-Ok.pages ≡ f.size = size_is _ _ shapes x b c.args.id c.requires.client f found c.in-Ok.pages asked in
+    let two = rw (c.size.ensures.beside.layout) at c.free_all.ensures.cost in
+    let lay : c.free_all.new.filer.swapper.layout ≡ layout = c.free_all.ensures.layout ∙ c.size.ensures.beside.layout in
+    let three = rw lay at c.cut.ensures.cost in
+    rw c.frames_of-volume.ensures.same (told_cost (g.D.Disk.state c.args.filer.now.swapper.under).transfers (g.D.Disk.state c.size.new.self.swapper.under).transfers (g.D.Disk.state c.free_all.new.filer.swapper.under).transfers (g.D.Disk.state c.cut.new.self.swapper.under).transfers f.size c.in-Ok.pages (16 + 4 * layout.vam) (2 * (1 + 51 * most_records layout.sectors)) size c.size.ensures.cost two three)
+
+pub returns-in-Err-clause-counted : goal.returns-in-Err-clause-counted
+returns-in-Err-clause-counted g c = counted _ _ (g.D.Disk.state c.args.filer.now.swapper.under) (g.D.Disk.state c.size.new.self.swapper.under) _ (omega arith) c.in-Err.ensures.cause
+
+pub returns-in-Err-free_all-clause-counted : goal.returns-in-Err-free_all-clause-counted
+returns-in-Err-free_all-clause-counted g c = counted_then _ _ _ (map_makes c.size.ensures.beside).went.faults c.in-Err-free_all.ensures.counted
+
+pub returns-in-Err-cut-clause-counted : goal.returns-in-Err-cut-clause-counted
+returns-in-Err-cut-clause-counted g c =
+    let first = (map_makes c.size.ensures.beside).went.faults in
+    let second = c.in-Ok-free_all.ensures.makes.makes.went.faults in
+    counted _ _ (g.D.Disk.state c.free_all.new.filer.swapper.under) (g.D.Disk.state c.cut.new.self.swapper.under) _ (omega (arith, first, second)) c.in-Err-cut.ensures.cause
+
+pub returns-in-Err-free_all-clause-cost_sized : goal.returns-in-Err-free_all-clause-cost_sized
+returns-in-Err-free_all-clause-cost_sized g c = λ x shapes spaces f books found hidden.
+    let layout = c.args.filer.now.swapper.layout in
+    let is = c.args.filer.now.swapper.accepted in
+    let b = books.booked in
+    let map = map_is _ _ shapes x is b in
+    let asked = c.in-Ok.ensures.size x b.named books.stands map in
+    let size : c.in-Ok.pages ≡ f.size = size_is _ _ shapes x b c.args.id c.requires.client f found c.in-Ok.pages asked in
+    let two = rw (c.size.ensures.beside.layout) at c.free_all.ensures.cost in
+    sized_cost (g.D.Disk.state c.args.filer.now.swapper.under).transfers (g.D.Disk.state c.size.new.self.swapper.under).transfers (g.D.Disk.state c.free_all.new.filer.swapper.under).transfers (g.D.Disk.state c.free_all.new.filer.swapper.under).transfers f.size c.in-Ok.pages (16 + 4 * layout.vam) size c.size.ensures.cost two (omega arith)
+
+pub returns-in-Err-cut-clause-cost_sized : goal.returns-in-Err-cut-clause-cost_sized
+returns-in-Err-cut-clause-cost_sized g c = λ x shapes spaces f books found hidden.
+    let layout = c.args.filer.now.swapper.layout in
+    let is = c.args.filer.now.swapper.accepted in
+    let b = books.booked in
+    let map = map_is _ _ shapes x is b in
+    let asked = c.in-Ok.ensures.size x b.named books.stands map in
+    let size : c.in-Ok.pages ≡ f.size = size_is _ _ shapes x b c.args.id c.requires.client f found c.in-Ok.pages asked in
+    let two = rw (c.size.ensures.beside.layout) at c.free_all.ensures.cost in
+    let stands = c.size.ensures.same x b.named books.stands map in
+    let may = may_free layout is c.args.filer.now.runs shapes spaces x _ _ books c.args.id c.requires.client f found hidden _ _ _ _ c.size.ensures.runs c.size.ensures.beside stands c.in-Ok.pages asked in
+    let freed = (rw (c.size.ensures.beside.layout) at c.in-Ok-free_all.ensures.freed) b.named spaces x may in
+    let lay : c.free_all.new.filer.swapper.layout ≡ layout = c.in-Ok-free_all.ensures.layout ∙ c.size.ensures.beside.layout in
+    let three = (rw lay at c.cut.ensures.cost_sized) freed.memory b.named c.in-Ok.pages freed.rest.stands freed.rest.map asked in
+    sized_cost (g.D.Disk.state c.args.filer.now.swapper.under).transfers (g.D.Disk.state c.size.new.self.swapper.under).transfers (g.D.Disk.state c.free_all.new.filer.swapper.under).transfers (g.D.Disk.state c.cut.new.self.swapper.under).transfers f.size c.in-Ok.pages (16 + 4 * layout.vam) size c.size.ensures.cost two three
+
+pub returns-clause-cost_sized : goal.returns-clause-cost_sized
+returns-clause-cost_sized g c = λ x shapes spaces f books found hidden.
+    let layout = c.args.filer.now.swapper.layout in
+    let is = c.args.filer.now.swapper.accepted in
+    let b = books.booked in
+    let map = map_is _ _ shapes x is b in
+    let asked = c.in-Ok.ensures.size x b.named books.stands map in
+    let size : c.in-Ok.pages ≡ f.size = size_is _ _ shapes x b c.args.id c.requires.client f found c.in-Ok.pages asked in
+    let two = rw (c.size.ensures.beside.layout) at c.free_all.ensures.cost in
+    let stands = c.size.ensures.same x b.named books.stands map in
+    let may = may_free layout is c.args.filer.now.runs shapes spaces x _ _ books c.args.id c.requires.client f found hidden _ _ _ _ c.size.ensures.runs c.size.ensures.beside stands c.in-Ok.pages asked in
+    let freed = (rw (c.size.ensures.beside.layout) at c.in-Ok-free_all.ensures.freed) b.named spaces x may in
+    let lay : c.free_all.new.filer.swapper.layout ≡ layout = c.in-Ok-free_all.ensures.layout ∙ c.size.ensures.beside.layout in
+    let three = (rw lay at c.cut.ensures.cost_sized) freed.memory b.named c.in-Ok.pages freed.rest.stands freed.rest.map asked in
+    rw c.frames_of-volume.ensures.same (sized_cost (g.D.Disk.state c.args.filer.now.swapper.under).transfers (g.D.Disk.state c.size.new.self.swapper.under).transfers (g.D.Disk.state c.free_all.new.filer.swapper.under).transfers (g.D.Disk.state c.cut.new.self.swapper.under).transfers f.size c.in-Ok.pages (16 + 4 * layout.vam) size c.size.ensures.cost two three)

@@ -1,0 +1,130 @@
+use Rattle.std.proofs.Common.{◌≡◌, ◌≤◌, ◌<◌, ℕ, Option, sym, ◌∙◌, ap, subst, rules, arith}
+use Rattle.std.specs.Prelude.{IfSome}
+use Rattle.labelled_disk.specs.declared.layout.Layout.{Layout}
+use Rattle.swapper_kernel.specs.declared.manager.Manager.TheVariants.{FileMap}
+use Rattle.swapper_kernel.specs.GoesLaws.{makes_then}
+use Rattle.swapper_kernel.specs.HaltLaws.{brings_then}
+use Rattle.swapper_kernel.specs.Homes.{IsLayout}
+use Rattle.swapper_kernel.specs.Stands.{labels_of}
+use Rattle.filer_kernel.specs.declared.cached.CachedRuns.{CachedRuns}
+use Rattle.filer_kernel.specs.Cached.{runs_of}
+use Rattle.filer_kernel.specs.Triples.{AreOf}
+use Rattle.file_manager.specs.Answer.{IsLeaderOf}
+use Rattle.file_manager.proofs.BookLemmas.{map_is, kept_are, map_named, own_maps, books_stay}
+use Rattle.file_manager.proofs.FreedRun.{map_makes, map_brings}
+use Rattle.file_manager.proofs.MarkLemmas.{leader_one}
+use Rattle.file_manager.proofs.FindingLemmas.{shape_by_leader, leader_halts, no_leader_before, map_halts_before, books_read, read_makes, read_map_brings, read_bytes, read_brings}
+use Rattle.file_manager.proofs.finding.find_file.Goals as goal
+
+pub returns-in-Ok-None-clause-told : goal.returns-in-Ok-None-clause-told
+returns-in-Ok-None-clause-told g c = λ x shapes spaces books. subst (IsLeaderOf (labels_of x) shapes c.args.id) c.in-Ok-None.field-0-is (c.in-Ok-None.ensures.told x shapes spaces books)
+
+pub returns-in-Err-clause-told : goal.returns-in-Err-clause-told
+returns-in-Err-clause-told g c = λ x shapes spaces books. c.in-Err.ensures.told x shapes spaces books
+
+pub returns-in-Err-clause-cause : goal.returns-in-Err-clause-cause
+returns-in-Err-clause-cause g c = leader_halts _ c.args.id (g.D.Disk.state c.args.filer.now.swapper.under) (g.D.Disk.state c.leader_of.new.filer.swapper.under) _ _ c.in-Err.ensures.cause
+
+pub leader_label-requires : goal.leader_label-requires
+leader_label-requires g c =
+    let at = subst (λ (o : Option ℕ). IfSome o (λ sector. (c.args.filer.now.swapper.layout.first ≤ sector) × (sector < c.args.filer.now.swapper.layout.sectors))) c.in-Ok-Some.field-0-is c.in-Ok-Some.ensures.place in
+    let below = at.1 in
+    let size = c.leader_of.ensures.makes.went.sectors ∙ c.requires.size in
+    omega (arith, below, size)
+
+pub returns-in-Err-leader_label-clause-told : goal.returns-in-Err-leader_label-clause-told
+returns-in-Err-leader_label-clause-told g c = λ x shapes spaces books.
+    let now = c.leader_of.ensures.same x shapes spaces books in
+    let triple = subst (IsLeaderOf (labels_of x) shapes c.args.id) c.in-Ok-Some.field-0-is (c.in-Ok-Some.ensures.told x shapes spaces books) in
+    c.in-Err-leader_label.ensures.sound x now.stands (leader_one _ _ shapes x books.booked c.args.id c.in-Ok-Some.sector c.requires.client triple)
+
+pub returns-in-Err-leader_label-clause-same : goal.returns-in-Err-leader_label-clause-same
+returns-in-Err-leader_label-clause-same g c = λ x shapes spaces books.
+    books_read c.leader_label.ensures.same c.leader_label.ensures.frames c.leader_label.ensures.runs (c.leader_of.ensures.same x shapes spaces books)
+
+pub returns-in-Err-leader_label-clause-makes : goal.returns-in-Err-leader_label-clause-makes
+returns-in-Err-leader_label-clause-makes g c = read_makes c.leader_of.ensures.beside c.leader_label.ensures.same c.leader_label.ensures.makes c.leader_label.ensures.frames
+
+pub returns-in-Err-leader_label-clause-brings : goal.returns-in-Err-leader_label-clause-brings
+returns-in-Err-leader_label-clause-brings g c = read_brings c.leader_of.ensures.beside c.leader_label.ensures.same c.leader_label.ensures.makes c.leader_label.ensures.frames
+
+pub returns-in-Err-leader_label-clause-cause : goal.returns-in-Err-leader_label-clause-cause
+returns-in-Err-leader_label-clause-cause g c =
+    let at = subst (λ (o : Option ℕ). IfSome o (λ sector. (c.args.filer.now.swapper.layout.first ≤ sector) × (sector < c.args.filer.now.swapper.layout.sectors))) c.in-Ok-Some.field-0-is c.in-Ok-Some.ensures.place in
+    no_leader_before c.args.filer.now.swapper.layout c.leader_of.ensures.makes c.args.id c.in-Ok-Some.sector at.0 at.1 (g.D.Disk.state c.leader_label.new.filer.swapper.under) _ c.in-Err-leader_label.ensures.cause
+
+pub size-requires : goal.size-requires
+size-requires g c =
+    let lay : c.leader_label.new.filer.swapper.layout.sectors ≡ c.args.filer.now.swapper.layout.sectors = ap (λ (l : Layout). l.sectors) (c.leader_label.ensures.layout ∙ c.leader_of.ensures.layout) in
+    record { sectors = c.leader_label.ensures.makes.went.sectors ∙ c.leader_of.ensures.makes.went.sectors ∙ c.requires.size ∙ sym lay }
+
+pub returns-in-Ok-size-clause-told : goal.returns-in-Ok-size-clause-told
+returns-in-Ok-size-clause-told g c = λ x shapes spaces books.
+    let layout = c.args.filer.now.swapper.layout in
+    let is : IsLayout layout = c.args.filer.now.swapper.accepted in
+    let lay : c.leader_label.new.filer.swapper.layout ≡ layout = c.leader_label.ensures.layout ∙ c.leader_of.ensures.layout in
+    let mid = c.leader_of.ensures.same x shapes spaces books in
+    let now = books_read c.leader_label.ensures.same c.leader_label.ensures.frames c.leader_label.ensures.runs mid in
+    let triple = subst (IsLeaderOf (labels_of x) shapes c.args.id) c.in-Ok-Some.field-0-is (c.in-Ok-Some.ensures.told x shapes spaces books) in
+    let size = (rw lay at c.in-Ok-size.ensures.size) x now.booked.named now.stands (map_is _ _ shapes x is now.booked) in
+    (triple, shape_by_leader layout _ shapes x now.booked c.args.id c.requires.client _ _ c.in-Ok-Some.sector _ _ mid.stands triple c.in-Ok.ensures.found size)
+
+pub returns-in-Ok-size-clause-same : goal.returns-in-Ok-size-clause-same
+returns-in-Ok-size-clause-same g c = λ x shapes spaces books.
+    let layout = c.args.filer.now.swapper.layout in
+    let is : IsLayout layout = c.args.filer.now.swapper.accepted in
+    let lay : c.leader_label.new.filer.swapper.layout ≡ layout = c.leader_label.ensures.layout ∙ c.leader_of.ensures.layout in
+    let mid = c.leader_of.ensures.same x shapes spaces books in
+    let now = books_read c.leader_label.ensures.same c.leader_label.ensures.frames c.leader_label.ensures.runs mid in
+    let map = map_is _ _ shapes x is now.booked in
+    books_stay _ _ _ _ _ _ _ shapes spaces x now ((rw lay at c.size.ensures.same) x now.booked.named now.stands map) (own_maps FileMap layout _ _ (rw lay at c.size.ensures.beside).brings)
+    (subst (λ (r : CachedRuns). AreOf now.booked.named (runs_of layout.sectors r)) (sym c.size.ensures.runs) (kept_are _ _ shapes x is now.booked))
+
+pub returns-in-Ok-size-clause-place : goal.returns-in-Ok-size-clause-place
+returns-in-Ok-size-clause-place g c = subst (λ (o : Option ℕ). IfSome o (λ sector. (c.args.filer.now.swapper.layout.first ≤ sector) × (sector < c.args.filer.now.swapper.layout.sectors))) c.in-Ok-Some.field-0-is c.in-Ok-Some.ensures.place
+
+pub returns-in-Ok-size-clause-makes : goal.returns-in-Ok-size-clause-makes
+returns-in-Ok-size-clause-makes g c = makes_then (read_makes c.leader_of.ensures.beside c.leader_label.ensures.same c.leader_label.ensures.makes c.leader_label.ensures.frames) (map_makes c.size.ensures.beside)
+
+pub returns-in-Ok-size-clause-brings : goal.returns-in-Ok-size-clause-brings
+returns-in-Ok-size-clause-brings g c = brings_then (read_brings c.leader_of.ensures.beside c.leader_label.ensures.same c.leader_label.ensures.makes c.leader_label.ensures.frames) (map_brings c.size.ensures.beside)
+
+pub returns-in-Err-size-clause-told : goal.returns-in-Err-size-clause-told
+returns-in-Err-size-clause-told g c = λ x shapes spaces books.
+    let layout = c.args.filer.now.swapper.layout in
+    let is : IsLayout layout = c.args.filer.now.swapper.accepted in
+    let lay : c.leader_label.new.filer.swapper.layout ≡ layout = c.leader_label.ensures.layout ∙ c.leader_of.ensures.layout in
+    let mid = c.leader_of.ensures.same x shapes spaces books in
+    let now = books_read c.leader_label.ensures.same c.leader_label.ensures.frames c.leader_label.ensures.runs mid in
+    let b = now.booked in
+    (rw lay at c.in-Err-size.ensures.sound) x b.named now.stands (map_is _ _ shapes x is b) (map_named _ x is b.long b.map_labels)
+
+pub returns-in-Err-size-clause-same : goal.returns-in-Err-size-clause-same
+returns-in-Err-size-clause-same g c = λ x shapes spaces books.
+    let layout = c.args.filer.now.swapper.layout in
+    let is : IsLayout layout = c.args.filer.now.swapper.accepted in
+    let lay : c.leader_label.new.filer.swapper.layout ≡ layout = c.leader_label.ensures.layout ∙ c.leader_of.ensures.layout in
+    let mid = c.leader_of.ensures.same x shapes spaces books in
+    let now = books_read c.leader_label.ensures.same c.leader_label.ensures.frames c.leader_label.ensures.runs mid in
+    let map = map_is _ _ shapes x is now.booked in
+    books_stay _ _ _ _ _ _ _ shapes spaces x now ((rw lay at c.size.ensures.same) x now.booked.named now.stands map) (own_maps FileMap layout _ _ (rw lay at c.size.ensures.beside).brings)
+    (subst (λ (r : CachedRuns). AreOf now.booked.named (runs_of layout.sectors r)) (sym c.size.ensures.runs) (kept_are _ _ shapes x is now.booked))
+
+pub returns-in-Err-size-clause-makes : goal.returns-in-Err-size-clause-makes
+returns-in-Err-size-clause-makes g c = makes_then (read_makes c.leader_of.ensures.beside c.leader_label.ensures.same c.leader_label.ensures.makes c.leader_label.ensures.frames) (map_makes c.size.ensures.beside)
+
+pub returns-in-Err-size-clause-brings : goal.returns-in-Err-size-clause-brings
+returns-in-Err-size-clause-brings g c = brings_then (read_brings c.leader_of.ensures.beside c.leader_label.ensures.same c.leader_label.ensures.makes c.leader_label.ensures.frames) (map_brings c.size.ensures.beside)
+
+pub returns-in-Err-size-clause-cause : goal.returns-in-Err-size-clause-cause
+returns-in-Err-size-clause-cause g c =
+    let layout = c.args.filer.now.swapper.layout in
+    let lay : c.leader_label.new.filer.swapper.layout ≡ layout = c.leader_label.ensures.layout ∙ c.leader_of.ensures.layout in
+    let beside = c.leader_of.ensures.beside in
+    let told = c.leader_label.ensures.same in
+    let read = c.leader_label.ensures.makes in
+    let frames = c.leader_label.ensures.frames in
+    map_halts_before layout (read_makes beside told read frames) (read_map_brings beside told read frames) (read_bytes beside told read frames c.leader_of.ensures.same_bytes) c.args.id (g.D.Disk.state c.size.new.self.swapper.under) _ (rw lay at c.in-Err-size.ensures.cause)
+
+pub returns-in-Ok-None-clause-missing : goal.returns-in-Ok-None-clause-missing
+returns-in-Ok-None-clause-missing g c none = c.in-Ok-None.ensures.missing (search rules)

@@ -1,0 +1,13 @@
+use Rattle.std.proofs.Common.{◌≡◌, true, false, sym, ◌∙◌, rules}
+use Rattle.std.proofs.lemmas.Bool.{true≢false}
+use Rattle.labelled_disk.specs.Label.{names, leader_page}
+use Rattle.label_calls.specs.Labels.{ones_of}
+use Rattle.label_calls.proofs.RelabelLemmas.{in_memory}
+use Rattle.file_manager.proofs.finding.leader_label.Goals as goal
+
+pub returns-then-not-names-clause-sound : goal.returns-then-not-names-clause-sound
+returns-then-not-names-clause-sound g c = λ m stands one.
+    let named : names c.in-Ok.found (record { id = c.args.id; page = leader_page }) ≡ true =
+    in_memory (ones_of (record { id = c.args.id; page = leader_page })) _ _ _ c.in-Ok.found m (rw c.swapper_over-swapper.ensures.value at c.in-Ok.ensures.found) stands one in
+    let other : names c.in-Ok.found (record { id = c.args.id; page = leader_page }) ≡ false = search rules in
+    absurd (true≢false (sym named ∙ other))

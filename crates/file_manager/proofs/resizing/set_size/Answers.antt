@@ -1,0 +1,282 @@
+use Rattle.std.proofs.Common.{◌≡◌, ◌+◌, ◌-◌, ◌*◌, ◌<◌, ◌≤◌, sym, ◌∙◌, ap, subst, arith, rules}
+use Rattle.std.proofs.lemmas.Option.{none-some}
+use Rattle.file_map.specs.FileMap.{most_records}
+use Rattle.swapper_kernel.specs.Stands.{labels_of}
+use Rattle.session_words.specs.Parts.{Shape}
+use Rattle.file_manager.specs.Finding.{IsFoundFile, shape_of_leader}
+use Rattle.file_manager.proofs.CountedLemmas.{of_answer, rose_after}
+use Rattle.file_manager.proofs.Faults.{counted, counted_then, no_fault}
+use Rattle.file_manager.proofs.NextLemmas.{file_id}
+use Rattle.file_manager.proofs.SizeSteps.{shape_is, may_grow_now, may_shrink_now, grown_told, shrunk_told, grew_told, some_told, grew_none, some_none, grown_makes, grown_stops, shrunk_makes, shrunk_stops, none_resized, room_grown, room_shrunk, grow_cost, shrink_cost}
+use Rattle.file_manager.proofs.resizing.set_size.Goals as goal
+
+pub find_file-requires-clause-client : goal.find_file-requires-clause-client
+find_file-requires-clause-client g c = file_id c.args.id c.requires.of_file
+
+pub returns-in-Ok-None-clause-sound_grown : goal.returns-in-Ok-None-clause-sound_grown
+returns-in-Ok-None-clause-sound_grown g c = λ x shapes spaces f may few.
+    let none = subst (IsFoundFile (labels_of x) shapes c.args.id) c.in-Ok-None.field-0-is (c.in-Ok-None.ensures.told x shapes spaces may.books) in
+    absurd (none-some f (sym none ∙ may.found))
+
+pub returns-in-Ok-None-clause-sound_shrunk : goal.returns-in-Ok-None-clause-sound_shrunk
+returns-in-Ok-None-clause-sound_shrunk g c = λ x shapes spaces f may.
+    let none = subst (IsFoundFile (labels_of x) shapes c.args.id) c.in-Ok-None.field-0-is (c.in-Ok-None.ensures.told x shapes spaces may.books) in
+    absurd (none-some f (sym none ∙ may.found))
+
+pub returns-in-Ok-None-clause-broken_grown : goal.returns-in-Ok-None-clause-broken_grown
+returns-in-Ok-None-clause-broken_grown g c = λ x shapes spaces f may few.
+    let none = subst (IsFoundFile (labels_of x) shapes c.args.id) c.in-Ok-None.field-0-is (c.in-Ok-None.ensures.told x shapes spaces may.books) in
+    absurd (none-some f (sym none ∙ may.found))
+
+pub returns-in-Ok-None-clause-broken_shrunk : goal.returns-in-Ok-None-clause-broken_shrunk
+returns-in-Ok-None-clause-broken_shrunk g c = λ x shapes spaces f may.
+    let none = subst (IsFoundFile (labels_of x) shapes c.args.id) c.in-Ok-None.field-0-is (c.in-Ok-None.ensures.told x shapes spaces may.books) in
+    absurd (none-some f (sym none ∙ may.found))
+
+pub returns-in-Ok-None-clause-stopped : goal.returns-in-Ok-None-clause-stopped
+returns-in-Ok-None-clause-stopped g c = none_resized c.args.id c.args.pages c.find_file.ensures.makes
+
+pub returns-in-Err-clause-sound_grown : goal.returns-in-Err-clause-sound_grown
+returns-in-Err-clause-sound_grown g c = λ x shapes spaces f may few. c.in-Err.ensures.told x shapes spaces may.books
+
+pub returns-in-Err-clause-sound_shrunk : goal.returns-in-Err-clause-sound_shrunk
+returns-in-Err-clause-sound_shrunk g c = λ x shapes spaces f may. c.in-Err.ensures.told x shapes spaces may.books
+
+pub returns-in-Err-clause-broken_grown : goal.returns-in-Err-clause-broken_grown
+returns-in-Err-clause-broken_grown g c = λ x shapes spaces f may few. grew_none c.find_file.ensures.makes
+
+pub returns-in-Err-clause-broken_shrunk : goal.returns-in-Err-clause-broken_shrunk
+returns-in-Err-clause-broken_shrunk g c = λ x shapes spaces f may. some_none c.find_file.ensures.makes
+
+pub returns-in-Err-clause-stopped : goal.returns-in-Err-clause-stopped
+returns-in-Err-clause-stopped g c = none_resized c.args.id c.args.pages c.find_file.ensures.makes
+
+pub returns-in-Ok-clause-grown : goal.returns-in-Ok-clause-grown
+returns-in-Ok-clause-grown g c = λ x shapes spaces f may few.
+    let told = subst (IsFoundFile (labels_of x) shapes c.args.id) c.in-Ok-Some.field-0-is (c.in-Ok-Some.ensures.told x shapes spaces may.books) in
+    let same : f ≡ shape_of_leader c.in-Ok-Some.file.leader c.in-Ok-Some.file.pages = shape_is shapes c.args.id f c.in-Ok-Some.file.leader c.in-Ok-Some.file.pages may.found told.1 in
+    let now = c.find_file.ensures.same x shapes spaces may.books in
+    grown_told may.books now c.find_file.ensures.makes c.find_file.ensures.brings f c.in-Ok-Some.file.leader c.in-Ok-Some.file.pages same c.args.id c.args.pages
+    ((rw c.find_file.ensures.layout at c.in-Ok.ensures.grown) x shapes spaces f (may_grow_now may.books now may) (ap (λ (w : Shape). w.size) same))
+
+pub returns-in-Ok-clause-shrunk : goal.returns-in-Ok-clause-shrunk
+returns-in-Ok-clause-shrunk g c = λ x shapes spaces f may.
+    let told = subst (IsFoundFile (labels_of x) shapes c.args.id) c.in-Ok-Some.field-0-is (c.in-Ok-Some.ensures.told x shapes spaces may.books) in
+    let same : f ≡ shape_of_leader c.in-Ok-Some.file.leader c.in-Ok-Some.file.pages = shape_is shapes c.args.id f c.in-Ok-Some.file.leader c.in-Ok-Some.file.pages may.found told.1 in
+    let now = c.find_file.ensures.same x shapes spaces may.books in
+    let here : c.in-Ok-Some.file.pages ≤ c.args.pages = search rules in
+    let size = ap (λ (w : Shape). w.size) same in
+    let fewer = may.fewer in
+    absurd (omega (arith, here, size, fewer))
+
+pub returns-in-Ok-clause-used_grown : goal.returns-in-Ok-clause-used_grown
+returns-in-Ok-clause-used_grown g c = λ x shapes spaces f may few.
+    let told = subst (IsFoundFile (labels_of x) shapes c.args.id) c.in-Ok-Some.field-0-is (c.in-Ok-Some.ensures.told x shapes spaces may.books) in
+    let same : f ≡ shape_of_leader c.in-Ok-Some.file.leader c.in-Ok-Some.file.pages = shape_is shapes c.args.id f c.in-Ok-Some.file.leader c.in-Ok-Some.file.pages may.found told.1 in
+    let now = c.find_file.ensures.same x shapes spaces may.books in
+    rw (ap (λ (w : Shape). w.size) same) c.in-Ok.ensures.used
+
+pub returns-in-Ok-clause-used_shrunk : goal.returns-in-Ok-clause-used_shrunk
+returns-in-Ok-clause-used_shrunk g c = λ x shapes spaces f may.
+    let told = subst (IsFoundFile (labels_of x) shapes c.args.id) c.in-Ok-Some.field-0-is (c.in-Ok-Some.ensures.told x shapes spaces may.books) in
+    let same : f ≡ shape_of_leader c.in-Ok-Some.file.leader c.in-Ok-Some.file.pages = shape_is shapes c.args.id f c.in-Ok-Some.file.leader c.in-Ok-Some.file.pages may.found told.1 in
+    let now = c.find_file.ensures.same x shapes spaces may.books in
+    let here : c.in-Ok-Some.file.pages ≤ c.args.pages = search rules in
+    let size = ap (λ (w : Shape). w.size) same in
+    let fewer = may.fewer in
+    absurd (omega (arith, here, size, fewer))
+
+pub returns-in-Ok-clause-makes : goal.returns-in-Ok-clause-makes
+returns-in-Ok-clause-makes g c = let here : c.in-Ok-Some.file.pages ≤ c.args.pages = search rules in grown_makes c.find_file.ensures.makes c.args.id c.in-Ok-Some.file.leader.kind c.in-Ok-Some.file.pages c.args.pages here c.in-Ok.ensures.makes
+
+pub returns-in-Err-grow-clause-sound_grown : goal.returns-in-Err-grow-clause-sound_grown
+returns-in-Err-grow-clause-sound_grown g c = λ x shapes spaces f may few.
+    let told = subst (IsFoundFile (labels_of x) shapes c.args.id) c.in-Ok-Some.field-0-is (c.in-Ok-Some.ensures.told x shapes spaces may.books) in
+    let same : f ≡ shape_of_leader c.in-Ok-Some.file.leader c.in-Ok-Some.file.pages = shape_is shapes c.args.id f c.in-Ok-Some.file.leader c.in-Ok-Some.file.pages may.found told.1 in
+    let now = c.find_file.ensures.same x shapes spaces may.books in
+    (rw c.find_file.ensures.layout at c.in-Err-grow.ensures.sound) x shapes spaces f (may_grow_now may.books now may) (ap (λ (w : Shape). w.size) same)
+
+pub returns-in-Err-grow-clause-sound_shrunk : goal.returns-in-Err-grow-clause-sound_shrunk
+returns-in-Err-grow-clause-sound_shrunk g c = λ x shapes spaces f may.
+    let told = subst (IsFoundFile (labels_of x) shapes c.args.id) c.in-Ok-Some.field-0-is (c.in-Ok-Some.ensures.told x shapes spaces may.books) in
+    let same : f ≡ shape_of_leader c.in-Ok-Some.file.leader c.in-Ok-Some.file.pages = shape_is shapes c.args.id f c.in-Ok-Some.file.leader c.in-Ok-Some.file.pages may.found told.1 in
+    let now = c.find_file.ensures.same x shapes spaces may.books in
+    let here : c.in-Ok-Some.file.pages ≤ c.args.pages = search rules in
+    let size = ap (λ (w : Shape). w.size) same in
+    let fewer = may.fewer in
+    absurd (omega (arith, here, size, fewer))
+
+pub returns-in-Err-grow-clause-broken_grown : goal.returns-in-Err-grow-clause-broken_grown
+returns-in-Err-grow-clause-broken_grown g c = λ x shapes spaces f may few.
+    let told = subst (IsFoundFile (labels_of x) shapes c.args.id) c.in-Ok-Some.field-0-is (c.in-Ok-Some.ensures.told x shapes spaces may.books) in
+    let same : f ≡ shape_of_leader c.in-Ok-Some.file.leader c.in-Ok-Some.file.pages = shape_is shapes c.args.id f c.in-Ok-Some.file.leader c.in-Ok-Some.file.pages may.found told.1 in
+    let now = c.find_file.ensures.same x shapes spaces may.books in
+    grew_told c.find_file.ensures.makes f c.in-Ok-Some.file.leader c.in-Ok-Some.file.pages same c.args.id c.args.pages
+    ((rw c.find_file.ensures.layout at c.in-Err-grow.ensures.broken) x shapes spaces f (may_grow_now may.books now may) (ap (λ (w : Shape). w.size) same))
+
+pub returns-in-Err-grow-clause-broken_shrunk : goal.returns-in-Err-grow-clause-broken_shrunk
+returns-in-Err-grow-clause-broken_shrunk g c = λ x shapes spaces f may.
+    let told = subst (IsFoundFile (labels_of x) shapes c.args.id) c.in-Ok-Some.field-0-is (c.in-Ok-Some.ensures.told x shapes spaces may.books) in
+    let same : f ≡ shape_of_leader c.in-Ok-Some.file.leader c.in-Ok-Some.file.pages = shape_is shapes c.args.id f c.in-Ok-Some.file.leader c.in-Ok-Some.file.pages may.found told.1 in
+    let now = c.find_file.ensures.same x shapes spaces may.books in
+    let here : c.in-Ok-Some.file.pages ≤ c.args.pages = search rules in
+    let size = ap (λ (w : Shape). w.size) same in
+    let fewer = may.fewer in
+    absurd (omega (arith, here, size, fewer))
+
+pub returns-in-Err-grow-clause-stopped : goal.returns-in-Err-grow-clause-stopped
+returns-in-Err-grow-clause-stopped g c = grown_stops c.find_file.ensures.makes c.args.id c.in-Ok-Some.file.leader.kind c.in-Ok-Some.file.pages c.args.pages c.in-Err-grow.ensures.stopped
+
+pub returns-in-Ok-shrink-clause-shrunk : goal.returns-in-Ok-shrink-clause-shrunk
+returns-in-Ok-shrink-clause-shrunk g c = λ x shapes spaces f may.
+    let told = subst (IsFoundFile (labels_of x) shapes c.args.id) c.in-Ok-Some.field-0-is (c.in-Ok-Some.ensures.told x shapes spaces may.books) in
+    let same : f ≡ shape_of_leader c.in-Ok-Some.file.leader c.in-Ok-Some.file.pages = shape_is shapes c.args.id f c.in-Ok-Some.file.leader c.in-Ok-Some.file.pages may.found told.1 in
+    let now = c.find_file.ensures.same x shapes spaces may.books in
+    shrunk_told may.books now c.find_file.ensures.makes c.find_file.ensures.brings f c.in-Ok-Some.file.leader c.in-Ok-Some.file.pages same c.args.id c.args.pages
+    ((rw c.find_file.ensures.layout at c.in-Ok-shrink.ensures.shrunk) x shapes spaces f (may_shrink_now may.books now may) (ap (λ (w : Shape). w.size) same) told.0)
+
+pub returns-in-Ok-shrink-clause-grown : goal.returns-in-Ok-shrink-clause-grown
+returns-in-Ok-shrink-clause-grown g c = λ x shapes spaces f may few.
+    let told = subst (IsFoundFile (labels_of x) shapes c.args.id) c.in-Ok-Some.field-0-is (c.in-Ok-Some.ensures.told x shapes spaces may.books) in
+    let same : f ≡ shape_of_leader c.in-Ok-Some.file.leader c.in-Ok-Some.file.pages = shape_is shapes c.args.id f c.in-Ok-Some.file.leader c.in-Ok-Some.file.pages may.found told.1 in
+    let now = c.find_file.ensures.same x shapes spaces may.books in
+    let here : c.args.pages < c.in-Ok-Some.file.pages = search rules in
+    let size = ap (λ (w : Shape). w.size) same in
+    absurd (omega (arith, here, size, few))
+
+pub returns-in-Ok-shrink-clause-used_shrunk : goal.returns-in-Ok-shrink-clause-used_shrunk
+returns-in-Ok-shrink-clause-used_shrunk g c = λ x shapes spaces f may.
+    let told = subst (IsFoundFile (labels_of x) shapes c.args.id) c.in-Ok-Some.field-0-is (c.in-Ok-Some.ensures.told x shapes spaces may.books) in
+    let same : f ≡ shape_of_leader c.in-Ok-Some.file.leader c.in-Ok-Some.file.pages = shape_is shapes c.args.id f c.in-Ok-Some.file.leader c.in-Ok-Some.file.pages may.found told.1 in
+    let now = c.find_file.ensures.same x shapes spaces may.books in
+    rw (ap (λ (w : Shape). w.size) same) c.in-Ok-shrink.ensures.used
+
+pub returns-in-Ok-shrink-clause-used_grown : goal.returns-in-Ok-shrink-clause-used_grown
+returns-in-Ok-shrink-clause-used_grown g c = λ x shapes spaces f may few.
+    let told = subst (IsFoundFile (labels_of x) shapes c.args.id) c.in-Ok-Some.field-0-is (c.in-Ok-Some.ensures.told x shapes spaces may.books) in
+    let same : f ≡ shape_of_leader c.in-Ok-Some.file.leader c.in-Ok-Some.file.pages = shape_is shapes c.args.id f c.in-Ok-Some.file.leader c.in-Ok-Some.file.pages may.found told.1 in
+    let now = c.find_file.ensures.same x shapes spaces may.books in
+    let here : c.args.pages < c.in-Ok-Some.file.pages = search rules in
+    let size = ap (λ (w : Shape). w.size) same in
+    absurd (omega (arith, here, size, few))
+
+pub returns-in-Ok-shrink-clause-makes : goal.returns-in-Ok-shrink-clause-makes
+returns-in-Ok-shrink-clause-makes g c = let here : c.args.pages < c.in-Ok-Some.file.pages = search rules in shrunk_makes c.find_file.ensures.makes c.args.id c.in-Ok-Some.file.pages c.args.pages here c.in-Ok-shrink.ensures.makes
+
+pub returns-in-Err-shrink-clause-sound_shrunk : goal.returns-in-Err-shrink-clause-sound_shrunk
+returns-in-Err-shrink-clause-sound_shrunk g c = λ x shapes spaces f may.
+    let told = subst (IsFoundFile (labels_of x) shapes c.args.id) c.in-Ok-Some.field-0-is (c.in-Ok-Some.ensures.told x shapes spaces may.books) in
+    let same : f ≡ shape_of_leader c.in-Ok-Some.file.leader c.in-Ok-Some.file.pages = shape_is shapes c.args.id f c.in-Ok-Some.file.leader c.in-Ok-Some.file.pages may.found told.1 in
+    let now = c.find_file.ensures.same x shapes spaces may.books in
+    (rw c.find_file.ensures.layout at c.in-Err-shrink.ensures.sound) x shapes spaces f (may_shrink_now may.books now may) (ap (λ (w : Shape). w.size) same) told.0
+
+pub returns-in-Err-shrink-clause-sound_grown : goal.returns-in-Err-shrink-clause-sound_grown
+returns-in-Err-shrink-clause-sound_grown g c = λ x shapes spaces f may few.
+    let told = subst (IsFoundFile (labels_of x) shapes c.args.id) c.in-Ok-Some.field-0-is (c.in-Ok-Some.ensures.told x shapes spaces may.books) in
+    let same : f ≡ shape_of_leader c.in-Ok-Some.file.leader c.in-Ok-Some.file.pages = shape_is shapes c.args.id f c.in-Ok-Some.file.leader c.in-Ok-Some.file.pages may.found told.1 in
+    let now = c.find_file.ensures.same x shapes spaces may.books in
+    let here : c.args.pages < c.in-Ok-Some.file.pages = search rules in
+    let size = ap (λ (w : Shape). w.size) same in
+    absurd (omega (arith, here, size, few))
+
+pub returns-in-Err-shrink-clause-broken_shrunk : goal.returns-in-Err-shrink-clause-broken_shrunk
+returns-in-Err-shrink-clause-broken_shrunk g c = λ x shapes spaces f may.
+    let told = subst (IsFoundFile (labels_of x) shapes c.args.id) c.in-Ok-Some.field-0-is (c.in-Ok-Some.ensures.told x shapes spaces may.books) in
+    let same : f ≡ shape_of_leader c.in-Ok-Some.file.leader c.in-Ok-Some.file.pages = shape_is shapes c.args.id f c.in-Ok-Some.file.leader c.in-Ok-Some.file.pages may.found told.1 in
+    let now = c.find_file.ensures.same x shapes spaces may.books in
+    some_told c.find_file.ensures.makes f c.in-Ok-Some.file.leader c.in-Ok-Some.file.pages same c.args.id c.args.pages
+    ((rw c.find_file.ensures.layout at c.in-Err-shrink.ensures.broken) x shapes spaces f (may_shrink_now may.books now may) (ap (λ (w : Shape). w.size) same) told.0)
+
+pub returns-in-Err-shrink-clause-broken_grown : goal.returns-in-Err-shrink-clause-broken_grown
+returns-in-Err-shrink-clause-broken_grown g c = λ x shapes spaces f may few.
+    let told = subst (IsFoundFile (labels_of x) shapes c.args.id) c.in-Ok-Some.field-0-is (c.in-Ok-Some.ensures.told x shapes spaces may.books) in
+    let same : f ≡ shape_of_leader c.in-Ok-Some.file.leader c.in-Ok-Some.file.pages = shape_is shapes c.args.id f c.in-Ok-Some.file.leader c.in-Ok-Some.file.pages may.found told.1 in
+    let now = c.find_file.ensures.same x shapes spaces may.books in
+    let here : c.args.pages < c.in-Ok-Some.file.pages = search rules in
+    let size = ap (λ (w : Shape). w.size) same in
+    absurd (omega (arith, here, size, few))
+
+pub returns-in-Err-shrink-clause-stopped : goal.returns-in-Err-shrink-clause-stopped
+returns-in-Err-shrink-clause-stopped g c = shrunk_stops c.find_file.ensures.makes c.args.id c.args.pages c.in-Err-shrink.ensures.stopped
+
+pub returns-in-Ok-clause-cost : goal.returns-in-Ok-clause-cost
+returns-in-Ok-clause-cost g c =
+    let fits = c.ranges.pages.fits in
+    let few : c.args.pages - c.in-Ok-Some.file.pages ≤ 4294967295 = omega (arith, fits) in
+    grow_cost (g.D.Disk.state c.args.filer.now.swapper.under).transfers (g.D.Disk.state c.find_file.new.filer.swapper.under).transfers (g.D.Disk.state c.grow.new.filer.swapper.under).transfers (c.args.pages - c.in-Ok-Some.file.pages) 4294967295 c.args.filer.now.swapper.layout.vam (102 * most_records c.args.filer.now.swapper.layout.sectors) few c.find_file.ensures.cost (rw c.find_file.ensures.layout at c.grow.ensures.cost)
+
+pub returns-in-Err-grow-clause-cost : goal.returns-in-Err-grow-clause-cost
+returns-in-Err-grow-clause-cost g c =
+    let fits = c.ranges.pages.fits in
+    let few : c.args.pages - c.in-Ok-Some.file.pages ≤ 4294967295 = omega (arith, fits) in
+    grow_cost (g.D.Disk.state c.args.filer.now.swapper.under).transfers (g.D.Disk.state c.find_file.new.filer.swapper.under).transfers (g.D.Disk.state c.grow.new.filer.swapper.under).transfers (c.args.pages - c.in-Ok-Some.file.pages) 4294967295 c.args.filer.now.swapper.layout.vam (102 * most_records c.args.filer.now.swapper.layout.sectors) few c.find_file.ensures.cost (rw c.find_file.ensures.layout at c.grow.ensures.cost)
+
+pub returns-in-Ok-shrink-clause-cost : goal.returns-in-Ok-shrink-clause-cost
+returns-in-Ok-shrink-clause-cost g c =
+    let fits : c.in-Ok-Some.file.pages < 4294967296 = search rules in
+    let few : c.in-Ok-Some.file.pages - c.args.pages ≤ 4294967295 = omega (arith, fits) in
+    shrink_cost (g.D.Disk.state c.args.filer.now.swapper.under).transfers (g.D.Disk.state c.find_file.new.filer.swapper.under).transfers (g.D.Disk.state c.shrink.new.filer.swapper.under).transfers (c.in-Ok-Some.file.pages - c.args.pages) 4294967295 c.args.filer.now.swapper.layout.vam (most_records c.args.filer.now.swapper.layout.sectors) few c.find_file.ensures.cost (rw c.find_file.ensures.layout at c.shrink.ensures.cost)
+
+pub returns-in-Err-shrink-clause-cost : goal.returns-in-Err-shrink-clause-cost
+returns-in-Err-shrink-clause-cost g c =
+    let fits : c.in-Ok-Some.file.pages < 4294967296 = search rules in
+    let few : c.in-Ok-Some.file.pages - c.args.pages ≤ 4294967295 = omega (arith, fits) in
+    shrink_cost (g.D.Disk.state c.args.filer.now.swapper.under).transfers (g.D.Disk.state c.find_file.new.filer.swapper.under).transfers (g.D.Disk.state c.shrink.new.filer.swapper.under).transfers (c.in-Ok-Some.file.pages - c.args.pages) 4294967295 c.args.filer.now.swapper.layout.vam (most_records c.args.filer.now.swapper.layout.sectors) few c.find_file.ensures.cost (rw c.find_file.ensures.layout at c.shrink.ensures.cost)
+
+pub returns-in-Ok-None-clause-counted : goal.returns-in-Ok-None-clause-counted
+returns-in-Ok-None-clause-counted g c = no_fault
+
+pub returns-in-Err-clause-counted : goal.returns-in-Err-clause-counted
+returns-in-Err-clause-counted g c = counted _ _ (g.D.Disk.state c.args.filer.now.swapper.under) (g.D.Disk.state c.find_file.new.filer.swapper.under) _ (omega arith) c.in-Err.ensures.cause
+
+pub returns-in-Err-grow-clause-counted : goal.returns-in-Err-grow-clause-counted
+returns-in-Err-grow-clause-counted g c = counted_then _ _ _ c.find_file.ensures.makes.went.faults c.in-Err-grow.ensures.counted
+
+pub returns-in-Err-shrink-clause-counted : goal.returns-in-Err-shrink-clause-counted
+returns-in-Err-shrink-clause-counted g c =
+    of_answer c.in-Err-shrink.halt
+    (rose_after (g.D.Disk.state c.args.filer.now.swapper.under) (g.D.Disk.state c.find_file.new.filer.swapper.under) (g.D.Disk.state c.shrink.new.filer.swapper.under) c.find_file.ensures.makes.went.faults c.in-Err-shrink.ensures.counted)
+
+pub returns-in-Ok-clause-cost_told : goal.returns-in-Ok-clause-cost_told
+returns-in-Ok-clause-cost_told g c = λ x shapes spaces f books found.
+    let told = subst (IsFoundFile (labels_of x) shapes c.args.id) c.in-Ok-Some.field-0-is (c.in-Ok-Some.ensures.told x shapes spaces books) in
+    let size = ap (λ (w : Shape). w.size) (shape_is shapes c.args.id f c.in-Ok-Some.file.leader c.in-Ok-Some.file.pages found told.1) in
+    let few : c.args.pages - c.in-Ok-Some.file.pages ≤ (c.args.pages - f.size) + (f.size - c.args.pages) = omega (arith, size) in
+    grow_cost (g.D.Disk.state c.args.filer.now.swapper.under).transfers (g.D.Disk.state c.find_file.new.filer.swapper.under).transfers (g.D.Disk.state c.grow.new.filer.swapper.under).transfers (c.args.pages - c.in-Ok-Some.file.pages) ((c.args.pages - f.size) + (f.size - c.args.pages)) c.args.filer.now.swapper.layout.vam
+    (102 * most_records c.args.filer.now.swapper.layout.sectors) few c.find_file.ensures.cost (rw c.find_file.ensures.layout at c.grow.ensures.cost)
+
+pub returns-in-Err-grow-clause-cost_told : goal.returns-in-Err-grow-clause-cost_told
+returns-in-Err-grow-clause-cost_told g c = λ x shapes spaces f books found.
+    let told = subst (IsFoundFile (labels_of x) shapes c.args.id) c.in-Ok-Some.field-0-is (c.in-Ok-Some.ensures.told x shapes spaces books) in
+    let size = ap (λ (w : Shape). w.size) (shape_is shapes c.args.id f c.in-Ok-Some.file.leader c.in-Ok-Some.file.pages found told.1) in
+    let few : c.args.pages - c.in-Ok-Some.file.pages ≤ (c.args.pages - f.size) + (f.size - c.args.pages) = omega (arith, size) in
+    grow_cost (g.D.Disk.state c.args.filer.now.swapper.under).transfers (g.D.Disk.state c.find_file.new.filer.swapper.under).transfers (g.D.Disk.state c.grow.new.filer.swapper.under).transfers (c.args.pages - c.in-Ok-Some.file.pages) ((c.args.pages - f.size) + (f.size - c.args.pages)) c.args.filer.now.swapper.layout.vam
+    (102 * most_records c.args.filer.now.swapper.layout.sectors) few c.find_file.ensures.cost (rw c.find_file.ensures.layout at c.grow.ensures.cost)
+
+pub returns-in-Ok-shrink-clause-cost_told : goal.returns-in-Ok-shrink-clause-cost_told
+returns-in-Ok-shrink-clause-cost_told g c = λ x shapes spaces f books found.
+    let told = subst (IsFoundFile (labels_of x) shapes c.args.id) c.in-Ok-Some.field-0-is (c.in-Ok-Some.ensures.told x shapes spaces books) in
+    let size = ap (λ (w : Shape). w.size) (shape_is shapes c.args.id f c.in-Ok-Some.file.leader c.in-Ok-Some.file.pages found told.1) in
+    let few : c.in-Ok-Some.file.pages - c.args.pages ≤ (c.args.pages - f.size) + (f.size - c.args.pages) = omega (arith, size) in
+    shrink_cost (g.D.Disk.state c.args.filer.now.swapper.under).transfers (g.D.Disk.state c.find_file.new.filer.swapper.under).transfers (g.D.Disk.state c.shrink.new.filer.swapper.under).transfers (c.in-Ok-Some.file.pages - c.args.pages) ((c.args.pages - f.size) + (f.size - c.args.pages)) c.args.filer.now.swapper.layout.vam
+    (most_records c.args.filer.now.swapper.layout.sectors) few c.find_file.ensures.cost (rw c.find_file.ensures.layout at c.shrink.ensures.cost)
+
+pub returns-in-Err-shrink-clause-cost_told : goal.returns-in-Err-shrink-clause-cost_told
+returns-in-Err-shrink-clause-cost_told g c = λ x shapes spaces f books found.
+    let told = subst (IsFoundFile (labels_of x) shapes c.args.id) c.in-Ok-Some.field-0-is (c.in-Ok-Some.ensures.told x shapes spaces books) in
+    let size = ap (λ (w : Shape). w.size) (shape_is shapes c.args.id f c.in-Ok-Some.file.leader c.in-Ok-Some.file.pages found told.1) in
+    let few : c.in-Ok-Some.file.pages - c.args.pages ≤ (c.args.pages - f.size) + (f.size - c.args.pages) = omega (arith, size) in
+    shrink_cost (g.D.Disk.state c.args.filer.now.swapper.under).transfers (g.D.Disk.state c.find_file.new.filer.swapper.under).transfers (g.D.Disk.state c.shrink.new.filer.swapper.under).transfers (c.in-Ok-Some.file.pages - c.args.pages) ((c.args.pages - f.size) + (f.size - c.args.pages)) c.args.filer.now.swapper.layout.vam
+    (most_records c.args.filer.now.swapper.layout.sectors) few c.find_file.ensures.cost (rw c.find_file.ensures.layout at c.shrink.ensures.cost)
+
+pub returns-in-Ok-None-clause-cost_told : goal.returns-in-Ok-None-clause-cost_told
+returns-in-Ok-None-clause-cost_told g c = λ x shapes spaces f books found. let first = c.find_file.ensures.cost in omega (arith, first)
+
+pub returns-in-Err-clause-cost_told : goal.returns-in-Err-clause-cost_told
+returns-in-Err-clause-cost_told g c = λ x shapes spaces f books found. let first = c.find_file.ensures.cost in omega (arith, first)
+
+pub returns-in-Ok-clause-room : goal.returns-in-Ok-clause-room
+returns-in-Ok-clause-room g c = λ within. room_grown c.args.volume.now c.grow.new.volume (c.args.pages - c.in-Ok-Some.file.pages) c.in-Ok.ensures.used
+
+pub returns-in-Ok-shrink-clause-room : goal.returns-in-Ok-shrink-clause-room
+returns-in-Ok-shrink-clause-room g c = room_shrunk c.args.volume.now c.shrink.new.volume (c.in-Ok-Some.file.pages - c.args.pages) c.in-Ok-shrink.ensures.used

@@ -1,0 +1,43 @@
+use Rattle.std.proofs.Common.{rules, ◌≡◌, ◌<◌}
+use Rattle.file_manager.proofs.FreedRun.{stops_then}
+use Rattle.file_manager.proofs.DownTo.{down_none, down_then, down_rest, down_freed, down_made, down_spent, down_stopped_cost, down_broken_off}
+use Rattle.file_manager.proofs.shrinking.free_down.Goals as goal
+
+pub loop-page-init : goal.loop-page-init
+loop-page-init g c = down_none _ _ _ _ _ _ _ c.requires.order c.requires.size
+
+pub loop-page-preserved : goal.loop-page-preserved
+loop-page-preserved g c =
+    let below : c.args.from < c.loop-page.page = search rules in
+    down_then c.loop-page.invariant below c.in-Ok.ensures.some c.in-Ok.ensures.layout c.in-Ok.ensures.spent c.in-Ok.ensures.makes c.in-Ok.ensures.freed
+
+pub returns-in-Err-clause-sound : goal.returns-in-Err-clause-sound
+returns-in-Err-clause-sound g c = λ named spaces m may.
+    let rest = down_rest c.loop-page.invariant named spaces m may in
+    c.in-Err.ensures.sound named spaces rest.0 rest.1
+
+pub returns-in-Err-clause-broken : goal.returns-in-Err-clause-broken
+returns-in-Err-clause-broken g c = down_broken_off c.loop-page.invariant c.in-Err.ensures.broken
+
+pub returns-in-Err-clause-stopped : goal.returns-in-Err-clause-stopped
+returns-in-Err-clause-stopped g c = stops_then c.loop-page.invariant.makes c.in-Err.ensures.stopped
+
+pub returns-in-Err-clause-cost : goal.returns-in-Err-clause-cost
+returns-in-Err-clause-cost g c =
+    let below : c.args.from < c.loop-page.page = search rules in
+    down_stopped_cost c.loop-page.invariant (g.D.Disk.state c.free_last.new.filer.swapper.under) below c.in-Err.ensures.cost
+
+pub returns-clause-freed : goal.returns-clause-freed
+returns-clause-freed g c =
+    let all : c.loop-page.page ≡ c.args.from = search rules in
+    down_freed c.loop-page.invariant all
+
+pub returns-clause-makes : goal.returns-clause-makes
+returns-clause-makes g c =
+    let all : c.loop-page.page ≡ c.args.from = search rules in
+    down_made c.loop-page.invariant all
+
+pub returns-clause-cost : goal.returns-clause-cost
+returns-clause-cost g c =
+    let all : c.loop-page.page ≡ c.args.from = search rules in
+    down_spent c.loop-page.invariant all

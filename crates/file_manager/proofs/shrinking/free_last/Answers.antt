@@ -1,0 +1,115 @@
+use Rattle.std.proofs.Common.{◌≡◌, ◌-◌, sym, ◌∙◌, ap, subst, arith}
+use Rattle.labelled_disk.specs.declared.layout.Layout.{Layout}
+use Rattle.swapper_kernel.specs.declared.manager.Manager.TheVariants.{AllocationMap, FileMap}
+use Rattle.filer_kernel.specs.declared.cached.CachedRuns.{CachedRuns}
+use Rattle.filer_kernel.specs.Cached.{runs_of}
+use Rattle.filer_kernel.specs.Triples.{AreOf}
+use Rattle.filer_kernel.specs.PlaceLaws.{data_first}
+use Rattle.file_manager.proofs.FreedRun.{all_stop, map_stops}
+use Rattle.file_manager.proofs.DownRun.{none_over, ones, labelled, named_then, is_named, few_pages, run_freed, down_makes, down_stops, down_broken, none_broken, all_broken}
+use Rattle.file_manager.proofs.shrinking.free_last.Goals as goal
+
+pub returns-in-Err-clause-sound : goal.returns-in-Err-clause-sound
+returns-in-Err-clause-sound g c = λ named spaces m may.
+    let some = c.requires.some in
+    let all = may.mapped (c.args.end - 1) (omega (arith, some)) (omega (arith, some)) in
+    c.in-Err.ensures.sound m named all.0 may.stands may.map (may.map_labels FileMap) all.1
+
+pub returns-in-Err-clause-broken : goal.returns-in-Err-clause-broken
+returns-in-Err-clause-broken g c = λ named spaces m may. none_broken c.last_part.ensures.beside
+
+pub returns-in-Err-clause-stopped : goal.returns-in-Err-clause-stopped
+returns-in-Err-clause-stopped g c = map_stops c.last_part.ensures.beside
+
+pub free_labels_down-requires-clause-data : goal.free_labels_down-requires-clause-data
+free_labels_down-requires-clause-data g c =
+    let first = data_first c.args.filer.now.swapper.layout c.args.filer.now.swapper.accepted in
+    let lay : c.last_part.new.filer.swapper.layout.first ≡ c.args.filer.now.swapper.layout.first = ap (λ (l : Layout). l.first) c.last_part.ensures.beside.layout in
+    let from = c.in-Ok.ensures.form.form.from_data in
+    omega (arith, first, lay, from)
+
+pub returns-in-Err-free_labels_down-clause-sound : goal.returns-in-Err-free_labels_down-clause-sound
+returns-in-Err-free_labels_down-clause-sound g c = λ named spaces m may.
+    let layout = c.args.filer.now.swapper.layout in
+    let is = c.args.filer.now.swapper.accepted in
+    let all = c.in-Ok.ensures.named m named may.stands may.map may.kept in
+    let stands = c.last_part.ensures.same m named may.stands may.map in
+    c.in-Err-free_labels_down.ensures.sound m stands
+    (none_over layout is named spaces c.args.id c.args.from c.args.end c.requires.of_file m _ _ c.args.filer.now.runs may c.in-Ok.run' c.in-Ok.ensures.form all _ _ _ c.last_part.ensures.beside stands)
+    (ones layout is named spaces c.args.id c.args.from c.args.end c.requires.of_file m _ _ c.args.filer.now.runs may c.in-Ok.run' c.in-Ok.ensures.form all _ _ _ c.last_part.ensures.beside stands)
+
+pub returns-in-Err-free_labels_down-clause-broken : goal.returns-in-Err-free_labels_down-clause-broken
+returns-in-Err-free_labels_down-clause-broken g c = λ named spaces m may.
+    let layout = c.args.filer.now.swapper.layout in
+    let is = c.args.filer.now.swapper.accepted in
+    let all = c.in-Ok.ensures.named m named may.stands may.map may.kept in
+    let stands = c.last_part.ensures.same m named may.stands may.map in
+    down_broken c.in-Ok.run' c.last_part.ensures.beside c.in-Err-free_labels_down.ensures.frames
+    (is_named layout is named spaces c.args.id c.args.from c.args.end c.requires.of_file m _ _ c.args.filer.now.runs may c.in-Ok.run' c.in-Ok.ensures.form all _ _ _ c.last_part.ensures.beside stands)
+    (few_pages layout is named spaces c.args.id c.args.from c.args.end c.requires.of_file m _ _ c.args.filer.now.runs may c.in-Ok.run' c.in-Ok.ensures.form all _ _ _ c.last_part.ensures.beside stands)
+    c.in-Err-free_labels_down.ensures.stopped
+
+pub returns-in-Err-free_labels_down-clause-stopped : goal.returns-in-Err-free_labels_down-clause-stopped
+returns-in-Err-free_labels_down-clause-stopped g c = down_stops c.in-Ok.run' c.last_part.ensures.beside c.in-Err-free_labels_down.ensures.frames c.in-Err-free_labels_down.ensures.stopped
+
+pub give-requires-clause-data : goal.give-requires-clause-data
+give-requires-clause-data g c =
+    let first = data_first c.args.filer.now.swapper.layout c.args.filer.now.swapper.accepted in
+    let lay : c.free_labels_down.new.filer.swapper.layout.first ≡ c.args.filer.now.swapper.layout.first = ap (λ (l : Layout). l.first) (c.in-Ok-free_labels_down.ensures.layout ∙ c.last_part.ensures.beside.layout) in
+    let from = c.in-Ok.ensures.form.form.from_data in
+    omega (arith, first, lay, from)
+
+pub returns-in-Err-give-clause-sound : goal.returns-in-Err-give-clause-sound
+returns-in-Err-give-clause-sound g c = λ named spaces m may.
+    let layout = c.args.filer.now.swapper.layout in
+    let is = c.args.filer.now.swapper.accepted in
+    let all = c.in-Ok.ensures.named m named may.stands may.map may.kept in
+    let stands = c.last_part.ensures.same m named may.stands may.map in
+    let frames = c.in-Ok-free_labels_down.ensures.frames in
+    let lay : c.free_labels_down.new.filer.swapper.layout ≡ layout = c.in-Ok-free_labels_down.ensures.layout ∙ c.last_part.ensures.beside.layout in
+    let made = c.in-Ok-free_labels_down.ensures.freed in
+    let mid = labelled layout is named spaces c.args.id c.args.from c.args.end c.requires.of_file m _ _ c.args.filer.now.runs may c.in-Ok.run' c.in-Ok.ensures.form all _ _ _ c.last_part.ensures.beside stands _ made in
+    (rw (frames, lay) at c.in-Err-give.ensures.sound) mid.0 mid.1
+    (named_then layout is named spaces c.args.id c.args.from c.args.end c.requires.of_file m _ _ c.args.filer.now.runs may c.in-Ok.run' c.in-Ok.ensures.form all _ _ _ c.last_part.ensures.beside stands _ made AllocationMap)
+
+pub returns-in-Err-give-clause-broken : goal.returns-in-Err-give-clause-broken
+returns-in-Err-give-clause-broken g c = λ named spaces m may.
+    let layout = c.args.filer.now.swapper.layout in
+    let is = c.args.filer.now.swapper.accepted in
+    let all = c.in-Ok.ensures.named m named may.stands may.map may.kept in
+    let stands = c.last_part.ensures.same m named may.stands may.map in
+    all_broken c.in-Ok.run' c.last_part.ensures.beside c.in-Ok-free_labels_down.ensures.frames
+    (is_named layout is named spaces c.args.id c.args.from c.args.end c.requires.of_file m _ _ c.args.filer.now.runs may c.in-Ok.run' c.in-Ok.ensures.form all _ _ _ c.last_part.ensures.beside stands)
+    (few_pages layout is named spaces c.args.id c.args.from c.args.end c.requires.of_file m _ _ c.args.filer.now.runs may c.in-Ok.run' c.in-Ok.ensures.form all _ _ _ c.last_part.ensures.beside stands)
+    c.in-Ok-free_labels_down.ensures.freed c.in-Err-give.ensures.kept
+
+pub returns-in-Err-give-clause-stopped : goal.returns-in-Err-give-clause-stopped
+returns-in-Err-give-clause-stopped g c = all_stop (down_makes c.in-Ok.run' c.last_part.ensures.beside c.in-Ok-free_labels_down.ensures.frames c.in-Ok-free_labels_down.ensures.freed c.in-Err-give.ensures.kept)
+
+pub returns-clause-freed : goal.returns-clause-freed
+returns-clause-freed g c = λ named spaces m may.
+    let layout = c.args.filer.now.swapper.layout in
+    let is = c.args.filer.now.swapper.accepted in
+    let all = c.in-Ok.ensures.named m named may.stands may.map may.kept in
+    let stands = c.last_part.ensures.same m named may.stands may.map in
+    let frames = c.in-Ok-free_labels_down.ensures.frames in
+    let lay : c.free_labels_down.new.filer.swapper.layout ≡ layout = c.in-Ok-free_labels_down.ensures.layout ∙ c.last_part.ensures.beside.layout in
+    let made = c.in-Ok-free_labels_down.ensures.freed in
+    let mid = labelled layout is named spaces c.args.id c.args.from c.args.end c.requires.of_file m _ _ c.args.filer.now.runs may c.in-Ok.run' c.in-Ok.ensures.form all _ _ _ c.last_part.ensures.beside stands _ made in
+    let kept = c.last_part.ensures.kept m named may.stands may.map may.kept in
+    let same_runs : c.give.new.self.runs ≡ c.last_part.new.filer.runs = c.in-Ok-give.ensures.runs ∙ c.in-Ok-free_labels_down.ensures.runs in
+    let given = rw (frames, lay) at c.in-Ok-give.ensures.given in
+    run_freed layout is named spaces c.args.id c.args.from c.args.end c.requires.of_file m _ _ c.args.filer.now.runs may c.in-Ok.run' c.in-Ok.ensures.form all _ _ _ c.last_part.ensures.beside stands _ made
+    _ _ _ c.give.new.self.runs (subst (λ (r : CachedRuns). AreOf named (runs_of layout.sectors r)) (sym same_runs) kept) (rw (frames, lay) at c.in-Ok-give.ensures.kept)
+    (λ marks bits. given mid.0 marks mid.1 bits)
+
+pub returns-clause-some : goal.returns-clause-some
+returns-clause-some g c =
+    let form = c.in-Ok.ensures.form in
+    let some = form.form.some in
+    let above = form.above in
+    let reaches = form.reaches in
+    (some, omega (arith, above, reaches))
+
+pub returns-clause-makes : goal.returns-clause-makes
+returns-clause-makes g c = down_makes c.in-Ok.run' c.last_part.ensures.beside c.in-Ok-free_labels_down.ensures.frames c.in-Ok-free_labels_down.ensures.freed c.in-Ok-give.ensures.kept

@@ -1,0 +1,79 @@
+use Rattle.std.proofs.Common.{◌≡◌, ◌∙◌, arith}
+use Rattle.swapper_kernel.specs.FormLaws.{memory_in_form}
+use Rattle.swapper_kernel.specs.declared.manager.Manager.TheVariants.{FileMap}
+use Rattle.file_manager.proofs.FreedRun.{all_stop}
+use Rattle.file_manager.proofs.TablesFreed.{bare, tables_all, tables_may, tables_some, tables_ended, forgot_freed, forgot_some, freed_cut}
+use Rattle.file_manager.proofs.Faults.{counted, counted_then}
+use Rattle.file_manager.proofs.tables.free_tables.Goals as goal
+
+pub returns-in-Err-clause-sound : goal.returns-in-Err-clause-sound
+returns-in-Err-clause-sound g c = λ x shapes spaces books.
+    let layout = c.args.filer.now.swapper.layout in
+    let f = c.forget_tables.ensures in
+    let may = tables_may layout c.args.filer.now.swapper.accepted c.args.filer.now.runs shapes spaces x _ _ books _ _ f.gone f.left f.goes f.form in
+    let m = bare layout c.args.filer.now.swapper.accepted c.args.filer.now.runs shapes spaces x _ _ books _ _ f.gone f.left f.goes f.form in
+    (rw (f.layout, f.runs) at c.in-Err.ensures.sound) books.booked.named spaces m.0 may
+
+pub returns-in-Err-clause-stopped : goal.returns-in-Err-clause-stopped
+returns-in-Err-clause-stopped g c = forgot_some c.forget_tables.ensures.goes c.in-Err.ensures.stopped
+
+pub returns-in-Err-cut-clause-sound : goal.returns-in-Err-cut-clause-sound
+returns-in-Err-cut-clause-sound g c = λ x shapes spaces books.
+    let layout = c.args.filer.now.swapper.layout in
+    let f = c.forget_tables.ensures in
+    let may = tables_may layout c.args.filer.now.swapper.accepted c.args.filer.now.runs shapes spaces x _ _ books _ _ f.gone f.left f.goes f.form in
+    let m = bare layout c.args.filer.now.swapper.accepted c.args.filer.now.runs shapes spaces x _ _ books _ _ f.gone f.left f.goes f.form in
+    let h = (rw (f.layout, f.runs) at c.in-Ok.ensures.freed) books.booked.named spaces m.0 may in
+    let lay : c.free_up.new.filer.swapper.layout ≡ layout = c.in-Ok.ensures.layout ∙ f.layout in
+    (rw lay at c.in-Err-cut.ensures.sound) h.memory books.booked.named h.rest.stands h.rest.map (h.rest.map_labels FileMap)
+
+pub returns-in-Err-cut-clause-stopped : goal.returns-in-Err-cut-clause-stopped
+returns-in-Err-cut-clause-stopped g c = all_stop (freed_cut (forgot_freed c.forget_tables.ensures.goes c.in-Ok.ensures.makes) c.in-Err-cut.ensures.beside)
+
+pub returns-clause-freed : goal.returns-clause-freed
+returns-clause-freed g c = λ x shapes spaces books.
+    let layout = c.args.filer.now.swapper.layout in
+    let is = c.args.filer.now.swapper.accepted in
+    let kept = c.args.filer.now.runs in
+    let f = c.forget_tables.ensures in
+    let may = tables_may layout is kept shapes spaces x _ _ books _ _ f.gone f.left f.goes f.form in
+    let m = bare layout is kept shapes spaces x _ _ books _ _ f.gone f.left f.goes f.form in
+    let h = (rw (f.layout, f.runs) at c.in-Ok.ensures.freed) books.booked.named spaces m.0 may in
+    let lay : c.free_up.new.filer.swapper.layout ≡ layout = c.in-Ok.ensures.layout ∙ f.layout in
+    let cut = (rw lay at c.in-Ok-cut.ensures.cut) h.memory books.booked.named h.rest.stands h.rest.map in
+    rw c.frames_of.ensures.same
+    (tables_ended layout is kept shapes spaces x _ _ books _ _ f.gone f.left f.goes f.form _ _ c.free_up.new.filer.runs h _ _ _ _ c.cut.new.self.runs c.in-Ok-cut.ensures.beside cut (c.in-Ok-cut.ensures.runs layout.sectors)
+    (λ y stands. memory_in_form _ _ y stands (g.met.D.Disk.in_form c.cut.new.self.swapper.under stands.sectors stands.told) c.frames_of.ensures.pages))
+
+pub returns-clause-makes : goal.returns-clause-makes
+returns-clause-makes g c = rw c.frames_of.ensures.same (freed_cut (forgot_freed c.forget_tables.ensures.goes c.in-Ok.ensures.makes) c.in-Ok-cut.ensures.beside)
+
+pub returns-in-Err-clause-counted : goal.returns-in-Err-clause-counted
+returns-in-Err-clause-counted g c = counted_then _ _ _ c.forget_tables.ensures.goes.makes.went.faults c.in-Err.ensures.counted
+
+pub returns-in-Err-cut-clause-counted : goal.returns-in-Err-cut-clause-counted
+returns-in-Err-cut-clause-counted g c =
+    let first = c.forget_tables.ensures.goes.makes.went.faults in
+    let second = c.in-Ok.ensures.makes.makes.went.faults in
+    counted _ _ (g.D.Disk.state c.free_up.new.filer.swapper.under) (g.D.Disk.state c.cut.new.self.swapper.under) _ (omega (arith, first, second)) c.in-Err-cut.ensures.cause
+
+pub returns-in-Err-clause-first : goal.returns-in-Err-clause-first
+returns-in-Err-clause-first g c = λ x shapes spaces books.
+    let layout = c.args.filer.now.swapper.layout in
+    let is = c.args.filer.now.swapper.accepted in
+    let kept = c.args.filer.now.runs in
+    let f = c.forget_tables.ensures in
+    let may = tables_may layout is kept shapes spaces x _ _ books _ _ f.gone f.left f.goes f.form in
+    let m = bare layout is kept shapes spaces x _ _ books _ _ f.gone f.left f.goes f.form in
+    tables_some layout is kept shapes spaces x _ _ books _ _ f.gone f.left f.goes f.form _ _ ((rw (f.layout, f.runs) at c.in-Err.ensures.first) books.booked.named spaces m.0 may)
+
+pub returns-in-Err-cut-clause-first : goal.returns-in-Err-cut-clause-first
+returns-in-Err-cut-clause-first g c = λ x shapes spaces books.
+    let layout = c.args.filer.now.swapper.layout in
+    let is = c.args.filer.now.swapper.accepted in
+    let kept = c.args.filer.now.runs in
+    let f = c.forget_tables.ensures in
+    let may = tables_may layout is kept shapes spaces x _ _ books _ _ f.gone f.left f.goes f.form in
+    let m = bare layout is kept shapes spaces x _ _ books _ _ f.gone f.left f.goes f.form in
+    let h = (rw (f.layout, f.runs) at c.in-Ok.ensures.freed) books.booked.named spaces m.0 may in
+    tables_all layout is kept shapes spaces x _ _ books _ _ f.gone f.left f.goes f.form _ _ _ _ _ _ _ h c.in-Err-cut.ensures.beside

@@ -1,0 +1,48 @@
+use Rattle.std.proofs.Common.{rules, refl, inl, ◌≡◌, ◌<◌, arith}
+use Rattle.file_manager.proofs.TablesMade.{tables_none, tables_more, tables_sound, tables_all, tables_made, tables_cost}
+use Rattle.file_manager.proofs.UpTo.{up_cost, up_stopped}
+use Rattle.file_manager.proofs.Faults.{counted_then}
+use Rattle.file_manager.proofs.tables.make_tables.Goals as goal
+
+pub loop-page-init : goal.loop-page-init
+loop-page-init g c = tables_none _ _ _ _ c.requires.size
+
+pub loop-page-preserved : goal.loop-page-preserved
+loop-page-preserved g c =
+    let below : c.loop-page.page < 96 = search rules in
+    tables_more c.loop-page.page _ _ _ c.args.filer.now.swapper.accepted _ _ _ _ _ c.loop-page.invariant below c.in-Ok.run' _ _ _ _ c.in-Ok.ensures.form c.in-Ok.ensures.makes c.in-Ok.ensures.made c.in-Ok.ensures.layout c.in-Ok.ensures.runs c.in-Ok.ensures.cost_made
+
+pub make_run-requires-clause-of_file : goal.make_run-requires-clause-of_file
+make_run-requires-clause-of_file g c = let below = c.loop-page.invariant.up.below in inl (refl, refl, omega (arith, below))
+
+pub returns-in-Err-clause-sound : goal.returns-in-Err-clause-sound
+returns-in-Err-clause-sound g c =
+    let below : c.loop-page.page < 96 = search rules in
+    tables_sound c.loop-page.page _ _ _ c.args.filer.now.swapper.accepted _ _ _ _ _ c.loop-page.invariant below c.in-Err.halt c.in-Err.ensures.sound
+
+pub returns-in-Err-clause-stopped : goal.returns-in-Err-clause-stopped
+returns-in-Err-clause-stopped g c =
+    up_stopped 3 0 0 96 c.loop-page.page _ _ _ c.args.filer.now.swapper.accepted _ _ _ _ _ c.loop-page.invariant.up (omega arith) _ _ c.loop-page.invariant.up.below c.in-Err.ensures.stopped
+
+pub returns-in-Err-clause-cost : goal.returns-in-Err-clause-cost
+returns-in-Err-clause-cost g c =
+    let below : c.loop-page.page < 96 = search rules in
+    up_cost 3 0 0 96 c.loop-page.page _ _ _ c.args.filer.now.swapper.accepted _ _ _ _ _ c.loop-page.invariant.up (omega arith) (g.D.Disk.state c.make_run.new.filer.swapper.under) below c.in-Err.ensures.cost
+
+pub returns-clause-made : goal.returns-clause-made
+returns-clause-made g c =
+    let all : c.loop-page.page ≡ 96 = search rules in
+    tables_all c.loop-page.page _ _ _ _ _ _ _ _ all c.loop-page.invariant
+
+pub returns-clause-makes : goal.returns-clause-makes
+returns-clause-makes g c =
+    let all : c.loop-page.page ≡ 96 = search rules in
+    tables_made c.loop-page.page _ _ _ _ _ _ _ _ all c.loop-page.invariant
+
+pub returns-clause-cost : goal.returns-clause-cost
+returns-clause-cost g c =
+    let all : c.loop-page.page ≡ 96 = search rules in
+    tables_cost c.loop-page.page _ _ _ _ _ _ _ _ all c.loop-page.invariant
+
+pub returns-in-Err-clause-counted : goal.returns-in-Err-clause-counted
+returns-in-Err-clause-counted g c = counted_then _ _ _ c.loop-page.invariant.up.makes.makes.went.faults c.in-Err.ensures.counted

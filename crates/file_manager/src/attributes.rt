@@ -1,0 +1,65 @@
+//! What a client may ask of a file.
+ghost use Rattle.std.specs.Prelude.{◌≡◌, ◌⊎◌, ◌+◌, ◌≤◌, ◌<◌, List, [], Ok, Err, None, IfErr, MatchResult};
+ghost use Rattle.labelled_disk.specs.Calls.{Rose};
+ghost use Rattle.labelled_disk.specs.Label.{leader_page};
+ghost use Rattle.labelled_disk.specs.Sectors.{Sector};
+ghost use Rattle.labelled_disk.specs.declared.evidence.Halt.TheVariants as halt;
+ghost use Rattle.flat_machine.specs.declared.space.Space.{Space};
+ghost use Rattle.swapper_kernel.specs.Goes.{Makes};
+ghost use Rattle.session_words.specs.Parts.{Shapes};
+ghost use Rattle.session_words.specs.Volume.{volume_page};
+ghost use Rattle.file_manager.specs.Attributes.{IsAttributesOf};
+ghost use Rattle.file_manager.specs.Book.{Books, BringsOwn};
+ghost use Rattle.file_manager.specs.Causes.{NamesNone};
+ghost use Rattle.file_manager.specs.Finding.{FileHalts};
+
+use crate::finding::find_file;
+use filer_kernel::FilerOver;
+use labelled_disk::{Disk, FileId, Halt};
+use std::alloc::Allocator;
+
+/// Size, type and marks of a file.
+#[derive(Clone, Copy, Debug, PartialEq, Eq)]
+pub struct Attributes {
+    pub pages: u32,
+    pub kind: u16,
+    pub permanent: bool,
+    pub immutable: bool,
+}
+
+/// Identifiers below this one are no client's.
+const FIRST_CLIENT: FileId = 16;
+
+/// Size, type and marks of a file; None where there is no such file.
+pub fn attributes_of<D: Disk, A: Allocator>(
+    filer: &mut FilerOver<D, A>,
+    id: FileId,
+) -> Result<Option<Attributes>, Halt>
+    requires size { (D.state filer.old.swapper.under).sectors ≡ filer.old.swapper.layout.sectors }
+    ensures told { (x : List Sector) (shapes : Shapes) (spaces : List Space) → Books (D.state filer.old.swapper.under) filer.old.swapper.pool filer.old.swapper.layout filer.old.runs shapes spaces x
+        → MatchResult result (IsAttributesOf (shapes id)) (λ e. e ≡ halt.Disk) }
+    ensures reserved { id < 16 → (result ≡ Ok None) × (filer.new ≡ filer.old) }
+    ensures none { result ≡ Ok None → (id < 16) ⊎ NamesNone filer.old.swapper.layout (D.state filer.old.swapper.under) filer.old.swapper.pool id leader_page }
+    ensures cause { IfErr result (FileHalts filer.old.swapper.layout id (D.state filer.old.swapper.under) filer.old.swapper.pool (D.state filer.new.swapper.under)) }
+    ensures counted { result ≡ Err halt.Disk → Rose (D.state filer.old.swapper.under).faults (D.state filer.new.swapper.under).faults }
+    ensures same { (x : List Sector) (shapes : Shapes) (spaces : List Space) → Books (D.state filer.old.swapper.under) filer.old.swapper.pool filer.old.swapper.layout filer.old.runs shapes spaces x
+        → Books (D.state filer.new.swapper.under) filer.new.swapper.pool filer.old.swapper.layout filer.new.runs shapes spaces x }
+    ensures makes { Makes volume_page [] (D.state filer.old.swapper.under) filer.old.swapper.pool (D.state filer.new.swapper.under) filer.new.swapper.pool }
+    ensures brings { BringsOwn filer.old.swapper.pool filer.new.swapper.pool }
+    ensures layout { filer.new.swapper.layout ≡ filer.old.swapper.layout }
+    ensures cost { (D.state filer.new.swapper.under).transfers ≤ (D.state filer.old.swapper.under).transfers + 29 }
+{
+    if id < FIRST_CLIENT {
+        return Ok(None);
+    }
+    match find_file(filer, id) {
+        Ok(Some(file)) => Ok(Some(Attributes {
+            pages: file.pages,
+            kind: file.leader.kind,
+            permanent: file.leader.flags % 2 == 1,
+            immutable: file.leader.flags / 2 % 2 == 1,
+        })),
+        Ok(None) => Ok(None),
+        Err(halt) => Err(halt),
+    }
+}

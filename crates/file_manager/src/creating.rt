@@ -1,0 +1,116 @@
+//! Files that are created.
+ghost use Rattle.std.specs.Prelude.{◌≡◌, ℕ, ◌+◌, ◌*◌, ◌^◌, ◌≤◌, ◌<◌, List, [], ◌∷◌, IfOk, IfErr, OnErr, OnOk};
+ghost use Rattle.labelled_disk.specs.declared.evidence.Halt.TheVariants as halt;
+ghost use Rattle.labelled_disk.specs.Moment.{written};
+ghost use Rattle.labelled_disk.specs.Calls.{Rose};
+ghost use Rattle.labelled_disk.specs.Sectors.{Sector};
+ghost use Rattle.file_map.specs.FileMap.{most_records};
+ghost use Rattle.flat_machine.specs.declared.space.Space.{Space};
+ghost use Rattle.label_calls.specs.Labels.{MayHaveWritten};
+ghost use Rattle.session_words.specs.Parts.{Shapes};
+ghost use Rattle.swapper_kernel.specs.Goes.{Goes, no_page};
+ghost use Rattle.volume_root.specs.RootPage.{IsValidRoot, root_write};
+ghost use Rattle.file_manager.specs.CreateBroken.{CreatedSome};
+ghost use Rattle.file_manager.specs.Creating.{next_id, counted, CreatedAs, NewMade, NewSome};
+ghost use Rattle.file_manager.specs.Making.{MayCreate};
+
+use crate::Volume;
+use crate::growth::frames_of;
+use crate::making::make_file;
+use filer_kernel::FilerOver;
+use labelled_disk::{Disk, FileId, Halt};
+use std::alloc::Allocator;
+use volume_root::{Root, write_root};
+
+// The identifier that the volume of this root gives out next.
+fn next_id(root: Root) -> FileId
+    ensures next { result ≡ next_id root }
+    ensures serial { root.serial < 2 ^ 32 }
+{
+    u64::from(root.serial) * 4_294_967_296 + u64::from(root.counter)
+}
+
+// How many data sectors the files have, once one of so many pages is among them.
+fn used_with(volume: &Volume, pages: u32) -> u32
+    requires room { volume.now.used + pages + 1 ≤ volume.now.layout.capacity }
+    ensures total { result ≡ volume.now.used + pages + 1 }
+    ensures numbers { pages < 4294967295 }
+{
+    let _capacity = volume.layout.capacity;
+    volume.used + pages + 1
+}
+
+// Writes a root to the disk. No frame is over its sector.
+fn write_over<D: Disk, A: Allocator>(filer: &mut FilerOver<D, A>, root: Root) -> Result<(), Halt>
+    requires size { (D.state filer.old.swapper.under).sectors ≡ filer.old.swapper.layout.sectors }
+    requires valid { IsValidRoot filer.old.swapper.layout.sectors root }
+    requires serial { root.serial < 2 ^ 32 }
+    requires counter { root.counter < 2 ^ 32 }
+    ensures made { OnOk result (Goes (λ m n. n ≡ written (root_write root) m) no_page (root_write root ∷ []) (D.state filer.old.swapper.under) filer.old.swapper.pool (D.state filer.new.swapper.under) filer.old.swapper.pool) }
+    ensures stopped { OnErr result (MayHaveWritten (root_write root) (D.state filer.old.swapper.under) filer.old.swapper.pool (D.state filer.new.swapper.under)) }
+    ensures fault { IfErr result (λ e. e ≡ halt.Disk) }
+    ensures counted { OnErr result (Rose (D.state filer.old.swapper.under).faults (D.state filer.new.swapper.under).faults) }
+    ensures frames { filer.new.swapper.pool ≡ filer.old.swapper.pool }
+    ensures layout { filer.new.swapper.layout ≡ filer.old.swapper.layout }
+    ensures runs { filer.new.runs ≡ filer.old.runs }
+    ensures cost { (D.state filer.new.swapper.under).transfers ≤ (D.state filer.old.swapper.under).transfers + 1 }
+{
+    let disk = filer.disk_over();
+    match write_root(disk, &root) {
+        Ok(()) => Ok(()),
+        Err(_) => Err(Halt::Disk),
+    }
+}
+
+/// Creates a file of so many pages of zeros, with the next identifier of the volume: the root with the next counter is
+/// written first, and what the file map might have of the identifier goes.
+pub fn create<D: Disk, A: Allocator>(
+    filer: &mut FilerOver<D, A>,
+    volume: &mut Volume,
+    pages: u32,
+    kind: u16,
+) -> Result<FileId, Halt>
+    requires size { (D.state filer.old.swapper.under).sectors ≡ filer.old.swapper.layout.sectors }
+    requires valid { IsValidRoot filer.old.swapper.layout.sectors volume.old.root }
+    requires counter { volume.old.root.counter < 4294967295 }
+    requires room { volume.old.used + pages + 1 ≤ volume.old.layout.capacity }
+    ensures next { IfOk result (λ id. id ≡ next_id volume.old.root) }
+    ensures created { (x : List Sector) (shapes : Shapes) (spaces : List Space) → MayCreate (D.state filer.old.swapper.under) filer.old.swapper.pool filer.old.swapper.layout filer.old.runs shapes spaces (next_id volume.old.root) pages x
+        → OnOk result (CreatedAs volume.old.root kind pages (D.state filer.old.swapper.under) filer.old.swapper.pool filer.old.swapper.layout (D.state filer.new.swapper.under) filer.new.swapper.pool filer.new.runs) }
+    ensures sound { (x : List Sector) (shapes : Shapes) (spaces : List Space) → MayCreate (D.state filer.old.swapper.under) filer.old.swapper.pool filer.old.swapper.layout filer.old.runs shapes spaces (next_id volume.old.root) pages x
+        → IfErr result (λ e. e ≡ halt.Disk) }
+    ensures broken { (x : List Sector) (shapes : Shapes) (spaces : List Space) → MayCreate (D.state filer.old.swapper.under) filer.old.swapper.pool filer.old.swapper.layout filer.old.runs shapes spaces (next_id volume.old.root) pages x
+        → OnErr result (CreatedSome (root_write (counted volume.old.root) ∷ []) (next_id volume.old.root) kind pages x (D.state filer.old.swapper.under) filer.old.swapper.pool (D.state filer.new.swapper.under) filer.new.swapper.pool) }
+    ensures counted { result ≡ Err halt.Disk → Rose (D.state filer.old.swapper.under).faults (D.state filer.new.swapper.under).faults }
+    ensures new_volume { OnOk result (volume.new ≡ record volume.old { root = counted volume.old.root; used = volume.old.used + pages + 1 }) }
+    ensures same_volume { OnErr result (volume.new ≡ volume.old) }
+    ensures makes { OnOk result (NewMade volume.old.root kind pages (D.state filer.old.swapper.under) filer.old.swapper.pool (D.state filer.new.swapper.under) filer.new.swapper.pool) }
+    ensures stopped { OnErr result (NewSome volume.old.root kind pages (D.state filer.old.swapper.under) filer.old.swapper.pool (D.state filer.new.swapper.under) filer.new.swapper.pool) }
+    ensures layout { filer.new.swapper.layout ≡ filer.old.swapper.layout }
+    ensures cost { (D.state filer.new.swapper.under).transfers ≤ (D.state filer.old.swapper.under).transfers + (1 + 2 * (1 + 51 * most_records filer.old.swapper.layout.sectors) + (pages + 1) * (8 * filer.old.swapper.layout.vam + 100)) }
+{
+    let used = used_with(volume, pages);
+    let root = volume.root;
+    let id = next_id(root);
+    let next_root = Root {
+        clean: false,
+        counter: root.counter + 1,
+        ..root
+    };
+    match write_over(filer, next_root) {
+        Ok(()) => (),
+        Err(halt) => return Err(halt),
+    }
+    match filer.cut(id, 0) {
+        Ok(()) => (),
+        Err(halt) => return Err(halt),
+    }
+    frames_of(filer);
+    match make_file(filer, id, kind, pages) {
+        Ok(()) => (),
+        Err(halt) => return Err(halt),
+    }
+    volume.root = next_root;
+    volume.used = used;
+    Ok(id)
+}

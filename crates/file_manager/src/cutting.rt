@@ -1,0 +1,110 @@
+//! Files that get fewer pages: pages are freed, and the file map has them no more.
+ghost use Rattle.std.specs.Prelude.{◌≡◌, ℕ, ◌+◌, ◌-◌, ◌*◌, ◌≤◌, ◌<◌, ◌==◌, not, List, [], filter, IfErr, OnErr, OnOk};
+ghost use Rattle.labelled_disk.specs.Calls.{Rose};
+ghost use Rattle.labelled_disk.specs.Label.{leader_page};
+ghost use Rattle.labelled_disk.specs.Sectors.{Sector, AreSectors};
+ghost use Rattle.labelled_disk.specs.declared.evidence.Halt.TheVariants as halt;
+ghost use Rattle.file_map.specs.FileMap.{Triples, most_records};
+ghost use Rattle.file_map.specs.Laws.{AreOnce};
+ghost use Rattle.flat_machine.specs.declared.space.Space.{Space};
+ghost use Rattle.swapper_kernel.specs.declared.manager.Manager.TheVariants.{FileMap as FileMapPages};
+ghost use Rattle.swapper_kernel.specs.Maps.{IsMapHome};
+ghost use Rattle.swapper_kernel.specs.Homes.{AreNamed};
+ghost use Rattle.swapper_kernel.specs.Stands.{Stands, labels_of};
+ghost use Rattle.swapper_kernel.specs.Window.{Beside};
+ghost use Rattle.filer_kernel.specs.Becomes.{Becomes};
+ghost use Rattle.filer_kernel.specs.Cached.{runs_of};
+ghost use Rattle.filer_kernel.specs.Triples.{MapIs};
+ghost use Rattle.session_words.specs.Parts.{Shape, Shapes, IsTriple};
+ghost use Rattle.file_manager.specs.Freeing.{MakesFree, MakesSomeFree};
+ghost use Rattle.file_manager.specs.Shrinking.{MayShrink, ShrunkBy, ShrunkSome, IsLeaderAlone, cut_triples};
+
+use crate::Volume;
+use crate::growth::frames_of;
+use crate::leader::LEADER;
+use crate::shrinking::free_down;
+use file_map::Run;
+use filer_kernel::FilerOver;
+use labelled_disk::{Disk, FileId, Halt};
+use std::alloc::Allocator;
+
+// Takes the pages of a file from one on out of the file map, and puts its leader, which stands in this sector, in again.
+fn cut_to<D: Disk, A: Allocator>(
+    filer: &mut FilerOver<D, A>,
+    id: FileId,
+    from: u32,
+    leader: u32,
+) -> Result<(), Halt>
+    requires size { (D.state filer.old.swapper.under).sectors ≡ filer.old.swapper.layout.sectors }
+    requires of_file { 16 ≤ id }
+    requires data { filer.old.swapper.layout.first ≤ leader }
+    requires inside { leader < filer.old.swapper.layout.sectors }
+    ensures cut { (m : List Sector) (named : Triples) → Stands (D.state filer.old.swapper.under) filer.old.swapper.pool m → MapIs filer.old.swapper.layout named m
+        → OnOk result (Becomes FileMapPages filer.old.swapper.layout m (MapIs filer.old.swapper.layout (cut_triples named id from leader)) (D.state filer.new.swapper.under) filer.new.swapper.pool) }
+    ensures in_form { OnOk result ((y : List Sector) → Stands (D.state filer.new.swapper.under) filer.new.swapper.pool y → AreSectors y) }
+    ensures sound { (m : List Sector) (named : Triples) → Stands (D.state filer.old.swapper.under) filer.old.swapper.pool m → MapIs filer.old.swapper.layout named m → AreNamed m (IsMapHome FileMapPages filer.old.swapper.layout)
+        → AreOnce named → IsLeaderAlone named id leader → IfErr result (λ e. e ≡ halt.Disk) }
+    ensures runs { (n : ℕ) → runs_of n filer.new.runs ≡ filter (λ r. not (r.id == id)) (runs_of n filer.old.runs) }
+    ensures counted { IfErr result (λ e. e ≡ halt.Disk → Rose (D.state filer.old.swapper.under).faults (D.state filer.new.swapper.under).faults) }
+    ensures beside { Beside FileMapPages (D.state filer.old.swapper.under) filer.old.swapper.pool filer.old.swapper.layout (D.state filer.new.swapper.under) filer.new.swapper.pool filer.new.swapper.layout }
+    ensures cost { (D.state filer.new.swapper.under).transfers ≤ (D.state filer.old.swapper.under).transfers + (100 + 102 * most_records filer.old.swapper.layout.sectors) }
+{
+    match filer.cut(id, from) {
+        Ok(()) => (),
+        Err(halt) => return Err(halt),
+    }
+    let run = Run {
+        id,
+        first: LEADER,
+        pages: 1,
+        sector: leader,
+    };
+    match filer.add(run) {
+        Ok(()) => (),
+        Err(halt) => return Err(halt),
+    }
+    frames_of(filer);
+    Ok(())
+}
+
+// Frees the pages of a file from one on, the last one first. Its leader stands in this sector.
+pub(crate) fn shrink<D: Disk, A: Allocator>(
+    filer: &mut FilerOver<D, A>,
+    volume: &mut Volume,
+    id: FileId,
+    leader: u32,
+    pages: u32,
+    size: u32,
+) -> Result<(), Halt>
+    requires sectors { (D.state filer.old.swapper.under).sectors ≡ filer.old.swapper.layout.sectors }
+    requires of_file { 16 ≤ id }
+    requires data { filer.old.swapper.layout.first ≤ leader }
+    requires inside { leader < filer.old.swapper.layout.sectors }
+    requires order { pages ≤ size }
+    ensures shrunk { (x : List Sector) (shapes : Shapes) (spaces : List Space) (f : Shape) → MayShrink (D.state filer.old.swapper.under) filer.old.swapper.pool filer.old.swapper.layout filer.old.runs shapes spaces id f pages x
+        → f.size ≡ size → IsTriple (labels_of x) id leader_page leader
+        → OnOk result (ShrunkBy id pages size x (D.state filer.old.swapper.under) filer.old.swapper.pool filer.old.swapper.layout (D.state filer.new.swapper.under) filer.new.swapper.pool filer.new.runs) }
+    ensures sound { (x : List Sector) (shapes : Shapes) (spaces : List Space) (f : Shape) → MayShrink (D.state filer.old.swapper.under) filer.old.swapper.pool filer.old.swapper.layout filer.old.runs shapes spaces id f pages x
+        → f.size ≡ size → IsTriple (labels_of x) id leader_page leader → IfErr result (λ e. e ≡ halt.Disk) }
+    ensures counted { IfErr result (λ e. e ≡ halt.Disk → Rose (D.state filer.old.swapper.under).faults (D.state filer.new.swapper.under).faults) }
+    ensures broken { (x : List Sector) (shapes : Shapes) (spaces : List Space) (f : Shape) → MayShrink (D.state filer.old.swapper.under) filer.old.swapper.pool filer.old.swapper.layout filer.old.runs shapes spaces id f pages x
+        → f.size ≡ size → IsTriple (labels_of x) id leader_page leader
+        → OnErr result (ShrunkSome id pages size x (D.state filer.old.swapper.under) filer.old.swapper.pool (D.state filer.new.swapper.under) filer.new.swapper.pool) }
+    ensures makes { OnOk result (MakesFree (size - pages) (D.state filer.old.swapper.under) filer.old.swapper.pool (D.state filer.new.swapper.under) filer.new.swapper.pool) }
+    ensures stopped { OnErr result (MakesSomeFree (D.state filer.old.swapper.under) filer.old.swapper.pool (D.state filer.new.swapper.under) filer.new.swapper.pool) }
+    ensures used { OnOk result (volume.new ≡ record volume.old { used = volume.old.used - (size - pages) }) }
+    ensures same_volume { OnErr result (volume.new ≡ volume.old) }
+    ensures layout { filer.new.swapper.layout ≡ filer.old.swapper.layout }
+    ensures cost { (D.state filer.new.swapper.under).transfers ≤ (D.state filer.old.swapper.under).transfers + ((size - pages) * (16 + 4 * filer.old.swapper.layout.vam) + (100 + 102 * most_records filer.old.swapper.layout.sectors)) }
+{
+    match free_down(filer, id, pages, size) {
+        Ok(()) => (),
+        Err(halt) => return Err(halt),
+    }
+    match cut_to(filer, id, pages, leader) {
+        Ok(()) => (),
+        Err(halt) => return Err(halt),
+    }
+    volume.used = volume.used.saturating_sub(size - pages);
+    Ok(())
+}

@@ -1,0 +1,69 @@
+//! Files that are deleted.
+ghost use Rattle.std.specs.Prelude.{◌≡◌, ℕ, ◌+◌, ◌-◌, ◌*◌, ◌^◌, ◌≤◌, false, List, Some, IfErr, OnErr, OnOk, Err};
+ghost use Rattle.labelled_disk.specs.declared.evidence.Halt.TheVariants as halt;
+ghost use Rattle.labelled_disk.specs.Calls.{Rose};
+ghost use Rattle.labelled_disk.specs.Sectors.{Sector};
+ghost use Rattle.file_map.specs.FileMap.{most_records};
+ghost use Rattle.flat_machine.specs.declared.space.Space.{Space};
+ghost use Rattle.session_words.specs.FrameLaws.{is_shown};
+ghost use Rattle.session_words.specs.Parts.{Shape, Shapes};
+ghost use Rattle.file_manager.specs.Book.{Books};
+ghost use Rattle.file_manager.specs.Deleting.{DeletedBy, DeletesFirst, MakesOneFree};
+ghost use Rattle.file_manager.specs.Freeing.{MakesSomeFree};
+
+use crate::Volume;
+use crate::free_all::free_all;
+use crate::growth::frames_of;
+use filer_kernel::FilerOver;
+use labelled_disk::{Disk, FileId, Halt};
+use std::alloc::Allocator;
+
+/// Deletes a file: its leader becomes free, then its pages from 0 up, and the file map has none of them. No window shows
+/// a page of it.
+pub fn delete<D: Disk, A: Allocator>(
+    filer: &mut FilerOver<D, A>,
+    volume: &mut Volume,
+    id: FileId,
+) -> Result<(), Halt>
+    requires size { (D.state filer.old.swapper.under).sectors ≡ filer.old.swapper.layout.sectors }
+    requires client { 16 ≤ id }
+    ensures deleted { (x : List Sector) (shapes : Shapes) (spaces : List Space) (f : Shape) → Books (D.state filer.old.swapper.under) filer.old.swapper.pool filer.old.swapper.layout filer.old.runs shapes spaces x
+        → shapes id ≡ Some f → ((page : ℕ) → is_shown spaces id page ≡ false)
+        → OnOk result (DeletedBy id f.size x (D.state filer.old.swapper.under) filer.old.swapper.pool filer.old.swapper.layout (D.state filer.new.swapper.under) filer.new.swapper.pool filer.new.runs) }
+    ensures used { (x : List Sector) (shapes : Shapes) (spaces : List Space) (f : Shape) → Books (D.state filer.old.swapper.under) filer.old.swapper.pool filer.old.swapper.layout filer.old.runs shapes spaces x
+        → shapes id ≡ Some f → OnOk result (volume.new.used ≡ volume.old.used - (f.size + 1)) }
+    ensures sound { (x : List Sector) (shapes : Shapes) (spaces : List Space) (f : Shape) → Books (D.state filer.old.swapper.under) filer.old.swapper.pool filer.old.swapper.layout filer.old.runs shapes spaces x
+        → shapes id ≡ Some f → ((page : ℕ) → is_shown spaces id page ≡ false) → IfErr result (λ e. e ≡ halt.Disk) }
+    ensures first { (x : List Sector) (shapes : Shapes) (spaces : List Space) (f : Shape) → Books (D.state filer.old.swapper.under) filer.old.swapper.pool filer.old.swapper.layout filer.old.runs shapes spaces x
+        → shapes id ≡ Some f → ((page : ℕ) → is_shown spaces id page ≡ false)
+        → OnErr result (DeletesFirst id x (D.state filer.old.swapper.under) filer.old.swapper.pool (D.state filer.new.swapper.under) filer.new.swapper.pool) }
+    ensures same_volume { OnErr result (volume.new ≡ volume.old) }
+    ensures rest_of_volume { volume.new ≡ record volume.old { used = volume.new.used } }
+    ensures less { volume.new.used ≤ volume.old.used }
+    ensures makes { OnOk result (MakesOneFree (D.state filer.old.swapper.under) filer.old.swapper.pool (D.state filer.new.swapper.under) filer.new.swapper.pool) }
+    ensures stopped { OnErr result (MakesSomeFree (D.state filer.old.swapper.under) filer.old.swapper.pool (D.state filer.new.swapper.under) filer.new.swapper.pool) }
+    ensures counted { result ≡ Err halt.Disk → Rose (D.state filer.old.swapper.under).faults (D.state filer.new.swapper.under).faults }
+    ensures layout { filer.new.swapper.layout ≡ filer.old.swapper.layout }
+    ensures cost { (D.state filer.new.swapper.under).transfers ≤ (D.state filer.old.swapper.under).transfers + (14 + 2 ^ 32 * (16 + 4 * filer.old.swapper.layout.vam) + 2 * (1 + 51 * most_records filer.old.swapper.layout.sectors)) }
+    ensures cost_told { (x : List Sector) (shapes : Shapes) (spaces : List Space) (f : Shape) → Books (D.state filer.old.swapper.under) filer.old.swapper.pool filer.old.swapper.layout filer.old.runs shapes spaces x → shapes id ≡ Some f
+        → (D.state filer.new.swapper.under).transfers ≤ (D.state filer.old.swapper.under).transfers + (14 + (1 + f.size) * (16 + 4 * filer.old.swapper.layout.vam) + 2 * (1 + 51 * most_records filer.old.swapper.layout.sectors)) }
+    ensures cost_sized { (x : List Sector) (shapes : Shapes) (spaces : List Space) (f : Shape) → Books (D.state filer.old.swapper.under) filer.old.swapper.pool filer.old.swapper.layout filer.old.runs shapes spaces x → shapes id ≡ Some f
+        → ((page : ℕ) → is_shown spaces id page ≡ false)
+        → (D.state filer.new.swapper.under).transfers ≤ (D.state filer.old.swapper.under).transfers + (14 + (1 + f.size) * (16 + 4 * filer.old.swapper.layout.vam) + 2 * (1 + 51 * (f.size + 2))) }
+{
+    let pages = match filer.size(id) {
+        Ok(pages) => pages,
+        Err(halt) => return Err(halt),
+    };
+    match free_all(filer, id, pages) {
+        Ok(()) => (),
+        Err(halt) => return Err(halt),
+    }
+    match filer.cut(id, 0) {
+        Ok(()) => (),
+        Err(halt) => return Err(halt),
+    }
+    frames_of(filer);
+    volume.used = volume.used.saturating_sub(pages).saturating_sub(1);
+    Ok(())
+}

@@ -1,0 +1,104 @@
+//! The leader of a file, with its label, and how many pages the file has.
+ghost use Rattle.std.specs.Prelude.{◌≡◌, ◌+◌, ◌≤◌, ◌<◌, true, List, [], Ok, None, IfOk, IfErr, IfSome, MatchResult};
+ghost use Rattle.labelled_disk.specs.Calls.{TellsSame};
+ghost use Rattle.labelled_disk.specs.Label.{leader_page, names};
+ghost use Rattle.labelled_disk.specs.Sectors.{Sector};
+ghost use Rattle.labelled_disk.specs.State.{HasLabel};
+ghost use Rattle.labelled_disk.specs.declared.evidence.Halt.TheVariants as halt;
+ghost use Rattle.flat_machine.specs.declared.space.Space.{Space};
+ghost use Rattle.swapper_kernel.specs.Goes.{Makes, no_page};
+ghost use Rattle.swapper_kernel.specs.Halts.{HasCause};
+ghost use Rattle.swapper_kernel.specs.Stands.{Stands, labels_of};
+ghost use Rattle.label_calls.specs.Labels.{HasOne, IsNotOf, ones_of};
+ghost use Rattle.session_words.specs.Parts.{Shapes};
+ghost use Rattle.session_words.specs.Volume.{volume_page};
+ghost use Rattle.file_manager.specs.Finding.{IsFoundFile, FileHalts};
+ghost use Rattle.file_manager.specs.Book.{Books, BringsOwn};
+ghost use Rattle.file_manager.specs.Causes.{NamesNone};
+
+use crate::leader::{LEADER, leader_of};
+use filer_kernel::FilerOver;
+use label_calls::read_label;
+use labelled_disk::{Disk, Evidence, FileId, Halt, Label, Wanted};
+use std::alloc::Allocator;
+
+// A file, as its leader and the file map tell it.
+#[derive(Clone, Copy)]
+pub(crate) struct FoundFile {
+    // The sector of the leader.
+    pub sector: u32,
+    pub leader: Label,
+    pub pages: u32,
+}
+
+// The label of the leader of a file, which stands in this sector.
+fn leader_label<D: Disk, A: Allocator>(
+    filer: &mut FilerOver<D, A>,
+    id: FileId,
+    sector: u32,
+) -> Result<Label, Halt>
+    requires inside { sector < (D.state filer.old.swapper.under).sectors }
+    ensures found { IfOk result (HasLabel (D.state filer.old.swapper.under) sector) }
+    ensures named { IfOk result (λ label. names label (record { id = id; page = leader_page }) ≡ true) }
+    ensures sound { (m : List Sector) → Stands (D.state filer.old.swapper.under) filer.old.swapper.pool m → HasOne (ones_of (record { id = id; page = leader_page })) m sector → IfErr result (λ e. e ≡ halt.Disk) }
+    ensures cause { IfErr result (HasCause (IsNotOf sector (record { id = id; page = leader_page }) (D.state filer.old.swapper.under)) (D.state filer.old.swapper.under) (D.state filer.new.swapper.under)) }
+    ensures same { TellsSame (D.state filer.old.swapper.under) (D.state filer.new.swapper.under) }
+    ensures makes { Makes no_page [] (D.state filer.old.swapper.under) filer.old.swapper.pool (D.state filer.new.swapper.under) filer.new.swapper.pool }
+    ensures frames { filer.new.swapper.pool ≡ filer.old.swapper.pool }
+    ensures layout { filer.new.swapper.layout ≡ filer.old.swapper.layout }
+    ensures runs { filer.new.runs ≡ filer.old.runs }
+    ensures cost { (D.state filer.new.swapper.under).transfers ≤ (D.state filer.old.swapper.under).transfers + 1 }
+{
+    let wanted = Wanted { id, page: LEADER };
+    let swapper = filer.swapper_over();
+    let found = match read_label(swapper, sector) {
+        Ok(found) => found,
+        Err(halt) => return Err(halt),
+    };
+    if !found.names(wanted) {
+        return Err(Halt::Damaged(Evidence::Mismatch {
+            sector,
+            wanted,
+            found,
+        }));
+    }
+    Ok(found)
+}
+
+// A file, or none where the file map has no leader of it.
+pub(crate) fn find_file<D: Disk, A: Allocator>(
+    filer: &mut FilerOver<D, A>,
+    id: FileId,
+) -> Result<Option<FoundFile>, Halt>
+    requires size { (D.state filer.old.swapper.under).sectors ≡ filer.old.swapper.layout.sectors }
+    requires client { 16 ≤ id }
+    ensures told { (x : List Sector) (shapes : Shapes) (spaces : List Space) → Books (D.state filer.old.swapper.under) filer.old.swapper.pool filer.old.swapper.layout filer.old.runs shapes spaces x
+        → MatchResult result (IsFoundFile (labels_of x) shapes id) (λ e. e ≡ halt.Disk) }
+    ensures same { (x : List Sector) (shapes : Shapes) (spaces : List Space) → Books (D.state filer.old.swapper.under) filer.old.swapper.pool filer.old.swapper.layout filer.old.runs shapes spaces x
+        → Books (D.state filer.new.swapper.under) filer.new.swapper.pool filer.old.swapper.layout filer.new.runs shapes spaces x }
+    ensures place { IfOk result (λ found. IfSome found (λ file. (filer.old.swapper.layout.first ≤ file.sector) × (file.sector < filer.old.swapper.layout.sectors))) }
+    ensures missing { result ≡ Ok None → NamesNone filer.old.swapper.layout (D.state filer.old.swapper.under) filer.old.swapper.pool id leader_page }
+    ensures makes { Makes volume_page [] (D.state filer.old.swapper.under) filer.old.swapper.pool (D.state filer.new.swapper.under) filer.new.swapper.pool }
+    ensures brings { BringsOwn filer.old.swapper.pool filer.new.swapper.pool }
+    ensures cause { IfErr result (FileHalts filer.old.swapper.layout id (D.state filer.old.swapper.under) filer.old.swapper.pool (D.state filer.new.swapper.under)) }
+    ensures layout { filer.new.swapper.layout ≡ filer.old.swapper.layout }
+    ensures cost { (D.state filer.new.swapper.under).transfers ≤ (D.state filer.old.swapper.under).transfers + 29 }
+{
+    let sector = match leader_of(filer, id) {
+        Ok(Some(sector)) => sector,
+        Ok(None) => return Ok(None),
+        Err(halt) => return Err(halt),
+    };
+    let leader = match leader_label(filer, id, sector) {
+        Ok(leader) => leader,
+        Err(halt) => return Err(halt),
+    };
+    match filer.size(id) {
+        Ok(pages) => Ok(Some(FoundFile {
+            sector,
+            leader,
+            pages,
+        })),
+        Err(halt) => Err(halt),
+    }
+}

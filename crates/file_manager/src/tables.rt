@@ -1,0 +1,94 @@
+//! The pages of the space tables, which a session makes at its start and frees at its close.
+ghost use Rattle.std.specs.Prelude.{◌≡◌, ℕ, ◌+◌, ◌*◌, ◌≤◌, List, [], IfErr, OnErr, OnOk, Err};
+ghost use Rattle.labelled_disk.specs.declared.evidence.Halt.TheVariants as halt;
+ghost use Rattle.labelled_disk.specs.Calls.{Rose};
+ghost use Rattle.labelled_disk.specs.Sectors.{Sector, AreSectors};
+ghost use Rattle.frame_pool.specs.Frames.{Frame, Has, IsWithin};
+ghost use Rattle.file_map.specs.FileMap.{most_records};
+ghost use Rattle.flat_machine.specs.declared.space.Space.{Space};
+ghost use Rattle.swapper_kernel.specs.Differs.{Differs, of_run};
+ghost use Rattle.swapper_kernel.specs.Goes.{Goes, no_page};
+ghost use Rattle.swapper_kernel.specs.Stands.{Stands};
+ghost use Rattle.session_words.specs.Parts.{Shapes};
+ghost use Rattle.file_manager.specs.Book.{Books};
+ghost use Rattle.file_manager.specs.Freeing.{MakesFree, MakesSomeFree};
+ghost use Rattle.file_manager.specs.Making.{MakesAll, MakesSome};
+ghost use Rattle.file_manager.specs.Tables.{MayBegin, BegunBy, EndedBy, EndedSome};
+
+use crate::growth::{TABLES, frames_of, make_run};
+use crate::release::free_up;
+use filer_kernel::FilerOver;
+use force_calls::forget;
+use labelled_disk::{Disk, Halt};
+use std::alloc::Allocator;
+
+/// How many pages the space tables have.
+const TABLE_PAGES: u32 = 96;
+
+/// Makes the pages of the space tables, in the lowest free data sectors: zeros, with labels of file 3, and in the file map.
+pub fn make_tables<D: Disk, A: Allocator>(filer: &mut FilerOver<D, A>) -> Result<(), Halt>
+    requires size { (D.state filer.old.swapper.under).sectors ≡ filer.old.swapper.layout.sectors }
+    ensures made { (x : List Sector) (shapes : Shapes) (spaces : List Space) → MayBegin (D.state filer.old.swapper.under) filer.old.swapper.pool filer.old.swapper.layout filer.old.runs shapes spaces x
+        → OnOk result (BegunBy (D.state filer.old.swapper.under) filer.old.swapper.pool filer.old.swapper.layout (D.state filer.new.swapper.under) filer.new.swapper.pool filer.new.runs) }
+    ensures sound { (x : List Sector) (shapes : Shapes) (spaces : List Space) → MayBegin (D.state filer.old.swapper.under) filer.old.swapper.pool filer.old.swapper.layout filer.old.runs shapes spaces x
+        → IfErr result (λ e. e ≡ halt.Disk) }
+    ensures makes { OnOk result (MakesAll 3 0 0 96 (D.state filer.old.swapper.under) filer.old.swapper.pool (D.state filer.new.swapper.under) filer.new.swapper.pool) }
+    ensures stopped { OnErr result (MakesSome 3 0 0 96 (D.state filer.old.swapper.under) filer.old.swapper.pool (D.state filer.new.swapper.under) filer.new.swapper.pool) }
+    ensures counted { result ≡ Err halt.Disk → Rose (D.state filer.old.swapper.under).faults (D.state filer.new.swapper.under).faults }
+    ensures layout { filer.new.swapper.layout ≡ filer.old.swapper.layout }
+    ensures runs { filer.new.runs ≡ filer.old.runs }
+    ensures cost { (D.state filer.new.swapper.under).transfers ≤ (D.state filer.old.swapper.under).transfers + 96 * (8 * filer.old.swapper.layout.vam + 100) }
+{
+    let mut page = 0;
+    while page < TABLE_PAGES {
+        match make_run(filer, TABLES, 0, page, TABLE_PAGES - page) {
+            Ok(run) => page += run.pages,
+            Err(halt) => return Err(halt),
+        }
+    }
+    Ok(())
+}
+
+// Gives up the frames of the pages of the space tables, dirty or not: these pages are what the disk has.
+fn forget_tables<D: Disk, A: Allocator>(filer: &mut FilerOver<D, A>)
+    ensures gone { (i : ℕ) (f : Frame) → Has filer.new.swapper.pool i f → IsWithin 3 0 96 f.home → ⊥ }
+    ensures left { (i : ℕ) (f : Frame) → Has filer.new.swapper.pool i f → Has filer.old.swapper.pool i f }
+    ensures goes { Goes (Differs (of_run 3 0 96)) no_page [] (D.state filer.old.swapper.under) filer.old.swapper.pool (D.state filer.new.swapper.under) filer.new.swapper.pool }
+    ensures form { (m : List Sector) → Stands (D.state filer.new.swapper.under) filer.new.swapper.pool m → AreSectors m }
+    ensures under { filer.new.swapper.under ≡ filer.old.swapper.under }
+    ensures layout { filer.new.swapper.layout ≡ filer.old.swapper.layout }
+    ensures runs { filer.new.runs ≡ filer.old.runs }
+{
+    let swapper = filer.swapper_over();
+    forget(swapper, TABLES, 0, TABLE_PAGES);
+    frames_of(filer);
+}
+
+/// Frees the pages of the space tables, from page 0 up, and takes them out of the file map. Their frames are given up, and
+/// nothing of them is written.
+pub fn free_tables<D: Disk, A: Allocator>(filer: &mut FilerOver<D, A>) -> Result<(), Halt>
+    requires size { (D.state filer.old.swapper.under).sectors ≡ filer.old.swapper.layout.sectors }
+    ensures freed { (x : List Sector) (shapes : Shapes) (spaces : List Space) → Books (D.state filer.old.swapper.under) filer.old.swapper.pool filer.old.swapper.layout filer.old.runs shapes spaces x
+        → OnOk result (EndedBy x (D.state filer.old.swapper.under) filer.old.swapper.pool filer.old.swapper.layout (D.state filer.new.swapper.under) filer.new.swapper.pool filer.new.runs) }
+    ensures sound { (x : List Sector) (shapes : Shapes) (spaces : List Space) → Books (D.state filer.old.swapper.under) filer.old.swapper.pool filer.old.swapper.layout filer.old.runs shapes spaces x
+        → IfErr result (λ e. e ≡ halt.Disk) }
+    ensures first { (x : List Sector) (shapes : Shapes) (spaces : List Space) → Books (D.state filer.old.swapper.under) filer.old.swapper.pool filer.old.swapper.layout filer.old.runs shapes spaces x
+        → OnErr result (EndedSome x (D.state filer.old.swapper.under) filer.old.swapper.pool (D.state filer.new.swapper.under) filer.new.swapper.pool) }
+    ensures makes { OnOk result (MakesFree 96 (D.state filer.old.swapper.under) filer.old.swapper.pool (D.state filer.new.swapper.under) filer.new.swapper.pool) }
+    ensures stopped { OnErr result (MakesSomeFree (D.state filer.old.swapper.under) filer.old.swapper.pool (D.state filer.new.swapper.under) filer.new.swapper.pool) }
+    ensures counted { result ≡ Err halt.Disk → Rose (D.state filer.old.swapper.under).faults (D.state filer.new.swapper.under).faults }
+    ensures layout { filer.new.swapper.layout ≡ filer.old.swapper.layout }
+    ensures cost { (D.state filer.new.swapper.under).transfers ≤ (D.state filer.old.swapper.under).transfers + (96 * (16 + 4 * filer.old.swapper.layout.vam) + 2 * (1 + 51 * most_records filer.old.swapper.layout.sectors)) }
+{
+    forget_tables(filer);
+    match free_up(filer, TABLES, 0, TABLE_PAGES) {
+        Ok(()) => (),
+        Err(halt) => return Err(halt),
+    }
+    match filer.cut(TABLES, 0) {
+        Ok(()) => (),
+        Err(halt) => return Err(halt),
+    }
+    frames_of(filer);
+    Ok(())
+}
