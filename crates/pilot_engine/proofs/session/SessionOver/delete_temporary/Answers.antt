@@ -1,0 +1,60 @@
+use Rattle.std.proofs.Common.{rules, ℕ, Option, subst, ◌<◌, ◌∙◌, ◌^◌, arith}
+use Rattle.std.specs.Prelude.{IfSome}
+use Rattle.pilot_engine.proofs.ClearedUpTo.{cleared_all, cleared_more, cleared_none, cleared_paid, cleared_sound, cleared_stops}
+use Rattle.pilot_engine.proofs.WroteLemmas.{wrote_then}
+use Rattle.file_manager.proofs.Faults.{counted_then}
+use Rattle.pilot_engine.proofs.session.SessionOver.delete_temporary.Goals as goal
+
+pub files-init : goal.files-init
+files-init g c = cleared_none _ _ _ _ _ c.requires.size c.requires.opened (g.met.D.Disk.in_form c.args.self.now.filer.swapper.under)
+
+pub delete_next-requires-clause-size : goal.delete_next-requires-clause-size
+delete_next-requires-clause-size g c = c.files.invariant.size
+
+pub delete_next-requires-clause-opened : goal.delete_next-requires-clause-opened
+delete_next-requires-clause-opened g c = c.files.invariant.opened
+
+pub delete_next-requires-clause-client : goal.delete_next-requires-clause-client
+delete_next-requires-clause-client g c = c.files.invariant.above
+
+pub files-smaller : goal.files-smaller
+files-smaller g c =
+    let above : c.files.cursor < c.in-Ok-Some.id = subst (λ (o : Option ℕ). IfSome o (λ j. c.files.cursor < j)) c.in-Ok-Some.field-0-is c.in-Ok-Some.ensures.above in
+    let fits : c.in-Ok-Some.id < 2 ^ 64 = search rules in
+    omega (arith, above, fits)
+
+pub files-preserved : goal.files-preserved
+files-preserved g c = cleared_more _ _ _ _ _ _ _ _ _ _ _ c.files.invariant _ _ _ _ _ _ _ c.in-Ok-Some.field-0-is c.in-Ok-Some.ensures.shed c.delete_next.ensures.stops c.in-Ok-Some.ensures.above c.delete_next.ensures.wrote c.delete_next.ensures.open_still c.delete_next.ensures.layout c.in-Ok-Some.ensures.paid
+
+pub returns-in-Ok-None-clause-shed : goal.returns-in-Ok-None-clause-shed
+returns-in-Ok-None-clause-shed g c = cleared_all _ _ _ _ _ _ _ _ _ _ _ c.files.invariant _ _ _ _ _ _ c.in-Ok-None.field-0-is c.in-Ok-None.ensures.shed
+
+pub returns-in-Ok-None-clause-wrote : goal.returns-in-Ok-None-clause-wrote
+returns-in-Ok-None-clause-wrote g c = wrote_then c.files.invariant.wrote c.delete_next.ensures.wrote
+
+pub returns-in-Ok-None-clause-layout : goal.returns-in-Ok-None-clause-layout
+returns-in-Ok-None-clause-layout g c = c.delete_next.ensures.layout ∙ c.files.invariant.same_layout
+
+pub returns-in-Err-clause-sound : goal.returns-in-Err-clause-sound
+returns-in-Err-clause-sound g c = cleared_sound _ _ _ _ _ _ _ _ _ _ _ c.files.invariant _ c.in-Err.ensures.sound
+
+pub returns-in-Err-clause-wrote : goal.returns-in-Err-clause-wrote
+returns-in-Err-clause-wrote g c = wrote_then c.files.invariant.wrote c.delete_next.ensures.wrote
+
+pub returns-in-Err-clause-layout : goal.returns-in-Err-clause-layout
+returns-in-Err-clause-layout g c = c.delete_next.ensures.layout ∙ c.files.invariant.same_layout
+
+pub returns-in-Ok-None-clause-stops : goal.returns-in-Ok-None-clause-stops
+returns-in-Ok-None-clause-stops g c = cleared_stops _ _ _ _ _ _ _ _ _ _ _ c.files.invariant _ c.delete_next.new.self.filer.swapper.pool c.delete_next.new.self.filer.swapper.layout c.delete_next.new.self.filer.runs c.delete_next.new.self.volume c.delete_next.ensures.stops
+
+pub returns-in-Err-clause-stops : goal.returns-in-Err-clause-stops
+returns-in-Err-clause-stops g c = cleared_stops _ _ _ _ _ _ _ _ _ _ _ c.files.invariant _ c.delete_next.new.self.filer.swapper.pool c.delete_next.new.self.filer.swapper.layout c.delete_next.new.self.filer.runs c.delete_next.new.self.volume c.delete_next.ensures.stops
+
+pub returns-in-Err-clause-counted : goal.returns-in-Err-clause-counted
+returns-in-Err-clause-counted g c = counted_then _ _ _ c.files.invariant.wrote.makes.went.faults c.in-Err.ensures.counted
+
+pub returns-in-Ok-None-clause-cost : goal.returns-in-Ok-None-clause-cost
+returns-in-Ok-None-clause-cost g c = cleared_paid _ _ _ _ _ _ _ _ _ _ _ c.files.invariant (g.D.Disk.state c.delete_next.new.self.filer.swapper.under).transfers c.delete_next.ensures.cost
+
+pub returns-in-Err-clause-cost : goal.returns-in-Err-clause-cost
+returns-in-Err-clause-cost g c = cleared_paid _ _ _ _ _ _ _ _ _ _ _ c.files.invariant (g.D.Disk.state c.delete_next.new.self.filer.swapper.under).transfers c.delete_next.ensures.cost

@@ -1,0 +1,12 @@
+use Rattle.std.proofs.Common.{◌-◌, ◌^◌}
+use Rattle.pilot_engine.proofs.ClearedUpTo.{ClearedUpTo}
+use Rattle.pilot_engine.proofs.session.SessionOver.delete_temporary.Given as goal
+
+-- the temporary files up to this one are gone
+abbrev pub invariant-files : goal.invariant-files
+invariant-files g l =
+    ClearedUpTo l.cursor (g.D.Disk.state l.fn.self.filer.swapper.under) l.fn.self.filer.swapper.pool l.fn.self.filer.swapper.layout l.fn.self.filer.runs l.fn.self.volume
+    (g.D.Disk.state l.self.filer.swapper.under) l.self.filer.swapper.pool l.self.filer.swapper.layout l.self.filer.runs l.self.volume
+
+abbrev pub decreases-files : goal.decreases-files
+decreases-files g l = 2 ^ 64 - l.cursor

@@ -1,0 +1,41 @@
+use Rattle.std.proofs.Common.{sym, ◌∙◌}
+use Rattle.pilot_engine.proofs.StartFaults.{early_outside}
+use Rattle.pilot_engine.proofs.StartWrites.{read_wrote, read_keeps, start_wrote, start_keeps}
+use Rattle.pilot_engine.proofs.session.SessionOver.over.Goals as goal
+
+pub returns-in-Err-clause-sound : goal.returns-in-Err-clause-sound
+returns-in-Err-clause-sound g c = λ d told sound. early_outside d (g.met.D.Disk.in_form c.args.disk d told) sound c.in-Err.fault.0 c.in-Err.ensures.early (c.in-Err.ensures.judged d told)
+
+pub returns-in-Err-clause-moments : goal.returns-in-Err-clause-moments
+returns-in-Err-clause-moments g c = λ d told right. read_keeps c.in-Err.ensures.reads.only d right
+
+pub returns-in-Err-clause-wrote : goal.returns-in-Err-clause-wrote
+returns-in-Err-clause-wrote g c = read_wrote c.in-Err.ensures.reads.only
+
+pub returns-in-Ok-begin-clause-stands : goal.returns-in-Ok-begin-clause-stands
+returns-in-Ok-begin-clause-stands g c = λ d told sound. c.in-Ok-begin.ensures.begun d (c.in-Ok.ensures.reads.only.contents ∙ told) sound (c.in-Ok.ensures.read d told)
+
+pub returns-in-Ok-begin-clause-moments : goal.returns-in-Ok-begin-clause-moments
+returns-in-Ok-begin-clause-moments g c = λ d told right.
+    start_keeps c.in-Ok.ensures.reads.only c.in-Ok.opened.2 c.in-Ok.ensures.bare c.in-Ok-begin.ensures.starts d told right c.in-Ok.opened.0.swapper.layout.sectors
+    (g.met.D.Disk.whole c.args.disk d told ∙ sym c.in-Ok.ensures.reads.only.sectors ∙ c.in-Ok.ensures.size) c.in-Ok.ensures.valid c.in-Ok-begin.ensures.serial c.in-Ok-begin.ensures.counter (c.in-Ok.ensures.read d told)
+
+pub returns-in-Ok-begin-clause-wrote : goal.returns-in-Ok-begin-clause-wrote
+returns-in-Ok-begin-clause-wrote g c = start_wrote c.in-Ok.ensures.reads.only c.in-Ok.opened.2 c.in-Ok.ensures.bare c.in-Ok-begin.ensures.starts
+
+pub returns-in-Err-begin-clause-refused : goal.returns-in-Err-begin-clause-refused
+returns-in-Err-begin-clause-refused g c = λ d why told is. absurd (c.in-Ok.ensures.refused d why told is)
+
+pub returns-in-Err-begin-clause-sound : goal.returns-in-Err-begin-clause-sound
+returns-in-Err-begin-clause-sound g c = λ d told sound. c.in-Err-begin.ensures.sound d (c.in-Ok.ensures.reads.only.contents ∙ told) sound (c.in-Ok.ensures.read d told)
+
+pub returns-in-Err-begin-clause-moments : goal.returns-in-Err-begin-clause-moments
+returns-in-Err-begin-clause-moments g c = λ d told right. rw c.into_disk.ensures (
+    start_keeps c.in-Ok.ensures.reads.only c.in-Ok.opened.2 c.in-Ok.ensures.bare c.in-Err-begin.ensures.starts d told right c.in-Ok.opened.0.swapper.layout.sectors
+    (g.met.D.Disk.whole c.args.disk d told ∙ sym c.in-Ok.ensures.reads.only.sectors ∙ c.in-Ok.ensures.size) c.in-Ok.ensures.valid c.in-Err-begin.ensures.serial c.in-Err-begin.ensures.counter (c.in-Ok.ensures.read d told))
+
+pub returns-in-Err-begin-clause-wrote : goal.returns-in-Err-begin-clause-wrote
+returns-in-Err-begin-clause-wrote g c = rw c.into_disk.ensures (start_wrote c.in-Ok.ensures.reads.only c.in-Ok.opened.2 c.in-Ok.ensures.bare c.in-Err-begin.ensures.starts)
+
+pub returns-in-Ok-begin-clause-frames : goal.returns-in-Ok-begin-clause-frames
+returns-in-Ok-begin-clause-frames g c = c.in-Ok-begin.ensures.starts.makes.count ∙ c.in-Ok.ensures.frames

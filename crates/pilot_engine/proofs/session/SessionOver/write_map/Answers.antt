@@ -1,0 +1,24 @@
+use Rattle.std.proofs.Common.{rules, ◌≡◌}
+use Rattle.swapper_kernel.specs.Maps.{id_of, pages_of}
+use Rattle.pilot_engine.proofs.EndCosts.{few_written}
+use Rattle.pilot_engine.proofs.EndLemmas.{map_clean}
+use Rattle.pilot_engine.proofs.session.SessionOver.write_map.Goals as goal
+
+pub returns-in-Ok-clause-clean : goal.returns-in-Ok-clause-clean
+returns-in-Ok-clause-clean g c =
+    let of_map : c.id.result ≡ id_of c.args.which = search rules in
+    let many : c.pages.result ≡ pages_of c.args.which c.swapper_over-swapper.result.now.layout = search rules in
+    map_clean c.args.which _ _ _ _ _ c.force.new.swapper.placed c.force.ensures.layout of_map many c.in-Ok.ensures.clean
+
+pub returns-in-Err-clause-sound : goal.returns-in-Err-clause-sound
+returns-in-Err-clause-sound g c = λ x stands. (rw (c.swapper_over-swapper.ensures.value) at c.in-Err.ensures.sound) x stands
+
+pub returns-in-Ok-clause-cost : goal.returns-in-Ok-clause-cost
+returns-in-Ok-clause-cost g c =
+    few_written c.id.result 0 c.pages.result c.frames-slots.result c.frames.result.now c.args.self.now.filer.swapper.pool (g.D.Disk.state c.args.self.now.filer.swapper.under).transfers (g.D.Disk.state c.force.new.swapper.under).transfers
+    (rw c.swapper_over-swapper.ensures.value at c.frames.ensures) c.frames-slots.ensures.count c.frames-slots.ensures.most (rw c.swapper_over-swapper.ensures.value at c.force.ensures.cost)
+
+pub returns-in-Err-clause-cost : goal.returns-in-Err-clause-cost
+returns-in-Err-clause-cost g c =
+    few_written c.id.result 0 c.pages.result c.frames-slots.result c.frames.result.now c.args.self.now.filer.swapper.pool (g.D.Disk.state c.args.self.now.filer.swapper.under).transfers (g.D.Disk.state c.force.new.swapper.under).transfers
+    (rw c.swapper_over-swapper.ensures.value at c.frames.ensures) c.frames-slots.ensures.count c.frames-slots.ensures.most (rw c.swapper_over-swapper.ensures.value at c.force.ensures.cost)

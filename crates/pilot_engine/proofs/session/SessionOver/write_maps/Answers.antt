@@ -1,0 +1,15 @@
+use Rattle.swapper_kernel.specs.GoesLaws.{swaps_then, swaps_stands}
+use Rattle.pilot_engine.proofs.EndLemmas.{both_clean}
+use Rattle.pilot_engine.proofs.session.SessionOver.write_maps.Goals as goal
+
+pub returns-in-Ok-write_map-clause-clean : goal.returns-in-Ok-write_map-clause-clean
+returns-in-Ok-write_map-clause-clean g c = both_clean _ _ _ _ c.in-Ok.ensures.clean c.write_map-2.ensures.swaps c.in-Ok-write_map.ensures.clean
+
+pub returns-in-Ok-write_map-clause-swaps : goal.returns-in-Ok-write_map-clause-swaps
+returns-in-Ok-write_map-clause-swaps g c = swaps_then c.write_map.ensures.swaps c.write_map-2.ensures.swaps
+
+pub returns-in-Err-write_map-clause-sound : goal.returns-in-Err-write_map-clause-sound
+returns-in-Err-write_map-clause-sound g c = λ x stands. c.in-Err-write_map.ensures.sound x (swaps_stands c.write_map.ensures.swaps x stands)
+
+pub returns-in-Err-write_map-clause-swaps : goal.returns-in-Err-write_map-clause-swaps
+returns-in-Err-write_map-clause-swaps g c = swaps_then c.write_map.ensures.swaps c.write_map-2.ensures.swaps

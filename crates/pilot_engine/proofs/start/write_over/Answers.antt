@@ -1,0 +1,23 @@
+use Rattle.std.proofs.Common.{◌⊎◌, ◌∙◌, rules}
+use Rattle.labelled_disk.specs.Calls.{Moves, TellsSame, TellsWrite}
+use Rattle.volume_root.specs.RootPage.{root_write}
+use Rattle.file_manager.proofs.RootForm.{root_goes, root_may}
+use Rattle.pilot_engine.proofs.start.write_over.Goals as goal
+
+pub returns-in-Ok-clause-made : goal.returns-in-Ok-clause-made
+returns-in-Ok-clause-made g c =
+    let old = g.D.Disk.state c.args.filer.now.swapper.under in
+    let new = g.D.Disk.state c.write_root.new.disk in
+    let made : TellsWrite (root_write c.args.root) old new = search rules in
+    let moves : Moves old new = search rules in
+    root_goes old new c.args.filer.now.swapper.pool c.args.filer.now.swapper.layout c.args.root c.args.filer.now.swapper.accepted c.args.filer.now.swapper.placed c.requires.valid c.requires.serial c.requires.counter
+    (λ d told. g.met.D.Disk.whole c.args.filer.now.swapper.under d told ∙ c.requires.size) moves made
+
+pub returns-in-Err-clause-stopped : goal.returns-in-Err-clause-stopped
+returns-in-Err-clause-stopped g c =
+    let old = g.D.Disk.state c.args.filer.now.swapper.under in
+    let new = g.D.Disk.state c.write_root.new.disk in
+    let either : TellsSame old new ⊎ TellsWrite (root_write c.args.root) old new = search rules in
+    let moves : Moves old new = search rules in
+    root_may old new c.args.filer.now.swapper.pool c.args.filer.now.swapper.layout c.args.root c.args.filer.now.swapper.accepted c.args.filer.now.swapper.placed c.requires.valid c.requires.serial c.requires.counter
+    (λ d told. g.met.D.Disk.whole c.args.filer.now.swapper.under d told ∙ c.requires.size) moves either

@@ -1,0 +1,6 @@
+pub mod Opening
+pub mod Room
+pub mod Session
+pub mod Stages
+pub mod Closing
+pub mod Bound

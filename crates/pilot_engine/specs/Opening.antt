@@ -1,0 +1,94 @@
+-- How a session starts.
+use Rattle.std.specs.Prelude.{◌≡◌, ◌⊎◌, ℕ, ◌+◌, ◌*◌, ◌≤◌, false, List, [], ◌∷◌, Some, length, take}
+use Rattle.labelled_disk.specs.declared.disk.DiskWrite.{DiskWrite}
+use Rattle.labelled_disk.specs.declared.evidence.Halt.TheVariants as halt
+use Rattle.labelled_disk.specs.declared.layout.RootFault.TheVariants as fault
+use Rattle.labelled_disk.specs.Layout.{vam}
+use Rattle.labelled_disk.specs.Moment.{moment}
+use Rattle.labelled_disk.specs.Root.{root_page, short_at}
+use Rattle.labelled_disk.specs.RootLaws.{StaysRight}
+use Rattle.labelled_disk.specs.Runs.{growth}
+use Rattle.labelled_disk.specs.Sectors.{Sector}
+use Rattle.labelled_disk.specs.State.{DiskState}
+use Rattle.labelled_disk.specs.WriteRuns.{Appended}
+use Rattle.frame_pool.specs.Frames.{Slots, Frame, Has}
+use Rattle.flat_machine.specs.Space.{root}
+use Rattle.swapper_kernel.specs.Goes.{Went, Wrote, Makes}
+use Rattle.session_words.specs.Parts.{TablesMeaning}
+use Rattle.session_words.specs.Volume.{volume_page}
+use Rattle.volume_root.specs.declared.root.Root.{Root}
+use Rattle.volume_root.specs.Flag.{IsRefused}
+use Rattle.volume_root.specs.RootPage.{root_write}
+use Rattle.pilot_engine.specs.declared.fault.StartFault.{StartFault}
+use Rattle.pilot_engine.specs.declared.fault.StartFault.TheVariants.{Root as NoRoot, NoMemory, Halt as Halted}
+
+-- while there is no call on spaces, the space tables mean the root alone
+abbrev pub root_alone : TablesMeaning
+root_alone pages = Some (root ∷ [])
+
+-- the root of the volume in use
+abbrev pub in_use : Root → Root
+in_use root = record root { clean = false }
+
+-- no frame is there
+abbrev pub IsBare : Slots → Type 0
+IsBare slots = (i : ℕ) (f : Frame) → Has slots i f → ⊥
+
+-- the first of some writes, if there is one, is this
+abbrev pub BeginWith : DiskWrite → List DiskWrite → Type 0
+BeginWith w writes = (writes ≡ []) ⊎ ((rest : List DiskWrite) × (writes ≡ w ∷ rest))
+
+-- The first of the writes of a start were made: the root of a volume in use, before all others, and labels of the space
+-- tables. Page bytes were written where pages of the volume's own have them.
+pub record StartsSome (root : Root) (old : DiskState) (before : Slots) (new : DiskState) (after : Slots) : Type 0 where
+  pub sectors : List ℕ
+  pub few : length sectors ≤ 96
+  pub count : ℕ
+  pub makes : Makes volume_page (take count (root_write (in_use root) ∷ growth 3 0 0 sectors)) old before new after
+  pub first : BeginWith (root_write (in_use root)) makes.wrote.writes
+
+-- Over any contents: the first of the writes of a start were made, with some root and in some sectors, each lawful at its
+-- moment; and page bytes of the volume's own pages alone.
+pub record WroteFirst (old new : DiskState) : Type 0 where
+  pub root : Root
+  pub sectors : List ℕ
+  pub few : length sectors ≤ 96
+  pub count : ℕ
+  pub went : Went old new
+  pub wrote : Wrote volume_page (take count (root_write (in_use root) ∷ growth 3 0 0 sectors)) old [] new
+
+-- at each moment of what was written there are the same permanent files, and all labels are right; and the clean flag is 0,
+-- or the disk is as it was
+pub record KeepsFiles (d : List Sector) (old new : DiskState) : Type 0 where
+  pub writes : List DiskWrite
+  pub appended : Appended writes old new
+  pub right : (k : ℕ) → StaysRight false d (moment d writes k)
+  pub opened : (k : ℕ) → (moment d writes k ≡ d) ⊎ (short_at (root_page (moment d writes k)) 10 ≡ 0)
+
+-- so many transfers at most
+abbrev pub CostsStart : DiskState → DiskState → Type 0
+CostsStart old new = new.transfers ≤ old.transfers + (2 + 2 * vam old.sectors + 96 * (8 * vam old.sectors + 100))
+
+-- the disk failed
+abbrev pub IsDiskFault : StartFault → Type 0
+IsDiskFault (NoRoot why) = why ≡ fault.Disk
+IsDiskFault NoMemory = ⊥
+IsDiskFault (Halted why) = why ≡ halt.Disk
+
+-- the fault comes from the disk or the memory, and not from the volume
+abbrev pub IsOutside : StartFault → Type 0
+IsOutside (NoRoot why) = why ≡ fault.Disk
+IsOutside NoMemory = Unit {0}
+IsOutside (Halted why) = why ≡ halt.Disk
+
+-- the fault came before the first write
+abbrev pub IsEarly : StartFault → Type 0
+IsEarly (NoRoot why) = Unit {0}
+IsEarly NoMemory = Unit {0}
+IsEarly (Halted why) = ⊥
+
+-- where the volume was refused, this is why, or the disk failed
+abbrev pub IsRightRefusal : List Sector → StartFault → Type 0
+IsRightRefusal d (NoRoot why) = (why ≡ fault.Disk) ⊎ IsRefused d why
+IsRightRefusal d NoMemory = Unit {0}
+IsRightRefusal d (Halted why) = Unit {0}

@@ -1,0 +1,19 @@
+//! A session: the calls of a client on the files of a volume.
+#![tactic(auto)]
+
+mod ask;
+mod clear;
+mod create;
+mod delete;
+mod fault;
+mod finish;
+mod laws;
+mod marks;
+mod session;
+mod set_size;
+mod start;
+mod step;
+
+pub use fault::StartFault;
+pub use laws::sessions_have_room;
+pub use session::{Session, SessionOver};

@@ -1,0 +1,16 @@
+//! What a session holds.
+use file_manager::Volume;
+use filer_kernel::FilerOver;
+use labelled_disk::Disk;
+use std::alloc::Allocator;
+
+/// A volume in use: its disk with frames over it, its root, and how much of it is used.
+#[derive(Drop)]
+pub struct SessionOver<D: Disk, A: Allocator> {
+    pub(crate) filer: FilerOver<D, A>,
+    pub(crate) volume: Volume,
+    pub(crate) running: bool,
+}
+
+/// A session on a disk that is lent.
+pub type Session<'d, D, A> = SessionOver<&'d mut D, A>;

@@ -1,0 +1,199 @@
+//! A session is started on a volume that was closed.
+ghost use Rattle.std.specs.Prelude.{◌≡◌, ◌⊎◌, ℕ, ◌+◌, ◌-◌, ◌*◌, ◌^◌, ◌<◌, ◌≤◌, min, true, List, [], ◌∷◌, length, Some, Err, IfOk, IfErr, OnOk, OnErr, MatchResult};
+ghost use Rattle.labelled_disk.specs.declared.evidence.Halt.TheVariants as halt;
+ghost use Rattle.labelled_disk.specs.declared.layout.RootFault.TheVariants as fault;
+ghost use Rattle.labelled_disk.specs.Calls.{OnlyReads, ReadsAtMost, Rose};
+ghost use Rattle.labelled_disk.specs.Layout.{IsCount};
+ghost use Rattle.labelled_disk.specs.Moment.{written};
+ghost use Rattle.labelled_disk.specs.Root.{LabelsRight, root_page};
+ghost use Rattle.labelled_disk.specs.Sectors.{Sector};
+ghost use Rattle.filer_kernel.specs.Cached.{runs_of};
+ghost use Rattle.flat_machine.specs.Start.{start};
+ghost use Rattle.label_calls.specs.Labels.{MayHaveWritten};
+ghost use Rattle.swapper_kernel.specs.Goes.{Goes, no_page};
+ghost use Rattle.volume_root.specs.Flag.{IsRefused};
+ghost use Rattle.volume_root.specs.RootPage.{IsValidRoot, root_in, root_write};
+ghost use Rattle.volume_root.specs.Sound.{Sound};
+ghost use Rattle.pilot_engine.specs.Bound.{CostsOther};
+ghost use Rattle.pilot_engine.specs.declared.fault.StartFault.TheVariants as start_fault;
+ghost use Rattle.pilot_engine.specs.Opening.{root_alone, in_use, IsBare, StartsSome, WroteFirst, KeepsFiles, CostsStart, IsDiskFault, IsOutside, IsEarly, IsRightRefusal};
+ghost use Rattle.pilot_engine.specs.Session.{IsOpen, IsSession};
+
+use crate::{SessionOver, StartFault};
+use file_manager::{Volume, make_tables};
+use filer_kernel::FilerOver;
+use labelled_disk::{Disk, Halt, Layout, RootFault};
+use std::alloc::Allocator;
+use swapper_kernel::SwapperOver;
+use volume_root::{Root, read_root, write_root};
+
+// The same root, of a volume in use.
+fn in_use(root: Root) -> Root
+    ensures root { result ≡ in_use root }
+    ensures serial { root.serial < 2 ^ 32 }
+    ensures counter { root.counter < 2 ^ 32 }
+{
+    Root {
+        clean: false,
+        ..root
+    }
+}
+
+// How many data sectors are used, where so many are free.
+fn used_of(layout: Layout, free: u32) -> u32
+    requires first { layout.first ≤ layout.sectors }
+    requires data { free ≤ layout.sectors - layout.first }
+    ensures { result ≡ min ((layout.sectors - layout.first) - free) layout.capacity }
+{
+    let used = layout.sectors - layout.first - free;
+    used.min(layout.capacity)
+}
+
+// Writes a root to the disk. No frame is over its sector.
+fn write_over<D: Disk, A: Allocator>(filer: &mut FilerOver<D, A>, root: Root) -> Result<(), Halt>
+    requires size { (D.state filer.old.swapper.under).sectors ≡ filer.old.swapper.layout.sectors }
+    requires valid { IsValidRoot filer.old.swapper.layout.sectors root }
+    requires serial { root.serial < 2 ^ 32 }
+    requires counter { root.counter < 2 ^ 32 }
+    ensures made { OnOk result (Goes (λ m n. n ≡ written (root_write root) m) no_page (root_write root ∷ []) (D.state filer.old.swapper.under) filer.old.swapper.pool (D.state filer.new.swapper.under) filer.old.swapper.pool) }
+    ensures stopped { OnErr result (MayHaveWritten (root_write root) (D.state filer.old.swapper.under) filer.old.swapper.pool (D.state filer.new.swapper.under)) }
+    ensures fault { IfErr result (λ e. e ≡ halt.Disk) }
+    ensures counted { OnErr result (Rose (D.state filer.old.swapper.under).faults (D.state filer.new.swapper.under).faults) }
+    ensures frames { filer.new.swapper.pool ≡ filer.old.swapper.pool }
+    ensures layout { filer.new.swapper.layout ≡ filer.old.swapper.layout }
+    ensures runs { filer.new.runs ≡ filer.old.runs }
+    ensures cost { (D.state filer.new.swapper.under).transfers ≤ (D.state filer.old.swapper.under).transfers + 1 }
+{
+    let disk = filer.disk_over();
+    match write_root(disk, &root) {
+        Ok(()) => Ok(()),
+        Err(_) => Err(Halt::Disk),
+    }
+}
+
+// Puts a volume with this root into use: the root is written with the clean flag 0, and the pages of the space tables are
+// made. No frame is there yet.
+fn begin<D: Disk, A: Allocator>(
+    filer: &mut FilerOver<D, A>,
+    layout: Layout,
+    root: Root,
+) -> Result<Volume, Halt>
+    requires same_layout { layout ≡ filer.old.swapper.layout }
+    requires size { (D.state filer.old.swapper.under).sectors ≡ filer.old.swapper.layout.sectors }
+    requires valid { IsValidRoot filer.old.swapper.layout.sectors root }
+    requires bare { IsBare filer.old.swapper.pool }
+    requires no_runs { (n : ℕ) → runs_of n filer.old.runs ≡ [] }
+    ensures begun { (d : List Sector) → (D.state filer.old.swapper.under).contents ≡ Some d → Sound d → root ≡ root_in (root_page d)
+        → IfOk result (λ volume. IsSession root_alone (D.state filer.new.swapper.under) filer.new.swapper.pool filer.new.swapper.layout filer.new.runs volume (start d)) }
+    ensures sound { (d : List Sector) → (D.state filer.old.swapper.under).contents ≡ Some d → Sound d → root ≡ root_in (root_page d) → IfErr result (λ e. e ≡ halt.Disk) }
+    ensures opened { IfOk result (IsOpen filer.new.swapper.layout) }
+    ensures starts { StartsSome root (D.state filer.old.swapper.under) filer.old.swapper.pool (D.state filer.new.swapper.under) filer.new.swapper.pool }
+    ensures counted { result ≡ Err halt.Disk → Rose (D.state filer.old.swapper.under).faults (D.state filer.new.swapper.under).faults }
+    ensures serial { root.serial < 2 ^ 32 }
+    ensures counter { root.counter < 2 ^ 32 }
+    ensures layout { filer.new.swapper.layout ≡ filer.old.swapper.layout }
+    ensures cost { (D.state filer.new.swapper.under).transfers ≤ (D.state filer.old.swapper.under).transfers + (1 + 2 * filer.old.swapper.layout.vam + 96 * (8 * filer.old.swapper.layout.vam + 100)) }
+{
+    let root = in_use(root);
+    match write_over(filer, root) {
+        Ok(()) => (),
+        Err(halt) => return Err(halt),
+    }
+    let free = match filer.free_count() {
+        Ok(free) => free,
+        Err(halt) => return Err(halt),
+    };
+    match make_tables(filer) {
+        Ok(()) => (),
+        Err(halt) => return Err(halt),
+    }
+    Ok(Volume {
+        layout,
+        root,
+        used: used_of(layout, free),
+    })
+}
+
+// Reads the root of a volume that was closed, and takes the memory of so many frames over its disk.
+fn frames_over<D: Disk, A: Allocator>(
+    alloc: A,
+    disk: D,
+    frames: u32,
+) -> Result<(FilerOver<D, A>, Layout, Root), (StartFault, D)>
+    requires least { 24 ≤ frames }
+    requires most { frames ≤ 4096 }
+    ensures same_layout { IfOk result (λ r. r.1 ≡ r.0.swapper.layout) }
+    ensures valid { IfOk result (λ r. IsValidRoot r.0.swapper.layout.sectors r.2) }
+    ensures size { IfOk result (λ r. (D.state r.0.swapper.under).sectors ≡ r.0.swapper.layout.sectors) }
+    ensures bare { IfOk result (λ r. IsBare r.0.swapper.pool) }
+    ensures no_runs { IfOk result (λ r. (n : ℕ) → runs_of n r.0.runs ≡ []) }
+    ensures frames { IfOk result (λ r. length r.0.swapper.pool ≡ frames) }
+    ensures read { (d : List Sector) → (D.state disk).contents ≡ Some d → IfOk result (λ r. r.2 ≡ root_in (root_page d)) }
+    ensures count { ¬ IsCount (D.state disk).sectors → MatchResult result (λ r. ⊥) (λ e. e.0 ≡ start_fault.Root (fault.BadCount (D.state disk).sectors)) }
+    ensures bad_count { (n : ℕ) → IfErr result (λ e. e.0 ≡ start_fault.Root (fault.BadCount n) → ¬ IsCount (D.state disk).sectors × (n ≡ (D.state disk).sectors)) }
+    ensures refused { (d : List Sector) (why : RootFault) → (D.state disk).contents ≡ Some d → IsRefused d why
+        → MatchResult result (λ r. ⊥) (λ e. (e.0 ≡ start_fault.Root why) ⊎ (e.0 ≡ start_fault.Root fault.Disk)) }
+    ensures judged { (d : List Sector) → (D.state disk).contents ≡ Some d → IfErr result (λ e. IsRightRefusal d e.0) }
+    ensures early { IfErr result (λ e. IsEarly e.0) }
+    ensures counted { IfErr result (λ e. IsDiskFault e.0 → Rose (D.state disk).faults (D.state e.1).faults) }
+    ensures reads { MatchResult result (λ r. ReadsAtMost 1 (D.state disk) (D.state r.0.swapper.under)) (λ e. ReadsAtMost 1 (D.state disk) (D.state e.1)) }
+{
+    let mut disk = disk;
+    let root = match read_root(&mut disk, true) {
+        Ok(root) => root,
+        Err(why) => return Err((StartFault::Root(why), disk)),
+    };
+    let layout = match Layout::of(root.sectors) {
+        Ok(layout) => layout,
+        Err(why) => return Err((StartFault::Root(why), disk)),
+    };
+    match SwapperOver::over(alloc, disk, layout, frames) {
+        Ok(swapper) => Ok((FilerOver::over(swapper), layout, root)),
+        Err((_, disk)) => Err((StartFault::NoMemory, disk)),
+    }
+}
+
+impl<D: Disk, A: Allocator> SessionOver<D, A> {
+    /// Starts a session on the volume of a disk, which was closed, with 24 to 4,096 frames. This takes all the memory that they
+    /// ever have. The disk is handed back where no session starts.
+    pub fn over(alloc: A, disk: D, frames: u32) -> Result<SessionOver<D, A>, (StartFault, D)>
+        requires least { 24 ≤ frames }
+        requires most { frames ≤ 4096 }
+        ensures stands { (d : List Sector) → (D.state disk).contents ≡ Some d → Sound d
+            → IfOk result (λ s. IsSession root_alone (D.state s.filer.swapper.under) s.filer.swapper.pool s.filer.swapper.layout s.filer.runs s.volume (start d)) }
+        ensures size { IfOk result (λ s. (D.state s.filer.swapper.under).sectors ≡ s.filer.swapper.layout.sectors) }
+        ensures opened { IfOk result (λ s. IsOpen s.filer.swapper.layout s.volume) }
+        ensures running { IfOk result (λ s. s.running ≡ true) }
+        ensures frames { IfOk result (λ s. length s.filer.swapper.pool ≡ frames) }
+
+        // No session starts.
+        ensures count { ¬ IsCount (D.state disk).sectors → MatchResult result (λ s. ⊥) (λ e. e.0 ≡ start_fault.Root (fault.BadCount (D.state disk).sectors)) }
+        ensures bad_count { (n : ℕ) → IfErr result (λ e. e.0 ≡ start_fault.Root (fault.BadCount n) → ¬ IsCount (D.state disk).sectors × (n ≡ (D.state disk).sectors)) }
+        ensures refused { (d : List Sector) (why : RootFault) → (D.state disk).contents ≡ Some d → IsRefused d why
+            → MatchResult result (λ s. ⊥) (λ e. (e.0 ≡ start_fault.Root why) ⊎ (e.0 ≡ start_fault.Root fault.Disk)) }
+        ensures judged { (d : List Sector) → (D.state disk).contents ≡ Some d → IfErr result (λ e. IsRightRefusal d e.0) }
+        ensures sound { (d : List Sector) → (D.state disk).contents ≡ Some d → Sound d → IfErr result (λ e. IsOutside e.0) }
+        ensures unwritten { IfErr result (λ e. IsEarly e.0 → OnlyReads (D.state disk) (D.state e.1)) }
+        ensures counted { IfErr result (λ e. IsDiskFault e.0 → Rose (D.state disk).faults (D.state e.1).faults) }
+
+        // What was written, whether or not one starts.
+        ensures moments { (d : List Sector) → (D.state disk).contents ≡ Some d → LabelsRight d
+            → MatchResult result (λ s. KeepsFiles d (D.state disk) (D.state s.filer.swapper.under)) (λ e. KeepsFiles d (D.state disk) (D.state e.1)) }
+        ensures wrote { MatchResult result (λ s. WroteFirst (D.state disk) (D.state s.filer.swapper.under)) (λ e. WroteFirst (D.state disk) (D.state e.1)) }
+        ensures cost { MatchResult result (λ s. CostsStart (D.state disk) (D.state s.filer.swapper.under)) (λ e. CostsStart (D.state disk) (D.state e.1)) }
+        ensures bounded { MatchResult result (λ s. CostsOther (D.state disk) (D.state s.filer.swapper.under)) (λ e. CostsOther (D.state disk) (D.state e.1)) }
+    {
+        let (mut filer, layout, root) = match frames_over(alloc, disk, frames) {
+            Ok(opened) => opened,
+            Err(fault) => return Err(fault),
+        };
+        match begin(&mut filer, layout, root) {
+            Ok(volume) => Ok(SessionOver {
+                filer,
+                volume,
+                running: true,
+            }),
+            Err(halt) => Err((StartFault::Halt(halt), filer.into_disk())),
+        }
+    }
+}
