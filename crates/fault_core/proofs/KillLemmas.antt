@@ -1,0 +1,157 @@
+-- Pages of a range that may be stored to are given up, one interval after the other.
+use Rattle.std.proofs.Common.{◌≡◌, inl, inr, ◌≤◌, ◌<◌, ℕ, ◌+◌, ◌*◌, List, [], refl, sym, ◌∙◌, ap, subst, arith}
+use Rattle.std.specs.Prelude.{None}
+use Rattle.std.proofs.lemmas.Bool.{cases_lt}
+use Rattle.std.proofs.lemmas.Option.{none-some}
+use Rattle.labelled_disk.specs.declared.evidence.Halt.{Halt}
+use Rattle.labelled_disk.specs.declared.evidence.Halt.TheVariants as halt
+use Rattle.labelled_disk.specs.Sectors.{Sector}
+use Rattle.file_map.specs.FileMap.{Triples}
+use Rattle.flat_machine.specs.declared.space.Space.{Space}
+use Rattle.flat_machine.specs.Space.{root_pages}
+use Rattle.frame_pool.specs.Frames.{Slots}
+use Rattle.swap_units.specs.declared.interval.Interval.{Interval}
+use Rattle.space_tables.specs.Form.{BreaksLookUp}
+use Rattle.swapper_kernel.specs.Differs.{Differs}
+use Rattle.swapper_kernel.specs.DiffersLaws.{differs_itself, differs_then}
+use Rattle.swapper_kernel.specs.Goes.{Goes, no_page}
+use Rattle.swapper_kernel.specs.Homes.{IsLayout}
+use Rattle.swapper_kernel.specs.HaltLaws.{brings_itself, brings_then}
+use Rattle.swapper_kernel.specs.Stands.{Stands}
+use Rattle.session_words.specs.CellLaws.{Kills, is_killed}
+use Rattle.session_words.specs.Volume.{volume_page}
+use Rattle.session_words.proofs.FoundLemmas.{above_reserved}
+use Rattle.fault_core.specs.Kill.{AreWritableSo, BreaksWithin, LeavesCore, is_absent}
+use Rattle.fault_core.specs.Range.{IsNextPart}
+use Rattle.fault_core.specs.Reach.{BringsOwn, ReachHalts}
+use Rattle.fault_core.specs.Told.{BreaksTables, Told}
+use Rattle.fault_core.specs.Touch.{Touches}
+use Rattle.fault_core.specs.View.{View}
+use Rattle.fault_core.proofs.BeforeLemmas.{halt_before, touches_of, touches_then}
+use Rattle.fault_core.proofs.LeaveLemmas.{goes_told, told_stands}
+use Rattle.fault_core.proofs.ReachLemmas.{reaches_itself}
+use Rattle.fault_core.proofs.ShowLemmas.{none_past}
+use Rattle.fault_core.proofs.RangeLemmas.{IsAhead, ahead_next, tables_are}
+
+-- a page of a client that has no frame has none while pages of the maps and of the space tables come
+pub absent_after : (s t : Slots) → BringsOwn s t → (id page : ℕ) → 16 ≤ id → is_absent s id page → is_absent t id page
+absent_after s t came id page client absent (i, (f, has, (same_id, same_page))) = elim (came.homes f.home (record { slot = i; frame = f; has = has; at = refl })) [
+  | inl held ↦ absent (held.slot, (held.frame, held.has, (ap (λ h. h.id) held.at ∙ same_id, ap (λ h. h.page) held.at ∙ same_page)))
+  | inr own ↦ let last = own.1 in absurd (omega (arith, last, same_id, client))
+]
+
+-- a range of so many pages
+abbrev pub range_of : ℕ → ℕ → Space
+range_of first pages = record { handle = 0; parent = 0; first = first; pages = pages; unit = 1; window = None }
+
+-- what a kill of the range leaves
+abbrev pub LeavesKilled : View → List Sector → Triples → List Space → Space → View → List Interval → ℕ → Type 0
+LeavesKilled v m named ss range w kept count = LeavesCore (Differs (is_killed v.layout.sectors ss range)) m named ss w kept count
+
+module _ {v w : View} {kept now : List Interval} {count later : ℕ} {m : List Sector} {named : Triples} {ss : List Space} (range : Space) (told : Told v kept count m named ss) (l : LeavesKilled v m named ss range w now later) where
+  pub killed_goes : Touches no_page v w → Goes (Kills ss range) volume_page [] v.disk v.slots w.disk w.slots
+  killed_goes touches = goes_told (Kills ss range) no_page volume_page touches (λ id page own. elim own [
+    | inl (inl three) ↦ omega (arith, three)
+    | inl (inr two) ↦ omega (arith, two)
+    | inr none ↦ absurd none
+  ]) told.known.stands l.memory l.told.known.stands (record {
+    differs = subst (λ (n : ℕ). Differs (is_killed n ss range) m l.memory) (sym told.known.long) l.changed;
+    sectors = l.told.known.sectors;
+  })
+
+  pub killed_known : (n : List Sector) → Stands w.disk w.slots n → Told w now later n named ss
+  killed_known n stands = told_stands l.told n stands
+
+-- The pages from the first one on up to this one are given up, after so many intervals.
+pub record IsKilling (v : View) (kept : List Interval) (count first pages stop : ℕ) (w : View) (now : List Interval) (later page k : ℕ) : Type 0 where
+  pub from : first ≤ page
+  pub size : w.disk.sectors ≡ w.layout.sectors
+  pub touches : Touches no_page v w
+  pub came : BringsOwn v.slots w.slots
+  pub left : (m : List Sector) (named : Triples) (ss : List Space) (range : Space) → Told v kept count m named ss → range.first ≡ first → range.pages ≡ pages → LeavesKilled v m named ss range w now later
+  pub intervals : later ≡ count
+  pub gone : (m : List Sector) (named : Triples) (ss : List Space) → Told v kept count m named ss → AreWritableSo (is_absent w.slots) ss first page
+  pub ahead : (m : List Sector) (named : Triples) (ss : List Space) (t : Told v kept count m named ss) → IsAhead t.tables.xs count stop page k
+  pub cost : w.disk.transfers ≤ v.disk.transfers + k * 196
+
+pub killing_none : (v : View) (kept : List Interval) (count first pages stop : ℕ) → v.disk.sectors ≡ v.layout.sectors → IsKilling v kept count first pages stop v kept count first 0
+killing_none v kept count first pages stop size = record {
+  from = omega arith;
+  size = size;
+  touches = touches_of no_page (reaches_itself v);
+  came = brings_itself (λ home. (1 ≤ home.id) × (home.id ≤ 3)) v.slots;
+  left = λ m named ss range told from_first so_many. record { memory = m; changed = differs_itself (is_killed v.layout.sectors ss range) m; told = told };
+  intervals = refl;
+  gone = λ m named ss told p from below. absurd (omega (arith, from, below));
+  ahead = λ m named ss told. inr (omega arith, λ j x here held. omega arith);
+  cost = omega arith;
+}
+
+module _ {v : View} {kept : List Interval} {count first pages stop : ℕ} {w : View} {now : List Interval} {later page k : ℕ} (is : IsLayout v.layout) (h : IsKilling v kept count first pages stop w now later page k) where
+  -- what is known of the core then
+  told_now : (m : List Sector) (named : Triples) (ss : List Space) → Told v kept count m named ss → (n : List Sector) × Told w now later n named ss
+  told_now m named ss told = let l = h.left m named ss (range_of first pages) told refl refl in (l.memory, l.told)
+
+  pub killing_sound : (m : List Sector) (named : Triples) (ss : List Space) (e : Halt) → Told v kept count m named ss → ((n : List Sector) (named : Triples) (ss : List Space) → Told w now later n named ss → e ≡ halt.Disk) → e ≡ halt.Disk
+  killing_sound m named ss e told sound = let n = told_now m named ss told in sound n.0 named ss n.1
+
+  module _ (x : View) (after : List Interval) (last : ℕ) (upto : stop ≤ first + pages)
+      (left : (m : List Sector) (named : Triples) (ss : List Space) (range : Space) → Told w now later m named ss → range.first ≤ page → stop ≤ range.first + range.pages → LeavesKilled w m named ss range x after last) where
+    pub killing_left : (m : List Sector) (named : Triples) (ss : List Space) (range : Space) → Told v kept count m named ss → range.first ≡ first → range.pages ≡ pages → LeavesKilled v m named ss range x after last
+    killing_left m named ss range told from_first so_many =
+        let l = h.left m named ss range told from_first so_many in
+        let from = h.from in
+        let k = left l.memory named ss range l.told (omega (arith, from, from_first)) (omega (arith, upto, from_first, so_many)) in
+        let changed : Differs (is_killed v.layout.sectors ss range) l.memory k.memory = subst (λ (n : ℕ). Differs (is_killed n ss range) l.memory k.memory) (ap (λ y. y.sectors) h.touches.layout) k.changed in
+        record { memory = k.memory; changed = differs_then (is_killed v.layout.sectors ss range) m l.memory k.memory l.changed changed; told = k.told }
+
+    pub killing_more : (next : ℕ) → page < stop → page < next → Touches no_page w x → BringsOwn w.slots x.slots → last ≡ later
+        → ((m : List Sector) (named : Triples) (ss : List Space) → Told w now later m named ss → AreWritableSo (is_absent x.slots) ss page next)
+        → ((m : List Sector) (named : Triples) (ss : List Space) → Told w now later m named ss → IsNextPart ss page stop next)
+        → x.disk.transfers ≤ w.disk.transfers + 196 → IsKilling v kept count first pages stop x after last next (k + 1)
+    killing_more next inside more touches came intervals gone part cost = record {
+      from = let from = h.from in omega (arith, from, more);
+      size = touches.goes.makes.went.sectors ∙ h.size ∙ ap (λ l. l.sectors) (sym touches.layout);
+      touches = touches_then v w is h.touches x touches;
+      came = brings_then h.came came;
+      left = killing_left;
+      intervals = intervals ∙ h.intervals;
+      gone = λ m named ss told p from below u shown writable. elim (cases_lt p page) [
+        | inl front ↦ absent_after w.slots x.slots came u.file u.page (above_reserved u.file (told.stored p u shown).of_file) (h.gone m named ss told p from front u shown writable)
+        | inr behind ↦ let n = told_now m named ss told in gone n.0 named ss n.1 p behind below u shown writable
+      ];
+      ahead = λ m named ss told.
+          let n = told_now m named ss told in
+          ahead_next ss told.tables.xs count stop page k next (tables_are told.tables) told.tables.counted inside (h.ahead m named ss told) (part n.0 named ss n.1);
+      cost = let was = h.cost in omega (arith, was, cost);
+    }
+
+  pub killing_halt : (x : View) → page < first + pages → (e : Halt) → ReachHalts (BreaksTables w later page) w x e → ReachHalts (BreaksWithin v count first (first + pages)) v x e
+  killing_halt x below e halts =
+      halt_before v w is h.touches (BreaksTables w later page) (BreaksWithin v count first (first + pages))
+      (λ broken breaks. record {
+        asked = page;
+        from = h.from;
+        below = below;
+        breaks = λ b told. subst (λ (j : ℕ). BreaksLookUp page j b broken) h.intervals (breaks b (h.touches.told b told));
+      }) x x (omega arith) e halts
+
+  pub killing_cost : (x : View) (n : ℕ) → k < n → x.disk.transfers ≤ w.disk.transfers + 196 → x.disk.transfers ≤ v.disk.transfers + n * 196
+  killing_cost x n most cost = let was = h.cost in omega (arith, most, was, cost)
+
+  pub killed_cost : (n : ℕ) → k ≤ n → w.disk.transfers ≤ v.disk.transfers + n * 196
+  killed_cost n most = let was = h.cost in omega (arith, most, was)
+
+  -- the last page of the range, or of the root, is reached
+  pub killed_all : ((p : ℕ) → p < first + pages → p < root_pages → p < stop) → stop ≤ page → (m : List Sector) (named : Triples) (ss : List Space) → Told v kept count m named ss → AreWritableSo (is_absent w.slots) ss first (first + pages)
+  killed_all all past m named ss told p from below u shown writable = elim (cases_lt p page) [
+    | inl front ↦ h.gone m named ss told p from front u shown writable
+    | inr behind ↦ elim (cases_lt p root_pages) [
+      | inl inside ↦ let before = all p below inside in absurd (omega (arith, before, past, behind))
+      | inr outside ↦ absurd (none-some u (sym (none_past told.tables p outside) ∙ shown))
+    ]
+  ]
+
+  -- so many steps reach it
+  pub killed_most : ((p : ℕ) → p < first + pages → p < root_pages → p < stop) → count < k → (m : List Sector) (named : Triples) (ss : List Space) → Told v kept count m named ss → AreWritableSo (is_absent w.slots) ss first (first + pages)
+  killed_most all most m named ss told = elim (h.ahead m named ss told) [ inl past ↦ killed_all all past m named ss told | inr (few, behind) ↦ absurd (omega (arith, few, most)) ]

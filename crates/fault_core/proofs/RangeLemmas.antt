@@ -1,0 +1,143 @@
+-- The intervals of a range, one after the other.
+use Rattle.std.proofs.Common.{◌≡◌, ◌⊎◌, inl, inr, ℕ, ◌+◌, ◌-◌, ◌*◌, ◌<◌, ◌≤◌, List, length, Some, refl, sym, ◌∙◌, ap, subst, arith}
+use Rattle.std.specs.Prelude.{slice_get}
+use Rattle.std.proofs.lemmas.Bool.{cases_lt, cases_eq}
+use Rattle.std.proofs.lemmas.Option.{same_Some}
+use Rattle.labelled_disk.specs.Sectors.{Sector}
+use Rattle.labelled_disk.specs.declared.evidence.Halt.{Halt}
+use Rattle.file_map.specs.FileMap.{Triples}
+use Rattle.frame_pool.specs.ListLaws.{below_of}
+use Rattle.flat_machine.specs.declared.space.Space.{Space}
+use Rattle.swap_units.specs.declared.interval.Interval.{Interval}
+use Rattle.swap_units.specs.Unit.{Holds}
+use Rattle.swapper_kernel.specs.Homes.{IsLayout}
+use Rattle.swapper_kernel.specs.HaltLaws.{brings_itself, brings_then}
+use Rattle.projection_laws.specs.Sight.{AreIntervals}
+use Rattle.projection_laws.proofs.Finds.{firsts_are_rising}
+use Rattle.projection_laws.proofs.OneLemmas.{intervals_are_one}
+use Rattle.space_tables.specs.Stored.{TellSpaces}
+use Rattle.fault_core.specs.declared.range.Way.{Way}
+use Rattle.fault_core.specs.Range.{AreAtRest, BreaksSome, IsNextPart}
+use Rattle.fault_core.specs.Reach.{Reaches, ReachHalts, BringsOwn}
+use Rattle.fault_core.specs.Told.{BreaksTables, Told}
+use Rattle.fault_core.specs.View.{View}
+use Rattle.fault_core.proofs.AccessLemmas.{breaks_before}
+use Rattle.fault_core.proofs.ReachLemmas.{reaches_itself, reaches_then, halts_before}
+use Rattle.fault_core.proofs.RestLemmas.{rests_stay, rest_then, rest_nowhere, rest_narrower}
+
+-- all was passed, or each interval that has the page has at least so many before it
+abbrev pub IsAhead : List Interval → ℕ → ℕ → ℕ → ℕ → Type 0
+IsAhead xs count stop page k = (stop ≤ page) ⊎ ((k ≤ count) × ((j : ℕ) (x : Interval) → slice_get xs j ≡ Some x → Holds x page → k ≤ j))
+
+-- behind one of them is the next
+pub ahead_next : (ss : List Space) (xs : List Interval) (count stop page k next : ℕ) → AreIntervals ss xs → length xs ≡ count → page < stop → IsAhead xs count stop page k → IsNextPart ss page stop next → IsAhead xs count stop next (k + 1)
+ahead_next ss xs count stop page k next are counted below ahead part = elim ahead [
+  | inl past ↦ absurd (omega (arith, past, below))
+  | inr (few, behind) ↦ elim part [
+    | inl is ↦ inl (omega (arith, is))
+    | inr (x, at, is) ↦
+        let one : at.xs ≡ xs = intervals_are_one ss at.xs xs at.projection are in
+        let there : slice_get xs at.index ≡ Some x = ap (λ (l : List Interval). slice_get l at.index) (sym one) ∙ at.there in
+        let from = behind at.index x there at.holds in
+        let inside = below_of xs at.index x there in
+        inr (
+          omega (arith, from, inside, counted),
+          λ j y here held. elim (cases_lt at.index j) [
+            | inl later ↦ omega (arith, from, later)
+            | inr not_later ↦ elim (cases_eq j at.index) [
+              | inl same ↦
+                  let same_one : y ≡ x = same_Some y x (sym here ∙ ap (slice_get xs) same ∙ there) in
+                  let ends : y.first + y.pages ≡ x.first + x.pages = ap (λ (z : Interval). z.first + z.pages) same_one in
+                  let low = held.1 in
+                  absurd (omega (arith, low, ends, is))
+              | inr other ↦
+                  let earlier : j < at.index = omega (arith, not_later, other) in
+                  let before = (firsts_are_rising ss xs are).rises j at.index y x earlier here there in
+                  let low = held.1 in
+                  absurd (omega (arith, before, low, is))
+            ]
+          ],
+        )
+  ]
+]
+
+-- the intervals that the tables have
+pub tables_are : {tells : List ℕ → Type 0} {count : ℕ} {ss : List Space} (t : TellSpaces tells count ss) → AreIntervals ss t.xs
+tables_are t = subst (λ (ss : List Space). AreIntervals ss t.xs) t.spaces t.right.intervals
+
+more_cost : (k a b c d e : ℕ) → b ≡ a → c ≤ e + k * (196 + a) → d ≤ c + (196 + b) → d ≤ e + (k + 1) * (196 + a)
+more_cost k a b c d e same low high =
+    let product : (k + 1) * (196 + a) ≡ k * (196 + a) + (196 + a) = omega arith in
+    omega (arith, same, low, high, product)
+
+-- The pages from the first one on, up to this one, are at rest, after so many intervals.
+pub record IsResting (v : View) (kept : List Interval) (count : ℕ) (way : Way) (first stop : ℕ) (w : View) (now : List Interval) (still page k : ℕ) : Type 0 where
+  pub size : w.disk.sectors ≡ w.layout.sectors
+  pub reaches : Reaches v w
+  pub came : BringsOwn v.slots w.slots
+  pub from : first ≤ page
+  pub same_count : still ≡ count
+  pub cost : w.disk.transfers ≤ v.disk.transfers + k * (196 + length v.slots)
+  pub told : (m : List Sector) (named : Triples) (ss : List Space) (h : Told v kept count m named ss) → Told w now still m named ss × AreAtRest way ss w.slots first page × IsAhead h.tables.xs count stop page k
+
+pub resting_none : (v : View) (kept : List Interval) (count : ℕ) (way : Way) (first stop : ℕ) → v.disk.sectors ≡ v.layout.sectors → IsResting v kept count way first stop v kept count first 0
+resting_none v kept count way first stop size = record {
+  size = size;
+  reaches = reaches_itself v;
+  came = brings_itself (λ home. (1 ≤ home.id) × (home.id ≤ 3)) v.slots;
+  from = omega arith;
+  same_count = refl;
+  cost = omega arith;
+  told = λ m named ss h. (h, rest_nowhere way ss v.slots first, inr (omega arith, λ j x here held. omega arith));
+}
+
+module _ {v : View} {kept : List Interval} {count : ℕ} {way : Way} {first stop : ℕ} {w : View} {now : List Interval} {still page k : ℕ} (is : IsLayout v.layout) (h : IsResting v kept count way first stop w now still page k) where
+  pub resting_more : (x : View) (later : List Interval) (left next : ℕ) → page < stop → page < next
+      → ((m : List Sector) (named : Triples) (ss : List Space) → Told w now still m named ss → AreAtRest way ss x.slots page next)
+      → ((m : List Sector) (named : Triples) (ss : List Space) → Told w now still m named ss → IsNextPart ss page stop next)
+      → ((m : List Sector) (named : Triples) (ss : List Space) → Told w now still m named ss → Told x later left m named ss)
+      → Reaches w x → BringsOwn w.slots x.slots → left ≡ still → x.disk.transfers ≤ w.disk.transfers + (196 + length w.slots) → IsResting v kept count way first stop x later left next (k + 1)
+  resting_more x later left next below further rest part same next_reaches came same_left cost = record {
+    size = next_reaches.goes.makes.went.sectors ∙ h.size ∙ ap (λ l. l.sectors) (sym next_reaches.layout);
+    reaches = reaches_then v w is h.reaches x next_reaches;
+    came = brings_then h.came came;
+    from = let front = h.from in omega (arith, front, further);
+    same_count = same_left ∙ h.same_count;
+    cost = more_cost k (length v.slots) (length w.slots) w.disk.transfers x.disk.transfers v.disk.transfers h.reaches.goes.makes.count h.cost cost;
+    told = λ m named ss told.
+        let was = h.told m named ss told in (
+          same m named ss was.0,
+          rest_then way ss x.slots first page next (rests_stay was.0 next_reaches came way first page was.1) (rest m named ss was.0),
+          ahead_next ss told.tables.xs count stop page k next (tables_are told.tables) told.tables.counted below was.2 (part m named ss was.0),
+        );
+  }
+
+  pub resting_halt : (x : View) (e : Halt) → ReachHalts (BreaksTables w still page) w x e → ReachHalts (BreaksSome v count) v x e
+  resting_halt x e halts = halts_before v w is h.reaches (BreaksTables w still page) (BreaksSome v count) (λ broken breaks. (page, breaks_before v w h.reaches count still page broken h.same_count breaks)) x x (omega arith) e halts
+
+  pub resting_stopped : (x : View) → Reaches w x → Reaches v x
+  resting_stopped x next = reaches_then v w is h.reaches x next
+
+  -- all was passed
+  pub resting_done : stop ≤ page → (m : List Sector) (named : Triples) (ss : List Space) → Told v kept count m named ss → AreAtRest way ss w.slots first stop
+  resting_done past m named ss told = rest_narrower way ss w.slots first page stop past (h.told m named ss told).1
+
+  -- so many steps pass all
+  pub resting_all : count < k → (m : List Sector) (named : Triples) (ss : List Space) → Told v kept count m named ss → AreAtRest way ss w.slots first stop
+  resting_all most m named ss told = elim (h.told m named ss told).2 [ inl past ↦ resting_done past m named ss told | inr (few, behind) ↦ absurd (omega (arith, few, most)) ]
+
+  more_steps : (i d a t u : ℕ) → t ≤ u + i * a → t ≤ u + (i + d) * a
+  more_steps i d a t u low = omega (arith, low)
+
+  pub resting_cost : (n : ℕ) → k ≤ n → w.disk.transfers ≤ v.disk.transfers + n * (196 + length v.slots)
+  resting_cost n most =
+      let d : ℕ = n - k in
+      let sum : k + d ≡ n = omega (arith, most) in
+      subst (λ (m : ℕ). w.disk.transfers ≤ v.disk.transfers + m * (196 + length v.slots)) sum (more_steps k d (196 + length v.slots) w.disk.transfers v.disk.transfers h.cost)
+
+  pub stopped_cost : (x : View) (n : ℕ) → k < n → x.disk.transfers ≤ w.disk.transfers + (196 + length w.slots) → x.disk.transfers ≤ v.disk.transfers + n * (196 + length v.slots)
+  stopped_cost x n most cost =
+      let d : ℕ = n - (k + 1) in
+      let sum : k + 1 + d ≡ n = omega (arith, most) in
+      subst (λ (m : ℕ). x.disk.transfers ≤ v.disk.transfers + m * (196 + length v.slots)) sum
+      (more_steps (k + 1) d (196 + length v.slots) x.disk.transfers v.disk.transfers (more_cost k (length v.slots) (length w.slots) w.disk.transfers x.disk.transfers v.disk.transfers h.reaches.goes.makes.count h.cost cost))

@@ -1,0 +1,95 @@
+-- Frames that come to rest, and stay so.
+use Rattle.std.proofs.Common.{◌≡◌, ◌≢◌, ◌⊎◌, inl, inr, ℕ, ◌+◌, ◌-◌, ◌<◌, ◌≤◌, Bool, true, false, List, [], ◌∷◌, length, refl, sym, ◌∙◌, ap, subst, arith}
+use Rattle.std.specs.Prelude.{if◌then◌else◌, min}
+use Rattle.std.proofs.lemmas.Bool.{cases_lt}
+use Rattle.std.proofs.lemmas.Option.{same_Some, none-some}
+use Rattle.labelled_disk.specs.Sectors.{Sector}
+use Rattle.file_map.specs.FileMap.{Triples}
+use Rattle.force_calls.specs.Run.{dirty_count, is_dirty_in}
+use Rattle.frame_pool.specs.declared.home.Home.{Home}
+use Rattle.frame_pool.specs.Frames.{Frame, Slots, Has}
+use Rattle.flat_machine.specs.declared.space.Space.{Space}
+use Rattle.flat_machine.specs.declared.space.FilePage.{FilePage}
+use Rattle.flat_machine.specs.Space.{root_pages}
+use Rattle.swap_units.specs.declared.interval.Interval.{Interval}
+use Rattle.swap_units.specs.Unit.{Holds}
+use Rattle.swapper_kernel.specs.Goes.{Swaps}
+use Rattle.swapper_kernel.specs.HaltLaws.{brings_same}
+use Rattle.swapper_kernel.specs.Homes.{no_home}
+use Rattle.session_words.proofs.FoundLemmas.{above_reserved}
+use Rattle.space_tables.specs.Stored.{TellSpaces}
+use Rattle.fault_core.specs.declared.range.Way.{Way}
+use Rattle.fault_core.specs.declared.range.Way.TheVariants.{Force, LetGo}
+use Rattle.fault_core.specs.Range.{AreAtRest, IsAtRest}
+use Rattle.fault_core.specs.Reach.{Reaches, BringsOwn}
+use Rattle.fault_core.specs.Told.{IsIntervalOf, Told}
+use Rattle.fault_core.specs.Unit.{file_page}
+use Rattle.fault_core.specs.View.{View}
+use Rattle.fault_core.proofs.ReachLemmas.{reaches_itself}
+use Rattle.fault_core.proofs.ShowLemmas.{none_past, shown_is, shown_none}
+use Rattle.fault_core.proofs.TurnLemmas.{reaches_brought}
+
+-- frames are written out, or given up
+pub rest_reaches : (v x : View) → Swaps v.disk v.slots x.disk x.slots → ((i : ℕ) (f : Frame) → Has x.slots i f → (g : Frame) × Has v.slots i g × (g.home ≡ f.home) × (g.bytes ≡ f.bytes)) → x.layout ≡ v.layout → x.runs ≡ v.runs → Reaches v x
+rest_reaches v x swaps frames layout runs = reaches_brought v v x (reaches_itself v) no_home (λ home none. absurd none) swaps (brings_same no_home frames) layout runs
+
+pub few_dirty : (id first pages : ℕ) (s : Slots) → dirty_count id first pages s ≤ length s
+few_dirty id first pages [] = omega arith
+few_dirty id first pages (o ∷ s) = by (is_dirty_in id first pages o) (few_dirty id first pages s)
+  where
+    by : (b : Bool) → dirty_count id first pages s ≤ length s → (if b then 1 else 0) + dirty_count id first pages s ≤ length (o ∷ s)
+    by true few = omega (arith, few)
+    by false few = omega (arith, few)
+
+-- ---- What is at rest stays so, where pages of clients don't come.
+
+rest_stays : (v w : View) → Reaches v w → BringsOwn v.slots w.slots → (way : Way) (id page : ℕ) → 16 ≤ id → IsAtRest way v.slots id page → IsAtRest way w.slots id page
+rest_stays v w h came Force id page client rest = λ dirty. elim (h.goes.makes.dirty id page dirty) [
+  | inl was ↦ rest was
+  | inr (inl three) ↦ absurd (omega (arith, client, three))
+  | inr (inr two) ↦ absurd (omega (arith, client, two))
+]
+rest_stays v w h came LetGo id page client rest = λ there.
+    let f = there.1.0 in
+    let own = there.1.2 in
+    elim (came.homes f.home (record { slot = there.0; frame = f; has = there.1.1; at = refl })) [
+      | inl held ↦ rest (held.slot, (held.frame, held.has, (ap (λ (h : Home). h.id) held.at ∙ own.0, ap (λ (h : Home). h.page) held.at ∙ own.1)))
+      | inr low ↦ let most = low.1 in let same = own.0 in absurd (omega (arith, client, most, same))
+    ]
+
+pub rests_stay : {v w : View} {kept : List Interval} {count : ℕ} {m : List Sector} {named : Triples} {ss : List Space} → Told v kept count m named ss → Reaches v w → BringsOwn v.slots w.slots
+    → (way : Way) (from to : ℕ) → AreAtRest way ss v.slots from to → AreAtRest way ss w.slots from to
+rests_stay {v = v} {w = w} told h came way from to rest page shown above below is =
+    rest_stays v w h came way shown.file shown.page (above_reserved shown.file (told.stored page shown is).of_file) (rest page shown above below is)
+
+pub rest_then : (way : Way) (ss : List Space) (s : Slots) (a b c : ℕ) → AreAtRest way ss s a b → AreAtRest way ss s b c → AreAtRest way ss s a c
+rest_then way ss s a b c first next page shown above below is = elim (cases_lt page b) [ inl low ↦ first page shown above low is | inr high ↦ next page shown high below is ]
+
+pub rest_nowhere : (way : Way) (ss : List Space) (s : Slots) (a : ℕ) → AreAtRest way ss s a a
+rest_nowhere way ss s a page shown above below is = absurd (omega (arith, above, below))
+
+pub rest_narrower : (way : Way) (ss : List Space) (s : Slots) (a b c : ℕ) → c ≤ b → AreAtRest way ss s a b → AreAtRest way ss s a c
+rest_narrower way ss s a b c less rest page shown above below is = rest page shown above (omega (arith, below, less)) is
+
+-- ---- What one interval shows.
+
+module _ {tells : List ℕ → Type 0} {count : ℕ} {ss : List Space} (t : TellSpaces tells count ss) (way : Way) (s : Slots) (page next : ℕ) where
+  pub none_at_rest : root_pages ≤ page → AreAtRest way ss s page next
+  none_at_rest past p u above below is = absurd (none-some u (sym (none_past t p (omega (arith, past, above))) ∙ is))
+
+  module _ (x : Interval) (of : IsIntervalOf ss x) (holds : Holds x page) (inside : next ≤ x.first + x.pages) where
+    pub bare_at_rest : x.mode ≡ 0 → AreAtRest way ss s page next
+    bare_at_rest bare p u above below is =
+        let from = holds.0 in
+        let held : Holds x p = (omega (arith, from, above), omega (arith, below, inside)) in
+        absurd (none-some u (sym (shown_none t x of p held bare) ∙ is))
+
+    pub run_at_rest : x.mode ≢ 0 → ((q : ℕ) → file_page x page ≤ q → q < file_page x page + (next - page) → IsAtRest way s x.id q) → AreAtRest way ss s page next
+    run_at_rest mapped rest p u above below is =
+        let from = holds.0 in
+        let held : Holds x p = (omega (arith, from, above), omega (arith, below, inside)) in
+        let same : u ≡ record { file = x.id; page = file_page x p } = same_Some u (record { file = x.id; page = file_page x p }) (sym is ∙ shown_is t x of p held mapped) in
+        subst (λ (u : FilePage). IsAtRest way s u.file u.page) (sym same) (rest (file_page x p) (omega (arith, from, above)) (omega (arith, from, above, below)))
+
+pub next_of : (next a b : ℕ) → next ≡ min a b → (next ≡ b) ⊎ (next ≡ a)
+next_of next a b is = elim (cases_lt a b) [ inl less ↦ inr (omega (arith, is, less)) | inr from ↦ inl (omega (arith, is, from)) ]

@@ -1,0 +1,71 @@
+use Rattle.std.proofs.Common.{◌∙◌, sym, refl, arith, inl}
+use Rattle.std.proofs.lemmas.Option.{none-some}
+use Rattle.fault_core.specs.Core.{state}
+use Rattle.fault_core.specs.Homes.{homes_in}
+use Rattle.fault_core.specs.Reach.{no_break}
+use Rattle.fault_core.specs.Told.{BreaksTables}
+use Rattle.fault_core.specs.View.{view_of}
+use Rattle.fault_core.proofs.AccessLemmas.{shows_of, at_of}
+use Rattle.fault_core.proofs.PlanLemmas.{plan_is, unit_has_sectors}
+use Rattle.fault_core.proofs.ReachLemmas.{reaches_then, halts_before}
+use Rattle.fault_core.proofs.ShowLemmas.{shown_is, all_stored}
+use Rattle.fault_core.proofs.ToldLemmas.{interval_of, told_after}
+use Rattle.fault_core.proofs.core_over.CoreOver.resolve.Goals as goal
+
+pub returns-in-Ok-None-clause-none : goal.returns-in-Ok-None-clause-none
+returns-in-Ok-None-clause-none g c = λ m named ss knows. (λ e. (c.in-Ok-None.ensures.none m named ss knows).0 c.in-Ok-None.field-0-is, λ none. refl)
+
+-- ---- The homes were found.
+
+pub returns-in-Ok-clause-homes : goal.returns-in-Ok-clause-homes
+returns-in-Ok-clause-homes g c = λ m named ss knows.
+    let x = c.in-Ok-Some.x in
+    let after = c.in-Ok-Some.ensures.same m named ss knows in
+    record {
+      interval = x;
+      projected = at_of ss c.in-Ok-Some.field-0 x c.args.page c.in-Ok-Some.field-0-is (c.in-Ok-Some.ensures.interval m named ss knows);
+      plan = plan_is x c.args.page c.unit_of-first.result (homes_in c.in-Ok.homes) c.unit_of-first.ensures.pages c.in-Ok.ensures.are;
+      found = c.in-Ok.ensures.named m named after.bytes after.known;
+    }
+
+pub returns-in-Ok-clause-none : goal.returns-in-Ok-clause-none
+returns-in-Ok-clause-none g c = λ m named ss knows.
+    let x = c.in-Ok-Some.x in
+    let shows = shows_of c.in-Ok-Some.field-0 x c.args.page c.in-Ok-Some.field-0-is c.in-Ok-Some.ensures.form in
+    let at = at_of ss c.in-Ok-Some.field-0 x c.args.page c.in-Ok-Some.field-0-is (c.in-Ok-Some.ensures.interval m named ss knows) in
+    (λ e. absurd (none-some _ (sym e)), λ none. absurd (none-some _ (sym none ∙ shown_is knows.tables x (interval_of ss c.args.page x at) c.args.page shows.holds shows.mapped)))
+
+pub returns-in-Ok-clause-same : goal.returns-in-Ok-clause-same
+returns-in-Ok-clause-same g c = λ m named ss knows.
+    told_after (c.in-Ok-Some.ensures.same m named ss knows) _ _ c.shown.new.self.filer.swapper.accepted c.homes_of.ensures.reaches (λ x one. inl one)
+
+pub returns-in-Ok-clause-reaches : goal.returns-in-Ok-clause-reaches
+returns-in-Ok-clause-reaches g c =
+    reaches_then (state c.args.self.now) (state c.shown.new.self) c.args.self.now.filer.swapper.accepted c.shown.ensures.reaches (view_of c.homes_of.new.filer) c.homes_of.ensures.reaches
+
+-- ---- They could not be found.
+
+pub returns-in-Err-homes_of-clause-cause : goal.returns-in-Err-homes_of-clause-cause
+returns-in-Err-homes_of-clause-cause g c =
+    let v = state c.args.self.now in
+    let x = view_of c.homes_of.new.filer in
+    halts_before v (state c.shown.new.self) c.args.self.now.filer.swapper.accepted c.shown.ensures.reaches no_break (BreaksTables v c.args.self.now.intervals c.args.page) (λ page none. absurd none)
+    x x (omega arith) c.in-Err-homes_of.halt c.in-Err-homes_of.ensures.cause
+
+pub returns-in-Err-homes_of-clause-sound : goal.returns-in-Err-homes_of-clause-sound
+returns-in-Err-homes_of-clause-sound g c = λ m named ss knows.
+    let x = c.in-Ok-Some.x in
+    let after = c.in-Ok-Some.ensures.same m named ss knows in
+    let shows = shows_of c.in-Ok-Some.field-0 x c.args.page c.in-Ok-Some.field-0-is c.in-Ok-Some.ensures.form in
+    let at = at_of ss c.in-Ok-Some.field-0 x c.args.page c.in-Ok-Some.field-0-is (c.in-Ok-Some.ensures.interval m named ss knows) in
+    let unit = c.unit_of-first.ensures in
+    c.in-Err-homes_of.ensures.sound m named after.bytes after.known
+    (unit_has_sectors x c.args.page c.unit_of-first.result shows unit.pages unit.holds unit.inside unit.size named m (all_stored after.tables x (interval_of ss c.args.page x at) named m after.stored shows.mapped))
+
+pub returns-in-Err-homes_of-clause-same : goal.returns-in-Err-homes_of-clause-same
+returns-in-Err-homes_of-clause-same g c = λ m named ss knows.
+    told_after (c.in-Ok-Some.ensures.same m named ss knows) _ _ c.shown.new.self.filer.swapper.accepted c.homes_of.ensures.reaches (λ x one. inl one)
+
+pub returns-in-Err-homes_of-clause-reaches : goal.returns-in-Err-homes_of-clause-reaches
+returns-in-Err-homes_of-clause-reaches g c =
+    reaches_then (state c.args.self.now) (state c.shown.new.self) c.args.self.now.filer.swapper.accepted c.shown.ensures.reaches (view_of c.homes_of.new.filer) c.homes_of.ensures.reaches

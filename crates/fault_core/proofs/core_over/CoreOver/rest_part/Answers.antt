@@ -1,0 +1,90 @@
+use Rattle.std.proofs.Common.{◌+◌, ◌≤◌, inl, inr, arith}
+use Rattle.fault_core.specs.Core.{state}
+use Rattle.fault_core.specs.Reach.{no_break}
+use Rattle.fault_core.specs.Told.{BreaksTables}
+use Rattle.fault_core.specs.View.{view_of}
+use Rattle.fault_core.proofs.AccessLemmas.{at_of}
+use Rattle.fault_core.proofs.ReachLemmas.{reaches_then, halts_before}
+use Rattle.fault_core.proofs.RestLemmas.{none_at_rest, bare_at_rest, run_at_rest, next_of}
+use Rattle.fault_core.proofs.ToldLemmas.{interval_of, told_after}
+use Rattle.fault_core.proofs.core_over.CoreOver.rest_part.Goals as goal
+
+pub returns-in-Ok-None-clause-rest : goal.returns-in-Ok-None-clause-rest
+returns-in-Ok-None-clause-rest g c = λ m named ss knows.
+    none_at_rest knows.tables c.args.way c.describe.new.self.filer.swapper.pool c.args.page c.args.end (c.in-Ok-None.ensures.none.0 c.in-Ok-None.field-0-is)
+
+-- ---- No window shows the interval.
+
+pub returns-then-x-eq0-clause-rest : goal.returns-then-x-eq0-clause-rest
+returns-then-x-eq0-clause-rest g c = λ m named ss knows.
+    let x = c.in-Ok-Some.x in
+    let at = at_of ss c.in-Ok-Some.field-0 x c.args.page c.in-Ok-Some.field-0-is (c.in-Ok-Some.ensures.interval m named ss knows) in
+    let least = c.min-next.ensures in
+    let inside : c.min-next.result ≤ x.first + x.pages = omega (arith, least) in
+    bare_at_rest knows.tables c.args.way c.describe.new.self.filer.swapper.pool c.args.page c.min-next.result x (interval_of ss c.args.page x at) at.holds inside c.if-x-eq0.true
+
+pub returns-then-x-eq0-clause-part : goal.returns-then-x-eq0-clause-part
+returns-then-x-eq0-clause-part g c = λ m named ss knows.
+    let x = c.in-Ok-Some.x in
+    let at = at_of ss c.in-Ok-Some.field-0 x c.args.page c.in-Ok-Some.field-0-is (c.in-Ok-Some.ensures.interval m named ss knows) in
+    elim (next_of c.min-next.result (x.first + x.pages) c.args.end c.min-next.ensures) [ inl is ↦ inl is | inr is ↦ inr (x, at, is) ]
+
+-- ---- One shows it.
+
+pub returns-in-Ok-clause-rest : goal.returns-in-Ok-clause-rest
+returns-in-Ok-clause-rest g c = λ m named ss knows.
+    let x = c.in-Ok-Some.x in
+    let at = at_of ss c.in-Ok-Some.field-0 x c.args.page c.in-Ok-Some.field-0-is (c.in-Ok-Some.ensures.interval m named ss knows) in
+    let least = c.min-next.ensures in
+    let inside : c.min-next.result ≤ x.first + x.pages = omega (arith, least) in
+    run_at_rest knows.tables c.args.way c.rest_run.new.filer.swapper.pool c.args.page c.min-next.result x (interval_of ss c.args.page x at) at.holds inside c.if-x-eq0.false c.in-Ok.ensures.rest
+
+pub returns-in-Ok-clause-part : goal.returns-in-Ok-clause-part
+returns-in-Ok-clause-part g c = λ m named ss knows.
+    let x = c.in-Ok-Some.x in
+    let at = at_of ss c.in-Ok-Some.field-0 x c.args.page c.in-Ok-Some.field-0-is (c.in-Ok-Some.ensures.interval m named ss knows) in
+    elim (next_of c.min-next.result (x.first + x.pages) c.args.end c.min-next.ensures) [ inl is ↦ inl is | inr is ↦ inr (x, at, is) ]
+
+pub returns-in-Ok-clause-same : goal.returns-in-Ok-clause-same
+returns-in-Ok-clause-same g c = λ m named ss knows.
+    told_after (c.in-Ok-Some.ensures.same m named ss knows) _ _ c.describe.new.self.filer.swapper.accepted c.rest_run.ensures.reaches (λ x one. inl one)
+
+pub returns-in-Ok-clause-reaches : goal.returns-in-Ok-clause-reaches
+returns-in-Ok-clause-reaches g c =
+    reaches_then (state c.args.self.now) (state c.describe.new.self) c.args.self.now.filer.swapper.accepted c.describe.ensures.reaches (view_of c.rest_run.new.filer) c.rest_run.ensures.reaches
+
+pub returns-in-Ok-clause-cost : goal.returns-in-Ok-clause-cost
+returns-in-Ok-clause-cost g c =
+    let first = c.describe.ensures.cost in
+    let next = c.rest_run.ensures.cost in
+    let count = c.describe.ensures.reaches.goes.makes.count in
+    omega (arith, first, next, count)
+
+-- ---- A frame could not be written out.
+
+pub returns-in-Err-rest_run-clause-cause : goal.returns-in-Err-rest_run-clause-cause
+returns-in-Err-rest_run-clause-cause g c =
+    let v = state c.args.self.now in
+    let x = view_of c.rest_run.new.filer in
+    halts_before v (state c.describe.new.self) c.args.self.now.filer.swapper.accepted c.describe.ensures.reaches no_break (BreaksTables v c.args.self.now.intervals c.args.page) (λ page none. absurd none)
+    x x (omega arith) c.in-Err-rest_run.halt c.in-Err-rest_run.ensures.cause
+
+pub returns-in-Err-rest_run-clause-sound : goal.returns-in-Err-rest_run-clause-sound
+returns-in-Err-rest_run-clause-sound g c = λ m named ss knows.
+    let after = c.in-Ok-Some.ensures.same m named ss knows in
+    c.in-Err-rest_run.ensures.sound m named after.bytes after.known
+
+pub returns-in-Err-rest_run-clause-same : goal.returns-in-Err-rest_run-clause-same
+returns-in-Err-rest_run-clause-same g c = λ m named ss knows.
+    told_after (c.in-Ok-Some.ensures.same m named ss knows) _ _ c.describe.new.self.filer.swapper.accepted c.rest_run.ensures.reaches (λ x one. inl one)
+
+pub returns-in-Err-rest_run-clause-reaches : goal.returns-in-Err-rest_run-clause-reaches
+returns-in-Err-rest_run-clause-reaches g c =
+    reaches_then (state c.args.self.now) (state c.describe.new.self) c.args.self.now.filer.swapper.accepted c.describe.ensures.reaches (view_of c.rest_run.new.filer) c.rest_run.ensures.reaches
+
+pub returns-in-Err-rest_run-clause-cost : goal.returns-in-Err-rest_run-clause-cost
+returns-in-Err-rest_run-clause-cost g c =
+    let first = c.describe.ensures.cost in
+    let next = c.rest_run.ensures.cost in
+    let count = c.describe.ensures.reaches.goes.makes.count in
+    omega (arith, first, next, count)

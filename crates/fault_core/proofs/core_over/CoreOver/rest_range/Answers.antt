@@ -1,0 +1,86 @@
+use Rattle.std.proofs.Common.{◌∙◌, ◌+◌, ◌<◌, arith}
+use Rattle.swapper_kernel.specs.HaltLaws.{brings_then}
+use Rattle.fault_core.specs.Core.{kept, state}
+use Rattle.fault_core.proofs.RangeLemmas.{resting_none, resting_more, resting_halt, resting_stopped, resting_done, resting_all, resting_cost, stopped_cost}
+use Rattle.fault_core.proofs.core_over.CoreOver.rest_range.Goals as goal
+
+pub loop-part-init : goal.loop-part-init
+loop-part-init g c = resting_none (state c.args.self.now) (kept c.args.self.now) c.args.self.now.intervals c.args.way c.args.first (c.args.first + c.args.pages) c.requires.size
+
+-- ---- All was passed.
+
+pub returns-then-page-end-clause-rest : goal.returns-then-page-end-clause-rest
+returns-then-page-end-clause-rest g c = resting_done c.args.self.now.filer.swapper.accepted c.loop-part.invariant c.if-page-end.true
+
+pub returns-then-page-end-clause-same : goal.returns-then-page-end-clause-same
+returns-then-page-end-clause-same g c = λ m named ss knows. (c.loop-part.invariant.told m named ss knows).0
+
+pub returns-then-page-end-clause-reaches : goal.returns-then-page-end-clause-reaches
+returns-then-page-end-clause-reaches g c = c.loop-part.invariant.reaches
+
+pub returns-then-page-end-clause-came : goal.returns-then-page-end-clause-came
+returns-then-page-end-clause-came g c = c.loop-part.invariant.came
+
+pub returns-then-page-end-clause-intervals : goal.returns-then-page-end-clause-intervals
+returns-then-page-end-clause-intervals g c = c.loop-part.invariant.same_count
+
+pub returns-then-page-end-clause-cost : goal.returns-then-page-end-clause-cost
+returns-then-page-end-clause-cost g c = resting_cost c.args.self.now.filer.swapper.accepted c.loop-part.invariant (c.args.self.now.intervals + 1) c.loop-part.auto._part-end
+
+-- ---- One interval more.
+
+pub rest_part-requires-clause-size : goal.rest_part-requires-clause-size
+rest_part-requires-clause-size g c = c.loop-part.invariant.size
+
+pub loop-part-preserved : goal.loop-part-preserved
+loop-part-preserved g c =
+    let new = c.rest_part.new.self in
+    let further = c.in-Ok.ensures.further in
+    resting_more c.args.self.now.filer.swapper.accepted c.loop-part.invariant (state new) (kept new) new.intervals c.in-Ok.next c.if-page-end.false further.0 c.in-Ok.ensures.rest c.in-Ok.ensures.part c.in-Ok.ensures.same
+    c.rest_part.ensures.reaches c.rest_part.ensures.came c.rest_part.ensures.intervals c.rest_part.ensures.cost
+
+-- ---- The disk failed.
+
+pub returns-in-Err-clause-cause : goal.returns-in-Err-clause-cause
+returns-in-Err-clause-cause g c = resting_halt c.args.self.now.filer.swapper.accepted c.loop-part.invariant (state c.rest_part.new.self) c.in-Err.halt c.in-Err.ensures.cause
+
+pub returns-in-Err-clause-sound : goal.returns-in-Err-clause-sound
+returns-in-Err-clause-sound g c = λ m named ss knows. c.in-Err.ensures.sound m named ss (c.loop-part.invariant.told m named ss knows).0
+
+pub returns-in-Err-clause-same : goal.returns-in-Err-clause-same
+returns-in-Err-clause-same g c = λ m named ss knows. c.in-Err.ensures.same m named ss (c.loop-part.invariant.told m named ss knows).0
+
+pub returns-in-Err-clause-reaches : goal.returns-in-Err-clause-reaches
+returns-in-Err-clause-reaches g c = resting_stopped c.args.self.now.filer.swapper.accepted c.loop-part.invariant (state c.rest_part.new.self) c.rest_part.ensures.reaches
+
+pub returns-in-Err-clause-came : goal.returns-in-Err-clause-came
+returns-in-Err-clause-came g c = brings_then c.loop-part.invariant.came c.rest_part.ensures.came
+
+pub returns-in-Err-clause-intervals : goal.returns-in-Err-clause-intervals
+returns-in-Err-clause-intervals g c = c.rest_part.ensures.intervals ∙ c.loop-part.invariant.same_count
+
+pub returns-in-Err-clause-cost : goal.returns-in-Err-clause-cost
+returns-in-Err-clause-cost g c = stopped_cost c.args.self.now.filer.swapper.accepted c.loop-part.invariant (state c.rest_part.new.self) (c.args.self.now.intervals + 1) c.loop-part-test.true c.rest_part.ensures.cost
+
+-- ---- So many intervals are all.
+
+pub returns-clause-rest : goal.returns-clause-rest
+returns-clause-rest g c =
+    let past = c.loop-part-test.false in
+    let most : c.args.self.now.intervals < c.loop-part._part = omega (arith, past) in
+    resting_all c.args.self.now.filer.swapper.accepted c.loop-part.invariant most
+
+pub returns-clause-same : goal.returns-clause-same
+returns-clause-same g c = λ m named ss knows. (c.loop-part.invariant.told m named ss knows).0
+
+pub returns-clause-reaches : goal.returns-clause-reaches
+returns-clause-reaches g c = c.loop-part.invariant.reaches
+
+pub returns-clause-came : goal.returns-clause-came
+returns-clause-came g c = c.loop-part.invariant.came
+
+pub returns-clause-intervals : goal.returns-clause-intervals
+returns-clause-intervals g c = c.loop-part.invariant.same_count
+
+pub returns-clause-cost : goal.returns-clause-cost
+returns-clause-cost g c = resting_cost c.args.self.now.filer.swapper.accepted c.loop-part.invariant (c.args.self.now.intervals + 1) c.loop-part.auto._part-end

@@ -1,0 +1,50 @@
+use Rattle.std.proofs.Common.{subst, refl, inr}
+use Rattle.space_tables.specs.Answer.{IfMem, IfMalformed, FromMemory}
+use Rattle.space_tables.specs.Form.{BreaksLookUp}
+use Rattle.filer_kernel.specs.Tables.{IsTableAccounted}
+use Rattle.fault_core.specs.View.{view_of, TablesAre}
+use Rattle.fault_core.proofs.ReachLemmas.{tables_of}
+use Rattle.fault_core.proofs.ToldLemmas.{spaces_in}
+use Rattle.fault_core.proofs.TurnLemmas.{reaches_tables, own_tables, tables_halt}
+use Rattle.fault_core.proofs.describe.look_up.Goals as goal
+
+pub returns-in-Ok-clause-reaches : goal.returns-in-Ok-clause-reaches
+returns-in-Ok-clause-reaches g c = reaches_tables (view_of c.args.filer.now) (view_of c.ask.new.filer) c.ask.ensures.kept c.ask.ensures.same
+
+pub returns-in-Ok-clause-came : goal.returns-in-Ok-clause-came
+returns-in-Ok-clause-came g c = own_tables (view_of c.args.filer.now) c.ask.new.filer.swapper.pool c.ask.ensures.kept.brings
+
+pub returns-in-Ok-clause-interval : goal.returns-in-Ok-clause-interval
+returns-in-Ok-clause-interval g c = λ b ss told t. c.in-Ok.ensures.interval ss (spaces_in (TablesAre (view_of c.args.filer.now)) c.args.intervals ss b told t)
+
+pub returns-in-Err-Malformed-clause-cause : goal.returns-in-Err-Malformed-clause-cause
+returns-in-Err-Malformed-clause-cause g c =
+    inr (refl, λ b tells. subst (IfMalformed (BreaksLookUp c.args.page c.args.intervals b)) c.in-Err-Malformed.field-0-is (c.in-Err-Malformed.ensures.malformed b tells))
+
+pub returns-in-Err-Malformed-clause-sound : goal.returns-in-Err-Malformed-clause-sound
+returns-in-Err-Malformed-clause-sound g c = λ m named b ss known t.
+    absurd (subst FromMemory c.in-Err-Malformed.field-0-is (c.in-Err-Malformed.ensures.right ss (spaces_in (TablesAre (view_of c.args.filer.now)) c.args.intervals ss b (tables_of (view_of c.args.filer.now) m named b known) t)))
+
+pub returns-in-Err-Malformed-clause-reaches : goal.returns-in-Err-Malformed-clause-reaches
+returns-in-Err-Malformed-clause-reaches g c = reaches_tables (view_of c.args.filer.now) (view_of c.ask.new.filer) c.ask.ensures.kept c.ask.ensures.same
+
+pub returns-in-Err-Malformed-clause-came : goal.returns-in-Err-Malformed-clause-came
+returns-in-Err-Malformed-clause-came g c = own_tables (view_of c.args.filer.now) c.ask.new.filer.swapper.pool c.ask.ensures.kept.brings
+
+pub returns-in-Err-Mem-clause-cause : goal.returns-in-Err-Mem-clause-cause
+returns-in-Err-Mem-clause-cause g c =
+    let filer = c.args.filer.now in
+    let fault = subst (IfMem (IsTableAccounted (g.D.Disk.state filer.swapper.under) filer.swapper.pool filer.swapper.layout filer.runs (g.D.Disk.state c.ask.new.filer.swapper.under))) c.in-Err-Mem.field-0-is c.in-Err-Mem.ensures.cause in
+    tables_halt (view_of filer) (view_of c.ask.new.filer) _ c.in-Err-Mem.halt fault
+
+pub returns-in-Err-Mem-clause-sound : goal.returns-in-Err-Mem-clause-sound
+returns-in-Err-Mem-clause-sound g c = λ m named b ss known t.
+    let filer = c.args.filer.now in
+    let fault = subst (IfMem (IsTableAccounted (g.D.Disk.state filer.swapper.under) filer.swapper.pool filer.swapper.layout filer.runs (g.D.Disk.state c.ask.new.filer.swapper.under))) c.in-Err-Mem.field-0-is c.in-Err-Mem.ensures.cause in
+    fault.sound m b known.stands known.map_labels (tables_of (view_of filer) m named b known)
+
+pub returns-in-Err-Mem-clause-reaches : goal.returns-in-Err-Mem-clause-reaches
+returns-in-Err-Mem-clause-reaches g c = reaches_tables (view_of c.args.filer.now) (view_of c.ask.new.filer) c.ask.ensures.kept c.ask.ensures.same
+
+pub returns-in-Err-Mem-clause-came : goal.returns-in-Err-Mem-clause-came
+returns-in-Err-Mem-clause-came g c = own_tables (view_of c.args.filer.now) c.ask.new.filer.swapper.pool c.ask.ensures.kept.brings

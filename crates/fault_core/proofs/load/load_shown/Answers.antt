@@ -1,0 +1,92 @@
+use Rattle.std.proofs.Common.{rules, ◌≡◌, ◌∙◌, ◌/◌, ◌%◌, ◌+◌, ◌-◌, ◌≤◌, length, sym, subst, arith}
+use Rattle.swap_units.specs.declared.interval.Interval.{Interval}
+use Rattle.swap_units.specs.Unit.{Holds}
+use Rattle.swapper_kernel.specs.HaltLaws.{brings_then}
+use Rattle.filer_kernel.proofs.Outcomes.{err_wider, on_ok_wider}
+use Rattle.fault_core.specs.Reach.{ReachHalts, no_break}
+use Rattle.fault_core.specs.Unit.{IsWhole}
+use Rattle.fault_core.specs.View.{view_of}
+use Rattle.fault_core.proofs.PieceLemmas.{one_page, next_page, loads_first, loads_next, one_loaded, two_loaded}
+use Rattle.fault_core.proofs.ReachLemmas.{known_after, halts_before, reaches_then}
+use Rattle.fault_core.proofs.ShowLemmas.{came_first, came_last}
+use Rattle.fault_core.proofs.load.load_shown.Goals as goal
+
+-- ---- On one page.
+
+pub returns-then-into-room-clause-bytes : goal.returns-then-into-room-clause-bytes
+returns-then-into-room-clause-bytes g c = λ m named b ss known seen also.
+    let into = c.load_in.new.into in
+    on_ok_wider c.load_in.result _ _ (λ has. one_loaded ss named m c.args.address into has.inside (loads_first ss named m c.args.address c.args.first.now into seen c.requires.first.holds has))
+    (c.load_in.ensures.bytes m named b known seen.stored)
+
+pub returns-then-into-room-clause-whole : goal.returns-then-into-room-clause-whole
+returns-then-into-room-clause-whole g c =
+    let fits = c.if-into-room.true in
+    let pool = c.load_in.new.filer.swapper.pool in
+    let page = one_page c.args.address (length c.args.into.now) c.requires.some (omega (arith, fits)) in
+    on_ok_wider c.load_in.result _ _ (λ whole. subst (IsWhole pool c.args.last.now) page (subst (λ (x : Interval). IsWhole pool x (c.args.address / 512)) (sym (c.requires.one page)) whole)) c.load_in.ensures.whole
+
+pub returns-then-into-room-clause-sound : goal.returns-then-into-room-clause-sound
+returns-then-into-room-clause-sound g c = λ m named b known first last. c.load_in.ensures.sound m named b known first
+
+pub returns-then-into-room-clause-came : goal.returns-then-into-room-clause-came
+returns-then-into-room-clause-came g c = came_first c.args.first.now c.args.last.now _ _ c.load_in.ensures.came
+
+-- ---- The first of two failed.
+
+pub returns-in-Err-clause-sound : goal.returns-in-Err-clause-sound
+returns-in-Err-clause-sound g c = λ m named b known first last. c.in-Err.ensures.sound m named b known first
+
+pub returns-in-Err-clause-came : goal.returns-in-Err-clause-came
+returns-in-Err-clause-came g c = came_first c.args.first.now c.args.last.now _ _ c.load_in-2.ensures.came
+
+-- ---- On two pages.
+
+pub returns-clause-bytes : goal.returns-clause-bytes
+returns-clause-bytes g c = λ m named b ss known seen also.
+    let v = view_of c.args.filer.now in
+    let after = known_after v (view_of c.load_in-2.new.filer) m named b c.args.filer.now.swapper.accepted c.load_in-2.ensures.reaches known in
+    let low = c.load_in-2.new.into in
+    let high = c.load_in-3.new.into in
+    let past = c.if-into-room.false in
+    let front : length low ≡ 512 - c.args.address % 512 = search rules in
+    let back : 1 ≤ length high = search rules in
+    let holds : Holds c.args.last.now (c.args.address / 512 + 1) = search rules in
+    let first = loads_first ss named m c.args.address c.args.first.now low seen c.requires.first.holds (c.in-Ok.ensures.bytes m named b known seen.stored) in
+    on_ok_wider c.load_in-3.result _ _ (λ has. two_loaded ss named m c.args.address low high front back first (loads_next ss named m c.args.address c.args.last.now high also holds has))
+    (c.load_in-3.ensures.bytes m named b after also.stored)
+
+pub returns-clause-whole : goal.returns-clause-whole
+returns-clause-whole g c =
+    let past = c.if-into-room.false in
+    let page = next_page c.args.address (length c.args.into.now) c.requires.few (omega (arith, past)) in
+    on_ok_wider c.load_in-3.result _ _ (λ whole. subst (IsWhole c.load_in-3.new.filer.swapper.pool c.args.last.now) page whole) c.load_in-3.ensures.whole
+
+pub returns-clause-cause : goal.returns-clause-cause
+returns-clause-cause g c =
+    let v = view_of c.args.filer.now in
+    let w = view_of c.load_in-2.new.filer in
+    let x = view_of c.load_in-3.new.filer in
+    err_wider c.load_in-3.result (ReachHalts no_break w x) (ReachHalts no_break v x)
+    (halts_before v w c.args.filer.now.swapper.accepted c.load_in-2.ensures.reaches no_break no_break (λ page none. none) x x (omega arith)) c.load_in-3.ensures.cause
+
+pub returns-clause-sound : goal.returns-clause-sound
+returns-clause-sound g c = λ m named b known first last.
+    c.load_in-3.ensures.sound m named b (known_after (view_of c.args.filer.now) (view_of c.load_in-2.new.filer) m named b c.args.filer.now.swapper.accepted c.load_in-2.ensures.reaches known) last
+
+pub returns-clause-reaches : goal.returns-clause-reaches
+returns-clause-reaches g c =
+    reaches_then (view_of c.args.filer.now) (view_of c.load_in-2.new.filer) c.args.filer.now.swapper.accepted c.load_in-2.ensures.reaches (view_of c.load_in-3.new.filer) c.load_in-3.ensures.reaches
+
+pub returns-clause-came : goal.returns-clause-came
+returns-clause-came g c =
+    brings_then (came_first c.args.first.now c.args.last.now _ _ c.load_in-2.ensures.came) (came_last c.args.first.now c.args.last.now _ _ c.load_in-3.ensures.came)
+
+pub returns-clause-idle : goal.returns-clause-idle
+returns-clause-idle g c = λ first last.
+    let past = c.if-into-room.false in
+    let one = c.in-Ok.ensures.idle first in
+    let page = next_page c.args.address (length c.args.into.now) c.requires.few (omega (arith, past)) in
+    let whole : IsWhole c.load_in-2.new.filer.swapper.pool c.args.last.now (c.args.address / 512 + 1) = rw (one.1, page) last in
+    let two = c.load_in-3.ensures.idle whole in
+    (two.0, two.1 ∙ one.1)

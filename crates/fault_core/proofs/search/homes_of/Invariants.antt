@@ -1,0 +1,7 @@
+use Rattle.fault_core.specs.View.{view_of}
+use Rattle.fault_core.proofs.FindLemmas.{IsFinding}
+use Rattle.fault_core.proofs.search.homes_of.Given as goal
+
+-- the homes of the first pages were found
+abbrev pub invariant-loop-k : goal.invariant-loop-k
+invariant-loop-k g l = IsFinding (view_of l.fn.filer) l.fn.id l.fn.first l.fn.pages (view_of l.filer) l.homes l.k

@@ -1,0 +1,24 @@
+use Rattle.std.proofs.Common.{◌∙◌, sym}
+use Rattle.std.proofs.lemmas.Bool.{true≢false}
+use Rattle.filer_kernel.proofs.Outcomes.{on_ok_wider}
+use Rattle.fault_core.specs.Told.{Known}
+use Rattle.fault_core.specs.View.{view_of}
+use Rattle.fault_core.proofs.UnitLemmas.{whole_of_run, run_of_whole, run_stored, run_shown}
+use Rattle.fault_core.proofs.touch.bring_unit.Goals as goal
+
+pub returns-then-is_there-clause-whole : goal.returns-then-is_there-clause-whole
+returns-then-is_there-clause-whole g c = rw c.is_there.ensures.same (whole_of_run c.unit_run-first.ensures c.args.filer.now.swapper.pool (c.is_there.ensures.there.0 c.if-is_there.true))
+
+pub returns-clause-whole : goal.returns-clause-whole
+returns-clause-whole g c = on_ok_wider c.bring_run.result _ _ (whole_of_run c.unit_run-first.ensures c.bring_run.new.filer.swapper.pool) c.bring_run.ensures.there
+
+pub returns-clause-sound : goal.returns-clause-sound
+returns-clause-sound g c = λ m named b known stored.
+    let k : Known (view_of c.is_there.new.filer) m named b = rw c.is_there.ensures.same known in
+    c.bring_run.ensures.sound m named b k (run_stored c.unit_run-first.ensures named m stored)
+
+pub returns-clause-came : goal.returns-clause-came
+returns-clause-came g c = rw (← c.is_there.ensures.same) (run_shown c.unit_run-first.ensures c.is_there.new.filer.swapper.pool c.bring_run.new.filer.swapper.pool c.bring_run.ensures.came)
+
+pub returns-clause-idle : goal.returns-clause-idle
+returns-clause-idle g c = λ whole. absurd (true≢false (sym (c.is_there.ensures.there.1 (run_of_whole c.unit_run-first.ensures c.args.filer.now.swapper.pool whole)) ∙ c.if-is_there.false))

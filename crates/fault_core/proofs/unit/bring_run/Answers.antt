@@ -1,0 +1,49 @@
+use Rattle.std.proofs.Common.{◌⊎◌, inl, ◌≤◌}
+use Rattle.frame_pool.specs.Frames.{IsWithin}
+use Rattle.swapper_kernel.specs.Halts.{Halts}
+use Rattle.swapper_kernel.specs.HaltLaws.{brings_wider}
+use Rattle.swapper_kernel.specs.Homes.{IsAmong}
+use Rattle.filer_kernel.proofs.Outcomes.{err_wider, on_ok_wider}
+use Rattle.fault_core.specs.Homes.{homes_in}
+use Rattle.fault_core.specs.View.{view_of}
+use Rattle.fault_core.specs.Reach.{ReachHalts, no_break}
+use Rattle.fault_core.proofs.ReachLemmas.{known_after}
+use Rattle.fault_core.proofs.RunLemmas.{homes_row, homes_resident, run_came, homes_are_named, have_sectors, homes_placed}
+use Rattle.fault_core.proofs.TurnLemmas.{reaches_brought, brought_halt}
+use Rattle.fault_core.proofs.unit.bring_run.Goals as goal
+
+pub returns-in-Err-clause-sound : goal.returns-in-Err-clause-sound
+returns-in-Err-clause-sound g c = λ m named b known stored. c.in-Err.ensures.sound m named b known (have_sectors named m c.args.id c.args.first c.args.pages stored)
+
+pub returns-in-Err-clause-came : goal.returns-in-Err-clause-came
+returns-in-Err-clause-came g c = brings_wider (λ home. ((1 ≤ home.id) × (home.id ≤ 3)) ⊎ IsWithin c.args.id c.args.first c.args.pages home) (λ home is. inl is) c.homes_of.ensures.came
+
+pub bring-requires-clause-row : goal.bring-requires-clause-row
+bring-requires-clause-row g c = homes_row c.in-Ok.ensures.are
+
+pub bring-requires-clause-homes : goal.bring-requires-clause-homes
+bring-requires-clause-homes g c = homes_placed (view_of c.args.filer.now) (view_of c.homes_of.new.filer) (homes_in c.in-Ok.homes) c.homes_of.ensures.reaches.layout c.in-Ok.ensures.found
+
+pub returns-clause-there : goal.returns-clause-there
+returns-clause-there g c = on_ok_wider c.bring.result _ _ (homes_resident c.in-Ok.ensures.are c.bring.new.filer.swapper.pool) c.bring.ensures.there
+
+pub returns-clause-cause : goal.returns-clause-cause
+returns-clause-cause g c =
+    let v = view_of c.args.filer.now in
+    let w = view_of c.homes_of.new.filer in
+    let x = view_of c.bring.new.filer in
+    err_wider c.bring.result (Halts (IsAmong (homes_in c.in-Ok.homes)) w.disk w.slots x.disk) (ReachHalts no_break v x) (brought_halt v w x c.homes_of.ensures.reaches (IsAmong (homes_in c.in-Ok.homes)) c.in-Ok.ensures.found) c.bring.ensures.cause
+
+pub returns-clause-sound : goal.returns-clause-sound
+returns-clause-sound g c = λ m named b known stored.
+    let v = view_of c.args.filer.now in
+    let after = known_after v (view_of c.homes_of.new.filer) m named b c.args.filer.now.swapper.accepted c.homes_of.ensures.reaches known in
+    c.bring.ensures.sound m after.stands (homes_are_named c.in-Ok.ensures.are v m named b known stored (c.in-Ok.ensures.named m named b known))
+
+pub returns-clause-reaches : goal.returns-clause-reaches
+returns-clause-reaches g c =
+    reaches_brought (view_of c.args.filer.now) (view_of c.homes_of.new.filer) (view_of c.bring.new.filer) c.homes_of.ensures.reaches (IsAmong (homes_in c.in-Ok.homes)) c.in-Ok.ensures.found
+    c.bring.ensures.swaps c.bring.ensures.brings c.bring.ensures.layout c.bring.ensures.runs
+
+pub returns-clause-came : goal.returns-clause-came
+returns-clause-came g c = run_came c.in-Ok.ensures.are c.args.filer.now.swapper.pool c.homes_of.new.filer.swapper.pool c.bring.new.filer.swapper.pool c.homes_of.ensures.came c.bring.ensures.brings

@@ -1,0 +1,15 @@
+pub mod View
+pub mod Reach
+pub mod Told
+pub mod Core
+pub mod Kept
+pub mod Lending
+pub mod Homes
+pub mod Unit
+pub mod Access
+pub mod Touch
+pub mod Moves
+pub mod Plan
+pub mod ReferenceLaws
+pub mod Range
+pub mod Kill

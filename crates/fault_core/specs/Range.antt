@@ -1,0 +1,43 @@
+-- Pages of a range whose frames are at rest.
+use Rattle.std.specs.Prelude.{◌≡◌, ◌⊎◌, ℕ, ◌+◌, ◌<◌, ◌≤◌, List, Some}
+use Rattle.frame_pool.specs.Frames.{Slots}
+use Rattle.flat_machine.specs.declared.space.Space.{Space}
+use Rattle.flat_machine.specs.declared.space.FilePage.{FilePage}
+use Rattle.flat_machine.specs.At.{shown_at}
+use Rattle.swap_units.specs.declared.interval.Interval.{Interval}
+use Rattle.swapper_kernel.specs.Goes.{IsDirty}
+use Rattle.projection_laws.specs.Spaces.{AreSpaces}
+use Rattle.session_words.specs.CallLaws.{IsForced}
+use Rattle.session_words.specs.FrameLaws.{BringsKnown}
+use Rattle.space_tables.specs.SpaceTables.{IsIntervalAt}
+use Rattle.fault_core.specs.declared.range.Way.{Way}
+use Rattle.fault_core.specs.declared.range.Way.TheVariants.{Force, LetGo}
+use Rattle.fault_core.specs.Reach.{BringsOwn}
+use Rattle.fault_core.specs.Told.{BreaksTables}
+use Rattle.fault_core.specs.Unit.{IsResident}
+use Rattle.fault_core.specs.View.{View}
+
+-- no dirty frame has the page, or no frame at all
+abbrev pub IsAtRest : Way → Slots → ℕ → ℕ → Type 0
+IsAtRest Force slots id page = IsDirty slots id page → ⊥
+IsAtRest LetGo slots id page = IsResident slots id page → ⊥
+
+-- so it is with each page of a file that is shown at a page from this one on, up to another
+abbrev pub AreAtRest : Way → List Space → Slots → ℕ → ℕ → Type 0
+AreAtRest way spaces slots from to = (page : ℕ) (shown : FilePage) → from ≤ page → page < to → shown_at spaces page ≡ Some shown → IsAtRest way slots shown.file shown.page
+
+-- the end of the range, or the page behind the interval of the projection that has the page
+abbrev pub IsNextPart : List Space → ℕ → ℕ → ℕ → Type 0
+IsNextPart spaces page end next = (next ≡ end) ⊎ ((x : Interval) × IsIntervalAt spaces page x × (next ≡ x.first + x.pages))
+
+-- a page of the tables breaks its form for the look-up of some page
+abbrev pub BreaksSome : View → ℕ → ℕ → Type 0
+BreaksSome v count page = (asked : ℕ) × BreaksTables v count asked page
+
+-- where the pages of a space's range are forced, no dirty frame has a page that is shown there
+abbrev pub ForcedRanges : Type 0
+ForcedRanges = (spaces : List Space) (range : Space) (slots : Slots) → AreSpaces spaces → AreAtRest Force spaces slots range.first (range.first + range.pages) → IsForced spaces range slots
+
+-- pages of the maps and of the space tables are known pages
+abbrev pub OwnAreKnown : Type 0
+OwnAreKnown = (spaces : List Space) (before after : Slots) → BringsOwn before after → BringsKnown spaces before after

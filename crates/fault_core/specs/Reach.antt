@@ -1,0 +1,61 @@
+-- What it does to disk and frames, and why it may fail, to find pages through both the space tables and the file map.
+use Rattle.std.specs.Prelude.{◌≡◌, ◌⊎◌, ℕ, ◌<◌, ◌≤◌, List, []}
+use Rattle.labelled_disk.specs.declared.evidence.Evidence.{Evidence}
+use Rattle.labelled_disk.specs.declared.evidence.Evidence.TheVariants.{Mismatch, Malformed, Missing}
+use Rattle.labelled_disk.specs.declared.evidence.Halt.{Halt}
+use Rattle.labelled_disk.specs.Sectors.{Sector}
+use Rattle.frame_pool.specs.declared.home.Home.{Home}
+use Rattle.frame_pool.specs.Frames.{Slots}
+use Rattle.file_map.specs.declared.run.Run.{Run}
+use Rattle.file_map.specs.FileMap.{Triples, IsNowhere}
+use Rattle.file_map.specs.Cause.{IsBroken}
+use Rattle.swapper_kernel.specs.declared.manager.Manager.TheVariants.{FileMap}
+use Rattle.swapper_kernel.specs.Maps.{IsMapHome}
+use Rattle.swapper_kernel.specs.Homes.{IsFileHome, Brings}
+use Rattle.swapper_kernel.specs.Stands.{Stands}
+use Rattle.swapper_kernel.specs.Differs.{Differs}
+use Rattle.swapper_kernel.specs.Goes.{Goes}
+use Rattle.swapper_kernel.specs.Halts.{IsOther, HasCause, held_or}
+use Rattle.filer_kernel.specs.Triples.{MapIs, AreOf, IsOneOf}
+use Rattle.filer_kernel.specs.Causes.{MapShows, IsGiven, IsRunHome}
+use Rattle.filer_kernel.specs.Tables.{in_tables, table_pages}
+use Rattle.fault_core.specs.View.{View, kept_by, TablesAre}
+
+-- a page on a data sector, where a run that was kept, or was read from the map, has it
+pub record IsReachedHome (v : View) (home : Home) : Type 0 where
+  pub on_data : IsFileHome v.layout home
+  pub by_run : IsRunHome v.layout v.disk v.slots (kept_by v) home
+
+-- such a page, or one of the file map at its home
+abbrev pub IsReached : View → Home → Type 0
+IsReached v home = IsMapHome FileMap v.layout home ⊎ IsReachedHome v home
+
+-- Pages were found and brought in: each frame's home was there before or was found so. Only pages of the space tables and of
+-- the file map may have become dirty, and the bytes of the space tables alone may differ; where they are told they don't.
+-- Runs that are kept were kept before or were read from the map, and are the map's afterwards where they were before.
+pub record Reaches (v w : View) : Type 0 where
+  pub goes : Goes (Differs (in_tables v.layout)) table_pages [] v.disk v.slots w.disk w.slots
+  pub brings : Brings (IsReached v) v.slots w.slots
+  pub layout : w.layout ≡ v.layout
+  pub given : (r : Run) → IsOneOf r (kept_by w) → IsGiven v.layout v.disk v.slots (kept_by v) r
+  pub runs_are : (m : List Sector) (named : Triples) → Stands v.disk v.slots m → MapIs v.layout named m → AreOf named (kept_by v) → AreOf named (kept_by w)
+  pub told : (b : List ℕ) → TablesAre v b → TablesAre w b
+
+-- A label is another than that of a home of the map, of a frame, or of a page where a run has it; or a page of the map, or
+-- of the space tables, breaks its form; or the map has no sector for a page of the space tables or of a client's file.
+abbrev pub ReachEvidence : (ℕ → Type 0) → View → Evidence → Type 0
+ReachEvidence breaks v (Mismatch sector wanted found) = IsOther (λ home. held_or v.slots (IsMapHome FileMap v.layout) home ⊎ IsReachedHome v home) v.disk sector wanted found
+ReachEvidence breaks v (Malformed window page) = ((window ≡ 2) × IsBroken v.layout.sectors (MapShows v.layout v.disk v.slots) page) ⊎ ((window ≡ 3) × breaks page)
+ReachEvidence breaks v (Missing id page) = (((id ≡ 3) × (page < 96)) ⊎ (16 ≤ id)) × ((m : List Sector) (named : Triples) → Stands v.disk v.slots m → MapIs v.layout named m → IsNowhere named id page)
+
+-- the halt of a call from the one state to the other
+abbrev pub ReachHalts : (ℕ → Type 0) → View → View → Halt → Type 0
+ReachHalts breaks v w halt = HasCause (ReachEvidence breaks v) v.disk w.disk halt
+
+-- no page of the space tables was tested
+abbrev pub no_break : ℕ → Type 0
+no_break page = ⊥
+
+-- pages of the maps and of the space tables alone came into frames
+abbrev pub BringsOwn : Slots → Slots → Type 0
+BringsOwn before after = Brings (λ home. (1 ≤ home.id) × (home.id ≤ 3)) before after

@@ -1,0 +1,104 @@
+//! A filer, the intervals that were looked up last, and how many the projection has.
+ghost use Rattle.std.specs.Prelude.{◌≡◌, ◌≤◌, []};
+ghost use Rattle.descriptor_cache.specs.Cache.{kept_in};
+ghost use Rattle.fault_core.specs.Kept.{AreFormed, are_formed_once};
+
+use descriptor_cache::DescriptorCache;
+use filer_kernel::{Filer, FilerOver};
+use labelled_disk::Disk;
+use std::alloc::Allocator;
+
+/// A filer that is held by value, at most 16 intervals of the projection in its space tables, and how many the projection
+/// has. Every call that moves sectors asks that the disk has as many sectors as the layout: a disk or a filer that was lent
+/// might be another one.
+#[derive(Drop)]
+pub struct CoreOver<D: Disk, A: Allocator> {
+    pub(crate) filer: FilerOver<D, A>,
+    pub(crate) descriptors: DescriptorCache,
+    pub(crate) intervals: u32,
+    ghost some: { 1 ≤ intervals },
+    ghost few: { intervals ≤ 1023 },
+    ghost formed: { AreFormed (kept_in descriptors) } by { are_formed_once (kept_in descriptors) },
+}
+
+/// A core whose disk is lent.
+pub type Core<'d, D, A> = CoreOver<&'d mut D, A>;
+
+impl<D: Disk, A: Allocator> CoreOver<D, A> {
+    ghost use Rattle.fault_core.specs.Core.{kept};
+
+    /// A core over tables whose projection has so many intervals, 1 to 1,023. It keeps none.
+    pub fn over(filer: FilerOver<D, A>, intervals: u32) -> CoreOver<D, A>
+        requires some { 1 ≤ intervals }
+        requires few { intervals ≤ 1023 }
+        ensures filer { result.filer ≡ filer }
+        ensures intervals { result.intervals ≡ intervals }
+        ensures kept { kept result ≡ [] }
+    {
+        CoreOver {
+            filer,
+            descriptors: DescriptorCache::new(),
+            intervals,
+        }
+    }
+
+    /// Gives up the intervals.
+    pub fn into_filer(self) -> FilerOver<D, A>
+        ensures { result ≡ self.filer }
+    {
+        let CoreOver {
+            filer,
+            descriptors: _,
+            intervals: _,
+        } = self;
+        filer
+    }
+
+    /// Keeps no interval any more. This is due where the tables were changed.
+    pub fn forget_descriptors(&mut self)
+        ensures kept { kept self.new ≡ [] }
+        ensures filer { self.new.filer ≡ self.old.filer }
+        ensures intervals { self.new.intervals ≡ self.old.intervals }
+    {
+        self.descriptors.clear();
+    }
+
+    /// How many intervals the projection has now, 1 to 1,023.
+    pub fn keep_count(&mut self, intervals: u32)
+        requires some { 1 ≤ intervals }
+        requires few { intervals ≤ 1023 }
+        ensures kept { kept self.new ≡ kept self.old }
+        ensures filer { self.new.filer ≡ self.old.filer }
+        ensures intervals { self.new.intervals ≡ intervals }
+    {
+        self.intervals = intervals;
+    }
+}
+
+impl<D: Disk, A: Allocator> CoreOver<D, A> {
+    ghost use Rattle.std.specs.Borrow.{sem};
+    ghost use Rattle.fault_core.specs.Lending.{LendsFiler};
+
+    /// The filer.
+    pub fn filer_over(&mut self) -> &mut FilerOver<D, A>
+        ensures value { result.now ≡ self.old.filer }
+        ensures* lends { sem 𝓛 (LendsFiler D.row A.row D.Disk A.Allocator self.entry result) }
+    {
+        &mut self.filer
+    }
+}
+
+impl<'d, D: Disk, A: Allocator> CoreOver<&'d mut D, A> {
+    ghost use Rattle.fault_core.specs.Core.{kept};
+
+    /// A core over a filer whose disk is lent.
+    pub fn new(filer: Filer<'d, D, A>, intervals: u32) -> Core<'d, D, A>
+        requires some { 1 ≤ intervals }
+        requires few { intervals ≤ 1023 }
+        ensures filer { result.filer ≡ filer.entry }
+        ensures intervals { result.intervals ≡ intervals }
+        ensures kept { kept result ≡ [] }
+    {
+        CoreOver::over(filer, intervals)
+    }
+}

@@ -1,0 +1,118 @@
+//! Pages of a range that may be stored to are given up without a write: their bytes are those of the disk again.
+ghost use Rattle.std.specs.Prelude.{◌≡◌, ◌≤◌, ◌<◌, ◌+◌, ◌*◌, ℕ, false, List, [], IfOk, IfErr, OnOk};
+ghost use Rattle.labelled_disk.specs.declared.evidence.Halt.TheVariants as halt;
+ghost use Rattle.labelled_disk.specs.Sectors.{Sector};
+ghost use Rattle.file_map.specs.FileMap.{Triples};
+ghost use Rattle.flat_machine.specs.declared.space.Space.{Space};
+ghost use Rattle.flat_machine.specs.Space.{root_pages};
+ghost use Rattle.swapper_kernel.specs.Differs.{Differs};
+ghost use Rattle.swapper_kernel.specs.Goes.{Goes, no_page};
+ghost use Rattle.swapper_kernel.specs.Stands.{Stands};
+ghost use Rattle.session_words.specs.CellLaws.{Kills, is_killed};
+ghost use Rattle.session_words.specs.Volume.{volume_page};
+ghost use Rattle.fault_core.specs.Kill.{AreWritableSo, BreaksWithin, LeavesCore, ShowsPart, is_absent, may_store, of_part};
+ghost use Rattle.fault_core.specs.Moves.{Leaves};
+ghost use Rattle.fault_core.specs.Range.{IsNextPart};
+ghost use Rattle.fault_core.specs.Reach.{ReachHalts, BringsOwn};
+ghost use Rattle.fault_core.specs.Told.{BreaksTables, Known};
+ghost use Rattle.fault_core.specs.Touch.{Touches};
+ghost use Rattle.fault_core.specs.Unit.{file_page};
+ghost use Rattle.fault_core.specs.View.{view_of};
+
+use crate::CoreOver;
+use crate::walk::end_of;
+use filer_kernel::FilerOver;
+use labelled_disk::{Disk, Halt};
+use std::alloc::Allocator;
+use swap_units::Interval;
+
+// Whether the pages of an interval may be stored to.
+fn may_store(x: &Interval) -> bool
+    ensures { result ≡ may_store x.now }
+{
+    x.mode != 0 && !(x.mode == 1 || x.mode == 3)
+}
+
+// Gives up the pages from one on up to another, by the interval that shows them.
+fn forget_shown<D: Disk, A: Allocator>(
+    filer: &mut FilerOver<D, A>,
+    x: &Interval,
+    page: u32,
+    next: u32,
+)
+    requires shows { ShowsPart x.now page next }
+    ensures gone { (p : ℕ) → page ≤ p → p < next → is_absent filer.new.swapper.pool x.now.id (file_page x.now p) }
+    ensures left { (m : List Sector) (named : Triples) (b : List ℕ) → Known (view_of filer.old) m named b → Leaves (Differs (of_part filer.old.swapper.layout.first x.now page next)) m named b (view_of filer.new) }
+    ensures touches { Touches no_page (view_of filer.old) (view_of filer.new) }
+    ensures came { BringsOwn filer.old.swapper.pool filer.new.swapper.pool }
+    ensures under { filer.new.swapper.under ≡ filer.old.swapper.under }
+{
+    force_calls::forget(
+        filer.swapper_over(),
+        x.id,
+        x.page + (page - x.first),
+        next - page,
+    );
+}
+
+impl<D: Disk, A: Allocator> CoreOver<D, A> {
+    ghost use Rattle.fault_core.specs.Core.{kept, state, Knows};
+
+    // The same of the interval that holds a page, from that page on, where it may be stored to. Gives the page where it ends,
+    // or the range does.
+    fn kill_part(&mut self, page: u32, end: u32) -> Result<u32, Halt>
+        requires size { (D.state self.old.filer.swapper.under).sectors ≡ self.old.filer.swapper.layout.sectors }
+        requires before { page < end }
+        requires in_root { end ≤ root_pages }
+        ensures next { IfOk result (λ next. (page < next) × (next ≤ end)) }
+        ensures part { (m : List Sector) (named : Triples) (ss : List Space) → Knows self.old m named ss → IfOk result (IsNextPart ss page end) }
+        ensures gone { (m : List Sector) (named : Triples) (ss : List Space) → Knows self.old m named ss → IfOk result (AreWritableSo (is_absent self.new.filer.swapper.pool) ss page) }
+        ensures cause { IfErr result (ReachHalts (BreaksTables (state self.old) self.old.intervals page) (state self.old) (state self.new)) }
+        ensures sound { (m : List Sector) (named : Triples) (ss : List Space) → Knows self.old m named ss → IfErr result (λ e. e ≡ halt.Disk) }
+        ensures left { (m : List Sector) (named : Triples) (ss : List Space) (range : Space) → Knows self.old m named ss → range.first ≤ page → end ≤ range.first + range.pages
+            → LeavesCore (Differs (is_killed self.old.filer.swapper.layout.sectors ss range)) m named ss (state self.new) (kept self.new) self.new.intervals }
+        ensures touches { Touches no_page (state self.old) (state self.new) }
+        ensures came { BringsOwn self.old.filer.swapper.pool self.new.filer.swapper.pool }
+        ensures intervals { self.new.intervals ≡ self.old.intervals }
+        ensures cost { (D.state self.new.filer.swapper.under).transfers ≤ (D.state self.old.filer.swapper.under).transfers + 196 }
+    {
+        let (x, next) = match self.part_at(page, end) {
+            Ok(part) => part,
+            Err(halt) => return Err(halt),
+        };
+        if !may_store(&x) {
+            return Ok(next);
+        }
+        forget_shown(&mut self.filer, &x, page, next);
+        Ok(next)
+    }
+
+    /// Gives up the frames of the pages that windows show in a range of pages of the root and let stores through. What is
+    /// dirty is lost: the bytes of these pages are those of the disk.
+    pub fn kill(&mut self, first: u32, pages: u32) -> Result<(), Halt>
+        requires size { (D.state self.old.filer.swapper.under).sectors ≡ self.old.filer.swapper.layout.sectors }
+        ensures gone { (m : List Sector) (named : Triples) (ss : List Space) → Knows self.old m named ss → OnOk result (AreWritableSo (is_absent self.new.filer.swapper.pool) ss first (first + pages)) }
+        ensures cause { IfErr result (ReachHalts (BreaksWithin (state self.old) self.old.intervals first (first + pages)) (state self.old) (state self.new)) }
+        ensures sound { (m : List Sector) (named : Triples) (ss : List Space) → Knows self.old m named ss → IfErr result (λ e. e ≡ halt.Disk) }
+        ensures killed { (m : List Sector) (named : Triples) (ss : List Space) (range : Space) → Knows self.old m named ss → range.first ≡ first → range.pages ≡ pages
+            → Goes (Kills ss range) volume_page [] (D.state self.old.filer.swapper.under) self.old.filer.swapper.pool (D.state self.new.filer.swapper.under) self.new.filer.swapper.pool }
+        ensures known { (m n : List Sector) (named : Triples) (ss : List Space) → Knows self.old m named ss → Stands (D.state self.new.filer.swapper.under) self.new.filer.swapper.pool n → Knows self.new n named ss }
+        ensures touches { Touches no_page (state self.old) (state self.new) }
+        ensures came { BringsOwn self.old.filer.swapper.pool self.new.filer.swapper.pool }
+        ensures intervals { self.new.intervals ≡ self.old.intervals }
+        ensures cost { (D.state self.new.filer.swapper.under).transfers ≤ (D.state self.old.filer.swapper.under).transfers + (self.old.intervals + 1) * 196 }
+    {
+        let end = end_of(first, pages);
+        let mut page = first;
+        for _part in 0..self.intervals + 1 {
+            if page >= end {
+                return Ok(());
+            }
+            match self.kill_part(page, end) {
+                Ok(next) => page = next,
+                Err(halt) => return Err(halt),
+            }
+        }
+        Ok(())
+    }
+}

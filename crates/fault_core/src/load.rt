@@ -1,0 +1,146 @@
+//! Bytes are loaded from the pages that windows show.
+ghost use Rattle.std.specs.Prelude.{◌≡◌, ◌≢◌, ◌≤◌, ◌<◌, ◌+◌, ◌/◌, ℕ, false, List, length, IfOk, IfErr, IsOk, IsSome, OnOk};
+ghost use Rattle.labelled_disk.specs.declared.evidence.Halt.TheVariants as halt;
+ghost use Rattle.labelled_disk.specs.Sectors.{Sector};
+ghost use Rattle.file_map.specs.FileMap.{Triples};
+ghost use Rattle.flat_mem.specs.Memory.{part};
+ghost use Rattle.frame_pool.specs.Frames.{Frame, Has, frame_at};
+ghost use Rattle.flat_machine.specs.declared.space.Space.{Space};
+ghost use Rattle.fault_core.specs.declared.reference.Access.TheVariants as access;
+ghost use Rattle.session_words.specs.FrameLaws.{BringsKnown};
+ghost use Rattle.fault_core.specs.Access.{BreaksFor, Shows, access_of, last_page};
+ghost use Rattle.fault_core.specs.Kept.{AreApart};
+ghost use Rattle.fault_core.specs.Moves.{AreSeen, HasBytes, Loads};
+ghost use Rattle.fault_core.specs.View.{view_of};
+ghost use Rattle.fault_core.specs.Reach.{Reaches, ReachHalts, no_break};
+ghost use Rattle.fault_core.specs.Told.{Known};
+ghost use Rattle.fault_core.specs.Unit.{AreShownStored, BringsBoth, BringsShown, IsReady, IsWhole, file_page};
+
+use crate::CoreOver;
+use crate::reference::{Access, Reference};
+use crate::touch::touch;
+use filer_kernel::FilerOver;
+use labelled_disk::{Disk, Halt};
+use std::alloc::Allocator;
+use swap_units::Interval;
+
+// Reads from a page in a frame.
+fn copy_out<D: Disk, A: Allocator>(
+    filer: &mut FilerOver<D, A>,
+    slot: u32,
+    from: usize,
+    into: &mut [u8],
+)
+    requires below { slot < length filer.old.swapper.pool }
+    requires filled { IsSome (frame_at filer.old.swapper.pool slot) }
+    requires inside { from + length into.old ≤ 512 }
+    ensures bytes { (f : Frame) → Has filer.old.swapper.pool slot f → into.new ≡ part f.bytes from (length into.old) }
+    ensures width { length into.new ≡ length into.old }
+    ensures same { filer.new ≡ filer.old }
+{
+    let page = filer.swapper_over().frames().bytes(slot);
+    into.copy_from_slice(&page[from..from + into.len()]);
+}
+
+// Loads from one page that an interval shows.
+fn load_in<D: Disk, A: Allocator>(
+    filer: &mut FilerOver<D, A>,
+    x: &Interval,
+    page: u32,
+    from: usize,
+    into: &mut [u8],
+) -> Result<(), Halt>
+    requires size { (D.state filer.old.swapper.under).sectors ≡ filer.old.swapper.layout.sectors }
+    requires shows { Shows x.now page }
+    requires inside { from + length into.old ≤ 512 }
+    ensures bytes { (m : List Sector) (named : Triples) (b : List ℕ) → Known (view_of filer.old) m named b → AreShownStored named m x.now → OnOk result (HasBytes x.now.id (file_page x.now page) from into.new m) }
+    ensures width { length into.new ≡ length into.old }
+    ensures whole { OnOk result (IsWhole filer.new.swapper.pool x.now page) }
+    ensures cause { IfErr result (ReachHalts no_break (view_of filer.old) (view_of filer.new)) }
+    ensures sound { (m : List Sector) (named : Triples) (b : List ℕ) → Known (view_of filer.old) m named b → AreShownStored named m x.now → IfErr result (λ e. e ≡ halt.Disk) }
+    ensures reaches { Reaches (view_of filer.old) (view_of filer.new) }
+    ensures came { BringsShown x.now filer.old.swapper.pool filer.new.swapper.pool }
+    ensures idle { IsWhole filer.old.swapper.pool x.now page → IsOk result × (filer.new ≡ filer.old) }
+    ensures cost { (D.state filer.new.swapper.under).transfers ≤ (D.state filer.old.swapper.under).transfers + 256 }
+{
+    let slot = match touch(filer, x, page) {
+        Ok(slot) => slot,
+        Err(halt) => return Err(halt),
+    };
+    copy_out(filer, slot, from, into);
+    Ok(())
+}
+
+// Loads from the pages of a reference, by the intervals that show them.
+fn load_shown<D: Disk, A: Allocator>(
+    filer: &mut FilerOver<D, A>,
+    first: &Interval,
+    last: &Interval,
+    address: u32,
+    into: &mut [u8],
+) -> Result<(), Halt>
+    requires size { (D.state filer.old.swapper.under).sectors ≡ filer.old.swapper.layout.sectors }
+    requires some { 1 ≤ length into.old }
+    requires few { length into.old ≤ 512 }
+    requires first { Shows first.now (address / 512) }
+    requires last { Shows last.now (last_page address (length into.old)) }
+    requires one { address / 512 ≡ last_page address (length into.old) → last.now ≡ first.now }
+    ensures bytes { (m : List Sector) (named : Triples) (b : List ℕ) (ss : List Space) → Known (view_of filer.old) m named b → AreSeen ss named m first.now → AreSeen ss named m last.now → OnOk result (Loads ss address into.new m) }
+    ensures width { length into.new ≡ length into.old }
+    ensures whole { OnOk result (IsWhole filer.new.swapper.pool last.now (last_page address (length into.old))) }
+    ensures cause { IfErr result (ReachHalts no_break (view_of filer.old) (view_of filer.new)) }
+    ensures sound { (m : List Sector) (named : Triples) (b : List ℕ) → Known (view_of filer.old) m named b → AreShownStored named m first.now → AreShownStored named m last.now → IfErr result (λ e. e ≡ halt.Disk) }
+    ensures reaches { Reaches (view_of filer.old) (view_of filer.new) }
+    ensures came { BringsBoth first.now last.now filer.old.swapper.pool filer.new.swapper.pool }
+    ensures idle { IsWhole filer.old.swapper.pool first.now (address / 512) → IsWhole filer.old.swapper.pool last.now (last_page address (length into.old)) → IsOk result × (filer.new ≡ filer.old) }
+    ensures cost { (D.state filer.new.swapper.under).transfers ≤ (D.state filer.old.swapper.under).transfers + 512 }
+{
+    let from = (address % 512) as usize;
+    let room = 512 - from;
+    if into.len() <= room {
+        return load_in(filer, first, address / 512, from, into);
+    }
+    let (low, high) = into.split_at_mut(room);
+    match load_in(filer, first, address / 512, from, low) {
+        Ok(()) => (),
+        Err(halt) => return Err(halt),
+    }
+    load_in(filer, last, address / 512 + 1, 0, high)
+}
+
+impl<D: Disk, A: Allocator> CoreOver<D, A> {
+    ghost use Rattle.fault_core.specs.Core.{kept, state, Knows};
+
+    /// Loads 1 to 512 bytes from an address on. All pages of the reference are tested before the first byte is moved. After
+    /// `Done` the last page is ready.
+    pub fn load(&mut self, address: u32, into: &mut [u8]) -> Result<Access, Halt>
+        requires size { (D.state self.old.filer.swapper.under).sectors ≡ self.old.filer.swapper.layout.sectors }
+        requires some { 1 ≤ length into.old }
+        requires few { length into.old ≤ 512 }
+        ensures access { (m : List Sector) (named : Triples) (ss : List Space) → Knows self.old m named ss → IfOk result (λ a. a ≡ access_of ss false address (length into.old)) }
+        ensures bytes { (m : List Sector) (named : Triples) (ss : List Space) → Knows self.old m named ss → IfOk result (λ a. a ≡ access.Done → Loads ss address into.new m) }
+        ensures width { length into.new ≡ length into.old }
+        ensures refused { IfOk result (λ a. a ≢ access.Done → into.new ≡ into.old) }
+        ensures ready { IfOk result (λ a. a ≡ access.Done → IsReady (kept self.new) self.new.filer.swapper.pool (last_page address (length into.old))) }
+        ensures cause { IfErr result (ReachHalts (BreaksFor (state self.old) self.old.intervals address (length into.old)) (state self.old) (state self.new)) }
+        ensures sound { (m : List Sector) (named : Triples) (ss : List Space) → Knows self.old m named ss → IfErr result (λ e. e ≡ halt.Disk) }
+        ensures same { (m : List Sector) (named : Triples) (ss : List Space) → Knows self.old m named ss → Knows self.new m named ss }
+        ensures reaches { Reaches (state self.old) (state self.new) }
+        ensures came { (m : List Sector) (named : Triples) (ss : List Space) → Knows self.old m named ss → BringsKnown ss self.old.filer.swapper.pool self.new.filer.swapper.pool }
+        ensures intervals { self.new.intervals ≡ self.old.intervals }
+        ensures idle { IsReady (kept self.old) self.old.filer.swapper.pool (address / 512) → IsReady (kept self.old) self.old.filer.swapper.pool (last_page address (length into.old)) → AreApart (kept self.old)
+            → IsOk result × (self.new.filer ≡ self.old.filer) × (kept self.new ≡ kept self.old) }
+        ensures cost { (D.state self.new.filer.swapper.under).transfers ≤ (D.state self.old.filer.swapper.under).transfers + 1680 }
+    {
+        let (first, last) = match self.refer(address, into.len() as u32, false) {
+            Ok(Reference::Shown { first, last }) => (first, last),
+            Ok(Reference::NoMap(page)) => return Ok(Access::NoMap(page)),
+            Ok(Reference::ReadOnly(page)) => return Ok(Access::ReadOnly(page)),
+            Err(halt) => return Err(halt),
+        };
+        match load_shown(&mut self.filer, &first, &last, address, into) {
+            Ok(()) => Ok(Access::Done),
+            Err(halt) => Err(halt),
+        }
+    }
+}

@@ -1,0 +1,181 @@
+//! What windows show in a range of pages is forced, or its frames are let go.
+ghost use Rattle.std.specs.Prelude.{◌≡◌, ◌≤◌, ◌<◌, ◌+◌, ◌*◌, ◌^◌, ℕ, List, length, IfOk, IfErr, OnOk};
+ghost use Rattle.labelled_disk.specs.declared.evidence.Halt.TheVariants as halt;
+ghost use Rattle.labelled_disk.specs.Sectors.{Sector};
+ghost use Rattle.file_map.specs.FileMap.{Triples};
+ghost use Rattle.flat_machine.specs.declared.space.Space.{Space};
+ghost use Rattle.fault_core.specs.declared.range.Way.TheVariants as way_is;
+ghost use Rattle.fault_core.specs.Range.{AreAtRest, BreaksSome, IsAtRest, IsNextPart};
+ghost use Rattle.fault_core.specs.View.{view_of};
+ghost use Rattle.fault_core.specs.Reach.{Reaches, ReachHalts, BringsOwn, no_break};
+ghost use Rattle.fault_core.specs.Told.{BreaksTables, Known};
+
+use crate::CoreOver;
+use filer_kernel::FilerOver;
+use labelled_disk::{Disk, FileId, Halt};
+use std::alloc::Allocator;
+
+// How the frames of pages come to rest: those that are dirty are written out; and then all are given up.
+#[derive(Clone, Copy)]
+pub(crate) enum Way {
+    Force,
+    LetGo,
+}
+
+// Writes out what is dirty of so many pages of a file.
+fn force_run<D: Disk, A: Allocator>(
+    filer: &mut FilerOver<D, A>,
+    id: FileId,
+    first: u32,
+    pages: u32,
+) -> Result<(), Halt>
+    requires size { (D.state filer.old.swapper.under).sectors ≡ filer.old.swapper.layout.sectors }
+    ensures rest { OnOk result ((p : ℕ) → first ≤ p → p < first + pages → IsAtRest way_is.Force filer.new.swapper.pool id p) }
+    ensures cause { IfErr result (ReachHalts no_break (view_of filer.old) (view_of filer.new)) }
+    ensures sound { (m : List Sector) (named : Triples) (b : List ℕ) → Known (view_of filer.old) m named b → IfErr result (λ e. e ≡ halt.Disk) }
+    ensures reaches { Reaches (view_of filer.old) (view_of filer.new) }
+    ensures came { BringsOwn filer.old.swapper.pool filer.new.swapper.pool }
+    ensures cost { (D.state filer.new.swapper.under).transfers ≤ (D.state filer.old.swapper.under).transfers + length filer.old.swapper.pool }
+{
+    force_calls::force(filer.swapper_over(), id, first, pages)
+}
+
+// Gives up the frames of so many pages of a file. What is dirty is written out first.
+fn let_run_go<D: Disk, A: Allocator>(
+    filer: &mut FilerOver<D, A>,
+    id: FileId,
+    first: u32,
+    pages: u32,
+) -> Result<(), Halt>
+    requires size { (D.state filer.old.swapper.under).sectors ≡ filer.old.swapper.layout.sectors }
+    ensures rest { OnOk result ((p : ℕ) → first ≤ p → p < first + pages → IsAtRest way_is.LetGo filer.new.swapper.pool id p) }
+    ensures cause { IfErr result (ReachHalts no_break (view_of filer.old) (view_of filer.new)) }
+    ensures sound { (m : List Sector) (named : Triples) (b : List ℕ) → Known (view_of filer.old) m named b → IfErr result (λ e. e ≡ halt.Disk) }
+    ensures reaches { Reaches (view_of filer.old) (view_of filer.new) }
+    ensures came { BringsOwn filer.old.swapper.pool filer.new.swapper.pool }
+    ensures cost { (D.state filer.new.swapper.under).transfers ≤ (D.state filer.old.swapper.under).transfers + length filer.old.swapper.pool }
+{
+    force_calls::let_go(filer.swapper_over(), id, first, pages)
+}
+
+// The one or the other.
+fn rest_run<D: Disk, A: Allocator>(
+    filer: &mut FilerOver<D, A>,
+    way: Way,
+    id: FileId,
+    first: u32,
+    pages: u32,
+) -> Result<(), Halt>
+    requires size { (D.state filer.old.swapper.under).sectors ≡ filer.old.swapper.layout.sectors }
+    ensures rest { OnOk result ((p : ℕ) → first ≤ p → p < first + pages → IsAtRest way filer.new.swapper.pool id p) }
+    ensures cause { IfErr result (ReachHalts no_break (view_of filer.old) (view_of filer.new)) }
+    ensures sound { (m : List Sector) (named : Triples) (b : List ℕ) → Known (view_of filer.old) m named b → IfErr result (λ e. e ≡ halt.Disk) }
+    ensures reaches { Reaches (view_of filer.old) (view_of filer.new) }
+    ensures came { BringsOwn filer.old.swapper.pool filer.new.swapper.pool }
+    ensures cost { (D.state filer.new.swapper.under).transfers ≤ (D.state filer.old.swapper.under).transfers + length filer.old.swapper.pool }
+{
+    match way {
+        Way::Force => return force_run(filer, id, first, pages),
+        Way::LetGo => (),
+    }
+    let_run_go(filer, id, first, pages)
+}
+
+impl<D: Disk, A: Allocator> CoreOver<D, A> {
+    ghost use Rattle.fault_core.specs.Core.{kept, state, Knows};
+
+    // What one interval shows of a range from a page on comes to rest. The first page behind it is given.
+    fn rest_part(&mut self, way: Way, page: u32, end: u32) -> Result<u32, Halt>
+        requires size { (D.state self.old.filer.swapper.under).sectors ≡ self.old.filer.swapper.layout.sectors }
+        requires below { page < end }
+        ensures further { IfOk result (λ next. (page < next) × (next ≤ end)) }
+        ensures rest { (m : List Sector) (named : Triples) (ss : List Space) → Knows self.old m named ss → IfOk result (AreAtRest way ss self.new.filer.swapper.pool page) }
+        ensures part { (m : List Sector) (named : Triples) (ss : List Space) → Knows self.old m named ss → IfOk result (IsNextPart ss page end) }
+        ensures cause { IfErr result (ReachHalts (BreaksTables (state self.old) self.old.intervals page) (state self.old) (state self.new)) }
+        ensures sound { (m : List Sector) (named : Triples) (ss : List Space) → Knows self.old m named ss → IfErr result (λ e. e ≡ halt.Disk) }
+        ensures same { (m : List Sector) (named : Triples) (ss : List Space) → Knows self.old m named ss → Knows self.new m named ss }
+        ensures reaches { Reaches (state self.old) (state self.new) }
+        ensures came { BringsOwn self.old.filer.swapper.pool self.new.filer.swapper.pool }
+        ensures intervals { self.new.intervals ≡ self.old.intervals }
+        ensures cost { (D.state self.new.filer.swapper.under).transfers ≤ (D.state self.old.filer.swapper.under).transfers + (196 + length self.old.filer.swapper.pool) }
+    {
+        let x = match self.describe(page) {
+            Ok(Some(x)) => x,
+            Ok(None) => return Ok(end),
+            Err(halt) => return Err(halt),
+        };
+        let next = (x.first + x.pages).min(end);
+        if x.mode == 0 {
+            return Ok(next);
+        }
+        match rest_run(
+            &mut self.filer,
+            way,
+            x.id,
+            x.page + (page - x.first),
+            next - page,
+        ) {
+            Ok(()) => Ok(next),
+            Err(halt) => Err(halt),
+        }
+    }
+
+    // What windows show in a range of pages comes to rest, interval by interval.
+    fn rest_range(&mut self, way: Way, first: u32, pages: u32) -> Result<(), Halt>
+        requires size { (D.state self.old.filer.swapper.under).sectors ≡ self.old.filer.swapper.layout.sectors }
+        requires fits { first + pages < 2 ^ 32 }
+        ensures rest { (m : List Sector) (named : Triples) (ss : List Space) → Knows self.old m named ss → OnOk result (AreAtRest way ss self.new.filer.swapper.pool first (first + pages)) }
+        ensures cause { IfErr result (ReachHalts (BreaksSome (state self.old) self.old.intervals) (state self.old) (state self.new)) }
+        ensures sound { (m : List Sector) (named : Triples) (ss : List Space) → Knows self.old m named ss → IfErr result (λ e. e ≡ halt.Disk) }
+        ensures same { (m : List Sector) (named : Triples) (ss : List Space) → Knows self.old m named ss → Knows self.new m named ss }
+        ensures reaches { Reaches (state self.old) (state self.new) }
+        ensures came { BringsOwn self.old.filer.swapper.pool self.new.filer.swapper.pool }
+        ensures intervals { self.new.intervals ≡ self.old.intervals }
+        ensures cost { (D.state self.new.filer.swapper.under).transfers ≤ (D.state self.old.filer.swapper.under).transfers + (self.old.intervals + 1) * (196 + length self.old.filer.swapper.pool) }
+    {
+        let end = first + pages;
+        let mut page = first;
+        for _part in 0..self.intervals + 1 {
+            if page >= end {
+                return Ok(());
+            }
+            match self.rest_part(way, page, end) {
+                Ok(next) => page = next,
+                Err(halt) => return Err(halt),
+            }
+        }
+        Ok(())
+    }
+
+    /// Writes out the dirty frames of the pages that windows show in a range.
+    pub fn force(&mut self, first: u32, pages: u32) -> Result<(), Halt>
+        requires size { (D.state self.old.filer.swapper.under).sectors ≡ self.old.filer.swapper.layout.sectors }
+        requires fits { first + pages < 2 ^ 32 }
+        ensures clean { (m : List Sector) (named : Triples) (ss : List Space) → Knows self.old m named ss → OnOk result (AreAtRest way_is.Force ss self.new.filer.swapper.pool first (first + pages)) }
+        ensures cause { IfErr result (ReachHalts (BreaksSome (state self.old) self.old.intervals) (state self.old) (state self.new)) }
+        ensures sound { (m : List Sector) (named : Triples) (ss : List Space) → Knows self.old m named ss → IfErr result (λ e. e ≡ halt.Disk) }
+        ensures same { (m : List Sector) (named : Triples) (ss : List Space) → Knows self.old m named ss → Knows self.new m named ss }
+        ensures reaches { Reaches (state self.old) (state self.new) }
+        ensures came { BringsOwn self.old.filer.swapper.pool self.new.filer.swapper.pool }
+        ensures intervals { self.new.intervals ≡ self.old.intervals }
+        ensures cost { (D.state self.new.filer.swapper.under).transfers ≤ (D.state self.old.filer.swapper.under).transfers + (self.old.intervals + 1) * (196 + length self.old.filer.swapper.pool) }
+    {
+        self.rest_range(Way::Force, first, pages)
+    }
+
+    /// Gives up the frames of the pages that windows show in a range. What is dirty is written out first.
+    pub fn let_go(&mut self, first: u32, pages: u32) -> Result<(), Halt>
+        requires size { (D.state self.old.filer.swapper.under).sectors ≡ self.old.filer.swapper.layout.sectors }
+        requires fits { first + pages < 2 ^ 32 }
+        ensures gone { (m : List Sector) (named : Triples) (ss : List Space) → Knows self.old m named ss → OnOk result (AreAtRest way_is.LetGo ss self.new.filer.swapper.pool first (first + pages)) }
+        ensures cause { IfErr result (ReachHalts (BreaksSome (state self.old) self.old.intervals) (state self.old) (state self.new)) }
+        ensures sound { (m : List Sector) (named : Triples) (ss : List Space) → Knows self.old m named ss → IfErr result (λ e. e ≡ halt.Disk) }
+        ensures same { (m : List Sector) (named : Triples) (ss : List Space) → Knows self.old m named ss → Knows self.new m named ss }
+        ensures reaches { Reaches (state self.old) (state self.new) }
+        ensures came { BringsOwn self.old.filer.swapper.pool self.new.filer.swapper.pool }
+        ensures intervals { self.new.intervals ≡ self.old.intervals }
+        ensures cost { (D.state self.new.filer.swapper.under).transfers ≤ (D.state self.old.filer.swapper.under).transfers + (self.old.intervals + 1) * (196 + length self.old.filer.swapper.pool) }
+    {
+        self.rest_range(Way::LetGo, first, pages)
+    }
+}

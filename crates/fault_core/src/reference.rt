@@ -1,0 +1,143 @@
+//! A reference: the bytes of a load or a store, on one page or on two in a row, and the intervals that show them.
+ghost use Rattle.std.specs.Prelude.{◌≡◌, ◌≢◌, ◌↔◌, ◌≤◌, ◌+◌, ◌/◌, if◌then◌else◌, List, Ok, Some, None, IfOk, IfErr, IfSome, IsOk};
+ghost use Rattle.labelled_disk.specs.declared.evidence.Halt.TheVariants as halt;
+ghost use Rattle.labelled_disk.specs.Sectors.{Sector};
+ghost use Rattle.file_map.specs.FileMap.{Triples};
+ghost use Rattle.flat_machine.specs.declared.space.Space.{Space};
+ghost use Rattle.flat_machine.specs.At.{shown_at};
+ghost use Rattle.space_tables.specs.SpaceTables.{IsIntervalAt};
+ghost use Rattle.fault_core.specs.Access.{BreaksFor, IfShown, Shows, access_of, is_load_only, last_page, outcome, refused_by};
+ghost use Rattle.fault_core.specs.Kept.{IsKept, AreApart};
+ghost use Rattle.fault_core.specs.Reach.{Reaches, ReachHalts, BringsOwn};
+ghost use Rattle.fault_core.specs.Told.{BreaksTables};
+ghost use Rattle.fault_core.specs.Unit.{IsReady, IsWhole};
+
+use crate::CoreOver;
+use labelled_disk::{Disk, Halt};
+use std::alloc::Allocator;
+use swap_units::Interval;
+
+/// What a load or a store comes to. One that is refused moves no byte.
+#[derive(Clone, Copy, Debug, PartialEq, Eq)]
+pub enum Access {
+    Done,
+    /// The first page of the reference that no window shows.
+    NoMap(u32),
+    /// All pages are shown, and this is the first that may not be stored to.
+    ReadOnly(u32),
+}
+
+// The intervals that show the first and the last page of a reference, or why it is refused.
+#[derive(Clone, Copy)]
+pub(crate) enum Reference {
+    Shown { first: Interval, last: Interval },
+    NoMap(u32),
+    ReadOnly(u32),
+}
+
+// The last page of so many bytes from an address on.
+fn last_page(address: u32, count: u32) -> u32
+    requires some { 1 ≤ count }
+    requires few { count ≤ 512 }
+    ensures { result ≡ last_page address count }
+{
+    ((u64::from(address) + u64::from(count) - 1) / 512) as u32
+}
+
+// Whether the pages of an interval may be loaded only.
+fn is_load_only(x: &Interval) -> bool
+    ensures { result ≡ is_load_only x.now }
+{
+    x.mode == 1 || x.mode == 3
+}
+
+// What the intervals of the first and of the last page make of a reference.
+fn allowed(first: Interval, last: Interval, address: u32, count: u32, writes: bool) -> Reference
+    requires some { 1 ≤ count }
+    requires few { count ≤ 512 }
+    ensures shown { IfShown (λ x y. (x ≡ first) × (y ≡ last)) result }
+    ensures access { outcome result ≡ refused_by None (if writes then (if is_load_only first then Some (address / 512) else (if is_load_only last then Some (last_page address count) else None)) else None) }
+{
+    if !writes {
+        return Reference::Shown { first, last };
+    }
+    if is_load_only(&first) {
+        return Reference::ReadOnly(address / 512);
+    }
+    if is_load_only(&last) {
+        return Reference::ReadOnly(last_page(address, count));
+    }
+    Reference::Shown { first, last }
+}
+
+impl<D: Disk, A: Allocator> CoreOver<D, A> {
+    ghost use Rattle.fault_core.specs.Core.{kept, state, Knows};
+
+    // The interval of the last page of a reference, where it is mapped: that of the first page, where they are one.
+    fn shown_last(&mut self, x: Interval, first: u32, last: u32) -> Result<Option<Interval>, Halt>
+        requires size { (D.state self.old.filer.swapper.under).sectors ≡ self.old.filer.swapper.layout.sectors }
+        requires shows { Shows x first }
+        requires is_kept { IsKept (kept self.old) x }
+        ensures form { IfOk result (λ o. IfSome o (λ y. Shows y last)) }
+        ensures one { first ≡ last → result ≡ Ok (Some x) }
+        ensures is_kept { IfOk result (λ o. IfSome o (IsKept (kept self.new))) }
+        ensures cause { IfErr result (ReachHalts (BreaksTables (state self.old) self.old.intervals last) (state self.old) (state self.new)) }
+        ensures interval { (m : List Sector) (named : Triples) (ss : List Space) → Knows self.old m named ss → IfOk result (λ o. IfSome o (IsIntervalAt ss last)) }
+        ensures none { (m : List Sector) (named : Triples) (ss : List Space) → Knows self.old m named ss → IfOk result (λ o. (o ≡ None) ↔ (shown_at ss last ≡ None)) }
+        ensures sound { (m : List Sector) (named : Triples) (ss : List Space) → Knows self.old m named ss → IfErr result (λ e. e ≡ halt.Disk) }
+        ensures same { (m : List Sector) (named : Triples) (ss : List Space) → Knows self.old m named ss → Knows self.new m named ss }
+        ensures reaches { Reaches (state self.old) (state self.new) }
+        ensures came { BringsOwn self.old.filer.swapper.pool self.new.filer.swapper.pool }
+        ensures intervals { self.new.intervals ≡ self.old.intervals }
+        ensures idle { IsReady (kept self.old) self.old.filer.swapper.pool last → AreApart (kept self.old)
+            → IfOk result (λ o. IfSome o (λ y. IsWhole self.old.filer.swapper.pool y last) × (o ≢ None)) × IsOk result × (self.new.filer ≡ self.old.filer) × (kept self.new ≡ kept self.old) }
+        ensures cost { (D.state self.new.filer.swapper.under).transfers ≤ (D.state self.old.filer.swapper.under).transfers + 196 }
+    {
+        if last == first {
+            return Ok(Some(x));
+        }
+        self.shown(last)
+    }
+
+    // The intervals of the pages of a reference, by the projection, or why it is refused. All its pages are described
+    // here, and none of them is brought in.
+    pub(crate) fn refer(
+        &mut self,
+        address: u32,
+        count: u32,
+        writes: bool,
+    ) -> Result<Reference, Halt>
+        requires size { (D.state self.old.filer.swapper.under).sectors ≡ self.old.filer.swapper.layout.sectors }
+        requires some { 1 ≤ count }
+        requires few { count ≤ 512 }
+        ensures form { IfOk result (IfShown (λ x y. Shows x (address / 512) × Shows y (last_page address count))) }
+        ensures one { IfOk result (IfShown (λ x y. address / 512 ≡ last_page address count → y ≡ x)) }
+        ensures is_kept { IfOk result (IfShown (λ x y. IsKept (kept self.new) y)) }
+        ensures cause { IfErr result (ReachHalts (BreaksFor (state self.old) self.old.intervals address count) (state self.old) (state self.new)) }
+        ensures access { (m : List Sector) (named : Triples) (ss : List Space) → Knows self.old m named ss → IfOk result (λ r. outcome r ≡ access_of ss writes address count) }
+        ensures intervals_at { (m : List Sector) (named : Triples) (ss : List Space) → Knows self.old m named ss → IfOk result (IfShown (λ x y. IsIntervalAt ss (address / 512) x × IsIntervalAt ss (last_page address count) y)) }
+        ensures sound { (m : List Sector) (named : Triples) (ss : List Space) → Knows self.old m named ss → IfErr result (λ e. e ≡ halt.Disk) }
+        ensures same { (m : List Sector) (named : Triples) (ss : List Space) → Knows self.old m named ss → Knows self.new m named ss }
+        ensures reaches { Reaches (state self.old) (state self.new) }
+        ensures came { BringsOwn self.old.filer.swapper.pool self.new.filer.swapper.pool }
+        ensures intervals { self.new.intervals ≡ self.old.intervals }
+        ensures idle { IsReady (kept self.old) self.old.filer.swapper.pool (address / 512) → IsReady (kept self.old) self.old.filer.swapper.pool (last_page address count) → AreApart (kept self.old)
+            → IfOk result (IfShown (λ x y. IsWhole self.old.filer.swapper.pool x (address / 512) × IsWhole self.old.filer.swapper.pool y (last_page address count)))
+            × IsOk result × (self.new.filer ≡ self.old.filer) × (kept self.new ≡ kept self.old) }
+        ensures cost { (D.state self.new.filer.swapper.under).transfers ≤ (D.state self.old.filer.swapper.under).transfers + 392 }
+    {
+        let first = address / 512;
+        let last = last_page(address, count);
+        let x = match self.shown(first) {
+            Ok(Some(x)) => x,
+            Ok(None) => return Ok(Reference::NoMap(first)),
+            Err(halt) => return Err(halt),
+        };
+        let y = match self.shown_last(x, first, last) {
+            Ok(Some(y)) => y,
+            Ok(None) => return Ok(Reference::NoMap(last)),
+            Err(halt) => return Err(halt),
+        };
+        Ok(allowed(x, y, address, count, writes))
+    }
+}

@@ -1,0 +1,135 @@
+//! Bytes are stored to the pages that windows show.
+ghost use Rattle.std.specs.Prelude.{◌≡◌, ◌≢◌, ◌≤◌, ◌+◌, ◌/◌, ℕ, true, List, [], length, IfOk, IfErr, IsOk, OnOk, OnErr};
+ghost use Rattle.labelled_disk.specs.declared.evidence.Halt.TheVariants as halt;
+ghost use Rattle.labelled_disk.specs.Sectors.{Sector};
+ghost use Rattle.file_map.specs.FileMap.{Triples};
+ghost use Rattle.flat_machine.specs.declared.space.Space.{Space};
+ghost use Rattle.swapper_kernel.specs.Goes.{Goes, IsDirty, Same, this_page};
+ghost use Rattle.swapper_kernel.specs.Stands.{Stands};
+ghost use Rattle.session_words.specs.CellLaws.{IsTouchedOrOwn, Stores, StoresAt};
+ghost use Rattle.fault_core.specs.declared.reference.Access.TheVariants as access;
+ghost use Rattle.session_words.specs.FrameLaws.{BringsKnown};
+ghost use Rattle.fault_core.specs.Access.{BreaksFor, Shows, access_of, last_page};
+ghost use Rattle.fault_core.specs.Kept.{AreApart};
+ghost use Rattle.fault_core.specs.Moves.{AreSeen, Leaves, StoresAs, StoresSome, client_page, of_reference};
+ghost use Rattle.fault_core.specs.View.{view_of};
+ghost use Rattle.fault_core.specs.Reach.{Reaches, ReachHalts, no_break};
+ghost use Rattle.fault_core.specs.Told.{Known};
+ghost use Rattle.fault_core.specs.Touch.{Touches};
+ghost use Rattle.fault_core.specs.Unit.{AreShownStored, BringsBoth, BringsShown, IsReady, IsShownDirty, IsWhole, KeepsResident, file_page};
+
+use crate::CoreOver;
+use crate::reference::{Access, Reference};
+use crate::touch::touch;
+use filer_kernel::FilerOver;
+use labelled_disk::{Disk, Halt};
+use std::alloc::Allocator;
+use swap_units::Interval;
+
+// Stores to one page that an interval shows. Its frame is dirty then.
+fn store_in<D: Disk, A: Allocator>(
+    filer: &mut FilerOver<D, A>,
+    x: &Interval,
+    page: u32,
+    from: u32,
+    bytes: &[u8],
+) -> Result<(), Halt>
+    requires size { (D.state filer.old.swapper.under).sectors ≡ filer.old.swapper.layout.sectors }
+    requires shows { Shows x.now page }
+    requires inside { from + length bytes.now ≤ 512 }
+    ensures stored { (m : List Sector) (named : Triples) (b : List ℕ) → Known (view_of filer.old) m named b → AreShownStored named m x.now → OnOk result (Leaves (StoresAt x.now.id (file_page x.now page) from bytes.now) m named b (view_of filer.new)) }
+    ensures halted { (m : List Sector) (named : Triples) (b : List ℕ) → Known (view_of filer.old) m named b → OnErr result (Leaves Same m named b (view_of filer.new)) }
+    ensures whole { OnOk result (IsWhole filer.new.swapper.pool x.now page) }
+    ensures dirty { OnOk result (IsDirty filer.new.swapper.pool x.now.id (file_page x.now page)) }
+    ensures cause { IfErr result (ReachHalts no_break (view_of filer.old) (view_of filer.new)) }
+    ensures sound { (m : List Sector) (named : Triples) (b : List ℕ) → Known (view_of filer.old) m named b → AreShownStored named m x.now → IfErr result (λ e. e ≡ halt.Disk) }
+    ensures touches { Touches (this_page x.now.id (file_page x.now page)) (view_of filer.old) (view_of filer.new) }
+    ensures came { BringsShown x.now filer.old.swapper.pool filer.new.swapper.pool }
+    ensures idle { IsWhole filer.old.swapper.pool x.now page → IsOk result × (D.state filer.new.swapper.under ≡ D.state filer.old.swapper.under) × KeepsResident filer.old.swapper.pool filer.new.swapper.pool }
+    ensures cost { (D.state filer.new.swapper.under).transfers ≤ (D.state filer.old.swapper.under).transfers + 256 }
+{
+    let slot = match touch(filer, x, page) {
+        Ok(slot) => slot,
+        Err(halt) => return Err(halt),
+    };
+    filer.swapper_over().change(slot, from, bytes);
+    Ok(())
+}
+
+// Stores to the pages of a reference, by the intervals that show them.
+fn store_shown<D: Disk, A: Allocator>(
+    filer: &mut FilerOver<D, A>,
+    first: &Interval,
+    last: &Interval,
+    address: u32,
+    bytes: &[u8],
+) -> Result<(), Halt>
+    requires size { (D.state filer.old.swapper.under).sectors ≡ filer.old.swapper.layout.sectors }
+    requires some { 1 ≤ length bytes.now }
+    requires few { length bytes.now ≤ 512 }
+    requires first { Shows first.now (address / 512) }
+    requires last { Shows last.now (last_page address (length bytes.now)) }
+    requires one { address / 512 ≡ last_page address (length bytes.now) → last.now ≡ first.now }
+    ensures stored { (m : List Sector) (named : Triples) (b : List ℕ) (ss : List Space) → Known (view_of filer.old) m named b → AreSeen ss named m first.now → AreSeen ss named m last.now → OnOk result (Leaves (Stores ss address bytes.now) m named b (view_of filer.new)) }
+    ensures halted { (m : List Sector) (named : Triples) (b : List ℕ) (ss : List Space) → Known (view_of filer.old) m named b → AreSeen ss named m first.now → OnErr result (Leaves (StoresSome ss address bytes.now) m named b (view_of filer.new)) }
+    ensures whole { OnOk result (IsWhole filer.new.swapper.pool last.now (last_page address (length bytes.now))) }
+    ensures dirty { OnOk result (IsDirty filer.new.swapper.pool last.now.id (file_page last.now (last_page address (length bytes.now)))) }
+    ensures cause { IfErr result (ReachHalts no_break (view_of filer.old) (view_of filer.new)) }
+    ensures sound { (m : List Sector) (named : Triples) (b : List ℕ) → Known (view_of filer.old) m named b → AreShownStored named m first.now → AreShownStored named m last.now → IfErr result (λ e. e ≡ halt.Disk) }
+    ensures touches { Touches (of_reference first.now last.now address (length bytes.now)) (view_of filer.old) (view_of filer.new) }
+    ensures came { BringsBoth first.now last.now filer.old.swapper.pool filer.new.swapper.pool }
+    ensures idle { IsWhole filer.old.swapper.pool first.now (address / 512) → IsWhole filer.old.swapper.pool last.now (last_page address (length bytes.now)) → IsOk result × (D.state filer.new.swapper.under ≡ D.state filer.old.swapper.under) }
+    ensures cost { (D.state filer.new.swapper.under).transfers ≤ (D.state filer.old.swapper.under).transfers + 512 }
+{
+    let from = address % 512;
+    let room = (512 - from) as usize;
+    if bytes.len() <= room {
+        return store_in(filer, first, address / 512, from, bytes);
+    }
+    let (low, high) = bytes.split_at(room);
+    match store_in(filer, first, address / 512, from, low) {
+        Ok(()) => (),
+        Err(halt) => return Err(halt),
+    }
+    store_in(filer, last, address / 512 + 1, 0, high)
+}
+
+impl<D: Disk, A: Allocator> CoreOver<D, A> {
+    ghost use Rattle.fault_core.specs.Core.{kept, state, Knows};
+
+    /// Stores 1 to 512 bytes from an address on. All pages of the reference are tested before the first byte is moved: one
+    /// that is refused changes nothing. After `Done` the last page is ready, and its frame dirty.
+    pub fn store(&mut self, address: u32, bytes: &[u8]) -> Result<Access, Halt>
+        requires size { (D.state self.old.filer.swapper.under).sectors ≡ self.old.filer.swapper.layout.sectors }
+        requires some { 1 ≤ length bytes.now }
+        requires few { length bytes.now ≤ 512 }
+        ensures access { (m : List Sector) (named : Triples) (ss : List Space) → Knows self.old m named ss → IfOk result (λ a. a ≡ access_of ss true address (length bytes.now)) }
+        ensures stored { (m : List Sector) (named : Triples) (ss : List Space) → Knows self.old m named ss
+            → IfOk result (λ a. Goes (StoresAs a ss address bytes.now) (IsTouchedOrOwn ss address (length bytes.now)) [] (D.state self.old.filer.swapper.under) self.old.filer.swapper.pool (D.state self.new.filer.swapper.under) self.new.filer.swapper.pool) }
+        ensures halted { (m : List Sector) (named : Triples) (ss : List Space) → Knows self.old m named ss
+            → OnErr result (Goes (StoresSome ss address bytes.now) (IsTouchedOrOwn ss address (length bytes.now)) [] (D.state self.old.filer.swapper.under) self.old.filer.swapper.pool (D.state self.new.filer.swapper.under) self.new.filer.swapper.pool) }
+        ensures known { (m n : List Sector) (named : Triples) (ss : List Space) → Knows self.old m named ss → Stands (D.state self.new.filer.swapper.under) self.new.filer.swapper.pool n → Knows self.new n named ss }
+        ensures refused { IfOk result (λ a. a ≢ access.Done → Reaches (state self.old) (state self.new)) }
+        ensures ready { IfOk result (λ a. a ≡ access.Done → IsReady (kept self.new) self.new.filer.swapper.pool (last_page address (length bytes.now))) }
+        ensures dirty { (m : List Sector) (named : Triples) (ss : List Space) → Knows self.old m named ss → IfOk result (λ a. a ≡ access.Done → IsShownDirty ss self.new.filer.swapper.pool (last_page address (length bytes.now))) }
+        ensures cause { IfErr result (ReachHalts (BreaksFor (state self.old) self.old.intervals address (length bytes.now)) (state self.old) (state self.new)) }
+        ensures sound { (m : List Sector) (named : Triples) (ss : List Space) → Knows self.old m named ss → IfErr result (λ e. e ≡ halt.Disk) }
+        ensures touches { Touches client_page (state self.old) (state self.new) }
+        ensures came { (m : List Sector) (named : Triples) (ss : List Space) → Knows self.old m named ss → BringsKnown ss self.old.filer.swapper.pool self.new.filer.swapper.pool }
+        ensures intervals { self.new.intervals ≡ self.old.intervals }
+        ensures idle { IsReady (kept self.old) self.old.filer.swapper.pool (address / 512) → IsReady (kept self.old) self.old.filer.swapper.pool (last_page address (length bytes.now)) → AreApart (kept self.old)
+            → IsOk result × (D.state self.new.filer.swapper.under ≡ D.state self.old.filer.swapper.under) × (kept self.new ≡ kept self.old) }
+        ensures cost { (D.state self.new.filer.swapper.under).transfers ≤ (D.state self.old.filer.swapper.under).transfers + 1680 }
+    {
+        let (first, last) = match self.refer(address, bytes.len() as u32, true) {
+            Ok(Reference::Shown { first, last }) => (first, last),
+            Ok(Reference::NoMap(page)) => return Ok(Access::NoMap(page)),
+            Ok(Reference::ReadOnly(page)) => return Ok(Access::ReadOnly(page)),
+            Err(halt) => return Err(halt),
+        };
+        match store_shown(&mut self.filer, &first, &last, address, bytes) {
+            Ok(()) => Ok(Access::Done),
+            Err(halt) => Err(halt),
+        }
+    }
+}

@@ -1,0 +1,100 @@
+//! A page that a window shows is made resident, and its whole swap unit with it.
+ghost use Rattle.std.specs.Prelude.{◌≡◌, ◌≢◌, ◌↔◌, ◌≤◌, ◌<◌, ◌+◌, ℕ, List, length, None, IfOk, IfErr, IfSome, IsOk, OnOk};
+ghost use Rattle.labelled_disk.specs.declared.evidence.Halt.TheVariants as halt;
+ghost use Rattle.labelled_disk.specs.Sectors.{Sector};
+ghost use Rattle.file_map.specs.FileMap.{Triples};
+ghost use Rattle.frame_pool.specs.Frames.{HasPage};
+ghost use Rattle.flat_machine.specs.declared.space.Space.{Space};
+ghost use Rattle.flat_machine.specs.At.{shown_at};
+ghost use Rattle.session_words.specs.FrameLaws.{BringsKnown};
+ghost use Rattle.fault_core.specs.Access.{Shows};
+ghost use Rattle.fault_core.specs.Kept.{AreApart};
+ghost use Rattle.fault_core.specs.View.{view_of};
+ghost use Rattle.fault_core.specs.Reach.{Reaches, ReachHalts, no_break};
+ghost use Rattle.fault_core.specs.Told.{BreaksTables, Known};
+ghost use Rattle.fault_core.specs.Unit.{AreShownStored, BringsShown, IsReady, IsSlotOf, IsTouched, IsWhole, file_page};
+
+use crate::CoreOver;
+use crate::unit::{bring_run, is_there, slot_of, unit_run};
+use filer_kernel::FilerOver;
+use labelled_disk::{Disk, Halt};
+use std::alloc::Allocator;
+use swap_units::Interval;
+
+// Brings in the swap unit of a page, all of it, where not all of it is resident.
+fn bring_unit<D: Disk, A: Allocator>(
+    filer: &mut FilerOver<D, A>,
+    x: &Interval,
+    page: u32,
+) -> Result<(), Halt>
+    requires size { (D.state filer.old.swapper.under).sectors ≡ filer.old.swapper.layout.sectors }
+    requires shows { Shows x.now page }
+    ensures whole { OnOk result (IsWhole filer.new.swapper.pool x.now page) }
+    ensures cause { IfErr result (ReachHalts no_break (view_of filer.old) (view_of filer.new)) }
+    ensures sound { (m : List Sector) (named : Triples) (b : List ℕ) → Known (view_of filer.old) m named b → AreShownStored named m x.now → IfErr result (λ e. e ≡ halt.Disk) }
+    ensures reaches { Reaches (view_of filer.old) (view_of filer.new) }
+    ensures came { BringsShown x.now filer.old.swapper.pool filer.new.swapper.pool }
+    ensures idle { IsWhole filer.old.swapper.pool x.now page → IsOk result × (filer.new ≡ filer.old) }
+    ensures cost { (D.state filer.new.swapper.under).transfers ≤ (D.state filer.old.swapper.under).transfers + 256 }
+{
+    let (first, pages) = unit_run(x, page);
+    if is_there(filer, x.id, first, pages) {
+        return Ok(());
+    }
+    bring_run(filer, x.id, first, pages)
+}
+
+/// Makes the whole swap unit of a page resident, and gives the slot of the page.
+pub(crate) fn touch<D: Disk, A: Allocator>(
+    filer: &mut FilerOver<D, A>,
+    x: &Interval,
+    page: u32,
+) -> Result<u32, Halt>
+    requires size { (D.state filer.old.swapper.under).sectors ≡ filer.old.swapper.layout.sectors }
+    requires shows { Shows x.now page }
+    ensures slot { IfOk result (λ i. HasPage filer.new.swapper.pool i x.now.id (file_page x.now page)) }
+    ensures below { IfOk result (λ i. i < length filer.new.swapper.pool) }
+    ensures whole { OnOk result (IsWhole filer.new.swapper.pool x.now page) }
+    ensures cause { IfErr result (ReachHalts no_break (view_of filer.old) (view_of filer.new)) }
+    ensures sound { (m : List Sector) (named : Triples) (b : List ℕ) → Known (view_of filer.old) m named b → AreShownStored named m x.now → IfErr result (λ e. e ≡ halt.Disk) }
+    ensures reaches { Reaches (view_of filer.old) (view_of filer.new) }
+    ensures came { BringsShown x.now filer.old.swapper.pool filer.new.swapper.pool }
+    ensures idle { IsWhole filer.old.swapper.pool x.now page → IsOk result × (filer.new ≡ filer.old) }
+    ensures cost { (D.state filer.new.swapper.under).transfers ≤ (D.state filer.old.swapper.under).transfers + 256 }
+{
+    match bring_unit(filer, x, page) {
+        Ok(()) => (),
+        Err(halt) => return Err(halt),
+    }
+    Ok(slot_of(filer, x.id, x.page + (page - x.first)))
+}
+
+impl<D: Disk, A: Allocator> CoreOver<D, A> {
+    ghost use Rattle.fault_core.specs.Core.{kept, state, Knows};
+
+    /// Makes the whole swap unit of a page resident, and gives the slot of the page, or None where no window shows it.
+    pub fn touch2(&mut self, page: u32) -> Result<Option<u32>, Halt>
+        requires size { (D.state self.old.filer.swapper.under).sectors ≡ self.old.filer.swapper.layout.sectors }
+        ensures ready { IfOk result (λ o. IfSome o (IsTouched (kept self.new) self.new.filer.swapper.pool page)) }
+        ensures slot { (m : List Sector) (named : Triples) (ss : List Space) → Knows self.old m named ss → IfOk result (λ o. IfSome o (IsSlotOf ss self.new.filer.swapper.pool page)) }
+        ensures none { (m : List Sector) (named : Triples) (ss : List Space) → Knows self.old m named ss → IfOk result (λ o. (o ≡ None) ↔ (shown_at ss page ≡ None)) }
+        ensures cause { IfErr result (ReachHalts (BreaksTables (state self.old) self.old.intervals page) (state self.old) (state self.new)) }
+        ensures sound { (m : List Sector) (named : Triples) (ss : List Space) → Knows self.old m named ss → IfErr result (λ e. e ≡ halt.Disk) }
+        ensures same { (m : List Sector) (named : Triples) (ss : List Space) → Knows self.old m named ss → Knows self.new m named ss }
+        ensures reaches { Reaches (state self.old) (state self.new) }
+        ensures came { (m : List Sector) (named : Triples) (ss : List Space) → Knows self.old m named ss → BringsKnown ss self.old.filer.swapper.pool self.new.filer.swapper.pool }
+        ensures intervals { self.new.intervals ≡ self.old.intervals }
+        ensures idle { IsReady (kept self.old) self.old.filer.swapper.pool page → AreApart (kept self.old) → IsOk result × (self.new.filer ≡ self.old.filer) × (kept self.new ≡ kept self.old) }
+        ensures cost { (D.state self.new.filer.swapper.under).transfers ≤ (D.state self.old.filer.swapper.under).transfers + 644 }
+    {
+        let x = match self.shown(page) {
+            Ok(Some(x)) => x,
+            Ok(None) => return Ok(None),
+            Err(halt) => return Err(halt),
+        };
+        match touch(&mut self.filer, &x, page) {
+            Ok(slot) => Ok(Some(slot)),
+            Err(halt) => Err(halt),
+        }
+    }
+}

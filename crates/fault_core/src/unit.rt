@@ -1,0 +1,125 @@
+//! The swap unit of a page as pages in a row of a file, and such pages brought in together.
+ghost use Rattle.std.specs.Prelude.{◌≡◌, ◌≢◌, ◌↔◌, ◌≤◌, ◌<◌, ◌+◌, ◌^◌, ℕ, true, List, length, IfErr, OnOk};
+ghost use Rattle.labelled_disk.specs.declared.evidence.Halt.TheVariants as halt;
+ghost use Rattle.labelled_disk.specs.Sectors.{Sector};
+ghost use Rattle.file_map.specs.FileMap.{Triples};
+ghost use Rattle.frame_pool.specs.Frames.{HasPage};
+ghost use Rattle.swap_units.specs.Unit.{Holds};
+ghost use Rattle.swapper_kernel.specs.Bring.{AreThere};
+ghost use Rattle.swapper_kernel.specs.Goes.{Swaps};
+ghost use Rattle.swapper_kernel.specs.Halts.{Halts};
+ghost use Rattle.swapper_kernel.specs.Homes.{AreFileHomes, AreNamed, Brings, IsAmong, IsRow};
+ghost use Rattle.swapper_kernel.specs.Stands.{Stands};
+ghost use Rattle.fault_core.specs.Kept.{IsFormed};
+ghost use Rattle.fault_core.specs.View.{view_of};
+ghost use Rattle.fault_core.specs.Reach.{Reaches, ReachHalts, no_break};
+ghost use Rattle.fault_core.specs.Told.{Known};
+ghost use Rattle.fault_core.specs.Homes.{homes_in, AreHomesOf, HaveSectors};
+ghost use Rattle.fault_core.specs.Unit.{AreResident, AreRunStored, BringsRun, IsResident, IsUnitRun};
+
+use crate::homes::Homes;
+use crate::search::homes_of;
+use filer_kernel::FilerOver;
+use frame_pool::FramePool;
+use labelled_disk::{Disk, FileId, Halt};
+use std::alloc::Allocator;
+use swap_units::{Interval, unit_of};
+
+/// The pages of the file that are shown at the swap unit of a page: the first one, and how many.
+pub(crate) fn unit_run(x: &Interval, page: u32) -> (u32, u32)
+    requires formed { IsFormed x.now }
+    requires holds { Holds x.now page }
+    requires mapped { x.now.mode ≢ 0 }
+    ensures { IsUnitRun x.now page result }
+{
+    let (first, pages) = unit_of(x, page);
+    (x.page + (first - x.first), pages)
+}
+
+// Whether pages in a row of a file are all resident.
+fn are_resident<A: Allocator>(frames: &FramePool<A>, id: FileId, first: u32, pages: u32) -> bool
+    requires fits { first + pages ≤ 2 ^ 32 }
+    ensures { result ≡ true ↔ AreResident frames.now id first pages }
+{
+    for k in 0..pages {
+        match frames.find(id, first + k) {
+            Some(_slot) => (),
+            None => return false,
+        }
+    }
+    true
+}
+
+/// The same of a filer's frames.
+pub(crate) fn is_there<D: Disk, A: Allocator>(
+    filer: &mut FilerOver<D, A>,
+    id: FileId,
+    first: u32,
+    pages: u32,
+) -> bool
+    requires fits { first + pages ≤ 2 ^ 32 }
+    ensures there { result ≡ true ↔ AreResident filer.old.swapper.pool id first pages }
+    ensures same { filer.new ≡ filer.old }
+{
+    are_resident(filer.swapper_over().frames(), id, first, pages)
+}
+
+/// The slot of a page that is resident.
+pub(crate) fn slot_of<D: Disk, A: Allocator>(
+    filer: &mut FilerOver<D, A>,
+    id: FileId,
+    page: u32,
+) -> u32
+    requires resident { IsResident filer.old.swapper.pool id page }
+    ensures slot { HasPage filer.old.swapper.pool result id page }
+    ensures below { result < length filer.old.swapper.pool }
+    ensures same { filer.new ≡ filer.old }
+{
+    match filer.swapper_over().frames().find(id, page) {
+        Some(slot) => slot,
+        None => unreachable!(),
+    }
+}
+
+// Brings the pages of these homes in.
+fn bring<D: Disk, A: Allocator>(filer: &mut FilerOver<D, A>, homes: &Homes) -> Result<(), Halt>
+    requires size { (D.state filer.old.swapper.under).sectors ≡ filer.old.swapper.layout.sectors }
+    requires row { IsRow (homes_in homes.now) }
+    requires homes { AreFileHomes (homes_in homes.now) filer.old.swapper.layout }
+    ensures there { OnOk result (AreThere filer.new.swapper.pool (homes_in homes.now) (length (homes_in homes.now))) }
+    ensures sound { (m : List Sector) → Stands (D.state filer.old.swapper.under) filer.old.swapper.pool m → AreNamed m (IsAmong (homes_in homes.now)) → IfErr result (λ e. e ≡ halt.Disk) }
+    ensures cause { IfErr result (Halts (IsAmong (homes_in homes.now)) (D.state filer.old.swapper.under) filer.old.swapper.pool (D.state filer.new.swapper.under)) }
+    ensures swaps { Swaps (D.state filer.old.swapper.under) filer.old.swapper.pool (D.state filer.new.swapper.under) filer.new.swapper.pool }
+    ensures brings { Brings (IsAmong (homes_in homes.now)) filer.old.swapper.pool filer.new.swapper.pool }
+    ensures layout { filer.new.swapper.layout ≡ filer.old.swapper.layout }
+    ensures runs { filer.new.runs ≡ filer.old.runs }
+    ensures cost { (D.state filer.new.swapper.under).transfers ≤ (D.state filer.old.swapper.under).transfers + 32 }
+{
+    filer.swapper_over().bring(homes.as_slice())
+}
+
+/// Finds pages in a row of a client's file, all of them, and then brings them in.
+pub(crate) fn bring_run<D: Disk, A: Allocator>(
+    filer: &mut FilerOver<D, A>,
+    id: FileId,
+    first: u32,
+    pages: u32,
+) -> Result<(), Halt>
+    requires size { (D.state filer.old.swapper.under).sectors ≡ filer.old.swapper.layout.sectors }
+    requires client { 16 ≤ id }
+    requires some { 1 ≤ pages }
+    requires few { pages ≤ 16 }
+    requires fits { first + pages ≤ 2 ^ 32 }
+    ensures there { OnOk result (AreResident filer.new.swapper.pool id first pages) }
+    ensures cause { IfErr result (ReachHalts no_break (view_of filer.old) (view_of filer.new)) }
+    ensures sound { (m : List Sector) (named : Triples) (b : List ℕ) → Known (view_of filer.old) m named b → AreRunStored named m id first pages → IfErr result (λ e. e ≡ halt.Disk) }
+    ensures reaches { Reaches (view_of filer.old) (view_of filer.new) }
+    ensures came { BringsRun id first pages filer.old.swapper.pool filer.new.swapper.pool }
+    ensures cost { (D.state filer.new.swapper.under).transfers ≤ (D.state filer.old.swapper.under).transfers + 256 }
+{
+    let homes = match homes_of(filer, id, first, pages) {
+        Ok(homes) => homes,
+        Err(halt) => return Err(halt),
+    };
+    bring(filer, &homes)
+}
