@@ -1,24 +1,49 @@
 -- What holds of the state behind a reference holds of the state.
-use Rattle.std.proofs.Common.{◌≡◌, ℕ, Bool, true, false, List, [], ◌∷◌, inl, inr, Some, sym, ap, subst, drop, take}
-use Rattle.labelled_disk.specs.declared.disk.DiskWrite.{DiskWrite}
-use Rattle.labelled_disk.specs.Calls.{OnlyReads}
-use Rattle.labelled_disk.specs.Sectors.{Sector}
+use Rattle.std.proofs.Common.{◌≡◌, ℕ, ◌≤◌, List, ◌∷◌, Option, ap, subst, drop}
+use Rattle.labelled_disk.specs.Calls.{OnlyReads, Rose}
 use Rattle.labelled_disk.specs.State.{DiskState, lent_state}
-use Rattle.labelled_disk.specs.WriteRuns.{Appended}
-use Rattle.volume_root.specs.Format.{PartMade}
-use Rattle.pilot_top.specs.Opening.{Leaves, Settled}
+use Rattle.labelled_disk.specs.Sectors.{Sector}
+use Rattle.flat_machine.specs.After.{TraceLine}
+use Rattle.flat_machine.specs.Machine.{Machine}
+use Rattle.pilot_engine.specs.Closing.{HasShut}
+use Rattle.pilot_top.specs.Headline.{IsLeftOpen, Run}
+use Rattle.pilot_top.specs.Moments.{Lawfully, Moments}
 use Rattle.pilot_top.specs.declared.status.Status.{Status}
 use Rattle.pilot_top.specs.declared.status.Status.TheVariants as status
 
+-- no fault rose behind a reference
+pub none_rose_behind : {D : Type 0} (state : D → DiskState) (before : ℕ) (x y : D) → (Rose before (state x).faults → ⊥) → x ≡ y → Rose before (state y).faults → ⊥
+none_rose_behind state before x y none same = subst (λ z. Rose before (state z).faults → ⊥) same none
+
 module _ {D : Type 0} (state : D → DiskState) (x y : D) (same : x ≡ y) where
-  pub told_behind : (d : List Sector) → (state x).contents ≡ Some d → (state y).contents ≡ Some d
-  told_behind d told = subst (λ z. (state z).contents ≡ Some d) same told
+  pub rose_behind : (before : ℕ) → Rose before (state y).faults → Rose before (state x).faults
+  rose_behind before rose = rw same rose
 
-  pub writes_behind : (writes : List DiskWrite) → (state x).writes ≡ Some writes → (state y).writes ≡ Some writes
-  writes_behind writes told = subst (λ z. (state z).writes ≡ Some writes) same told
+  -- the volume is closed
+  pub shut_behind : (m : Machine) (n : ℕ) → HasShut m (lent_state n (state y)) → HasShut m (state x)
+  shut_behind m n shut = rw same (record {
+    tells = record { sectors = shut.tells.sectors; told = shut.tells.told; shut = shut.tells.shut };
+    synced = shut.synced;
+  })
 
-  pub closed_behind : (d : List Sector) → ((state y).contents ≡ Some d) × ((state y).synced ≡ true) → ((state x).contents ≡ Some d) × ((state x).synced ≡ true)
-  closed_behind d closed = rw same closed
+  -- and is left open
+  pub open_behind : IsLeftOpen (state y) → IsLeftOpen (state x)
+  open_behind is = rw same is
+
+  -- and so many transfers were made
+  pub spent_behind : (most : ℕ) → (state y).transfers ≤ most → (state x).transfers ≤ most
+  spent_behind most few = rw same few
+
+  pub run_behind : (s : Status) (d : List Sector) (b t : List ℕ) (left took : Option (List ℕ)) (failed : Type 0) (n : ℕ) → Run s d b left t took failed (lent_state n (state y)) → Run s d b left t took failed (state x)
+  run_behind status.Done d b t left took failed n is = rw same is
+  run_behind status.DiskFault d b t left took failed n is = rw same is
+  run_behind status.Long d b t left took failed n is = rw same is
+  run_behind status.StreamFault d b t left took failed n is = rw same is
+  run_behind status.NotOpened d b t left took failed n is = is
+  run_behind status.NoMemory d b t left took failed n is = is
+  run_behind status.Usage d b t left took failed n is = absurd is
+  run_behind status.Damaged d b t left took failed n is = absurd is
+  run_behind status.Unfit d b t left took failed n is = absurd is
 
   module _ (first : DiskState) (m n : ℕ) where
     pub reads_behind : OnlyReads (lent_state m first) (lent_state n (state y)) → OnlyReads first (state x)
@@ -35,29 +60,21 @@ module _ {D : Type 0} (state : D → DiskState) (x y : D) (same : x ≡ y) where
         lent_parts : (m n : ℕ) (xs ys : List ℕ) → n ∷ ys ≡ m ∷ xs → ys ≡ xs
         lent_parts m n xs ys e = ap (drop 1) e
 
-    appended_behind : (writes : List DiskWrite) → Appended writes (lent_state m first) (lent_state n (state y)) → Appended writes first (state x)
-    appended_behind writes made = rw same (record { contents = made.contents; told = made.told })
+    pub moments_behind : (a : Machine) (lines : List TraceLine) → Moments a lines (lent_state m first) (lent_state n (state y)) → Moments a lines first (state x)
+    moments_behind a lines on = rw same (record {
+      writes = on.writes;
+      appended = record { contents = on.appended.contents; told = on.appended.told };
+      line = on.line;
+      step = on.step;
+      rise = on.rise;
+      first = on.first;
+      last = on.last;
+      each = on.each;
+    })
 
-    settled_behind : (writes : List DiskWrite) → Settled writes (lent_state m first) (lent_state n (state y)) → Settled writes first (state x)
-    settled_behind writes settled = record {
-      writes_made = appended_behind writes settled.writes_made;
-      synced = subst (λ z. (state z).synced ≡ true) (sym same) settled.synced;
-    }
-
-    part_behind : (writes : List DiskWrite) → PartMade writes (lent_state m first) (lent_state n (state y)) → PartMade writes first (state x)
-    part_behind writes part = (part.0, part.1, appended_behind (take part.0 writes) part.2)
-
-    pub leaves_behind_it : (s : Status) (h k : Bool) (E U : Type 0) (w v : DiskWrite) → Leaves s h k E U (w ∷ []) (v ∷ []) (lent_state m first) (lent_state n (state y))
-        → Leaves s h k E U (w ∷ []) (v ∷ []) first (state x)
-    leaves_behind_it status.Done false k E U w v left = settled_behind (w ∷ v ∷ []) left
-    leaves_behind_it status.Done true k E U w v left = appended_behind (w ∷ []) left
-    leaves_behind_it status.Long h k E U w v left = appended_behind (w ∷ []) left
-    leaves_behind_it status.StreamFault h k E U w v (inl left) = inl (appended_behind (w ∷ []) left)
-    leaves_behind_it status.StreamFault h k E U w v (inr left) = inr (left.0, left.1, left.2, settled_behind (w ∷ v ∷ []) left.3)
-    leaves_behind_it status.DiskFault h k E U w v (inl left) = inl (part_behind (w ∷ []) left)
-    leaves_behind_it status.DiskFault h k E U w v (inr left) = inr (left.0, left.1, part_behind (w ∷ v ∷ []) left.2)
-    leaves_behind_it status.Usage h k E U w v left = absurd left
-    leaves_behind_it status.NotOpened h k E U w v left = absurd left
-    leaves_behind_it status.NoMemory h k E U w v left = absurd left
-    leaves_behind_it status.Damaged h k E U w v left = absurd left
-    leaves_behind_it status.Unfit h k E U w v left = absurd left
+    pub lawfully_behind : Lawfully (lent_state m first) (lent_state n (state y)) → Lawfully first (state x)
+    lawfully_behind on = rw same (record {
+      writes = on.writes;
+      appended = record { contents = on.appended.contents; told = on.appended.told };
+      lawful = on.lawful;
+    })

@@ -1,5 +1,5 @@
 -- How a run ends.
-use Rattle.std.proofs.Common.{◌≡◌, ◌≢◌, ◌⊎◌, inl, inr, ℕ, ◌^◌, Bool, true, false, ◌||◌, List, [], ◌∷◌, ◌++◌, length, Option, Some, refl, sym, ap, ◌∙◌, subst, append-nil}
+use Rattle.std.proofs.Common.{◌≡◌, ◌≢◌, ◌⊎◌, inl, inr, ℕ, ◌^◌, Bool, true, false, ◌||◌, List, [], ◌∷◌, ◌++◌, length, Option, Some, None, refl, sym, ap, ◌∙◌, subst, append-nil}
 use Rattle.std.proofs.lemmas.Bool.{true≢false}
 use Rattle.std.specs.List.{list_any}
 use Rattle.std.proofs.lemmas.List.Folds.{list_any-append}
@@ -10,13 +10,14 @@ use Rattle.flat_machine.specs.declared.call.Reply.TheVariants as reply
 use Rattle.flat_machine.specs.Machine.{Machine}
 use Rattle.flat_machine.specs.After.{TraceLine}
 use Rattle.trace_io.specs.Course.{HasReadAll}
+use Rattle.trace_io.specs.Lines.{TakesLine}
 use Rattle.trace_io.specs.Progress.{Progress}
 use Rattle.trace_io.specs.Reading.{is_last, reading, rest_of, IsShort}
 use Rattle.trace_io.specs.Stream.{IsFrontOf}
 use Rattle.trace_io.proofs.CourseLemmas.{HasRead-last, HasRead-end}
 use Rattle.pilot_top.specs.Headline.{Answering}
 use Rattle.pilot_top.specs.Last.{last_line, Puts}
-use Rattle.pilot_top.specs.Opening.{is_halt, halts, is_halted, is_close, closes, is_closed, end_text}
+use Rattle.pilot_top.specs.Ending.{is_halt, halts, is_halted, is_close, closes, is_closed, end_text}
 use Rattle.pilot_top.specs.Turn.{Answers, EndsTrace}
 use Rattle.pilot_top.specs.declared.last.Cause.TheVariants as cause
 use Rattle.pilot_top.specs.declared.status.Status.{Status}
@@ -43,7 +44,7 @@ not_close : (line : TraceLine) → is_last line ≡ false → is_close line ≡ 
 not_close (Some call.Close) last = absurd (true≢false last)
 not_close line last = refl
 
-none_close : (lines : List TraceLine) → list_any is_last lines ≡ false → closes lines ≡ false
+pub none_close : (lines : List TraceLine) → list_any is_last lines ≡ false → closes lines ≡ false
 none_close [] none = refl
 none_close (line ∷ lines) none = rw (not_close line (or_parts (is_last line) (list_any is_last lines) none).0, none_close lines (or_parts (is_last line) (list_any is_last lines) none).1) refl
   where
@@ -98,36 +99,45 @@ module _ (x : List ℕ) (b t u : Option (List ℕ)) (p : Progress) (first now : 
   End-short end.Trace c q ended limit = short_at_end x b t u p first now going c ended limit
 
 -- what was written, where source and sink tell their bytes
-module _ (m : Machine) (x t : List ℕ) (b u : Option (List ℕ)) (p : Progress) (first now : Machine → Type 0) (going : Going (Some x) b (Some t) u p first now) (is : first m) (failed : Type 0) where
+module _ (m : Machine) (x t : List ℕ) (b u : Option (List ℕ)) (p : Progress) (first now : Machine → Type 0) (going : Going (Some x) b (Some t) u p first now) (is : first m) (failed : Type 0) (has : ℕ → ℕ → Type 0) where
   wrote_nothing : (v : Option (List ℕ)) → Appends u v [] → Appends (Some t) v going.out
   wrote_nothing v wrote = subst (λ out. Appends (Some t) v out) (append-nil going.out) (Appends-trans (Some t) u v going.out [] going.wrote wrote)
 
-  End-done : (how : End) (c v : Option (List ℕ)) (q : Progress) → EndsTrace how b c p q → Appends u v (end_text how) → Answering status.Done m x c t v failed
-  End-done end.Close c v q ended wrote = Run-last m x t b u p first now going is failed c v q now (Some call.Close) reply.Done ended.0 ended.1 (close_answers now now) refl wrote
-  End-done end.Halt c v q ended wrote = Run-last m x t b u p first now going is failed c v q now (Some call.Halt) reply.Done ended.0 ended.1 (halt_answers now now) refl wrote
-  End-done end.Trace c v q (inl ended) wrote =
-      done_all m x t b u p first now going is failed c v p.taken p.limit going.lines going.out (HasRead-end (Some x) b c p going.lines going.read ended.0 ended.1 ended.2 ended.3) (going.script m is) (wrote_nothing v wrote)
-  End-done end.Trace c v q (inr ended) wrote =
+  End-done : (how : End) (c v : Option (List ℕ)) (q : Progress) → EndsTrace how b c p q → Appends u v (end_text how) → has (length (reading x)) 0 → Answering status.Done m x c t v failed has
+  End-done end.Close c v q ended wrote there = Run-last m x t b u p first now going is failed has c v q now (Some call.Close) reply.Done ended.0 ended.1 (close_answers now now) refl wrote there
+  End-done end.Halt c v q ended wrote there = Run-last m x t b u p first now going is failed has c v q now (Some call.Halt) reply.Done ended.0 ended.1 (halt_answers now now) refl wrote there
+  End-done end.Trace c v q (inl ended) wrote there =
+      done_all m x t b u p first now going is failed has c v p.taken p.limit going.lines going.out (HasRead-end (Some x) b c p going.lines going.read ended.0 ended.1 ended.2 ended.3) (going.script m is) (wrote_nothing v wrote) there
+  End-done end.Trace c v q (inr ended) wrote there =
       let all = rw ended.0 at going.read.goes_on in
-      done_all m x t b u p first now going is failed c v p.taken p.limit going.lines going.out (subst (λ e. HasReadAll (Some x) e p.taken p.limit going.lines) (sym ended.1) all.0) (going.script m is) (wrote_nothing v wrote)
+      done_all m x t b u p first now going is failed has c v p.taken p.limit going.lines going.out (subst (λ e. HasReadAll (Some x) e p.taken p.limit going.lines) (sym ended.1) all.0) (going.script m is) (wrote_nothing v wrote) there
+
+  behind : (c : Option (List ℕ)) (q : Progress) (line : TraceLine) → p.stopped ≡ None → TakesLine line b c p q → is_last line ≡ true → has (length (reading x)) 0 → has (length (going.lines ++ line ∷ [])) 0
+  behind c q line none takes last there =
+      let all = HasRead-last (Some x) b c p q going.lines line going.read none takes last in
+      subst (λ (lines : List TraceLine). has (length lines) 0) all.items_are there
 
   End-part : (how : End) (c v : Option (List ℕ)) (q : Progress) → EndsTrace how b c p q → how ≢ end.Trace → failed → (front : List ℕ) → IsFrontOf front (end_text how) → Appends u v front
-      → Answering status.StreamFault m x c t v failed
-  End-part end.Close c v q ended other rose front is_front wrote = Run-write_fault m x t b u p first now going is failed c v q now (Some call.Close) reply.Done ended.0 ended.1 (close_answers now now) rose front is_front wrote
-  End-part end.Halt c v q ended other rose front is_front wrote = Run-write_fault m x t b u p first now going is failed c v q now (Some call.Halt) reply.Done ended.0 ended.1 (halt_answers now now) rose front is_front wrote
-  End-part end.Trace c v q ended other rose front is_front wrote = absurd (other refl)
+      → has (length (reading x)) 0 → Answering status.StreamFault m x c t v failed has
+  End-part end.Close c v q ended other rose front is_front wrote there =
+      Run-write_fault m x t b u p first now going is failed has c v q now (Some call.Close) reply.Done ended.0 ended.1 (close_answers now now) rose front is_front wrote (behind c q (Some call.Close) ended.0 ended.1 refl there)
+  End-part end.Halt c v q ended other rose front is_front wrote there =
+      Run-write_fault m x t b u p first now going is failed has c v q now (Some call.Halt) reply.Done ended.0 ended.1 (halt_answers now now) rose front is_front wrote (behind c q (Some call.Halt) ended.0 ended.1 refl there)
+  End-part end.Trace c v q ended other rose front is_front wrote there = absurd (other refl)
 
-  End-disk : (how : End) (c v : Option (List ℕ)) (q : Progress) → EndsTrace how b c p q → Puts failed u v (last_line cause.DiskFault) → Answering status.DiskFault m x c t v failed
-  End-disk end.Close c v q ended more = Run-disk m x t b u p first now going is failed c v ended.0 more
-  End-disk end.Halt c v q ended more = Run-disk m x t b u p first now going is failed c v ended.0 more
-  End-disk end.Trace c v q (inl ended) more = Run-disk m x t b u p first now going is failed c v ended.0 more
-  End-disk end.Trace c v q (inr ended) more =
+  End-disk : (how : End) (c v : Option (List ℕ)) (q : Progress) → EndsTrace how b c p q → Puts failed u v (last_line cause.DiskFault) → has (length going.lines) 0 → Answering status.DiskFault m x c t v failed has
+  End-disk end.Close c v q ended more there = Run-disk m x t b u p first now going is failed has c v ended.0 more 0 there
+  End-disk end.Halt c v q ended more there = Run-disk m x t b u p first now going is failed has c v ended.0 more 0 there
+  End-disk end.Trace c v q (inl ended) more there = Run-disk m x t b u p first now going is failed has c v ended.0 more 0 there
+  End-disk end.Trace c v q (inr ended) more there =
       let all = rw ended.0 at going.read.goes_on in (
         length going.lines,
         going.out,
         rw all.0.items_are (going.script m is),
         before_last going.lines [] (reading x) (all.0.items_are ∙ sym (append-nil going.lines)) going.none_last,
         wrote_last failed t u v going.out (last_line cause.DiskFault) going.wrote more,
+        0,
+        there,
       )
 
   pub End-answering : (s : Status) (how : End) (c v : Option (List ℕ)) (q : Progress) → EndsTrace how b c p q
@@ -136,10 +146,11 @@ module _ (m : Machine) (x t : List ℕ) (b u : Option (List ℕ)) (p : Progress)
       → (s ≡ status.StreamFault → (front : List ℕ) × IsFrontOf front (end_text how) × Appends u v front)
       → (s ≡ status.StreamFault → failed × (how ≢ end.Trace))
       → (s ≡ status.DiskFault → Puts failed u v (last_line cause.DiskFault))
-      → Answering s m x c t v failed
-  End-answering s how c v q ended (inl done) on_done on_part cause_is on_disk = rw done (End-done how c v q ended (on_done done))
-  End-answering s how c v q ended (inr (inl part)) on_done on_part cause_is on_disk =
+      → ((s ≡ status.Done) ⊎ (s ≡ status.StreamFault) → has (length (reading x)) 0) → has (length going.lines) 0
+      → Answering s m x c t v failed has
+  End-answering s how c v q ended (inl done) on_done on_part cause_is on_disk there stopped = rw done (End-done how c v q ended (on_done done) (there (inl done)))
+  End-answering s how c v q ended (inr (inl part)) on_done on_part cause_is on_disk there stopped =
       let front = on_part part in
       let why = cause_is part in
-      rw part (End-part how c v q ended why.1 why.0 front.0 front.1 front.2)
-  End-answering s how c v q ended (inr (inr disk)) on_done on_part cause_is on_disk = rw disk (End-disk how c v q ended (on_disk disk))
+      rw part (End-part how c v q ended why.1 why.0 front.0 front.1 front.2 (there (inr part)))
+  End-answering s how c v q ended (inr (inr disk)) on_done on_part cause_is on_disk there stopped = rw disk (End-disk how c v q ended (on_disk disk) stopped)

@@ -1,39 +1,38 @@
 -- A run, turn by turn.
-use Rattle.std.proofs.Common.{◌≡◌, ◌≢◌, ◌⊎◌, inl, inr, ℕ, ◌^◌, ◌<◌, ◌≤◌, Bool, true, false, List, [], ◌∷◌, ◌++◌, length, fold, Option, Some, None, Result, Ok, Err, OnOk, OnErr, refl, sym, ap, ◌∙◌, subst, arith, append_assoc, append-nil, length-append}
+use Rattle.std.proofs.Common.{◌≡◌, ◌⊎◌, inl, inr, ℕ, ◌^◌, ◌<◌, ◌≤◌, Bool, true, false, List, [], ◌∷◌, ◌++◌, length, Option, Some, None, refl, sym, ap, ◌∙◌, subst, arith, append_assoc, append-nil, length-append}
+use Rattle.std.specs.Prelude.{flat_map}
+use Rattle.labelled_disk.specs.declared.evidence.Evidence.{Evidence}
 use Rattle.std.specs.Io.KnownBytes.{Consumes, Appends, IsAtEnd}
 use Rattle.std.proofs.KnownBytes.{Appends-trans, Appends-nil}
 use Rattle.std.specs.List.{list_any}
 use Rattle.std.proofs.lemmas.Bool.{true≢false}
 use Rattle.std.proofs.lemmas.List.{flat_map_more, length_push}
 use Rattle.std.proofs.lemmas.List.Folds.{list_any-append}
-use Rattle.std.proofs.lemmas.List.Sums.{fold-append}
-use Rattle.labelled_disk.specs.State.{DiskState}
 use Rattle.labelled_disk.specs.Calls.{Rose}
 use Rattle.flat_machine.specs.declared.call.Reply.{Reply}
 use Rattle.flat_machine.specs.Text.{text}
 use Rattle.flat_machine.specs.Machine.{Machine}
-use Rattle.flat_machine.specs.After.{TraceLine, AllowsLine, AllowsAll, next_line, Transcript}
+use Rattle.flat_machine.specs.After.{TraceLine, AllowsLine, AllowsAll, after, next_line, Transcript}
 use Rattle.flat_machine.specs.declared.call.Call.TheVariants as call
 use Rattle.trace_io.specs.Stream.{IsFrontOf}
 use Rattle.trace_io.specs.Progress.{Progress}
 use Rattle.trace_io.specs.Lines.{TakesLine, TakesPart}
-use Rattle.trace_io.specs.Reading.{is_last, reading, IsShort}
+use Rattle.trace_io.specs.Reading.{is_last, reading, whole_reading, IsShort}
 use Rattle.trace_io.specs.Course.{AreLines, HasRead, HasReadAll}
 use Rattle.trace_io.specs.declared.progress.Stop.TheVariants as stop
-use Rattle.trace_io.specs.declared.stream.SinkFault.{SinkFault}
 use Rattle.trace_io.proofs.CourseLemmas.{HasRead-none, HasRead-line, HasRead-last, HasRead-end, HasRead-part, HasRead-item, HasRead-long}
 use Rattle.pilot_top.specs.Built.{is_built, Answered}
-use Rattle.pilot_top.specs.Opening.{is_halt, halts}
+use Rattle.pilot_top.specs.Ending.{is_halt, halts}
 use Rattle.pilot_top.specs.Turn.{Answers}
 use Rattle.pilot_top.specs.Last.{last_line, Puts}
-use Rattle.pilot_top.specs.Headline.{HasWritten, Taken, Answering}
+use Rattle.pilot_top.specs.Headline.{HasWritten, Taken, Unheard, Answering, TellsDamage}
 use Rattle.pilot_top.specs.declared.last.Cause.TheVariants as cause
-use Rattle.pilot_top.specs.declared.status.Status.{Status}
 use Rattle.pilot_top.specs.declared.status.Status.TheVariants as status
+use Rattle.pilot_top.proofs.StagedLemmas.{after_then}
 
 -- the machine after lines
-abbrev last_of : Machine → List TraceLine → Machine
-last_of m lines = fold (next_line is_built) m lines
+abbrev pub last_of : Machine → List TraceLine → Machine
+last_of m lines = after is_built m lines (length lines)
 
 allowed_push : (m : Machine) (lines : List TraceLine) (rs : List Reply) (line : TraceLine) (r : Reply) → length rs ≡ length lines → AllowsAll is_built m lines rs
     → AllowsLine is_built (last_of m lines) line r → AllowsAll is_built m (lines ++ line ∷ []) (rs ++ r ∷ [])
@@ -71,7 +70,7 @@ not_halt : (line : TraceLine) → is_last line ≡ false → is_halt line ≡ fa
 not_halt (Some call.Halt) last = absurd (true≢false last)
 not_halt line last = refl
 
-none-push : (test : TraceLine → Bool) (lines : List TraceLine) (line : TraceLine) → list_any test lines ≡ false → test line ≡ false → list_any test (lines ++ line ∷ []) ≡ false
+pub none-push : (test : TraceLine → Bool) (lines : List TraceLine) (line : TraceLine) → list_any test lines ≡ false → test line ≡ false → list_any test (lines ++ line ∷ []) ≡ false
 none-push test lines line none last = let here : list_any test (line ∷ []) ≡ false = rw last refl in list_any-append test lines (line ∷ []) ∙ rw (none, here) refl
 
 -- where none of the first lines ends the trace, but one does, there are more
@@ -87,17 +86,21 @@ pub record Going (a c t u : Option (List ℕ)) (p : Progress) (first now : Machi
   pub out : List ℕ
   pub read : HasRead a c p lines
   pub wrote : Appends t u out
+  pub replies : List Reply
+  pub said : out ≡ flat_map text replies
   pub script : (m : Machine) → first m → Answered m lines out
   pub stands : (m : Machine) → first m → now (last_of m lines)
   pub none_halts : halts lines ≡ false
   pub none_last : list_any is_last lines ≡ false
 
-pub Going-start : (a t : Option (List ℕ)) (p : Progress) (first : Machine → Type 0) → p.taken ≡ 0 → p.stopped ≡ None → Going a a t t p first first
+abbrev pub Going-start : (a t : Option (List ℕ)) (p : Progress) (first : Machine → Type 0) → p.taken ≡ 0 → p.stopped ≡ None → Going a a t t p first first
 Going-start a t p first zero none = record {
   lines = [];
   out = [];
   read = HasRead-none a p zero none;
   wrote = Appends-nil t;
+  replies = [];
+  said = refl;
   script = λ m is. record { replies = []; one_a_line = refl; allowed = tt; text_is = refl };
   stands = λ m is. is;
   none_halts = refl;
@@ -116,12 +119,19 @@ module _ (a b t u : Option (List ℕ)) (p : Progress) (first now : Machine → T
     out = going.out ++ text r;
     read = HasRead-line a b c p q going.lines line going.read none takes goes;
     wrote = Appends-trans t u v going.out (text r) going.wrote wrote;
+    replies = going.replies ++ r ∷ [];
+    said = ap (λ b. b ++ text r) going.said ∙ flat_map_more text [] going.replies r;
     script = more_script then line r answers;
     stands = λ m is.
-        subst then (sym (fold-append (next_line is_built) m going.lines (line ∷ []))) (answers.next (last_of m going.lines) (going.stands m is) goes);
+        subst then (sym (after_then m going.lines (line ∷ []))) (answers.next (last_of m going.lines) (going.stands m is) goes);
     none_halts = none-push is_halt going.lines line going.none_halts (not_halt line goes);
     none_last = none-push is_last going.lines line going.none_last goes;
   }
+
+  pub reply_lines : (c v : Option (List ℕ)) (q : Progress) (then : Machine → Type 0) (line : TraceLine) (r : Reply) (none : p.stopped ≡ None) (takes : TakesLine line b c p q) (answers : Answers now then line r)
+      (goes : is_last line ≡ false) (wrote : Appends u v (text r)) → (Going-reply c v q then line r none takes answers goes wrote).lines ≡ going.lines ++ line ∷ []
+  unfolding Going-reply
+  reply_lines c v q then line r none takes answers goes wrote = refl
 
 told_bytes : (t : List ℕ) (u : Option (List ℕ)) (out : List ℕ) → Appends (Some t) u out → u ≡ Some (t ++ out)
 told_bytes t None out wrote = absurd wrote
@@ -144,39 +154,36 @@ wrote_last failed t u v out last wrote (inl more) = inl (told_bytes t v (out ++ 
 wrote_last failed t u v out last wrote (inr more) =
     inr (more.0, more.1, more.2, told_bytes t v (out ++ more.1) (Appends-trans (Some t) u v out more.1 wrote more.3) ∙ ap Some (sym (append_assoc t out more.1)))
 
--- a last line alone
-pub wrote_alone : (failed : Type 0) (t : List ℕ) (v : Option (List ℕ)) (last : List ℕ) → Puts failed (Some t) v last → HasWritten failed t v last
-wrote_alone failed t v last (inl all) = inl (told_bytes t v last all)
-wrote_alone failed t v last (inr some) = inr (some.0, some.1, some.2, told_bytes t v some.1 some.3)
-
 -- the ways out of a run from the machine m, whose source has the bytes x and whose sink has the bytes t
-module _ (m : Machine) (x t : List ℕ) (b u : Option (List ℕ)) (p : Progress) (first now : Machine → Type 0) (going : Going (Some x) b (Some t) u p first now) (is : first m) (failed : Type 0) where
+module _ (m : Machine) (x t : List ℕ) (b u : Option (List ℕ)) (p : Progress) (first now : Machine → Type 0) (going : Going (Some x) b (Some t) u p first now) (is : first m) (failed : Type 0) (has : ℕ → ℕ → Type 0) where
   pub done_all : (c v : Option (List ℕ)) (taken limit : ℕ) (lines : List TraceLine) (out : List ℕ) → HasReadAll (Some x) c taken limit lines → Answered m lines out → Appends (Some t) v out
-      → Answering status.Done m x c t v failed
-  done_all c v taken limit lines out all script wrote = (out, rw all.items_are script, told_bytes t v out wrote, all.rest_is)
+      → has (length (reading x)) 0 → Answering status.Done m x c t v failed has
+  done_all c v taken limit lines out all script wrote there = (out, rw all.items_are script, told_bytes t v out wrote, all.rest_is, there)
 
   -- the line that ends the trace was answered
   pub Run-last : (c v : Option (List ℕ)) (q : Progress) (then : Machine → Type 0) (line : TraceLine) (r : Reply) → p.stopped ≡ None → TakesLine line b c p q → Answers now then line r
-      → is_last line ≡ true → Appends u v (text r) → Answering status.Done m x c t v failed
-  Run-last c v q then line r none takes answers last wrote =
+      → is_last line ≡ true → Appends u v (text r) → has (length (reading x)) 0 → Answering status.Done m x c t v failed has
+  Run-last c v q then line r none takes answers last wrote there =
       done_all c v q.taken q.limit (going.lines ++ line ∷ []) (going.out ++ text r) (HasRead-last (Some x) b c p q going.lines line going.read none takes last)
-      (more_script (Some x) b (Some t) u p first now going then line r answers m is) (Appends-trans (Some t) u v going.out (text r) going.wrote wrote)
+      (more_script (Some x) b (Some t) u p first now going then line r answers m is) (Appends-trans (Some t) u v going.out (text r) going.wrote wrote) there
 
   -- a line was read, and the disk failed
-  pub Run-disk : (c v : Option (List ℕ)) → p.stopped ≡ None → Puts failed u v (last_line cause.DiskFault) → Answering status.DiskFault m x c t v failed
-  Run-disk c v none more =
+  pub Run-disk : (c v : Option (List ℕ)) → p.stopped ≡ None → Puts failed u v (last_line cause.DiskFault) → (i : ℕ) → has (length going.lines) i → Answering status.DiskFault m x c t v failed has
+  Run-disk c v none more i there =
       let front = told_front x b p going.lines going.read none in (
         length going.lines,
         going.out,
         rw front.1 (answered_more m going.lines front.0 going.out (going.script m is)),
         before_last going.lines front.0 (reading x) front.1 going.none_last,
         wrote_last failed t u v going.out (last_line cause.DiskFault) going.wrote more,
+        i,
+        there,
       )
 
   -- as many bytes as the limit were taken
   pub Run-long : (c v : Option (List ℕ)) (q : Progress) → p.stopped ≡ None → TakesPart stop.Long b c p q → q.taken ≡ 2 ^ 32 → Puts failed u v (last_line cause.Long)
-      → Answering status.Long m x c t v failed
-  Run-long c v q none takes full more =
+      → has (length going.lines) 0 → Answering status.Long m x c t v failed has
+  Run-long c v q none takes full more there =
       let read = HasRead-part (Some x) b c p q stop.Long going.lines going.read none takes in
       let taken = told_taken x c read.bytes read.took in (
         taken.0,
@@ -184,29 +191,41 @@ module _ (m : Machine) (x t : List ℕ) (b u : Option (List ℕ)) (p : Progress)
         going.out,
         rw (taken.1, read.items_are) (going.script m is),
         wrote_last failed t u v going.out (last_line cause.Long) going.wrote more,
+        rw (taken.1, read.items_are) there,
       )
 
   -- the source failed
-  pub Run-read_fault : (c : Option (List ℕ)) (q : Progress) → p.stopped ≡ None → TakesPart stop.ReadFault b c p q → Answering status.StreamFault m x c t u failed
-  Run-read_fault c q none takes =
+  pub Run-read_fault : (c : Option (List ℕ)) (q : Progress) → p.stopped ≡ None → TakesPart stop.ReadFault b c p q → has (length going.lines) 0 → Answering status.StreamFault m x c t u failed has
+  Run-read_fault c q none takes there =
       let read = HasRead-part (Some x) b c p q stop.ReadFault going.lines going.read none takes in
       let taken = told_taken x c read.bytes read.took in
-      inl (taken.0, going.out, rw (taken.1, read.items_are) (going.script m is), inl (told_bytes t u going.out going.wrote))
+      inl (taken.0, going.out, rw (taken.1, read.items_are) (going.script m is), told_bytes t u going.out going.wrote, rw (taken.1, read.items_are) there)
 
   -- the sink failed on a reply
   pub Run-write_fault : (c v : Option (List ℕ)) (q : Progress) (then : Machine → Type 0) (line : TraceLine) (r : Reply) → p.stopped ≡ None → TakesLine line b c p q → Answers now then line r
-      → failed → (front : List ℕ) → IsFrontOf front (text r) → Appends u v front → Answering status.StreamFault m x c t v failed
-  Run-write_fault c v q then line r none takes answers rose front is_front wrote =
-      let all = going.out ++ text r in
-      let some = going.out ++ front in
-      let script = more_script (Some x) b (Some t) u p first now going then line r answers m is in
-      let is_some : IsFrontOf some all = (is_front.0, ap (λ s. going.out ++ s) is_front.1 ∙ sym (append_assoc going.out front is_front.0)) in
-      let took : v ≡ Some (t ++ some) = told_bytes t v some (Appends-trans (Some t) u v going.out front going.wrote wrote) in
+      → failed → (front : List ℕ) → IsFrontOf front (text r) → Appends u v front → has (length (going.lines ++ line ∷ [])) 0 → Answering status.StreamFault m x c t v failed has
+  Run-write_fault c v q then line r none takes answers rose front is_front wrote there =
       elim (HasRead-item (Some x) b c p q going.lines line going.read none takes) [
-        | inl read ↦ let taken = told_taken x c read.bytes read.took in inl (taken.0, all, rw (taken.1, read.items_are) script, inr (rose, some, is_some, took))
-        | inr read ↦ inr (rose, at_end x c read.0.bytes read.0.took read.1, all, rw read.0.items_are script, some, is_some, took)
+        | inl read ↦
+            let taken = told_taken x c read.bytes read.took in
+            inr (inl (rose, taken.0, unheard (whole_reading taken.0.bytes) (ap whole_reading taken.1 ∙ read.items_are), rw (taken.1, read.items_are) there))
+        | inr read ↦ inr (inr (rose, at_end x c read.0.bytes read.0.took read.1, unheard (reading x) read.0.items_are, rw read.0.items_are there))
       ]
     where
+      unheard : (all : List TraceLine) → all ≡ going.lines ++ line ∷ [] → Unheard m all t v
+      unheard all are = record {
+        before = going.lines;
+        line = line;
+        all = are;
+        out = going.out;
+        answered = going.script m is;
+        reply = r;
+        allowed = answers.allowed (last_of m going.lines) (going.stands m is);
+        front = front;
+        is_front = is_front;
+        took_is = told_bytes t v (going.out ++ front) (Appends-trans (Some t) u v going.out front going.wrote wrote) ∙ ap Some (sym (append_assoc t going.out front));
+      }
+
       at_end : (x : List ℕ) (c : Option (List ℕ)) (bytes : List ℕ) → Consumes (Some x) c bytes → IsAtEnd c → c ≡ Some []
       at_end x None bytes took end = absurd took
       at_end x (Some s) bytes took end = ap Some end
@@ -215,10 +234,23 @@ module _ (m : Machine) (x t : List ℕ) (b u : Option (List ℕ)) (p : Progress)
 pub Going-source : (a b t u : Option (List ℕ)) (p : Progress) (first now : Machine → Type 0) (x : List ℕ) → Going a b t u p first now → a ≡ Some x → Going (Some x) b t u p first now
 Going-source a b t u p first now x going source = subst (λ r. Going r b t u p first now) source going
 
+-- where the sink tells its bytes
+pub Going-sink : (a b t u : Option (List ℕ)) (p : Progress) (first now : Machine → Type 0) (y : List ℕ) → Going a b t u p first now → t ≡ Some y → Going a b (Some y) u p first now
+Going-sink a b t u p first now y going sink = subst (λ s. Going a b s u p first now) sink going
+
 -- where source and sink tell their bytes
 pub Going-told : (a b t u : Option (List ℕ)) (p : Progress) (first now : Machine → Type 0) (x y : List ℕ) → Going a b t u p first now → a ≡ Some x → t ≡ Some y
     → Going (Some x) b (Some y) u p first now
 Going-told a b t u p first now x y going source sink = subst (λ s. Going (Some x) b s u p first now) sink (subst (λ r. Going r b t u p first now) source going)
+
+-- replies were written, and then what shows that the volume is damaged
+pub damage_told : (a b u v : Option (List ℕ)) (t : List ℕ) (p : Progress) (first now : Machine → Type 0) (failed : Type 0) (e : Evidence) → Going a b (Some t) u p first now → Puts failed u v (last_line (cause.Damaged e))
+    → TellsDamage t v failed
+damage_told a b u v t p first now failed e going put = record {
+  replies = going.replies;
+  evidence = e;
+  written = rw (sym going.said) (wrote_last failed t u v going.out (last_line (cause.Damaged e)) going.wrote put);
+}
 
 -- a trace that was read to its end is short enough, and one of which as many bytes as the limit were taken is not
 module _ (x : List ℕ) (b t u : Option (List ℕ)) (p : Progress) (first now : Machine → Type 0) (going : Going (Some x) b t u p first now) where
@@ -243,27 +275,3 @@ rose_later a b c le rose = omega (arith, le, rose)
 pub Puts-later : (P Q : Type 0) (u v : Option (List ℕ)) (last : List ℕ) → (P → Q) → Puts P u v last → Puts Q u v last
 Puts-later P Q u v last f (inl all) = inl all
 Puts-later P Q u v last f (inr some) = inr (f some.0, some.1, some.2, some.3)
-
--- where nothing failed and the trace is short, the run is done
-pub is_done : (s : Status) (disk source sink short : Type 0) → (s ≡ status.DiskFault → disk) → (s ≡ status.StreamFault → source ⊎ sink) → (s ≡ status.Long → short → ⊥)
-    → s ≢ status.Usage → s ≢ status.NotOpened → (s ≢ status.NoMemory) × (s ≢ status.Damaged) × (s ≢ status.Unfit)
-    → short → (disk → ⊥) → (source → ⊥) → (sink → ⊥) → s ≡ status.Done
-is_done status.Done disk source sink is_short on_disk on_stream on_long usage opened other short no_disk no_source no_sink = refl
-is_done status.DiskFault disk source sink is_short on_disk on_stream on_long usage opened other short no_disk no_source no_sink = absurd (no_disk (on_disk refl))
-is_done status.StreamFault disk source sink is_short on_disk on_stream on_long usage opened other short no_disk no_source no_sink = elim (on_stream refl) [ inl h ↦ absurd (no_source h) | inr h ↦ absurd (no_sink h) ]
-is_done status.Long disk source sink is_short on_disk on_stream on_long usage opened other short no_disk no_source no_sink = absurd (on_long refl short)
-is_done status.Usage disk source sink is_short on_disk on_stream on_long usage opened other short no_disk no_source no_sink = absurd (usage refl)
-is_done status.NotOpened disk source sink is_short on_disk on_stream on_long usage opened other short no_disk no_source no_sink = absurd (opened refl)
-is_done status.NoMemory disk source sink is_short on_disk on_stream on_long usage opened other short no_disk no_source no_sink = absurd (other.0 refl)
-is_done status.Damaged disk source sink is_short on_disk on_stream on_long usage opened other short no_disk no_source no_sink = absurd (other.1 refl)
-is_done status.Unfit disk source sink is_short on_disk on_stream on_long usage opened other short no_disk no_source no_sink = absurd (other.2 refl)
-
--- a text was put, or a front of it
-pub puts : (result : Result (Unit {0}) SinkFault) (failed : Type 0) (u v : Option (List ℕ)) (line last : List ℕ) → line ≡ last
-    → OnOk result (Appends u v line) → OnErr result ((front : List ℕ) × IsFrontOf front line × Appends u v front) → OnErr result failed → Puts failed u v last
-puts (Ok done) failed u v line last same ok err cause = inl (subst (λ l. Appends u v l) same ok)
-puts (Err fault) failed u v line last same ok err cause = inr (cause, err.0, subst (λ l. IsFrontOf err.0 l) same err.1, err.2)
-
--- no fault rose behind a reference
-pub none_rose_behind : {D : Type 0} (state : D → DiskState) (before : ℕ) (x y : D) → (Rose before (state x).faults → ⊥) → x ≡ y → Rose before (state y).faults → ⊥
-none_rose_behind state before x y none same = subst (λ z. Rose before (state z).faults → ⊥) same none

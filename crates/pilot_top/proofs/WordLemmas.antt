@@ -5,7 +5,7 @@ use Rattle.std.specs.String.{string_bytes}
 use Rattle.std.specs.declared.alloc.Global.{Global}
 use Rattle.pilot_top.specs.declared.words.Command.{Command}
 use Rattle.pilot_top.specs.declared.words.Command.TheVariants as command
-use Rattle.pilot_top.specs.Words.{IsFormat, IsValue, Says}
+use Rattle.pilot_top.specs.Words.{IsFormat, IsRun, IsValue, Says, SaysFrames}
 
 -- four words, and their texts
 pub four_words : (words : List (String Global)) (a b c d : String Global) → 4 ≤ length words → length words < 5
@@ -70,4 +70,14 @@ format_says result words options name is named says serial counter =
     let texts : map string_bytes words ≡ codes "format" ∷ map string_bytes options = ap (map string_bytes) is ∙ ap (λ t. t ∷ map string_bytes options) named in (
       λ same. (map string_bytes options, texts, (says serial counter).0 same),
       λ format. (says serial counter).1 (subst (λ (l : List (List ℕ)). Says l serial counter) (ap (drop 1) (sym format.1 ∙ texts)) format.2),
+    )
+
+-- so is a run
+pub run_says : (result : Option Command) (words options : List (String Global)) (name : String Global) → words ≡ name ∷ options → string_bytes name ≡ codes "run"
+    → ((n : ℕ) → result ≡ Some (command.Run n) ↔ SaysFrames (map string_bytes options) n)
+    → (n : ℕ) → result ≡ Some (command.Run n) ↔ IsRun words n
+run_says result words options name is named says n =
+    let texts : map string_bytes words ≡ codes "run" ∷ map string_bytes options = ap (map string_bytes) is ∙ ap (λ t. t ∷ map string_bytes options) named in (
+      λ same. (map string_bytes options, texts, (says n).0 same),
+      λ runs. (says n).1 (subst (λ (l : List (List ℕ)). SaysFrames l n) (ap (drop 1) (sym runs.1 ∙ texts)) runs.2),
     )

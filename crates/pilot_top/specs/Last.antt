@@ -6,6 +6,9 @@ use Rattle.labelled_disk.specs.declared.layout.Difference.{Difference}
 use Rattle.labelled_disk.specs.declared.layout.Difference.TheVariants as difference
 use Rattle.labelled_disk.specs.declared.layout.RootFault.{RootFault}
 use Rattle.labelled_disk.specs.declared.layout.RootFault.TheVariants as fault
+use Rattle.labelled_disk.specs.declared.evidence.Evidence.{Evidence}
+use Rattle.labelled_disk.specs.declared.evidence.Evidence.TheVariants as evidence
+use Rattle.flat_machine.specs.Text.{id_text}
 use Rattle.trace_io.specs.Stream.{IsFrontOf}
 use Rattle.pilot_top.specs.declared.last.Cause.{Cause}
 use Rattle.pilot_top.specs.declared.last.Cause.TheVariants as cause
@@ -28,11 +31,19 @@ root_words (fault.Version v) = codes "version " ++ decimal v
 root_words (fault.BadCount n) = codes "count " ++ decimal n
 root_words fault.Disk = codes "disk"
 
+-- what stands behind `stopped damaged `: what was read, and where
+abbrev pub evidence_words : Evidence → List ℕ
+evidence_words (evidence.Mismatch sector wanted found) =
+    codes "label " ++ decimal sector ++ codes " " ++ id_text wanted.id ++ codes " " ++ decimal wanted.page ++ codes " " ++ id_text found.id ++ codes " " ++ decimal found.page
+evidence_words (evidence.Malformed window page) = codes "record " ++ decimal window ++ codes " " ++ decimal page
+evidence_words (evidence.Missing id page) = codes "missing " ++ id_text id ++ codes " " ++ decimal page
+
 -- the line that says why it stopped
 abbrev pub last_line : Cause → List ℕ
 last_line cause.Usage = codes "stopped usage\n"
 last_line cause.DiskFault = codes "stopped disk\n"
 last_line cause.Long = codes "stopped long\n"
+last_line (cause.Damaged e) = codes "stopped damaged " ++ evidence_words e ++ codes "\n"
 last_line (cause.Root why) = codes "stopped " ++ root_words why ++ codes "\n"
 
 -- a sink took the text, or it failed, and took a front of it

@@ -3,9 +3,10 @@ ghost use Rattle.std.specs.Prelude.{◌≡◌, ◌≤◌, ◌+◌, ◌++◌, cod
 ghost use Rattle.labelled_disk.specs.Calls.{Rose};
 ghost use Rattle.pilot_top.specs.Last.{difference_word, last_line, Puts};
 
+use crate::damage::damage_line;
 use arrayvec::ArrayVec;
 use itoa::Buffer;
-use labelled_disk::{Difference, RootFault};
+use labelled_disk::{Difference, Evidence, RootFault};
 use trace_io::Sink;
 
 /// Why a command stopped.
@@ -14,6 +15,8 @@ pub(crate) enum Cause {
     Usage,
     DiskFault,
     Long,
+    /// The volume is damaged, as this shows.
+    Damaged(Evidence),
     /// The volume can't be opened.
     Root(RootFault),
 }
@@ -70,6 +73,7 @@ pub(crate) fn put_last<K: Sink>(sink: &mut K, cause: Cause)
         Cause::Usage => sink.put(b"stopped usage\n"),
         Cause::DiskFault => sink.put(b"stopped disk\n"),
         Cause::Long => sink.put(b"stopped long\n"),
+        Cause::Damaged(evidence) => sink.put(&damage_line(evidence)),
         Cause::Root(why) => sink.put(&root_line(why)),
     };
 }

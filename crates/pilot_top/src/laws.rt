@@ -1,10 +1,19 @@
 //! What the definitions say, as the contracts of functions that do nothing.
 ghost use Rattle.std.specs.Prelude.{List};
+ghost use Rattle.labelled_disk.specs.Right.{OnlyMaps};
+ghost use Rattle.labelled_disk.specs.Root.{LabelsRight};
 ghost use Rattle.labelled_disk.specs.Sectors.{Sector};
+ghost use Rattle.flat_machine.specs.Machine.{Machine};
+ghost use Rattle.session_words.specs.StandsFor.{TellsSettled};
 ghost use Rattle.volume_root.specs.Sound.{Sound};
-ghost use Rattle.pilot_top.specs.Marked.{MarksFiles};
+ghost use Rattle.scavenger.specs.Restored.{IsRestored};
+ghost use Rattle.pilot_top.specs.Scavenging.{HasFilesOf};
 
-/// The allocation map of a sound volume marks as many data sectors as its files have.
-pub fn sound_volumes_mark_their_files()
-    ensures { (d : List Sector) → Sound d → MarksFiles d }
+/// Whatever then stands in both maps of a volume with right labels, a restoration gives it back
+/// sound, with its files: with the machine's settled files, where a run left it.
+pub fn lost_maps_are_restored()
+    ensures files { (e g h : List Sector) → LabelsRight e → OnlyMaps e g → IsRestored g h
+        → HasFilesOf e h }
+    ensures run { (m : Machine) (e g h : List Sector) → TellsSettled e m
+        → OnlyMaps e g → IsRestored g h → Sound h × TellsSettled h m }
 {}

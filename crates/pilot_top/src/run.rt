@@ -1,85 +1,75 @@
-//! A run: a volume is opened, a trace is answered line by line, and the volume is closed.
-ghost use Rattle.std.specs.Prelude.{◌≡◌, ◌≢◌, ◌⊎◌, ◌^◌, ◌≤◌, ℕ, List, [], ◌∷◌, Some, true, false};
-ghost use Rattle.std.specs.Io.KnownBytes.{Appends};
+//! A run: a session is started, a trace is answered line by line, and the session is ended.
+ghost use Rattle.std.specs.Prelude.{◌≡◌, ◌≢◌, ◌⊎◌, ◌+◌, ◌^◌, ◌≤◌, ℕ, List, Some, length, sum_by, true, false};
+ghost use Rattle.labelled_disk.specs.declared.evidence.Halt.TheVariants as halt;
 ghost use Rattle.labelled_disk.specs.Sectors.{Sector};
 ghost use Rattle.labelled_disk.specs.Calls.{OnlyReads, Rose};
 ghost use Rattle.labelled_disk.specs.Layout.{IsCount};
+ghost use Rattle.flat_machine.specs.After.{TraceLine, after};
 ghost use Rattle.flat_machine.specs.Machine.{Machine};
-ghost use Rattle.trace_io.specs.Stream.{IsFrontOf};
+ghost use Rattle.flat_machine.specs.Start.{start};
+ghost use Rattle.swapper_kernel.specs.Goes.{Went};
 ghost use Rattle.trace_io.specs.Reading.{IsShort, reading, rest_of};
-ghost use Rattle.volume_root.specs.Flag.{flag_write, IsRefused};
-ghost use Rattle.volume_root.specs.Format.{PartMade};
-ghost use Rattle.volume_root.specs.Later.{IsLater};
-ghost use Rattle.volume_root.specs.RootPage.{IsValidRoot, root_write};
-ghost use Rattle.pilot_top.specs.Built.{StandsFor};
-ghost use Rattle.pilot_top.specs.Headline.{Answering, Run};
+ghost use Rattle.volume_root.specs.Flag.{IsRefused};
+ghost use Rattle.volume_root.specs.Sound.{Sound};
+ghost use Rattle.pilot_engine.specs.Bound.{other_bound};
+ghost use Rattle.pilot_engine.specs.Closing.{HasShut};
+ghost use Rattle.pilot_engine.specs.Session.{IsOpen};
+ghost use Rattle.pilot_top.specs.Built.{is_built, StandsFor};
+ghost use Rattle.pilot_top.specs.Ending.{halts, closes};
+ghost use Rattle.pilot_top.specs.Headline.{Answering, EndsEarly, HasFilesAt, IsLeftOpen, Run, TellsDamage, at_end, line_bound, run_bound};
 ghost use Rattle.pilot_top.specs.Last.{last_line, Puts};
-ghost use Rattle.pilot_top.specs.Marked.{MarksFiles};
-ghost use Rattle.pilot_top.specs.Opening.{Leaves, halts, closes, is_halted, is_closed, end_text};
+ghost use Rattle.pilot_top.specs.Moments.{Lawfully, Moments};
 
 use crate::Status;
-use crate::engine::Engine;
+use crate::closing::end_trace;
 use crate::last::{Cause, put_last};
-use crate::opening::{close_volume, open_volume};
-use crate::turn::{End, Turn, take_turn};
-use flat_machine::Reply;
+use crate::stopping::{refuse, stop};
+use crate::turn::{Turn, take_turn};
 use labelled_disk::{Disk, RootFault};
+use pilot_engine::SessionOver;
+use std::alloc::Allocator;
 use trace_io::{Lines, Sink, Source, write_reply};
-use volume_root::Root;
 
 // The most bytes of a trace that are read.
 const LIMIT: u64 = 1 << 32;
 
-// Closes the volume, unless the trace was stopped, and writes the reply to the line that ended it.
-fn end_trace<D: Disk, K: Sink>(mut disk: D, root: &Root, end: End, sink: &mut K) -> (Status, D)
-    requires { IsValidRoot (D.state disk).sectors root.now }
-    ensures leaves { Leaves result.0 (is_halted end) (is_closed end) (Unit {0})
-        (Rose (K.faults sink.old) (K.faults sink.new)) []
-        (root_write (record root.now { clean = true }) ∷ []) (D.state disk) (D.state result.1) }
-    ensures done { result.0 ≡ Status.Done → Appends (K.took sink.old) (K.took sink.new) (end_text end) }
-    ensures part { result.0 ≡ Status.StreamFault → (front : List ℕ) × IsFrontOf front (end_text end)
-        × Appends (K.took sink.old) (K.took sink.new) front }
-    ensures stream_cause { result.0 ≡ Status.StreamFault
-        → Rose (K.faults sink.old) (K.faults sink.new) × (end ≢ End.Trace) }
-    ensures disk_line { result.0 ≡ Status.DiskFault
-        → Puts (Rose (K.faults sink.old) (K.faults sink.new)) (K.took sink.old) (K.took sink.new)
-        (last_line Cause.DiskFault) }
-    ensures disk_cause { result.0 ≡ Status.DiskFault
-        → Rose (D.state disk).faults (D.state result.1).faults }
-    ensures ends { (result.0 ≡ Status.Done) ⊎ (result.0 ≡ Status.StreamFault)
-        ⊎ (result.0 ≡ Status.DiskFault) }
-    ensures later { IsLater (D.state disk) (D.state result.1) }
-{
-    if end != End::Halt && close_volume(&mut disk, root).is_err() {
-        put_last(sink, Cause::DiskFault);
-        return (Status::DiskFault, disk);
-    }
-    if end != End::Trace && write_reply(sink, &Reply::Done).is_err() {
-        return (Status::StreamFault, disk);
-    }
-    (Status::Done, disk)
-}
-
-// Reads a trace, and writes a reply to each line, over a volume that was opened.
-fn answer_lines<D: Disk, S: Source, K: Sink>(
-    disk: D,
-    root: &Root,
+// Reads a trace, and writes a reply to each line, in a session that was started.
+fn answer_lines<D: Disk, A: Allocator, S: Source, K: Sink>(
+    session: SessionOver<D, A>,
     source: &mut S,
     sink: &mut K,
 ) -> (Status, D)
-    requires { IsValidRoot (D.state disk).sectors root.now }
-    ensures answering { (m : Machine) (b t : List ℕ) → StandsFor (D.state disk) m
+    requires size { (D.state session.filer.swapper.under).sectors ≡ session.filer.swapper.layout.sectors }
+    requires opened { IsOpen session.filer.swapper.layout session.volume }
+    requires running { session.running ≡ true }
+    ensures answering { (m : Machine) (b t : List ℕ) → StandsFor (D.state session.filer.swapper.under) session.filer.swapper.pool session.filer.swapper.layout session.filer.runs session.volume m
         → S.left source.old ≡ Some b → K.took sink.old ≡ Some t
         → Answering result.0 m b (S.left source.new) t (K.took sink.new)
-        (Rose (K.faults sink.old) (K.faults sink.new)) }
-    ensures leaves { (b : List ℕ) → S.left source.old ≡ Some b
-        → Leaves result.0 (halts (reading b)) (closes (reading b))
-        (S.left source.new ≡ Some (rest_of b)) (Rose (K.faults sink.old) (K.faults sink.new)) []
-        (root_write (record root.now { clean = true }) ∷ []) (D.state disk) (D.state result.1) }
-    ensures part { PartMade (root_write (record root.now { clean = true }) ∷ [])
-        (D.state disk) (D.state result.1) }
+        (Rose (K.faults sink.old) (K.faults sink.new)) (HasFilesAt m (reading b) (D.state result.1)) }
+    ensures moments { (m : Machine) (b : List ℕ) → StandsFor (D.state session.filer.swapper.under) session.filer.swapper.pool session.filer.swapper.layout session.filer.runs session.volume m
+        → S.left source.old ≡ Some b → Moments m (reading b) (D.state session.filer.swapper.under) (D.state result.1) }
+    ensures closed { (m : Machine) (b : List ℕ) → StandsFor (D.state session.filer.swapper.under) session.filer.swapper.pool session.filer.swapper.layout session.filer.runs session.volume m
+        → S.left source.old ≡ Some b → result.0 ≡ Status.Done → halts (reading b) ≡ false
+        → HasShut (after is_built m (reading b) (length (reading b))) (D.state result.1) }
+    ensures closed_unheard { (m : Machine) (b : List ℕ) → StandsFor (D.state session.filer.swapper.under) session.filer.swapper.pool session.filer.swapper.layout session.filer.runs session.volume m
+        → S.left source.old ≡ Some b → result.0 ≡ Status.StreamFault → ¬ Rose (S.faults source.old) (S.faults source.new)
+        → S.left source.new ≡ Some (rest_of b) → closes (reading b) ≡ true
+        → HasShut (after is_built m (reading b) (length (reading b))) (D.state result.1) }
+    ensures some_moments { (m : Machine) → StandsFor (D.state session.filer.swapper.under) session.filer.swapper.pool session.filer.swapper.layout session.filer.runs session.volume m
+        → (lines : List TraceLine) × Moments m lines (D.state session.filer.swapper.under) (D.state result.1) }
+    ensures stays_open { (m : Machine) (b : List ℕ) → StandsFor (D.state session.filer.swapper.under) session.filer.swapper.pool session.filer.swapper.layout session.filer.runs session.volume m
+        → S.left source.old ≡ Some b → EndsEarly result.0 (reading b) → IsLeftOpen (D.state result.1) }
+    ensures transfers { (m : Machine) (b : List ℕ) → StandsFor (D.state session.filer.swapper.under) session.filer.swapper.pool session.filer.swapper.layout session.filer.runs session.volume m
+        → S.left source.old ≡ Some b
+        → (D.state result.1).transfers ≤ (D.state session.filer.swapper.under).transfers + (other_bound (D.state session.filer.swapper.under).sectors + sum_by (line_bound (D.state session.filer.swapper.under).sectors) (reading b)) }
+    ensures sound { (m : Machine) → StandsFor (D.state session.filer.swapper.under) session.filer.swapper.pool session.filer.swapper.layout session.filer.runs session.volume m
+        → result.0 ≢ Status.Damaged }
+    ensures damage { (t : List ℕ) → K.took sink.old ≡ Some t → result.0 ≡ Status.Damaged
+        → TellsDamage t (K.took sink.new) (Rose (K.faults sink.old) (K.faults sink.new)) }
+    ensures lawful { Lawfully (D.state session.filer.swapper.under) (D.state result.1) }
+    ensures same_disk { Went (D.state session.filer.swapper.under) (D.state result.1) }
     ensures disk_cause { result.0 ≡ Status.DiskFault
-        → Rose (D.state disk).faults (D.state result.1).faults }
+        → Rose (D.state session.filer.swapper.under).faults (D.state result.1).faults }
     ensures stream_cause { result.0 ≡ Status.StreamFault
         → Rose (S.faults source.old) (S.faults source.new)
         ⊎ Rose (K.faults sink.old) (K.faults sink.new) }
@@ -88,52 +78,70 @@ fn answer_lines<D: Disk, S: Source, K: Sink>(
     ensures long { (b : List ℕ) → S.left source.old ≡ Some b
         → result.0 ≡ Status.Long → ¬ IsShort (2 ^ 32) b }
     ensures opened { (result.0 ≢ Status.Usage) × (result.0 ≢ Status.NotOpened) }
-    ensures no_other { result.0 ≢ Status.NoMemory × result.0 ≢ Status.Damaged
-        × result.0 ≢ Status.Unfit }
-    ensures later { IsLater (D.state disk) (D.state result.1) }
+    ensures no_other { result.0 ≢ Status.NoMemory × result.0 ≢ Status.Unfit }
 {
-    let mut engine = Engine::over(disk);
+    let mut session = session;
     let mut lines = Lines::with_limit(LIMIT);
     'turns: loop {
-        match take_turn(&mut engine, &mut lines, source) {
+        match take_turn(&mut session, &mut lines, source) {
             Turn::Replies(reply) => {
                 let Ok(()) = write_reply(sink, &reply) else {
-                    return (Status::StreamFault, engine.into_disk());
+                    return (Status::StreamFault, session.into_disk());
                 };
             }
-            Turn::Ends(end) => return end_trace(engine.into_disk(), root, end, sink),
-            Turn::ReadFault => return (Status::StreamFault, engine.into_disk()),
-            Turn::DiskFault => {
-                put_last(sink, Cause::DiskFault);
-                return (Status::DiskFault, engine.into_disk());
-            }
+            Turn::Ends(end) => return end_trace(session, end, sink),
+            Turn::ReadFault => return (Status::StreamFault, session.into_disk()),
+            Turn::Halts(halt) => return (stop(halt, sink), session.into_disk()),
             Turn::Long => {
                 put_last(sink, Cause::Long);
-                return (Status::Long, engine.into_disk());
+                return (Status::Long, session.into_disk());
             }
         }
     }
 }
 
-/// Opens the volume of a disk, carries out a trace, closes the volume, and hands the disk back.
-pub(crate) fn run<D: Disk, S: Source, K: Sink>(
-    mut disk: D,
+/// Starts a session on the volume of a disk, with so many frames, carries out a trace, ends the session, and hands the
+/// disk back.
+pub(crate) fn run<A: Allocator, D: Disk, S: Source, K: Sink>(
+    alloc: A,
+    frames: u32,
+    disk: D,
     source: &mut S,
     sink: &mut K,
 ) -> (Status, D)
+    requires least { 24 ≤ frames }
+    requires most { frames ≤ 4096 }
     ensures run { (d : List Sector) (b t : List ℕ)
-        → (D.state disk).contents ≡ Some d → MarksFiles d → S.left source.old ≡ Some b
+        → (D.state disk).contents ≡ Some d → Sound d → S.left source.old ≡ Some b
         → K.took sink.old ≡ Some t
         → Run result.0 d b (S.left source.new) t (K.took sink.new)
-        (Rose (K.faults sink.old) (K.faults sink.new)) }
-    ensures leaves { (d : List Sector) (b : List ℕ)
-        → (D.state disk).contents ≡ Some d → S.left source.old ≡ Some b
-        → result.0 ≢ Status.NotOpened
-        → Leaves result.0 (halts (reading b)) (closes (reading b))
-        (S.left source.new ≡ Some (rest_of b)) (Rose (K.faults sink.old) (K.faults sink.new))
-        (flag_write false d ∷ []) (flag_write true d ∷ []) (D.state disk) (D.state result.1) }
-    ensures part { (d : List Sector) → (D.state disk).contents ≡ Some d
-        → PartMade (flag_write false d ∷ flag_write true d ∷ []) (D.state disk) (D.state result.1) }
+        (Rose (K.faults sink.old) (K.faults sink.new)) (D.state result.1) }
+    ensures moments { (d : List Sector) (b : List ℕ)
+        → (D.state disk).contents ≡ Some d → Sound d → S.left source.old ≡ Some b
+        → Moments (start d) (reading b) (D.state disk) (D.state result.1) }
+    ensures closed { (d : List Sector) (b : List ℕ)
+        → (D.state disk).contents ≡ Some d → Sound d → S.left source.old ≡ Some b
+        → result.0 ≡ Status.Done → halts (reading b) ≡ false
+        → HasShut (at_end d (reading b)) (D.state result.1) }
+    ensures closed_unheard { (d : List Sector) (b : List ℕ)
+        → (D.state disk).contents ≡ Some d → Sound d → S.left source.old ≡ Some b
+        → result.0 ≡ Status.StreamFault → ¬ Rose (S.faults source.old) (S.faults source.new)
+        → S.left source.new ≡ Some (rest_of b) → closes (reading b) ≡ true
+        → HasShut (at_end d (reading b)) (D.state result.1) }
+    ensures some_moments { (d : List Sector) → (D.state disk).contents ≡ Some d → Sound d
+        → (lines : List TraceLine) × Moments (start d) lines (D.state disk) (D.state result.1) }
+    ensures stays_open { (d : List Sector) (b : List ℕ)
+        → (D.state disk).contents ≡ Some d → Sound d → S.left source.old ≡ Some b
+        → EndsEarly result.0 (reading b) → IsLeftOpen (D.state result.1) }
+    ensures transfers { (d : List Sector) (b : List ℕ)
+        → (D.state disk).contents ≡ Some d → Sound d → S.left source.old ≡ Some b
+        → (D.state result.1).transfers ≤ (D.state disk).transfers + run_bound (D.state disk).sectors (reading b) }
+    ensures sound { (d : List Sector) → (D.state disk).contents ≡ Some d → Sound d
+        → result.0 ≢ Status.NotOpened × result.0 ≢ Status.Damaged }
+    ensures damage { (t : List ℕ) → K.took sink.old ≡ Some t → result.0 ≡ Status.Damaged
+        → TellsDamage t (K.took sink.new) (Rose (K.faults sink.old) (K.faults sink.new)) }
+    ensures lawful { Lawfully (D.state disk) (D.state result.1) }
+    ensures same_disk { Went (D.state disk) (D.state result.1) }
 
     // The volume can't be opened.
     ensures not_opened { (d : List Sector) → (D.state disk).contents ≡ Some d
@@ -142,17 +150,19 @@ pub(crate) fn run<D: Disk, S: Source, K: Sink>(
         (last_line (Cause.Root why)) }
     ensures refused { (d : List Sector) (why : RootFault) → (D.state disk).contents ≡ Some d
         → IsRefused d why → result.0 ≡ Status.NotOpened ⊎ result.0 ≡ Status.DiskFault }
-    ensures refused_line { result.0 ≡ Status.NotOpened → (why : RootFault)
-        × Puts (Rose (K.faults sink.old) (K.faults sink.new)) (K.took sink.old) (K.took sink.new)
-        (last_line (Cause.Root why)) }
     ensures refused_unwritten { (d : List Sector) (why : RootFault) → (D.state disk).contents ≡ Some d
         → IsRefused d why
         → OnlyReads (D.state disk) (D.state result.1) × source.new ≡ source.old }
+    ensures refused_line { result.0 ≡ Status.NotOpened → (why : RootFault)
+        × Puts (Rose (K.faults sink.old) (K.faults sink.new)) (K.took sink.old) (K.took sink.new)
+        (last_line (Cause.Root why)) }
     ensures count { ¬ IsCount (D.state disk).sectors → result.0 ≡ Status.NotOpened
         × Puts (Rose (K.faults sink.old) (K.faults sink.new)) (K.took sink.old) (K.took sink.new)
         (last_line (Cause.Root (RootFault.BadCount (D.state disk).sectors))) }
     ensures unwritten { result.0 ≡ Status.NotOpened
         → OnlyReads (D.state disk) (D.state result.1) × source.new ≡ source.old }
+    ensures memory { result.0 ≡ Status.NoMemory
+        → OnlyReads (D.state disk) (D.state result.1) × (source.new ≡ source.old) × (sink.new ≡ sink.old) }
 
     ensures disk_cause { result.0 ≡ Status.DiskFault
         → Rose (D.state disk).faults (D.state result.1).faults }
@@ -163,22 +173,10 @@ pub(crate) fn run<D: Disk, S: Source, K: Sink>(
         → result.0 ≡ Status.Done → IsShort (2 ^ 32) b }
     ensures long { (b : List ℕ) → S.left source.old ≡ Some b
         → result.0 ≡ Status.Long → ¬ IsShort (2 ^ 32) b }
-    ensures no_usage { result.0 ≢ Status.Usage }
-    ensures no_other { result.0 ≢ Status.NoMemory × result.0 ≢ Status.Damaged
-        × result.0 ≢ Status.Unfit }
-    ensures later { IsLater (D.state disk) (D.state result.1) }
+    ensures no_other { result.0 ≢ Status.Usage × result.0 ≢ Status.Unfit }
 {
-    match open_volume(&mut disk) {
-        Ok(root) => answer_lines(disk, &root, source, sink),
-        Err(why) => match why {
-            RootFault::Disk => {
-                put_last(sink, Cause::DiskFault);
-                (Status::DiskFault, disk)
-            }
-            _ => {
-                put_last(sink, Cause::Root(why));
-                (Status::NotOpened, disk)
-            }
-        },
+    match SessionOver::over(alloc, disk, frames) {
+        Ok(session) => answer_lines(session, source, sink),
+        Err((fault, disk)) => (refuse(fault, sink), disk),
     }
 }

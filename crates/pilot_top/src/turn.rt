@@ -1,13 +1,18 @@
 //! One line of a trace, and the reply to it.
-ghost use Rattle.std.specs.Prelude.{◌≡◌, ◌⊎◌, ◌≤◌, Some, None};
-ghost use Rattle.labelled_disk.specs.Calls.{Rose, OnlyReads};
-ghost use Rattle.labelled_disk.specs.Layout.{IsCount};
+ghost use Rattle.std.specs.Prelude.{◌≡◌, ◌⊎◌, ◌≤◌, [], ◌∷◌, true, Some, None};
+ghost use Rattle.labelled_disk.specs.declared.evidence.Halt.TheVariants as halt;
+ghost use Rattle.labelled_disk.specs.Calls.{Rose};
+ghost use Rattle.flat_machine.specs.Machine.{Machine};
+ghost use Rattle.pilot_engine.specs.Session.{IsOpen, Wrote};
 ghost use Rattle.pilot_top.specs.Built.{StandsFor};
-ghost use Rattle.pilot_top.specs.Turn.{EndsAt, Turns};
+ghost use Rattle.pilot_top.specs.Headline.{CostsLine};
+ghost use Rattle.pilot_top.specs.Moments.{Moments};
+ghost use Rattle.pilot_top.specs.Turn.{EndsAt, IsGoing, IsIdle, Turns};
 
-use crate::engine::Engine;
 use flat_machine::{Call, Refusal, Reply};
-use labelled_disk::Disk;
+use labelled_disk::{Disk, Halt};
+use pilot_engine::SessionOver;
+use std::alloc::Allocator;
 use trace_io::{Line, Lines, Source, Stop};
 
 /// How a trace ends.
@@ -27,7 +32,8 @@ pub(crate) enum Turn {
     /// Others may follow the line.
     Replies(Reply),
     Ends(End),
-    DiskFault,
+    /// The call stopped the session.
+    Halts(Halt),
     ReadFault,
     Long,
 }
@@ -43,30 +49,39 @@ fn end_at(call: &Call) -> Option<End>
     }
 }
 
-/// Reads a line, and carries out its call.
-pub(crate) fn take_turn<D: Disk, S: Source>(
-    engine: &mut Engine<D>,
+/// Reads a line, and carries out its call in the session.
+pub(crate) fn take_turn<D: Disk, A: Allocator, S: Source>(
+    session: &mut SessionOver<D, A>,
     lines: &mut Lines,
     source: &mut S,
 ) -> Turn
     requires stopped { (lines.old.stopped ≡ None) ⊎ (lines.old.stopped ≡ Some Stop.End) }
-    requires count { IsCount (D.state engine.old.disk).sectors }
+    requires size { (D.state session.old.filer.swapper.under).sectors ≡ session.old.filer.swapper.layout.sectors }
+    requires opened { IsOpen session.old.filer.swapper.layout session.old.volume }
+    requires running { session.old.running ≡ true }
     ensures turns { Turns result (S.left source.old) (S.left source.new) lines.old lines.new
-        (StandsFor (D.state engine.old.disk)) (StandsFor (D.state engine.new.disk)) }
+        (StandsFor (D.state session.old.filer.swapper.under) session.old.filer.swapper.pool session.old.filer.swapper.layout session.old.filer.runs session.old.volume)
+        (StandsFor (D.state session.new.filer.swapper.under) session.new.filer.swapper.pool session.new.filer.swapper.layout session.new.filer.runs session.new.volume)
+        (λ m line. Moments m (line ∷ []) (D.state session.old.filer.swapper.under) (D.state session.new.filer.swapper.under)
+        × CostsLine line (D.state session.old.filer.swapper.under) (D.state session.new.filer.swapper.under)) }
     ensures bound { lines.new.taken ≤ lines.new.limit }
-    ensures only_reads { OnlyReads (D.state engine.old.disk) (D.state engine.new.disk) }
-    ensures disk_cause { result ≡ Turn.DiskFault
-        → Rose (D.state engine.old.disk).faults (D.state engine.new.disk).faults }
+    ensures idle { IsIdle result → session.new ≡ session.old }
+    ensures going { IsGoing result → session.new.running ≡ true }
+    ensures sound { (m : Machine) (why : Halt) → StandsFor (D.state session.old.filer.swapper.under) session.old.filer.swapper.pool session.old.filer.swapper.layout session.old.filer.runs session.old.volume m
+        → result ≡ Turn.Halts why → why ≡ halt.Disk }
+    ensures counted { result ≡ Turn.Halts halt.Disk → Rose (D.state session.old.filer.swapper.under).faults (D.state session.new.filer.swapper.under).faults }
+    ensures wrote { Wrote (D.state session.old.filer.swapper.under) session.old.filer.swapper.pool (D.state session.new.filer.swapper.under) session.new.filer.swapper.pool }
+    ensures open_still { IsOpen session.new.filer.swapper.layout session.new.volume }
+    ensures layout { session.new.filer.swapper.layout ≡ session.old.filer.swapper.layout }
     ensures source_later { S.faults source.old ≤ S.faults source.new }
-    ensures source_cause { result ≡ Turn.ReadFault
-        → Rose (S.faults source.old) (S.faults source.new) }
+    ensures source_cause { result ≡ Turn.ReadFault → Rose (S.faults source.old) (S.faults source.new) }
 {
     match lines.next(source) {
         Line::Call(call) => match end_at(&call) {
             Some(end) => Turn::Ends(end),
-            None => match engine.step(&call) {
+            None => match session.step(&call) {
                 Ok(reply) => Turn::Replies(reply),
-                Err(_) => Turn::DiskFault,
+                Err(halt) => Turn::Halts(halt),
             },
         },
         Line::Bad => Turn::Replies(Reply::Refused(Refusal::Syntax)),

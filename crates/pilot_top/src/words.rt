@@ -1,13 +1,14 @@
 //! Which command the words name.
 ghost use Rattle.std.specs.Prelude.{◌≡◌, ◌≢◌, ◌↔◌, ℕ, map, Some, IfSome, IfNone};
 ghost use Rattle.std.specs.String.{string_bytes};
-ghost use Rattle.pilot_top.specs.Words.{IsRun, IsFormat, IsValue, Says};
+ghost use Rattle.pilot_top.specs.Words.{IsRun, IsFrames, SaysFrames, IsFormat, IsScavenge, IsValue, Says};
 
 /// A command, with its options.
 #[derive(Clone, Copy, Debug, PartialEq, Eq)]
 pub(crate) enum Command {
-    Run,
+    Run { frames: u32 },
     Format { serial: u32, counter: u32 },
+    Scavenge,
 }
 
 // A number from 1 on, in decimal digits alone.
@@ -21,11 +22,36 @@ fn value(word: &str) -> Option<u32>
     word.parse().ok().filter(|number| *number > 0)
 }
 
+// How many frames this word says.
+fn frames(word: &str) -> Option<u32>
+    ensures some { IfSome result (IsFrames word.now) }
+    ensures none { IfNone result ((n : ℕ) → ¬ IsFrames word.now n) }
+{
+    value(word).filter(|number| (24..=4096).contains(number))
+}
+
+// The command that runs a trace with these options.
+fn run_of(options: &[String]) -> Option<Command>
+    ensures says { (n : ℕ) → result ≡ Some (Command.Run n) ↔ SaysFrames (map string_bytes options.now) n }
+    ensures no_other { ((serial counter : ℕ) → result ≢ Some (Command.Format serial counter)) × result ≢ Some Command.Scavenge }
+{
+    match options {
+        [] => Some(Command::Run { frames: 64 }),
+        [name, word] => match name.as_str() {
+            "--frames" => Some(Command::Run {
+                frames: frames(word)?,
+            }),
+            _ => None,
+        },
+        _ => None,
+    }
+}
+
 // The command that makes a volume with the serial and the counter that these words are.
 fn format_with(serial_word: &str, counter_word: &str) -> Option<Command>
     ensures says { (serial counter : ℕ) → result ≡ Some (Command.Format serial counter)
         ↔ IsValue serial_word.now serial × IsValue counter_word.now counter }
-    ensures no_run { result ≢ Some Command.Run }
+    ensures no_other { ((frames : ℕ) → result ≢ Some (Command.Run frames)) × result ≢ Some Command.Scavenge }
 {
     Some(Command::Format {
         serial: value(serial_word)?,
@@ -37,7 +63,7 @@ fn format_with(serial_word: &str, counter_word: &str) -> Option<Command>
 fn format_of(options: &[String]) -> Option<Command>
     ensures says { (serial counter : ℕ) → result ≡ Some (Command.Format serial counter)
         ↔ Says (map string_bytes options.now) serial counter }
-    ensures no_run { result ≢ Some Command.Run }
+    ensures no_other { ((frames : ℕ) → result ≢ Some (Command.Run frames)) × result ≢ Some Command.Scavenge }
 {
     match options {
         [] => Some(Command::Format {
@@ -66,14 +92,16 @@ fn format_of(options: &[String]) -> Option<Command>
 
 /// The command that the words name, if they name one.
 pub(crate) fn command_of(words: &[String]) -> Option<Command>
-    ensures run { result ≡ Some Command.Run ↔ IsRun words.now }
+    ensures run { (frames : ℕ) → result ≡ Some (Command.Run frames) ↔ IsRun words.now frames }
     ensures format { (serial counter : ℕ) → result ≡ Some (Command.Format serial counter)
         ↔ IsFormat words.now serial counter }
+    ensures scavenge { result ≡ Some Command.Scavenge ↔ IsScavenge words.now }
 {
     let (command, options) = words.split_first()?;
     match command.as_str() {
-        "run" => options.is_empty().then_some(Command::Run),
+        "run" => run_of(options),
         "format" => format_of(options),
+        "scavenge" => options.is_empty().then_some(Command::Scavenge),
         _ => None,
     }
 }

@@ -1,8 +1,13 @@
+mod damage;
 mod faults;
-mod files;
 mod format;
+mod machine;
+mod many;
+mod moments;
 mod roots;
+mod rows;
 mod runs;
+mod scavenge;
 mod usage;
 
 use labelled_disk::{Disk, Label, MemoryDisk, Page};
@@ -39,9 +44,6 @@ const ROOT: Label = Label {
     last: 0,
 };
 
-// The making of a volume moves so many sectors of a disk of 256: each of them, and sector 0 again.
-const MADE: u64 = 257;
-
 // What a command writes, its status, and the bytes that it left of the trace.
 #[derive(Drop)]
 struct Outcome {
@@ -65,7 +67,7 @@ fn command(
     }
     let mut other = MemoryDisk::new(alloc, 0)?;
     let mut source = MemorySource::new(alloc, trace, source_fails)?;
-    let mut sink = MemorySink::new(alloc, 10000, sink_fails)?;
+    let mut sink = MemorySink::new(alloc, 100_000, sink_fails)?;
     let status = pilot(
         alloc,
         alloc,
@@ -96,7 +98,7 @@ fn run(alloc: Global, disk: &mut MemoryDisk<Global>, trace: &[u8]) -> Result<Out
 // A new volume of 256 sectors with serial 7, made by the command. The disk fails at the transfers
 // with these numbers, the first behind the making being 258, and it tells its writes.
 fn volume(alloc: Global, fails: &[u64]) -> Result<MemoryDisk<Global>, Fail> {
-    let mut disk = MemoryDisk::failing(alloc, 256, fails, 300)?;
+    let mut disk = MemoryDisk::failing(alloc, 256, fails, 2000)?;
     let words = ["format", "--serial", "7"];
     let _ = command(alloc, &words, &mut disk, b"", &[], &[])?;
     Ok(disk)
@@ -134,17 +136,9 @@ fn root_page(flag: u8) -> Page {
     page
 }
 
-// The root of such a volume has this clean flag.
+// The volume has this clean flag.
 fn has_flag(disk: &mut MemoryDisk<Global>, flag: u8) -> Result<bool, Fail> {
-    Ok(sector_at(disk, 0)? == Some((ROOT, root_page(flag))))
-}
-
-// What a run writes over a new volume that got these labels, its first data sector being 36.
-fn replies(alloc: Global, labels: &[(u32, Label)], trace: &[u8]) -> Result<Vec<u8>, Fail> {
-    let mut disk = volume(alloc, &[])?;
-    set_labels(&mut disk, labels)?;
-    let outcome = run(alloc, &mut disk, trace)?;
-    Ok(outcome.out)
+    Ok(sector_at(disk, 0)?.is_some_and(|(label, page)| label == ROOT && page[11] == flag))
 }
 
 #[test]

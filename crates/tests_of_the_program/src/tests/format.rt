@@ -1,11 +1,8 @@
 //! New volumes, as the command makes them.
 
-use super::{
-    LEADER, MADE, ROOT, command, page, replies, root_page, run, sector_at, set_labels, volume,
-};
+use super::{LEADER, ROOT, command, page, root_page, run, sector_at, set_labels, volume};
 use labelled_disk::{Disk, Label, MemoryDisk, Page, Wanted};
 use pilot_top::Status;
-use std::alloc::Global;
 use std::test::Fail;
 
 // The page of the allocation map of a new volume of 256 sectors, of which 36 are used.
@@ -13,24 +10,6 @@ fn map_page() -> Page {
     let mut page = [0; 512];
     page[..5].copy_from_slice(&[0xff, 0xff, 0xff, 0xff, 0xf0]);
     page
-}
-
-// What a run answers to `volume` where a page of the allocation map of a new volume is this one.
-fn volume_with(
-    alloc: Global,
-    disk: &mut MemoryDisk<Global>,
-    sector: u32,
-    page: &Page,
-) -> Result<Vec<u8>, Fail> {
-    if 1 <= sector && sector < disk.sectors() {
-        let wanted = Wanted {
-            id: 1,
-            page: sector - 1,
-        };
-        disk.write_data(sector, wanted, page)?;
-    }
-    let outcome = run(alloc, disk, b"volume\n")?;
-    Ok(outcome.out)
 }
 
 #[test]
@@ -90,37 +69,7 @@ fn what_a_disk_held_is_gone(rt: HostRuntime) -> Result<(), Fail> {
     Ok(())
 }
 
-#[test]
-fn each_transfer_of_the_making_fails_in_turn(rt: HostRuntime) -> Result<(), Fail> {
-    for transfer in 1u64..259 {
-        let mut disk = MemoryDisk::failing(rt.alloc(), 256, &[transfer], 300)?;
-        let words = ["format", "--serial", "7"];
-        let outcome = command(rt.alloc(), &words, &mut disk, b"", &[], &[])?;
-        let (status, last): (Status, &[u8]) = if transfer <= MADE {
-            (Status::DiskFault, b"stopped disk\n")
-        } else {
-            (Status::Done, b"formatted 124\n")
-        };
-        assert_eq!(rt; outcome.status, status, "transfer {transfer}");
-        assert_eq!(rt; outcome.out.as_slice(), last, "transfer {transfer}");
-    }
-    Ok(())
-}
-
-#[test]
-fn a_sink_that_fails_leaves_a_volume(rt: HostRuntime) -> Result<(), Fail> {
-    let mut disk = MemoryDisk::new(rt.alloc(), 256)?;
-    let words = ["format", "--serial", "7"];
-    let outcome = command(rt.alloc(), &words, &mut disk, b"", &[], &[1])?;
-    assert_eq!(rt; outcome.status, Status::StreamFault);
-    assert_eq!(rt; outcome.out.as_slice(), b"".as_slice());
-    assert_eq!(rt; sector_at(&mut disk, 0)?, Some((ROOT, root_page(1))));
-    let outcome = run(rt.alloc(), &mut disk, b"volume\n")?;
-    assert_eq!(rt; outcome.out.as_slice(), b"volume 124 124\n".as_slice());
-    Ok(())
-}
-
-// Labels alone change nothing of what `volume` answers: the map tells what is used.
+// What the map says of sectors that are no data sectors changes nothing.
 #[test]
 fn marked_data_sectors_are_used(rt: HostRuntime) -> Result<(), Fail> {
     let cases: [(usize, u8, &[u8]); 6] = [
@@ -137,27 +86,11 @@ fn marked_data_sectors_are_used(rt: HostRuntime) -> Result<(), Fail> {
         if let Some(place) = page.get_mut(at) {
             *place = byte;
         }
-        let out = volume_with(rt.alloc(), &mut disk, 1, &page)?;
-        assert_eq!(rt; out.as_slice(), reply, "byte {at}");
+        if 1 < disk.sectors() {
+            disk.write_data(1, Wanted { id: 1, page: 0 }, &page)?;
+        }
+        let outcome = run(rt.alloc(), &mut disk, b"volume\n")?;
+        assert_eq!(rt; outcome.out.as_slice(), reply, "byte {at}");
     }
-    let mut disk = volume(rt.alloc(), &[])?;
-    let out = volume_with(rt.alloc(), &mut disk, 1, &[0xff; 512])?;
-    assert_eq!(rt; out.as_slice(), b"volume 124 0\n".as_slice());
-    let out = replies(rt.alloc(), &[(40, LEADER)], b"volume\n")?;
-    assert_eq!(rt; out.as_slice(), b"volume 124 124\n".as_slice());
-    Ok(())
-}
-
-// Of 4,104 sectors the first 518 are used, and the second page of the map has the last eight.
-#[test]
-fn the_second_page_of_the_map_counts(rt: HostRuntime) -> Result<(), Fail> {
-    let mut disk = MemoryDisk::new(rt.alloc(), 4104)?;
-    let outcome = command(rt.alloc(), &["format"], &mut disk, b"", &[], &[])?;
-    assert_eq!(rt; outcome.out.as_slice(), b"formatted 3490\n".as_slice());
-    let mut page = [0; 512];
-    page[0] = 0x81;
-    page[1] = 0xff;
-    let out = volume_with(rt.alloc(), &mut disk, 2, &page)?;
-    assert_eq!(rt; out.as_slice(), b"volume 3490 3488\n".as_slice());
     Ok(())
 }

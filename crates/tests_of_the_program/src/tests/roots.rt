@@ -8,10 +8,12 @@ use std::test::Fail;
 // Nothing is written to a disk of zeros, and so none of these has a root afterwards.
 #[test]
 fn a_disk_without_a_volume_is_refused(rt: HostRuntime) -> Result<(), Fail> {
-    let cases: [(&[&str], u32, &[u8]); 5] = [
+    let cases: [(&[&str], u32, &[u8]); 7] = [
         (&["run"], 255, b"stopped count 255\n"),
         (&["run"], 0, b"stopped count 0\n"),
         (&["run"], 256, b"stopped notvolume label\n"),
+        (&["scavenge"], 255, b"stopped count 255\n"),
+        (&["scavenge"], 256, b"stopped notvolume label\n"),
         (&["format", "--serial", "7"], 255, b"stopped count 255\n"),
         (&["format", "--serial", "7"], 0, b"stopped count 0\n"),
     ];

@@ -1,33 +1,39 @@
 //! Words that are a command, and others.
 
-use super::{ROOT, command, root_page, sector_at};
+use super::{ROOT, command, root_page, sector_at, volume};
 use labelled_disk::{Label, MemoryDisk};
 use pilot_top::Status;
 use std::test::Fail;
 
 #[test]
 fn words_that_are_no_command(rt: HostRuntime) -> Result<(), Fail> {
-    let cases: [&[&str]; 20] = [
+    let cases: [&[&str]; 26] = [
         &[],
         &["fly"],
         &["run", "run"],
-        &["run", "--frames", "23"],
         &["run", ""],
+        &["run", "--frames"],
+        &["run", "--frames", "23"],
+        &["run", "--frames", "4097"],
+        &["run", "--frames", "+24"],
+        &["run", "--frames", ""],
+        &["run", "--frames", "24", "--frames", "24"],
+        &["run", "--frames", "24", "25"],
+        &["run", "--frame", "24"],
+        &["--frames", "24", "run"],
+        &["scavenge", "run"],
+        &["scavenge", "--frames", "24"],
         &["Format"],
         &["format", "7"],
+        &["format", "--frames", "24"],
         &["format", "--serial"],
         &["format", "--serial", "0"],
         &["format", "--serial", "4294967296"],
         &["format", "--serial", "+7"],
-        &["format", "--serial", "-7"],
         &["format", "--serial", "0x7"],
-        &["format", "--serial", ""],
         &["format", "--serial", "1", "--serial", "2"],
-        &["format", "--counter", "1", "--counter", "2"],
-        &["format", "--serial", "7", "--counter"],
         &["format", "--serial", "7", "--counter", "0"],
         &["format", "--serial", "7", "--counter", "5", "run"],
-        &["--serial", "7", "format"],
     ];
     for words in cases {
         let mut disk = MemoryDisk::new(rt.alloc(), 256)?;
@@ -79,17 +85,13 @@ fn options_give_serial_and_counter(rt: HostRuntime) -> Result<(), Fail> {
 }
 
 #[test]
-fn a_sink_that_fails_on_a_last_line_changes_no_status(rt: HostRuntime) -> Result<(), Fail> {
-    let cases: [(&[&str], Status); 3] = [
-        (&["fly"], Status::Usage),
-        (&["run"], Status::NotOpened),
-        (&["format"], Status::NotOpened),
-    ];
-    for (words, status) in cases {
-        let mut disk = MemoryDisk::new(rt.alloc(), 255)?;
-        let outcome = command(rt.alloc(), words, &mut disk, b"", &[], &[1])?;
-        assert_eq!(rt; outcome.status, status);
-        assert_eq!(rt; outcome.out.as_slice(), b"".as_slice());
+fn a_run_has_from_24_to_4096_frames(rt: HostRuntime) -> Result<(), Fail> {
+    for frames in ["24", "25", "0064", "4095", "4096"] {
+        let mut disk = volume(rt.alloc(), &[])?;
+        let words = ["run", "--frames", frames];
+        let outcome = command(rt.alloc(), &words, &mut disk, b"volume\n", &[], &[])?;
+        assert_eq!(rt; outcome.status, Status::Done);
+        assert_eq!(rt; outcome.out.as_slice(), b"volume 124 124\n".as_slice());
     }
     Ok(())
 }

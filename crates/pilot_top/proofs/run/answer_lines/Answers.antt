@@ -1,104 +1,363 @@
-use Rattle.std.proofs.Common.{◌∙◌, sym, inl, inr, ap, subst, arith}
-use Rattle.labelled_disk.specs.Calls.{OnlyReads}
-use Rattle.labelled_disk.proofs.CallLemmas.{only_reads_itself, only_reads_then}
-use Rattle.pilot_top.proofs.TopLemmas.{Going-start, Going-reply, Going-source, Going-told, Run-disk, Run-long, Run-read_fault, Run-write_fault, not_short, rose_later, Puts-later}
-use Rattle.pilot_top.proofs.EndLemmas.{End-answering, End-closes, End-halts, End-rest, End-short}
-use Rattle.pilot_top.proofs.LeavesLemmas.{leaves_behind, leaves_part}
+use Rattle.std.proofs.Common.{◌≡◌, inl, inr, ◌∙◌, refl, sym, ap, subst, arith, Some, List, []}
+use Rattle.labelled_disk.specs.declared.evidence.Halt.{Halt}
+use Rattle.labelled_disk.specs.declared.evidence.Halt.TheVariants as halt
+use Rattle.labelled_disk.specs.Calls.{Rose}
+use Rattle.labelled_disk.specs.Sectors.{Sector}
+use Rattle.labelled_disk.specs.State.{DiskState}
+use Rattle.flat_machine.specs.Machine.{Machine}
+use Rattle.swapper_kernel.specs.GoesLaws.{went_itself, went_then}
+use Rattle.trace_io.specs.Reading.{reading}
+use Rattle.session_words.specs.StandsFor.{TellsSettled}
+use Rattle.pilot_engine.specs.declared.session.SessionOver.{SessionOver}
+use Rattle.pilot_top.specs.Built.{StandsFor}
+use Rattle.pilot_top.specs.Headline.{HasFilesAt, IsLeftOpen}
+use Rattle.pilot_top.specs.Last.{last_line, Puts}
+use Rattle.pilot_top.specs.Stopping.{status_of, cause_of}
+use Rattle.pilot_top.specs.declared.last.Cause.TheVariants as cause
+use Rattle.pilot_top.specs.declared.status.Status.TheVariants as status
+use Rattle.pilot_top.proofs.EndLemmas.{End-answering, End-short}
+use Rattle.pilot_top.proofs.ExitLemmas.{halt_not_damaged, halt_not_done, halt_evidence, three_ways, stopped_files, halt_not_stream, takes_more, still_moments, still_spends, line_spends, end_spent, still_files, line_moments, halt_files, reply_files, line_not_close, end_closed, end_unheard, end_moments}
+use Rattle.pilot_top.proofs.FrontLemmas.{End-has}
+use Rattle.pilot_top.proofs.LawfulRuns.{lawfully_none, lawfully_then, called_lawfully, ended_lawfully}
+use Rattle.pilot_top.proofs.OpenLemmas.{early_halt, halt_not_early, stands_open}
+use Rattle.pilot_top.proofs.PlaceLemmas.{stop_told}
+use Rattle.pilot_top.proofs.StagedLemmas.{from_rest, stands_told}
+use Rattle.pilot_top.proofs.TopLemmas.{Run-disk, Run-long, Run-read_fault, Run-write_fault, not_short, rose_later, Puts-later, damage_told, Going-sink}
+use Rattle.pilot_top.proofs.TurnedLemmas.{more_moments, ended_moments, Turned-start, Turned-reply, Turned-source, Turned-told, Turned-same}
+use Rattle.pilot_top.proofs.run.answer_lines.Given as given
 use Rattle.pilot_top.proofs.run.answer_lines.Goals as goal
+
+-- A session of the function, its disk, and what it stands for.
+
+abbrev Sessions : given.Over → Type 0
+Sessions g = SessionOver g.row.D.Denot g.row.A.Denot g.D.Disk
+
+abbrev disk_of : (g : given.Over) → Sessions g → DiskState
+disk_of g s = g.D.Disk.state s.filer.swapper.under
+
+abbrev stands_of : (g : given.Over) → Sessions g → Machine → Type 0
+stands_of g s m = StandsFor (g.D.Disk.state s.filer.swapper.under) s.filer.swapper.pool s.filer.swapper.layout s.filer.runs s.volume m
+
+tells : (g : given.Over) (s : Sessions g) (m : Machine) → stands_of g s m → (e : List Sector) → (disk_of g s).contents ≡ Some e → TellsSettled e m
+tells g s m stands e told =
+    (stands_told m (disk_of g s) s.filer.swapper.pool s.filer.swapper.layout s.filer.runs s.volume stands (λ d is. g.met.D.Disk.in_form s.filer.swapper.under d is) e told).told
+
+stays : (g : given.Over) (s : Sessions g) (m : Machine) → stands_of g s m → IsLeftOpen (disk_of g s)
+stays g s m stands = stands_open m (disk_of g s) s.filer.swapper.pool s.filer.swapper.layout s.filer.runs s.volume stands (λ d is. g.met.D.Disk.in_form s.filer.swapper.under d is)
 
 pub turns-init : goal.turns-init
 turns-init g c =
     let made = c.with_limit-lines.ensures in
     let stopped = ap (λ p. p.stopped) made in
-    rw c.over-engine.ensures (record {
-      going = Going-start _ _ c.with_limit-lines.result _ (ap (λ p. p.taken) made) stopped;
+    record {
+      turned = Turned-start _ _ c.with_limit-lines.result _ _ (ap (λ p. p.taken) made) stopped
+          (λ m is. from_rest m [] _ c.args.session.filer.swapper.pool c.args.session.filer.swapper.layout c.args.session.filer.runs c.args.session.volume is (λ d told. g.met.D.Disk.in_form c.args.session.filer.swapper.under d told))
+          (lawfully_none (record { contents = refl; writes = refl }));
+      same_disk = went_itself (g.D.Disk.state c.args.session.filer.swapper.under);
       goes_on = inl stopped;
       limit = ap (λ p. p.limit) made;
       bound = rw made (omega arith);
-      disk = only_reads_itself _;
+      size = c.requires.size;
+      opened = c.requires.opened;
+      running = c.requires.running;
       source = omega arith;
       sink = omega arith;
-    })
+    }
+
+pub turns-smaller : goal.turns-smaller
+turns-smaller g c =
+    let turn = c.in-Replies.ensures.turns in
+    let more = takes_more turn.1 _ _ c.turns.lines c.take_turn.new.lines turn.2 in
+    let bound = c.take_turn.ensures.bound in
+    let same = turn.2.limit in
+    omega (arith, more, bound, same)
 
 -- a line was answered, and others follow
 pub turns-preserved : goal.turns-preserved
 turns-preserved g c =
     let i = c.turns.invariant in
     let turn = c.in-Replies.ensures.turns in
+    let went = c.take_turn.ensures.wrote.makes.went in
     record {
-      going = Going-reply _ _ _ _ c.turns.lines _ _ i.going _ _ c.take_turn.new.lines _ turn.1 c.in-Replies.reply turn.0 turn.2 turn.3 turn.4 c.in-Ok.ensures.ok;
+      turned = Turned-reply i.turned i.same_disk.sectors turn.0 turn.2 turn.3 turn.4 turn.5
+          (called_lawfully c.take_turn.ensures.wrote) c.in-Ok.ensures.ok;
+      same_disk = went_then i.same_disk went;
       goes_on = elim turn.2.ends [ inl fed ↦ inl fed.1 | inr ended ↦ inr ended.3 ];
       limit = turn.2.limit ∙ i.limit;
       bound = c.take_turn.ensures.bound;
-      disk = only_reads_then i.disk c.take_turn.ensures.only_reads;
+      size = went.sectors ∙ i.size ∙ ap (λ l. l.sectors) (sym c.take_turn.ensures.layout);
+      opened = c.take_turn.ensures.open_still;
+      running = c.in-Replies.ensures.going tt;
       source = omega (arith, i.source, c.take_turn.ensures.source_later);
       sink = omega (arith, i.sink, c.in-Ok.ensures.cause.later);
     }
 
+-- the sink failed on a reply
 pub returns-in_default-clause-answering : goal.returns-in_default-clause-answering
 returns-in_default-clause-answering g c m b t stands source sink =
     let i = c.turns.invariant in
     let turn = c.in-Replies.ensures.turns in
-    let going = Going-told _ _ _ _ _ _ _ b t i.going source sink in
+    let turned = Turned-told i.turned source sink in
     let put = c.in_default.ensures.err in
-    Run-write_fault m b t _ _ c.turns.lines _ _ going stands _ _ _ c.take_turn.new.lines _ turn.1 c.in-Replies.reply turn.0 turn.2 turn.3
-    (rose_later _ _ _ i.sink c.in_default.ensures.cause.cause) put.0 put.1 put.2
+    let has = reply_files m turned stands turn.0 turn.2 turn.4 (disk_of g c.take_turn.new.session) turn.3 (tells g c.take_turn.new.session) in
+    Run-write_fault m b t _ _ c.turns.lines _ _ turned.going stands _ (HasFilesAt m (reading b) (g.D.Disk.state c.into_disk.result)) _ _ c.take_turn.new.lines _ turn.1 c.in-Replies.reply turn.0 turn.2 turn.3
+    (rose_later _ _ _ i.sink c.in_default.ensures.cause.cause) put.0 put.1 put.2 (rw c.into_disk.ensures has)
 
-pub returns-in-Ends-clause-answering : goal.returns-in-Ends-clause-answering
-returns-in-Ends-clause-answering g c m b t stands source sink =
-    let i = c.turns.invariant in
-    let e = c.end_trace.ensures in
-    let going = Going-told _ _ _ _ _ _ _ b t i.going source sink in
-    End-answering m b t _ _ c.turns.lines _ _ going stands _ c.end_trace.result.0 c.in-Ends.end _ _ c.take_turn.new.lines c.in-Ends.ensures.turns e.ends e.done e.part
-    (λ is. (rose_later _ _ _ i.sink (e.stream_cause is).0, (e.stream_cause is).1))
-    (λ is. Puts-later _ _ _ _ _ (rose_later _ _ _ i.sink) (e.disk_line is))
+pub returns-in_default-clause-moments : goal.returns-in_default-clause-moments
+returns-in_default-clause-moments g c m b stands source =
+    let turn = c.in-Replies.ensures.turns in
+    let turned = Turned-source c.turns.invariant.turned source in
+    rw c.into_disk.ensures (line_moments m turned stands turn.0 turn.2 turn.4 turn.5)
 
-pub returns-in-Ends-clause-leaves : goal.returns-in-Ends-clause-leaves
-returns-in-Ends-clause-leaves g c b source =
-    let i = c.turns.invariant in
-    let going = Going-source _ _ _ _ _ _ _ b i.going source in
-    let turns = c.in-Ends.ensures.turns in
-    rw (End-halts b _ _ _ c.turns.lines _ _ going c.in-Ends.end _ c.take_turn.new.lines turns, End-closes b _ _ _ c.turns.lines _ _ going c.in-Ends.end _ c.take_turn.new.lines turns)
-    (leaves_behind _ _ _ _ (λ all. End-rest b _ _ _ c.turns.lines _ _ going c.in-Ends.end _ c.take_turn.new.lines turns) (rose_later _ _ _ i.sink) c.end_trace.result.0 _ _ _ _ (g.D.Disk.state c.into_disk-in-Ends.result) _
-    (subst (λ x. OnlyReads (g.D.Disk.state c.args.disk) (g.D.Disk.state x)) (sym c.into_disk-in-Ends.ensures) (only_reads_then i.disk c.take_turn.ensures.only_reads))
-    c.end_trace.ensures.leaves)
+pub returns-in_default-clause-closed_unheard : goal.returns-in_default-clause-closed_unheard
+returns-in_default-clause-closed_unheard g c m b stands source is heard left closed =
+    let turn = c.in-Replies.ensures.turns in
+    let turned = Turned-source c.turns.invariant.turned source in
+    absurd (line_not_close m turned stands turn.0 turn.2 turn.4 left closed)
 
-pub returns-in-Ends-clause-short : goal.returns-in-Ends-clause-short
-returns-in-Ends-clause-short g c b source done =
-    let i = c.turns.invariant in
-    let going = Going-source _ _ _ _ _ _ _ b i.going source in
-    End-short b _ _ _ c.turns.lines _ _ going c.in-Ends.end _ c.take_turn.new.lines c.in-Ends.ensures.turns i.limit
+pub returns-in_default-clause-stays_open : goal.returns-in_default-clause-stays_open
+returns-in_default-clause-stays_open g c m b stands source early =
+    let turn = c.in-Replies.ensures.turns in
+    rw c.into_disk.ensures (stays g c.take_turn.new.session _ (turn.3.next _ (c.turns.invariant.turned.going.stands m stands) turn.4))
 
+pub returns-in_default-clause-lawful : goal.returns-in_default-clause-lawful
+returns-in_default-clause-lawful g c = rw c.into_disk.ensures (lawfully_then c.turns.invariant.turned.lawful (called_lawfully c.take_turn.ensures.wrote))
+
+-- the source failed
 pub returns-in-ReadFault-clause-answering : goal.returns-in-ReadFault-clause-answering
 returns-in-ReadFault-clause-answering g c m b t stands source sink =
-    let going = Going-told _ _ _ _ _ _ _ b t c.turns.invariant.going source sink in
     let turn = c.in-ReadFault.ensures.turns in
-    Run-read_fault m b t _ _ c.turns.lines _ _ going stands _ _ c.take_turn.new.lines turn.0 turn.1
+    let same : c.take_turn.new.session ≡ c.turns.session = c.in-ReadFault.ensures.idle tt in
+    let turned = Turned-same {S = Sessions g} (disk_of g) (stands_of g) same (Turned-told c.turns.invariant.turned source sink) in
+    Run-read_fault m b t _ _ c.turns.lines _ _ turned.going stands _ (HasFilesAt m (reading b) (g.D.Disk.state c.into_disk-in-ReadFault.result)) _ c.take_turn.new.lines turn.0 turn.1
+    (rw c.into_disk-in-ReadFault.ensures (still_files m turned stands (tells g c.take_turn.new.session)))
 
-pub returns-in-DiskFault-clause-answering : goal.returns-in-DiskFault-clause-answering
-returns-in-DiskFault-clause-answering g c m b t stands source sink =
-    let i = c.turns.invariant in
-    let going = Going-told _ _ _ _ _ _ _ b t i.going source sink in
-    let turn = c.in-DiskFault.ensures.turns in
-    Run-disk m b t _ _ c.turns.lines _ _ going stands _ (g.S.Source.left c.take_turn.new.source) _ turn.0
-    (Puts-later _ _ _ _ _ (rose_later _ _ _ i.sink) c.put_last.ensures.put)
+pub returns-in-ReadFault-clause-moments : goal.returns-in-ReadFault-clause-moments
+returns-in-ReadFault-clause-moments g c m b stands source =
+    let same : c.take_turn.new.session ≡ c.turns.session = c.in-ReadFault.ensures.idle tt in
+    let turned = Turned-same {S = Sessions g} (disk_of g) (stands_of g) same (Turned-source c.turns.invariant.turned source) in
+    rw c.into_disk-in-ReadFault.ensures (still_moments m turned stands)
 
+pub returns-in-ReadFault-clause-stays_open : goal.returns-in-ReadFault-clause-stays_open
+returns-in-ReadFault-clause-stays_open g c m b stands source early =
+    let same : c.take_turn.new.session ≡ c.turns.session = c.in-ReadFault.ensures.idle tt in
+    rw (c.into_disk-in-ReadFault.ensures, same) (stays g c.turns.session _ (c.turns.invariant.turned.going.stands m stands))
+
+pub returns-in-ReadFault-clause-closed_unheard : goal.returns-in-ReadFault-clause-closed_unheard
+returns-in-ReadFault-clause-closed_unheard g c m b stands source is heard left closed =
+    absurd (heard (rose_later _ _ _ c.turns.invariant.source (c.in-ReadFault.ensures.source_cause refl)))
+
+-- as many bytes as the limit were taken
 pub returns-in-Long-clause-answering : goal.returns-in-Long-clause-answering
 returns-in-Long-clause-answering g c m b t stands source sink =
     let i = c.turns.invariant in
-    let going = Going-told _ _ _ _ _ _ _ b t i.going source sink in
     let turn = c.in-Long.ensures.turns in
-    Run-long m b t _ _ c.turns.lines _ _ going stands _ _ _ c.take_turn.new.lines turn.0 turn.1 (turn.2 ∙ turn.1.limit ∙ i.limit)
-    (Puts-later _ _ _ _ _ (rose_later _ _ _ i.sink) c.put_last-in-Long.ensures.put)
+    let same : c.take_turn.new.session ≡ c.turns.session = c.in-Long.ensures.idle tt in
+    let turned = Turned-same {S = Sessions g} (disk_of g) (stands_of g) same (Turned-told i.turned source sink) in
+    Run-long m b t _ _ c.turns.lines _ _ turned.going stands _ (HasFilesAt m (reading b) (g.D.Disk.state c.into_disk-in-Long.result)) _ _ c.take_turn.new.lines turn.0 turn.1 (turn.2 ∙ turn.1.limit ∙ i.limit)
+    (Puts-later _ _ _ _ _ (rose_later _ _ _ i.sink) c.put_last.ensures.put)
+    (rw c.into_disk-in-Long.ensures (still_files m turned stands (tells g c.take_turn.new.session)))
+
+pub returns-in-Long-clause-moments : goal.returns-in-Long-clause-moments
+returns-in-Long-clause-moments g c m b stands source =
+    let same : c.take_turn.new.session ≡ c.turns.session = c.in-Long.ensures.idle tt in
+    let turned = Turned-same {S = Sessions g} (disk_of g) (stands_of g) same (Turned-source c.turns.invariant.turned source) in
+    rw c.into_disk-in-Long.ensures (still_moments m turned stands)
+
+pub returns-in-Long-clause-stays_open : goal.returns-in-Long-clause-stays_open
+returns-in-Long-clause-stays_open g c m b stands source early =
+    let same : c.take_turn.new.session ≡ c.turns.session = c.in-Long.ensures.idle tt in
+    rw (c.into_disk-in-Long.ensures, same) (stays g c.turns.session _ (c.turns.invariant.turned.going.stands m stands))
 
 pub returns-in-Long-clause-long : goal.returns-in-Long-clause-long
 returns-in-Long-clause-long g c b source is =
     let turn = c.in-Long.ensures.turns in
-    let going = Going-source _ _ _ _ _ _ _ b c.turns.invariant.going source in
-    not_short b _ _ _ c.turns.lines _ _ going _ c.take_turn.new.lines turn.0 turn.1 turn.2 c.turns.invariant.limit
+    let turned = Turned-source c.turns.invariant.turned source in
+    not_short b _ _ _ c.turns.lines _ _ turned.going _ c.take_turn.new.lines turn.0 turn.1 turn.2 c.turns.invariant.limit
 
-pub returns-in-Ends-clause-part : goal.returns-in-Ends-clause-part
-returns-in-Ends-clause-part g c =
-    leaves_part c.end_trace.result.0 _ _ _ _ _ _ (g.D.Disk.state c.into_disk-in-Ends.result) _
-    (subst (λ x. OnlyReads (g.D.Disk.state c.args.disk) (g.D.Disk.state x)) (sym c.into_disk-in-Ends.ensures) (only_reads_then c.turns.invariant.disk c.take_turn.ensures.only_reads))
-    c.end_trace.ensures.leaves
+-- a call stopped the session
+pub returns-in-Halts-clause-answering : goal.returns-in-Halts-clause-answering
+returns-in-Halts-clause-answering g c m b t stands source sink =
+    let i = c.turns.invariant in
+    let turn = c.in-Halts.ensures.turns in
+    let turned = Turned-told i.turned source sink in
+    let why : c.in-Halts.halt ≡ halt.Disk = c.in-Halts.ensures.sound _ c.in-Halts.halt (turned.going.stands m stands) refl in
+    let is : c.stop.result ≡ status.DiskFault = c.stop.ensures.status ∙ ap status_of why in
+    let line : Puts (Rose (g.K.Sink.faults c.turns.sink) (g.K.Sink.faults c.stop.new.sink)) (g.K.Sink.took c.turns.sink) (g.K.Sink.took c.stop.new.sink) (last_line cause.DiskFault) =
+    subst (λ (h : Halt). Puts (Rose (g.K.Sink.faults c.turns.sink) (g.K.Sink.faults c.stop.new.sink)) (g.K.Sink.took c.turns.sink) (g.K.Sink.took c.stop.new.sink) (last_line (cause_of h))) why c.stop.ensures.line in
+    let has = halt_files m turned stands turn.0 turn.2 turn.3 turn.4 (λ n stands. (stands.stands.is.by.machine, stands.alone)) in
+    rw is
+    (Run-disk m b t _ _ c.turns.lines _ _ turned.going stands _ (HasFilesAt m (reading b) (g.D.Disk.state c.into_disk-in-Halts.result)) (g.S.Source.left c.take_turn.new.source) _ turn.0
+    (Puts-later _ _ _ _ _ (rose_later _ _ _ i.sink) line) has.0 (rw c.into_disk-in-Halts.ensures has.1))
+
+pub returns-in-Halts-clause-moments : goal.returns-in-Halts-clause-moments
+returns-in-Halts-clause-moments g c m b stands source =
+    let turn = c.in-Halts.ensures.turns in
+    let turned = Turned-source c.turns.invariant.turned source in
+    rw c.into_disk-in-Halts.ensures (line_moments m turned stands turn.0 turn.2 turn.3 turn.4)
+
+pub returns-in-Halts-clause-closed : goal.returns-in-Halts-clause-closed
+returns-in-Halts-clause-closed g c m b stands source done going = absurd (halt_not_done c.in-Halts.halt c.stop.result c.stop.ensures.status done)
+
+pub returns-in-Halts-clause-closed_unheard : goal.returns-in-Halts-clause-closed_unheard
+returns-in-Halts-clause-closed_unheard g c m b stands source is heard left closed = absurd (halt_not_stream c.in-Halts.halt c.stop.result c.stop.ensures.status is)
+
+pub returns-in-Halts-clause-stays_open : goal.returns-in-Halts-clause-stays_open
+returns-in-Halts-clause-stays_open g c m b stands source early = absurd (halt_not_early c.in-Halts.halt c.stop.result (reading b) c.stop.ensures.status early)
+
+pub returns-in-Halts-clause-damage : goal.returns-in-Halts-clause-damage
+returns-in-Halts-clause-damage g c t sink is =
+    let i = c.turns.invariant in
+    let why = halt_evidence c.in-Halts.halt c.stop.result c.stop.ensures.status is in
+    damage_told _ _ _ _ t c.turns.lines _ _ _ why.0 (Going-sink _ _ _ _ _ _ _ t i.turned.going sink)
+    (Puts-later _ _ _ _ _ (rose_later _ _ _ i.sink)
+    (subst (λ (h : Halt). Puts (Rose (g.K.Sink.faults c.turns.sink) (g.K.Sink.faults c.stop.new.sink)) (g.K.Sink.took c.turns.sink) (g.K.Sink.took c.stop.new.sink) (last_line (cause_of h))) why.1 c.stop.ensures.line))
+
+pub returns-in-Halts-clause-lawful : goal.returns-in-Halts-clause-lawful
+returns-in-Halts-clause-lawful g c = rw c.into_disk-in-Halts.ensures (lawfully_then c.turns.invariant.turned.lawful (called_lawfully c.take_turn.ensures.wrote))
+
+pub returns-in-Halts-clause-short : goal.returns-in-Halts-clause-short
+returns-in-Halts-clause-short g c b source done = absurd (halt_not_done c.in-Halts.halt c.stop.result c.stop.ensures.status done)
+
+-- the trace is at its end
+pub returns-in-Ends-clause-answering : goal.returns-in-Ends-clause-answering
+returns-in-Ends-clause-answering g c m b t stands source sink =
+    let i = c.turns.invariant in
+    let e = c.end_trace.ensures in
+    let same : c.take_turn.new.session ≡ c.turns.session = c.in-Ends.ensures.idle tt in
+    let turned = Turned-same {S = Sessions g} (disk_of g) (stands_of g) same (Turned-told i.turned source sink) in
+    let there = turned.going.stands m stands in
+    let told = stop_told _ (e.stops _ there) in
+    let disk = g.D.Disk.state c.end_trace.result.1 in
+    End-answering m b t _ _ c.turns.lines _ _ turned.going stands _ (HasFilesAt m (reading b) disk) c.end_trace.result.0 c.in-Ends.end _ _ c.take_turn.new.lines c.in-Ends.ensures.turns
+    (three_ways c.end_trace.result.0 e.ends (e.sound _ there)) e.done e.part
+    (λ is. (rose_later _ _ _ i.sink (e.stream_cause is).0, (e.stream_cause is).1))
+    (λ is. Puts-later _ _ _ _ _ (rose_later _ _ _ i.sink) (e.disk_line is))
+    (λ well. End-has m b _ _ _ c.turns.lines _ _ turned.going disk told c.in-Ends.end _ c.take_turn.new.lines c.in-Ends.ensures.turns (λ other. e.closed _ there other well))
+    (stopped_files m turned stands disk told)
+
+pub returns-in-Ends-clause-moments : goal.returns-in-Ends-clause-moments
+returns-in-Ends-clause-moments g c m b stands source =
+    let same : c.take_turn.new.session ≡ c.turns.session = c.in-Ends.ensures.idle tt in
+    let turned = Turned-same {S = Sessions g} (disk_of g) (stands_of g) same (Turned-source c.turns.invariant.turned source) in
+    end_moments m turned stands _ (c.end_trace.ensures.stops _ (turned.going.stands m stands))
+
+pub returns-in-Ends-clause-closed : goal.returns-in-Ends-clause-closed
+returns-in-Ends-clause-closed g c m b stands source done going =
+    let same : c.take_turn.new.session ≡ c.turns.session = c.in-Ends.ensures.idle tt in
+    let turned = Turned-same {S = Sessions g} (disk_of g) (stands_of g) same (Turned-source c.turns.invariant.turned source) in
+    end_closed m turned stands _ c.in-Ends.end _ c.take_turn.new.lines c.in-Ends.ensures.turns going (λ other. c.end_trace.ensures.closed _ (turned.going.stands m stands) other (inl done))
+
+pub returns-in-Ends-clause-closed_unheard : goal.returns-in-Ends-clause-closed_unheard
+returns-in-Ends-clause-closed_unheard g c m b stands source is heard left closed =
+    let same : c.take_turn.new.session ≡ c.turns.session = c.in-Ends.ensures.idle tt in
+    let turned = Turned-same {S = Sessions g} (disk_of g) (stands_of g) same (Turned-source c.turns.invariant.turned source) in
+    end_unheard m turned stands _ c.in-Ends.end _ c.take_turn.new.lines c.in-Ends.ensures.turns closed (λ other. c.end_trace.ensures.closed _ (turned.going.stands m stands) other (inr is))
+
+pub returns-in-Ends-clause-stays_open : goal.returns-in-Ends-clause-stays_open
+returns-in-Ends-clause-stays_open g c m b stands source early =
+    let e = c.end_trace.ensures in
+    let same : c.take_turn.new.session ≡ c.turns.session = c.in-Ends.ensures.idle tt in
+    let turned = Turned-same {S = Sessions g} (disk_of g) (stands_of g) same (Turned-source c.turns.invariant.turned source) in
+    let halted = early_halt b _ _ _ c.turns.lines _ _ turned.going c.end_trace.result.0 c.in-Ends.end _ c.take_turn.new.lines c.in-Ends.ensures.turns e.ends (λ is. (e.stream_cause is).1) early in
+    rw (e.halted halted) (stays g c.take_turn.new.session _ (turned.going.stands m stands))
+
+pub returns-in-Ends-clause-lawful : goal.returns-in-Ends-clause-lawful
+returns-in-Ends-clause-lawful g c = lawfully_then (lawfully_then c.turns.invariant.turned.lawful (called_lawfully c.take_turn.ensures.wrote)) (ended_lawfully c.end_trace.ensures.wrote)
+
+pub returns-in-Ends-clause-short : goal.returns-in-Ends-clause-short
+returns-in-Ends-clause-short g c b source done =
+    let turned = Turned-source c.turns.invariant.turned source in
+    End-short b _ _ _ c.turns.lines _ _ turned.going c.in-Ends.end _ c.take_turn.new.lines c.in-Ends.ensures.turns c.turns.invariant.limit
+
+-- no session that stood for a machine stops at a damaged volume
+pub returns-in-Halts-clause-sound : goal.returns-in-Halts-clause-sound
+returns-in-Halts-clause-sound g c m stands is =
+    let turned = c.turns.invariant.turned in
+    let why : c.in-Halts.halt ≡ halt.Disk = c.in-Halts.ensures.sound _ c.in-Halts.halt (turned.going.stands m stands) refl in
+    halt_not_damaged c.in-Halts.halt c.stop.result (c.stop.ensures.status) why is
+
+pub returns-in-Ends-clause-sound : goal.returns-in-Ends-clause-sound
+returns-in-Ends-clause-sound g c m stands =
+    let same : c.take_turn.new.session ≡ c.turns.session = c.in-Ends.ensures.idle tt in
+    let turned = Turned-same {S = Sessions g} (disk_of g) (stands_of g) same c.turns.invariant.turned in
+    c.end_trace.ensures.sound _ (turned.going.stands m stands)
+
+pub returns-in-Ends-clause-damage : goal.returns-in-Ends-clause-damage
+returns-in-Ends-clause-damage g c t sink is =
+    let i = c.turns.invariant in
+    let line = c.end_trace.ensures.damage_line is in
+    damage_told _ _ _ _ t c.turns.lines _ _ _ line.0 (Going-sink _ _ _ _ _ _ _ t i.turned.going sink) (Puts-later _ _ _ _ _ (rose_later _ _ _ i.sink) line.1)
+
+-- the disk is handed back
+pub returns-in_default-clause-same_disk : goal.returns-in_default-clause-same_disk
+returns-in_default-clause-same_disk g c = rw c.into_disk.ensures (went_then c.turns.invariant.same_disk c.take_turn.ensures.wrote.makes.went)
+
+pub returns-in-ReadFault-clause-same_disk : goal.returns-in-ReadFault-clause-same_disk
+returns-in-ReadFault-clause-same_disk g c = rw c.into_disk-in-ReadFault.ensures (went_then c.turns.invariant.same_disk c.take_turn.ensures.wrote.makes.went)
+
+pub returns-in-Long-clause-same_disk : goal.returns-in-Long-clause-same_disk
+returns-in-Long-clause-same_disk g c = rw c.into_disk-in-Long.ensures (went_then c.turns.invariant.same_disk c.take_turn.ensures.wrote.makes.went)
+
+pub returns-in-Halts-clause-same_disk : goal.returns-in-Halts-clause-same_disk
+returns-in-Halts-clause-same_disk g c = rw c.into_disk-in-Halts.ensures (went_then c.turns.invariant.same_disk c.take_turn.ensures.wrote.makes.went)
+
+pub returns-in-Ends-clause-same_disk : goal.returns-in-Ends-clause-same_disk
+returns-in-Ends-clause-same_disk g c = went_then (went_then c.turns.invariant.same_disk c.take_turn.ensures.wrote.makes.went) c.end_trace.ensures.wrote.went
+
+-- the moments of the lines that were read, whether or not the source tells its bytes
+pub returns-in_default-clause-some_moments : goal.returns-in_default-clause-some_moments
+returns-in_default-clause-some_moments g c m stands =
+    let turn = c.in-Replies.ensures.turns in
+    rw c.into_disk.ensures (_, more_moments c.turns.invariant.turned turn.5 m stands)
+
+pub returns-in-ReadFault-clause-some_moments : goal.returns-in-ReadFault-clause-some_moments
+returns-in-ReadFault-clause-some_moments g c m stands =
+    let same : c.take_turn.new.session ≡ c.turns.session = c.in-ReadFault.ensures.idle tt in
+    rw (c.into_disk-in-ReadFault.ensures, same) (_, c.turns.invariant.turned.along m stands)
+
+pub returns-in-Long-clause-some_moments : goal.returns-in-Long-clause-some_moments
+returns-in-Long-clause-some_moments g c m stands =
+    let same : c.take_turn.new.session ≡ c.turns.session = c.in-Long.ensures.idle tt in
+    rw (c.into_disk-in-Long.ensures, same) (_, c.turns.invariant.turned.along m stands)
+
+pub returns-in-Halts-clause-some_moments : goal.returns-in-Halts-clause-some_moments
+returns-in-Halts-clause-some_moments g c m stands =
+    let turn = c.in-Halts.ensures.turns in
+    rw c.into_disk-in-Halts.ensures (_, more_moments c.turns.invariant.turned turn.4 m stands)
+
+pub returns-in-Ends-clause-some_moments : goal.returns-in-Ends-clause-some_moments
+returns-in-Ends-clause-some_moments g c m stands =
+    let same : c.take_turn.new.session ≡ c.turns.session = c.in-Ends.ensures.idle tt in
+    let turned = Turned-same {S = Sessions g} (disk_of g) (stands_of g) same c.turns.invariant.turned in
+    (_, ended_moments turned m stands (c.end_trace.ensures.stops _ (turned.going.stands m stands)))
+
+-- the sum of what the lines cost
+pub returns-in_default-clause-transfers : goal.returns-in_default-clause-transfers
+returns-in_default-clause-transfers g c m b stands source =
+    let turn = c.in-Replies.ensures.turns in
+    let turned = Turned-source c.turns.invariant.turned source in
+    rw c.into_disk.ensures (line_spends m turned stands turn.0 turn.2 turn.4 c.turns.invariant.same_disk.sectors turn.5)
+
+pub returns-in-ReadFault-clause-transfers : goal.returns-in-ReadFault-clause-transfers
+returns-in-ReadFault-clause-transfers g c m b stands source =
+    let same : c.take_turn.new.session ≡ c.turns.session = c.in-ReadFault.ensures.idle tt in
+    rw (c.into_disk-in-ReadFault.ensures, same) (still_spends m (Turned-source c.turns.invariant.turned source) stands)
+
+pub returns-in-Long-clause-transfers : goal.returns-in-Long-clause-transfers
+returns-in-Long-clause-transfers g c m b stands source =
+    let same : c.take_turn.new.session ≡ c.turns.session = c.in-Long.ensures.idle tt in
+    rw (c.into_disk-in-Long.ensures, same) (still_spends m (Turned-source c.turns.invariant.turned source) stands)
+
+pub returns-in-Halts-clause-transfers : goal.returns-in-Halts-clause-transfers
+returns-in-Halts-clause-transfers g c m b stands source =
+    let turn = c.in-Halts.ensures.turns in
+    let turned = Turned-source c.turns.invariant.turned source in
+    rw c.into_disk-in-Halts.ensures (line_spends m turned stands turn.0 turn.2 turn.3 c.turns.invariant.same_disk.sectors turn.4)
+
+pub returns-in-Ends-clause-transfers : goal.returns-in-Ends-clause-transfers
+returns-in-Ends-clause-transfers g c m b stands source =
+    let same : c.take_turn.new.session ≡ c.turns.session = c.in-Ends.ensures.idle tt in
+    let turned = Turned-same {S = Sessions g} (disk_of g) (stands_of g) same (Turned-source c.turns.invariant.turned source) in
+    let sectors = (went_then c.turns.invariant.same_disk c.take_turn.ensures.wrote.makes.went).sectors in
+    end_spent m turned stands (g.D.Disk.state c.end_trace.result.1) sectors (c.end_trace.ensures.cost _ (turned.going.stands m stands))

@@ -1,19 +1,25 @@
-use Rattle.std.proofs.Common.{◌≡◌, ◌⊎◌, ◌-◌, ◌^◌, ◌≤◌, Some, None}
-use Rattle.labelled_disk.specs.Calls.{OnlyReads}
+use Rattle.std.proofs.Common.{◌≡◌, ◌⊎◌, ◌-◌, ◌^◌, ◌≤◌, true, Some, None}
 use Rattle.trace_io.specs.declared.progress.Stop.TheVariants as stop
+use Rattle.swapper_kernel.specs.Goes.{Went}
+use Rattle.pilot_engine.specs.Session.{IsOpen}
 use Rattle.pilot_top.specs.Built.{StandsFor}
-use Rattle.pilot_top.proofs.TopLemmas.{Going}
+use Rattle.pilot_top.proofs.TurnedLemmas.{Turned}
 use Rattle.pilot_top.proofs.run.answer_lines.Given as goal
 
 -- so many lines are answered
 abbrev pub invariant-turns : goal.invariant-turns
 invariant-turns g l = record {
-  going : Going (g.S.Source.left l.fn.source) (g.S.Source.left l.source) (g.K.Sink.took l.fn.sink) (g.K.Sink.took l.sink) l.lines
-      (StandsFor (g.D.Disk.state l.fn.disk)) (StandsFor (g.D.Disk.state l.engine.disk));
+  turned : Turned (g.S.Source.left l.fn.source) (g.S.Source.left l.source) (g.K.Sink.took l.fn.sink) (g.K.Sink.took l.sink) l.lines
+      (StandsFor (g.D.Disk.state l.fn.session.filer.swapper.under) l.fn.session.filer.swapper.pool l.fn.session.filer.swapper.layout l.fn.session.filer.runs l.fn.session.volume)
+      (StandsFor (g.D.Disk.state l.session.filer.swapper.under) l.session.filer.swapper.pool l.session.filer.swapper.layout l.session.filer.runs l.session.volume)
+      (g.D.Disk.state l.fn.session.filer.swapper.under) (g.D.Disk.state l.session.filer.swapper.under);
+  same_disk : Went (g.D.Disk.state l.fn.session.filer.swapper.under) (g.D.Disk.state l.session.filer.swapper.under);
   goes_on : (l.lines.stopped ≡ None) ⊎ (l.lines.stopped ≡ Some stop.End);
   limit : l.lines.limit ≡ 2 ^ 32;
   bound : l.lines.taken ≤ l.lines.limit;
-  disk : OnlyReads (g.D.Disk.state l.fn.disk) (g.D.Disk.state l.engine.disk);
+  size : (g.D.Disk.state l.session.filer.swapper.under).sectors ≡ l.session.filer.swapper.layout.sectors;
+  opened : IsOpen l.session.filer.swapper.layout l.session.volume;
+  running : l.session.running ≡ true;
   source : g.S.Source.faults l.fn.source ≤ g.S.Source.faults l.source;
   sink : g.K.Sink.faults l.fn.sink ≤ g.K.Sink.faults l.sink;
 }

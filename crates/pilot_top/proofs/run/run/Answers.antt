@@ -1,93 +1,96 @@
-use Rattle.std.proofs.Common.{◌≡◌, inl, true, [], ◌∷◌, Some, Err, refl, ap, ◌∙◌, sym, subst}
-use Rattle.labelled_disk.specs.declared.layout.RootFault.{RootFault}
-use Rattle.labelled_disk.specs.declared.layout.RootFault.TheVariants as fault
-use Rattle.labelled_disk.specs.Calls.{Rose}
+use Rattle.std.proofs.Common.{[], refl}
 use Rattle.flat_machine.specs.Start.{start}
-use Rattle.pilot_top.specs.Last.{last_line, Puts}
-use Rattle.pilot_top.specs.declared.last.Cause.TheVariants as cause
-use Rattle.volume_root.specs.declared.root.Root.{Root}
-use Rattle.volume_root.specs.Flag.{FlagLaws}
-use Rattle.volume_root.specs.Format.{PartMade}
-use Rattle.volume_root.specs.RootPage.{root_write}
-use Rattle.volume_root.proofs.FlagLemmas.{flag_keeps_volume}
-use Rattle.pilot_top.specs.Opening.{Leaves, halts, closes}
-use Rattle.trace_io.specs.Reading.{reading, rest_of}
-use Rattle.pilot_top.proofs.RunLemmas.{not_refused, refused_why, is_opened_root, opened_stands, run_of, put_alone, no_reply_left}
-use Rattle.pilot_top.proofs.LeavesLemmas.{leaves_open, none_made, part_of_two, part_open}
+use Rattle.swapper_kernel.specs.GoesLaws.{went_then}
+use Rattle.trace_io.specs.Reading.{reading}
+use Rattle.pilot_top.proofs.CostLemmas.{run_spends, start_spends}
+use Rattle.pilot_top.proofs.LawfulRuns.{lawfully_then, started_lawfully}
+use Rattle.pilot_top.proofs.RunLemmas.{run_of, not_sound, not_done, not_early, run_refused, damage_told, refused_why, refused_line, refused_ends, is_early}
+use Rattle.pilot_top.proofs.StagedLemmas.{from_start, moments_before, moments_then}
 use Rattle.pilot_top.proofs.run.run.Goals as goal
 
 pub returns-in-Ok-clause-run : goal.returns-in-Ok-clause-run
-returns-in-Ok-clause-run g c d b t told marks source sink =
-    let e = c.open_volume.ensures in
-    let size = g.met.D.Disk.whole c.args.disk d told in
-    let valid = c.in-Ok.ensures.valid in
-    let laws : FlagLaws d = flag_keeps_volume d (g.met.D.Disk.in_form c.args.disk d told) (is_opened_root d _ size c.open_volume.result e.count (λ count. e.judged count d told) c.in-Ok.root c.in-Ok.is valid.accepted) in
-    run_of c.answer_lines.result.0 d b t _ _ _ c.answer_lines.ensures.opened.1
-    (c.answer_lines.ensures.answering _ b t (opened_stands _ _ d laws told marks (c.in-Ok.ensures.opened d told)) source sink)
+returns-in-Ok-clause-run g c d b t told sound source sink =
+    run_of c.answer_lines.result.0 d b t _ _ _ _ c.answer_lines.ensures.opened.1 c.answer_lines.ensures.no_other.0
+    (c.answer_lines.ensures.answering (start d) b t (c.in-Ok.ensures.stands d told sound) source sink)
 
-pub returns-in-Ok-clause-leaves : goal.returns-in-Ok-clause-leaves
-returns-in-Ok-clause-leaves g c d b told source opened =
-    leaves_open c.answer_lines.result.0 (halts (reading b)) (closes (reading b)) _ _ _ _ _ _ _ (c.in-Ok.ensures.opened d told)
-    (subst (λ (r : Root). Leaves c.answer_lines.result.0 (halts (reading b)) (closes (reading b)) (g.S.Source.left c.answer_lines.new.source ≡ Some (rest_of b)) (Rose (g.K.Sink.faults c.args.sink.now) (g.K.Sink.faults c.answer_lines.new.sink)) [] (root_write (record r { clean = true }) ∷ []) (g.D.Disk.state c.open_volume.new.disk) (g.D.Disk.state c.answer_lines.result.1))
-    (c.in-Ok.ensures.root d told) (c.answer_lines.ensures.leaves b source))
+pub returns-in-Ok-clause-moments : goal.returns-in-Ok-clause-moments
+returns-in-Ok-clause-moments g c d b told sound source =
+    moments_then (start d) [] (reading b) (from_start d sound told (c.in-Ok.ensures.moments d told sound.labels)) (c.answer_lines.ensures.moments (start d) b (c.in-Ok.ensures.stands d told sound) source)
 
-pub returns-in-Ok-clause-part : goal.returns-in-Ok-clause-part
-returns-in-Ok-clause-part g c d told =
-    part_open _ _ _ _ _ (c.in-Ok.ensures.opened d told)
-    (subst (λ (r : Root). PartMade (root_write (record r { clean = true }) ∷ []) (g.D.Disk.state c.open_volume.new.disk) (g.D.Disk.state c.answer_lines.result.1))
-    (c.in-Ok.ensures.root d told) c.answer_lines.ensures.part)
+pub returns-in-Ok-clause-some_moments : goal.returns-in-Ok-clause-some_moments
+returns-in-Ok-clause-some_moments g c d told sound =
+    let some = c.answer_lines.ensures.some_moments (start d) (c.in-Ok.ensures.stands d told sound) in
+    (some.0, moments_then (start d) [] some.0 (from_start d sound told (c.in-Ok.ensures.moments d told sound.labels)) some.1)
+
+pub returns-in-Ok-clause-transfers : goal.returns-in-Ok-clause-transfers
+returns-in-Ok-clause-transfers g c d b told sound source =
+    run_spends (reading b) (g.D.Disk.state c.args.disk) (g.D.Disk.state c.in-Ok.session.filer.swapper.under) (g.D.Disk.state c.answer_lines.result.1) c.in-Ok.ensures.wrote.went.sectors c.in-Ok.ensures.bounded (c.answer_lines.ensures.transfers (start d) b (c.in-Ok.ensures.stands d told sound) source)
+
+pub returns-in-Ok-clause-closed : goal.returns-in-Ok-clause-closed
+returns-in-Ok-clause-closed g c d b told sound source done going = c.answer_lines.ensures.closed (start d) b (c.in-Ok.ensures.stands d told sound) source done going
+
+pub returns-in-Ok-clause-closed_unheard : goal.returns-in-Ok-clause-closed_unheard
+returns-in-Ok-clause-closed_unheard g c d b told sound source failed held rest closes =
+    c.answer_lines.ensures.closed_unheard (start d) b (c.in-Ok.ensures.stands d told sound) source failed held rest closes
+
+pub returns-in-Ok-clause-stays_open : goal.returns-in-Ok-clause-stays_open
+returns-in-Ok-clause-stays_open g c d b told sound source early = c.answer_lines.ensures.stays_open (start d) b (c.in-Ok.ensures.stands d told sound) source early
+
+pub returns-in-Ok-clause-sound : goal.returns-in-Ok-clause-sound
+returns-in-Ok-clause-sound g c d told sound = (c.answer_lines.ensures.opened.1, c.answer_lines.ensures.sound (start d) (c.in-Ok.ensures.stands d told sound))
+
+pub returns-in-Ok-clause-lawful : goal.returns-in-Ok-clause-lawful
+returns-in-Ok-clause-lawful g c = lawfully_then (started_lawfully c.in-Ok.ensures.wrote) c.answer_lines.ensures.lawful
+
+pub returns-in-Ok-clause-refused : goal.returns-in-Ok-clause-refused
+returns-in-Ok-clause-refused g c d why told refused = absurd (c.in-Ok.ensures.refused d why told refused)
+
+pub returns-in-Ok-clause-same_disk : goal.returns-in-Ok-clause-same_disk
+returns-in-Ok-clause-same_disk g c = went_then c.in-Ok.ensures.wrote.went c.answer_lines.ensures.same_disk
 
 pub returns-in-Ok-clause-refused_unwritten : goal.returns-in-Ok-clause-refused_unwritten
-returns-in-Ok-clause-refused_unwritten g c d why told refused =
-    let e = c.open_volume.ensures in
-    absurd (not_refused d _ (g.met.D.Disk.whole c.args.disk d told) c.open_volume.result e.count (λ count. e.judged count d told) c.in-Ok.root c.in-Ok.is why refused)
+returns-in-Ok-clause-refused_unwritten g c d why told refused = absurd (c.in-Ok.ensures.refused d why told refused)
 
--- the disk failed
-pub returns-in-Disk-clause-run : goal.returns-in-Disk-clause-run
-returns-in-Disk-clause-run g c d b t told marks source sink = no_reply_left (start d) b t _ _ _ source (put_alone _ t _ _ _ sink c.put_last.ensures.put)
+-- no session started
+pub returns-in-Err-clause-run : goal.returns-in-Err-clause-run
+returns-in-Err-clause-run g c d b t told sound source sink =
+    run_refused c.in-Err.fault c.refuse.result _ _ g.K.Sink.took _ c.refuse.ensures.stops d b t _ _ _ (from_start d sound told (c.in-Err.ensures.moments d told sound.labels)) (c.in-Err.ensures.sound d told sound) source sink
 
-pub returns-in-Disk-clause-leaves : goal.returns-in-Disk-clause-leaves
-returns-in-Disk-clause-leaves g c d b told source opened =
-    inl (c.open_volume.ensures.part d told (c.in-Err.is ∙ ap (λ (why : RootFault). Err why) c.in-Disk.is))
+pub returns-in-Err-clause-moments : goal.returns-in-Err-clause-moments
+returns-in-Err-clause-moments g c d b told sound source = moments_before (start d) [] (reading b) (from_start d sound told (c.in-Err.ensures.moments d told sound.labels))
 
-pub returns-in-Disk-clause-refused_unwritten : goal.returns-in-Disk-clause-refused_unwritten
-returns-in-Disk-clause-refused_unwritten g c d why told refused = (c.open_volume.ensures.refused d why told refused, refl)
+pub returns-in-Err-clause-some_moments : goal.returns-in-Err-clause-some_moments
+returns-in-Err-clause-some_moments g c d told sound = ([], from_start d sound told (c.in-Err.ensures.moments d told sound.labels))
 
-pub returns-in-Disk-clause-part : goal.returns-in-Disk-clause-part
-returns-in-Disk-clause-part g c d told =
-    part_of_two _ _ _ _ (c.open_volume.ensures.part d told (c.in-Err.is ∙ ap (λ (why : RootFault). Err why) c.in-Disk.is))
+pub returns-in-Err-clause-transfers : goal.returns-in-Err-clause-transfers
+returns-in-Err-clause-transfers g c d b told sound source = start_spends (reading b) (g.D.Disk.state c.args.disk) (g.D.Disk.state c.in-Err.disk) c.in-Err.ensures.bounded
 
--- the volume can't be opened
-pub returns-in_default-clause-run : goal.returns-in_default-clause-run
-returns-in_default-clause-run g c d b t told marks source sink =
-    let e = c.open_volume.ensures in
-    let size = g.met.D.Disk.whole c.args.disk d told in (
-      c.in-Err.why,
-      refused_why d _ size c.open_volume.result e.count (λ count. e.judged count d told) c.in-Err.why c.in-Err.is c.in_default.not-Disk,
-      source,
-      put_alone _ t _ _ _ sink c.put_last-in_default.ensures.put,
-    )
+pub returns-in-Err-clause-closed : goal.returns-in-Err-clause-closed
+returns-in-Err-clause-closed g c d b told sound source done going = absurd ((not_done c.in-Err.fault c.refuse.result _ _ g.K.Sink.took _ c.refuse.ensures.stops).0 done)
 
-pub returns-in_default-clause-not_opened : goal.returns-in_default-clause-not_opened
-returns-in_default-clause-not_opened g c d told is =
-    let e = c.open_volume.ensures in
-    let size = g.met.D.Disk.whole c.args.disk d told in (
-      c.in-Err.why,
-      refused_why d _ size c.open_volume.result e.count (λ count. e.judged count d told) c.in-Err.why c.in-Err.is c.in_default.not-Disk,
-      c.put_last-in_default.ensures.put,
-    )
+pub returns-in-Err-clause-closed_unheard : goal.returns-in-Err-clause-closed_unheard
+returns-in-Err-clause-closed_unheard g c d b told sound source failed held rest closes = absurd ((not_done c.in-Err.fault c.refuse.result _ _ g.K.Sink.took _ c.refuse.ensures.stops).1 failed)
 
-pub returns-in_default-clause-count : goal.returns-in_default-clause-count
-returns-in_default-clause-count g c none =
-    let e : Err c.in-Err.why ≡ Err (fault.BadCount (g.D.Disk.state c.args.disk).sectors) = sym c.in-Err.is ∙ c.open_volume.ensures.count none in
-    let same : c.in-Err.why ≡ fault.BadCount (g.D.Disk.state c.args.disk).sectors = cc e in (
-      refl,
-      subst (λ (why : RootFault). Puts (Rose (g.K.Sink.faults c.args.sink.now) (g.K.Sink.faults c.put_last-in_default.new.sink)) (g.K.Sink.took c.args.sink.now) (g.K.Sink.took c.put_last-in_default.new.sink) (last_line (cause.Root why)))
-          same c.put_last-in_default.ensures.put,
-    )
+pub returns-in-Err-clause-stays_open : goal.returns-in-Err-clause-stays_open
+returns-in-Err-clause-stays_open g c d b told sound source early = absurd (not_early c.in-Err.fault c.refuse.result _ _ g.K.Sink.took _ c.refuse.ensures.stops (reading b) early)
 
-pub returns-in_default-clause-unwritten : goal.returns-in_default-clause-unwritten
-returns-in_default-clause-unwritten g c is = (c.open_volume.ensures.unwritten c.in-Err.why c.in-Err.is c.in_default.not-Disk, refl)
+pub returns-in-Err-clause-sound : goal.returns-in-Err-clause-sound
+returns-in-Err-clause-sound g c d told sound = not_sound c.in-Err.fault c.refuse.result _ _ g.K.Sink.took _ c.refuse.ensures.stops (c.in-Err.ensures.sound d told sound)
 
-pub returns-in_default-clause-part : goal.returns-in_default-clause-part
-returns-in_default-clause-part g c d told = none_made _ _ _ (c.open_volume.ensures.unwritten c.in-Err.why c.in-Err.is c.in_default.not-Disk)
+pub returns-in-Err-clause-damage : goal.returns-in-Err-clause-damage
+returns-in-Err-clause-damage g c t sink is = damage_told c.in-Err.fault c.refuse.result _ _ g.K.Sink.took _ c.refuse.ensures.stops t sink is
+
+pub returns-in-Err-clause-not_opened : goal.returns-in-Err-clause-not_opened
+returns-in-Err-clause-not_opened g c d told is = refused_why c.in-Err.fault c.refuse.result _ _ g.K.Sink.took _ c.refuse.ensures.stops d (c.in-Err.ensures.judged d told) is
+
+pub returns-in-Err-clause-refused : goal.returns-in-Err-clause-refused
+returns-in-Err-clause-refused g c d why told refused = refused_ends c.in-Err.fault c.refuse.result _ _ g.K.Sink.took _ c.refuse.ensures.stops why (c.in-Err.ensures.refused d why told refused)
+
+pub returns-in-Err-clause-refused_line : goal.returns-in-Err-clause-refused_line
+returns-in-Err-clause-refused_line g c is = refused_line c.in-Err.fault c.refuse.result _ _ g.K.Sink.took _ c.refuse.ensures.stops is
+
+pub returns-in-Err-clause-short : goal.returns-in-Err-clause-short
+returns-in-Err-clause-short g c b source done = absurd ((not_done c.in-Err.fault c.refuse.result _ _ g.K.Sink.took _ c.refuse.ensures.stops).0 done)
+
+pub returns-in-Err-clause-refused_unwritten : goal.returns-in-Err-clause-refused_unwritten
+returns-in-Err-clause-refused_unwritten g c d why told refused = (c.in-Err.ensures.unwritten (is_early c.in-Err.fault why (c.in-Err.ensures.refused d why told refused)), refl)

@@ -1,0 +1,168 @@
+-- Writes along the places of a trace.
+use Rattle.std.proofs.Common.{◌≡◌, ◌⊎◌, inl, inr, ℕ, zero, suc, ◌+◌, ◌-◌, ◌<◌, ◌≤◌, List, [], ◌++◌, length, take, Option, Some, None, refl, sym, ◌∙◌, ap, subst, arith}
+use Rattle.std.specs.Prelude.{option_map}
+use Rattle.std.proofs.Math.Seq.{take-append-add}
+use Rattle.std.proofs.lemmas.Bool.{cases_lt}
+use Rattle.std.proofs.lemmas.Option.{same_Some, none-some}
+use Rattle.labelled_disk.specs.declared.disk.DiskWrite.{DiskWrite}
+use Rattle.labelled_disk.specs.Calls.{TellsSame}
+use Rattle.labelled_disk.specs.Moment.{moment}
+use Rattle.labelled_disk.specs.Sectors.{Sector}
+use Rattle.labelled_disk.specs.State.{DiskState}
+use Rattle.labelled_disk.specs.WriteRuns.{after_writes}
+use Rattle.labelled_disk.proofs.WriteRunLemmas.{after_writes-append, appended_then, appended_none, moment-earlier, moment-end}
+use Rattle.pilot_engine.specs.Closing.{Throughout}
+use Rattle.pilot_top.specs.Moments.{Along, IsBy}
+
+-- Places.
+
+pub by_itself : (j i : ℕ) → IsBy j i j i
+by_itself j i = inr (refl, omega arith)
+
+pub by_then : (j i k h l g : ℕ) → IsBy j i k h → IsBy k h l g → IsBy j i l g
+by_then j i k h l g (inl a) (inl b) = inl (omega (arith, a, b))
+by_then j i k h l g (inl a) (inr b) = inl (let e = b.0 in omega (arith, a, e))
+by_then j i k h l g (inr a) (inl b) = inl (let e = a.0 in omega (arith, b, e))
+by_then j i k h l g (inr a) (inr b) = inr (a.0 ∙ b.0, let c = a.1 in let d = b.1 in omega (arith, c, d))
+
+-- so many lines on
+pub by_shifted : (n j i k h : ℕ) → IsBy j i k h → IsBy (n + j) i (n + k) h
+by_shifted n j i k h (inl a) = inl (omega (arith, a))
+by_shifted n j i k h (inr a) = inr (ap (λ (x : ℕ). n + x) a.0, a.1)
+
+-- the lines are as many
+pub by_equal : (j k i : ℕ) → j ≡ k → IsBy j i k i
+by_equal j k i same = inr (same, omega arith)
+
+pub by_most : (k l : ℕ) → k ≤ l → IsBy k 0 l 0
+by_most k l le = elim (cases_lt k l) [
+  | inl less ↦ inl less
+  | inr more ↦ inr (omega (arith, le, more), omega arith)
+]
+
+-- Some writes and then others.
+
+-- later moments begin where the earlier writes end
+pub moment_later : (d : List Sector) (first next : List DiskWrite) (j : ℕ) → moment d (first ++ next) (length first + j) ≡ moment (after_writes first d) next j
+moment_later d first next j = ap (λ (ws : List DiskWrite). after_writes ws d) (take-append-add first next j) ∙ sym (after_writes-append first (take j next) d)
+
+module _ (P : ℕ → ℕ → List Sector → Type 0) (j i k h l g : ℕ) {a b c : DiskState} (one : Along P j i k h a b) (two : Along P k h l g b c) where
+  -- the place of each of them
+  abbrev line_at : (n : ℕ) → (length one.writes < n) ⊎ (n ≤ length one.writes) → ℕ
+  line_at n (inl past) = two.line (n - length one.writes)
+  line_at n (inr few) = one.line n
+
+  abbrev step_at : (n : ℕ) → (length one.writes < n) ⊎ (n ≤ length one.writes) → ℕ
+  step_at n (inl past) = two.step (n - length one.writes)
+  step_at n (inr few) = one.step n
+
+  rises : (n m : ℕ) → n ≤ m → (s : (length one.writes < n) ⊎ (n ≤ length one.writes)) (t : (length one.writes < m) ⊎ (m ≤ length one.writes)) → IsBy (line_at n s) (step_at n s) (line_at m t) (step_at m t)
+  rises n m le (inl past) (inl more) = two.rise (n - length one.writes) (m - length one.writes) (omega (arith, le))
+  rises n m le (inl past) (inr few) = absurd (omega (arith, le, past, few))
+  rises n m le (inr few) (inl past) =
+      by_then (one.line n) (one.step n) k h (two.line (m - length one.writes)) (two.step (m - length one.writes)) (one.last n) (two.first (m - length one.writes))
+  rises n m le (inr few) (inr less) = one.rise n m le
+
+  starts : (n : ℕ) (s : (length one.writes < n) ⊎ (n ≤ length one.writes)) → IsBy j i (line_at n s) (step_at n s)
+  starts n (inl past) =
+      by_then j i k h (two.line (n - length one.writes)) (two.step (n - length one.writes))
+      (by_then j i (one.line 0) (one.step 0) k h (one.first 0) (one.last 0)) (two.first (n - length one.writes))
+  starts n (inr few) = one.first n
+
+  ends : (n : ℕ) (s : (length one.writes < n) ⊎ (n ≤ length one.writes)) → IsBy (line_at n s) (step_at n s) l g
+  ends n (inl past) = two.last (n - length one.writes)
+  ends n (inr few) =
+      by_then (one.line n) (one.step n) k h l g (one.last n) (by_then k h (two.line 0) (two.step 0) l g (two.first 0) (two.last 0))
+
+  holds : (d : List Sector) (n : ℕ) → a.contents ≡ Some d → (s : (length one.writes < n) ⊎ (n ≤ length one.writes)) → P (line_at n s) (step_at n s) (moment d (one.writes ++ two.writes) n)
+  holds d n told (inl past) =
+      let at : n ≡ length one.writes + (n - length one.writes) = omega (arith, past) in
+      subst (P (two.line (n - length one.writes)) (two.step (n - length one.writes))) (sym (ap (moment d (one.writes ++ two.writes)) at ∙ moment_later d one.writes two.writes (n - length one.writes)))
+      (two.each (after_writes one.writes d) (n - length one.writes) (one.appended.contents ∙ ap (option_map (after_writes one.writes)) told))
+  holds d n told (inr few) = subst (P (one.line n) (one.step n)) (sym (moment-earlier d one.writes two.writes n few)) (one.each d n told)
+
+  pub along_then : Along P j i l g a c
+  along_then = record {
+    writes = one.writes ++ two.writes;
+    appended = appended_then one.writes two.writes one.appended two.appended;
+    line = λ n. line_at n (cases_lt (length one.writes) n);
+    step = λ n. step_at n (cases_lt (length one.writes) n);
+    rise = λ n m le. rises n m le (cases_lt (length one.writes) n) (cases_lt (length one.writes) m);
+    first = λ n. starts n (cases_lt (length one.writes) n);
+    last = λ n. ends n (cases_lt (length one.writes) n);
+    each = λ d n told. holds d n told (cases_lt (length one.writes) n);
+  }
+
+-- Less is said, or the same otherwise.
+
+-- another property of the same moments
+pub along_less : (P Q : ℕ → ℕ → List Sector → Type 0) (j i k h : ℕ) {a b : DiskState} → ((l g : ℕ) (d : List Sector) → IsBy j i l g → IsBy l g k h → P l g d → Q l g d) → Along P j i k h a b → Along Q j i k h a b
+along_less P Q j i k h less on = record {
+  writes = on.writes;
+  appended = on.appended;
+  line = on.line;
+  step = on.step;
+  rise = on.rise;
+  first = on.first;
+  last = on.last;
+  each = λ d n told. less (on.line n) (on.step n) (moment d on.writes n) (on.first n) (on.last n) (on.each d n told);
+}
+
+-- wider bounds
+pub along_wider : (P : ℕ → ℕ → List Sector → Type 0) (j i j' i' k h k' h' : ℕ) {a b : DiskState} → IsBy j' i' j i → IsBy k h k' h' → Along P j i k h a b → Along P j' i' k' h' a b
+along_wider P j i j' i' k h k' h' below above on = record {
+  writes = on.writes;
+  appended = on.appended;
+  line = on.line;
+  step = on.step;
+  rise = on.rise;
+  first = λ n. by_then j' i' j i (on.line n) (on.step n) below (on.first n);
+  last = λ n. by_then (on.line n) (on.step n) k h k' h' (on.last n) above;
+  each = on.each;
+}
+
+-- places that many lines on
+pub along_shifted : (P Q : ℕ → ℕ → List Sector → Type 0) (s j i k h : ℕ) {a b : DiskState} → ((l g : ℕ) (d : List Sector) → IsBy j i l g → IsBy l g k h → P l g d → Q (s + l) g d) → Along P j i k h a b
+    → Along Q (s + j) i (s + k) h a b
+along_shifted P Q s j i k h less on = record {
+  writes = on.writes;
+  appended = on.appended;
+  line = λ n. s + on.line n;
+  step = on.step;
+  rise = λ n m le. by_shifted s (on.line n) (on.step n) (on.line m) (on.step m) (on.rise n m le);
+  first = λ n. by_shifted s j i (on.line n) (on.step n) (on.first n);
+  last = λ n. by_shifted s (on.line n) (on.step n) k h (on.last n);
+  each = λ d n told. less (on.line n) (on.step n) (moment d on.writes n) (on.first n) (on.last n) (on.each d n told);
+}
+
+-- All at one place.
+
+pub along_throughout : (P : ℕ → ℕ → List Sector → Type 0) (j i : ℕ) {a b : DiskState} → Throughout (P j i) a b → Along P j i j i a b
+along_throughout P j i all = record {
+  writes = all.writes;
+  appended = all.appended;
+  line = λ n. j;
+  step = λ n. i;
+  rise = λ n m le. by_itself j i;
+  first = λ n. by_itself j i;
+  last = λ n. by_itself j i;
+  each = all.each;
+}
+
+-- no write
+pub along_none : (P : ℕ → ℕ → List Sector → Type 0) (j i : ℕ) {a b : DiskState} → TellsSame a b → ((d : List Sector) → a.contents ≡ Some d → P j i d) → Along P j i j i a b
+along_none P j i {a} same here = along_throughout P j i (record { writes = []; appended = appended_none same; each = λ d k told. subst (P j i) (sym (still d k)) (here d told) })
+  where
+    still : (d : List Sector) (k : ℕ) → moment d [] k ≡ d
+    still d zero = refl
+    still d (suc k) = refl
+
+-- the last moment
+pub along_last : (P : ℕ → ℕ → List Sector → Type 0) (j i k h : ℕ) {a b : DiskState} (on : Along P j i k h a b) → (e : List Sector) → b.contents ≡ Some e → P (on.line (length on.writes)) (on.step (length on.writes)) e
+along_last P j i k h {a} on e told = from a.contents refl
+  where
+    from : (o : Option (List Sector)) → a.contents ≡ o → P (on.line (length on.writes)) (on.step (length on.writes)) e
+    from None is = absurd (none-some e (sym (on.appended.contents ∙ ap (option_map (after_writes on.writes)) is) ∙ told))
+    from (Some d) is =
+        let last : after_writes on.writes d ≡ e = same_Some (after_writes on.writes d) e (sym (on.appended.contents ∙ ap (option_map (after_writes on.writes)) is) ∙ told) in
+        subst (P (on.line (length on.writes)) (on.step (length on.writes))) (moment-end d on.writes ∙ last) (on.each d (length on.writes) is)

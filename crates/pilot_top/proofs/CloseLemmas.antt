@@ -1,0 +1,52 @@
+-- A session's end, and a session that is left as it stands.
+use Rattle.std.proofs.Common.{◌≡◌, ◌⊎◌, inl, inr, ℕ, zero, suc, List, [], Option, Some, None, refl, sym, ap, subst}
+use Rattle.labelled_disk.specs.declared.evidence.Evidence.{Evidence}
+use Rattle.labelled_disk.specs.declared.evidence.Halt.{Halt}
+use Rattle.labelled_disk.specs.declared.evidence.Halt.TheVariants as halt
+use Rattle.labelled_disk.specs.declared.layout.Layout.{Layout}
+use Rattle.labelled_disk.specs.Moment.{moment}
+use Rattle.labelled_disk.specs.Sectors.{Sector}
+use Rattle.labelled_disk.specs.State.{DiskState}
+use Rattle.labelled_disk.proofs.WriteRunLemmas.{appended_none}
+use Rattle.frame_pool.specs.Frames.{Slots}
+use Rattle.filer_kernel.specs.declared.cached.CachedRuns.{CachedRuns}
+use Rattle.file_manager.specs.declared.volume.Volume.{Volume}
+use Rattle.flat_machine.specs.Machine.{Machine}
+use Rattle.pilot_engine.specs.Closing.{IsStop, Throughout}
+use Rattle.pilot_top.specs.Built.{StandsFor}
+use Rattle.pilot_top.specs.Last.{last_line, Puts}
+use Rattle.pilot_top.specs.Stopping.{status_of, cause_of}
+use Rattle.pilot_top.specs.declared.last.Cause.TheVariants as cause
+use Rattle.pilot_top.specs.declared.status.Status.{Status}
+use Rattle.pilot_top.specs.declared.status.Status.TheVariants as status
+use Rattle.pilot_top.proofs.StagedLemmas.{AreInForm, stands_told}
+
+-- a session is left as it stands
+pub rest_stops : (m : Machine) (disk : DiskState) (slots : Slots) (layout : Layout) (runs : CachedRuns) (volume : Volume) → StandsFor disk slots layout runs volume m → AreInForm disk → Throughout (IsStop m) disk disk
+rest_stops m disk slots layout runs volume is form = record {
+  writes = [];
+  appended = appended_none (record { contents = refl; writes = refl });
+  each = λ d k told. subst (IsStop m) (sym (still d k)) (let at = stands_told m disk slots layout runs volume is form d told in record { told = at.told; honest = at.honest });
+}
+  where
+    still : (d : List Sector) (k : ℕ) → moment d [] k ≡ d
+    still d zero = refl
+    still d (suc k) = refl
+
+-- a fault of the disk is no damage
+pub not_damaged : (h : Halt) (s : Status) → h ≡ halt.Disk → s ≡ status_of h → ◌≡◌ {A = Option Status} (Some s) (Some status.Damaged) → ⊥
+not_damaged h s is same damaged = cc (ap status_of is, same, damaged)
+
+-- what is told of damage
+pub damage_told : (h : Halt) (s : Status) (failed : Type 0) (u v : Option (List ℕ)) → s ≡ status_of h → ◌≡◌ {A = Option Status} (Some s) (Some status.Damaged) → Puts failed u v (last_line (cause_of h))
+    → (e : Evidence) × Puts failed u v (last_line (cause.Damaged e))
+damage_told halt.Disk s failed u v same damaged puts = absurd (cc (same, damaged))
+damage_told (halt.Damaged evidence) s failed u v same damaged puts = (evidence, puts)
+
+-- a session whose end failed was not closed
+pub not_closed : (o : Option Status) (s : Status) → o ≡ Some s → (o ≡ None) ⊎ (o ≡ Some status.DiskFault) ⊎ (o ≡ Some status.Damaged) → (s ≡ status.Done) ⊎ (s ≡ status.StreamFault) → ⊥
+not_closed o s is (inl none) done = cc (is, none)
+not_closed o s is (inr (inl disk)) (inl done) = cc (is, disk, done)
+not_closed o s is (inr (inl disk)) (inr done) = cc (is, disk, done)
+not_closed o s is (inr (inr damaged)) (inl done) = cc (is, damaged, done)
+not_closed o s is (inr (inr damaged)) (inr done) = cc (is, damaged, done)

@@ -1,0 +1,69 @@
+-- What the lines of a run cost.
+use Rattle.std.proofs.Common.{◌≡◌, ℕ, ◌+◌, ◌*◌, ◌≤◌, false, List, [], ◌∷◌, ◌++◌, Some, None, refl, sym, subst, arith}
+use Rattle.std.specs.Prelude.{sum_by}
+use Rattle.std.proofs.lemmas.List.Sums.{sum_by_push, sum_by-append}
+use Rattle.labelled_disk.specs.State.{DiskState}
+use Rattle.flat_machine.specs.After.{TraceLine}
+use Rattle.flat_machine.specs.declared.call.Call.{Call}
+use Rattle.flat_machine.specs.declared.call.Call.TheVariants as call
+use Rattle.pilot_engine.specs.Bound.{CostsOther, other_bound}
+use Rattle.pilot_engine.specs.Stages.{is_answered}
+use Rattle.pilot_top.specs.Headline.{CostsLine, CostsLines, line_bound, run_bound}
+
+-- One line.
+
+-- a disk that is as it was
+spent_none : (a b : DiskState) (n : ℕ) → b ≡ a → b.transfers ≤ a.transfers + n
+spent_none a b n same = subst (λ (d : DiskState). d.transfers ≤ a.transfers + n) (sym same) (omega arith)
+
+pub nothing_spent : (a : DiskState) → CostsOther a a
+nothing_spent a = spent_none a a (other_bound a.sectors) refl
+
+-- a call, where one that is not answered costs nothing
+pub call_costs : (c : Call) (a b : DiskState) → (is_answered c ≡ false → b ≡ a) → CostsOther a b → CostsLine (Some c) a b
+call_costs (call.Load first count) a b later cost = spent_none a b 1680 (later refl)
+call_costs (call.Store first bytes) a b later cost = spent_none a b 1680 (later refl)
+call_costs c a b later cost = cost
+
+-- a bad line
+pub bad_costs : (a : DiskState) → CostsLine None a a
+bad_costs a = nothing_spent a
+
+-- Lines in a row.
+
+pub none_cost : (a : DiskState) → CostsLines [] a a
+none_cost a = omega arith
+
+pub more_cost : (lines : List TraceLine) (line : TraceLine) (a b c : DiskState) → b.sectors ≡ a.sectors → CostsLines lines a b → CostsLine line b c → CostsLines (lines ++ line ∷ []) a c
+more_cost lines line a b c same first last =
+    let here : c.transfers ≤ b.transfers + line_bound a.sectors line = subst (λ (n : ℕ). c.transfers ≤ b.transfers + line_bound n line) same last in
+    omega (arith, first, here, sum_by_push (line_bound a.sectors) lines line)
+
+-- The whole run: lines that were read are the first ones of its trace.
+
+-- so many transfers at most, but for the start
+abbrev pub Spends : List TraceLine → DiskState → DiskState → Type 0
+Spends lines a b = b.transfers ≤ a.transfers + (other_bound a.sectors + sum_by (line_bound a.sectors) lines)
+
+front_sum : (n : ℕ) (lines more all : List TraceLine) → all ≡ lines ++ more → sum_by (line_bound n) lines ≤ sum_by (line_bound n) all
+front_sum n lines more all are = subst (λ (ls : List TraceLine). sum_by (line_bound n) lines ≤ sum_by (line_bound n) ls) (sym are) (omega (arith, sum_by-append (line_bound n) lines more))
+
+pub front_spends : (lines more all : List TraceLine) (a b : DiskState) → all ≡ lines ++ more → CostsLines lines a b → Spends all a b
+front_spends lines more all a b are cost = omega (arith, cost, front_sum a.sectors lines more all are)
+
+-- the session is ended behind them
+pub end_spends : (lines more all : List TraceLine) (a b c : DiskState) → all ≡ lines ++ more → b.sectors ≡ a.sectors → CostsLines lines a b → CostsOther b c → Spends all a c
+end_spends lines more all a b c are same cost last =
+    let here : c.transfers ≤ b.transfers + other_bound a.sectors = subst (λ (n : ℕ). c.transfers ≤ b.transfers + other_bound n) same last in
+    omega (arith, cost, here, front_sum a.sectors lines more all are)
+
+-- the start is before them
+pub run_spends : (lines : List TraceLine) (a b c : DiskState) → b.sectors ≡ a.sectors → CostsOther a b → Spends lines b c → c.transfers ≤ a.transfers + run_bound a.sectors lines
+run_spends lines a b c same first last =
+    let here : c.transfers ≤ b.transfers + (other_bound a.sectors + sum_by (line_bound a.sectors) lines) =
+    subst (λ (n : ℕ). c.transfers ≤ b.transfers + (other_bound n + sum_by (line_bound n) lines)) same last in
+    omega (arith, first, here)
+
+-- no session started
+pub start_spends : (lines : List TraceLine) (a b : DiskState) → CostsOther a b → b.transfers ≤ a.transfers + run_bound a.sectors lines
+start_spends lines a b first = omega (arith, first)

@@ -1,0 +1,145 @@
+-- The ways out of a run, with what it wrote.
+use Rattle.std.proofs.Common.{◌≡◌, ◌≢◌, ◌⊎◌, inl, inr, ℕ, ◌<◌, true, false, List, [], ◌∷◌, ◌++◌, length, Option, Some, None, refl, sym, ap, ◌∙◌, subst, arith, append-nil, length-append}
+use Rattle.labelled_disk.specs.Sectors.{Sector}
+use Rattle.labelled_disk.specs.State.{DiskState}
+use Rattle.labelled_disk.specs.declared.evidence.Evidence.{Evidence}
+use Rattle.labelled_disk.specs.declared.evidence.Halt.{Halt}
+use Rattle.labelled_disk.specs.declared.evidence.Halt.TheVariants as halt
+use Rattle.flat_machine.specs.declared.call.Reply.{Reply}
+use Rattle.flat_machine.specs.After.{TraceLine, after}
+use Rattle.flat_machine.specs.IsMachine.{IsMachine}
+use Rattle.flat_machine.specs.Machine.{Machine}
+use Rattle.flat_machine.specs.Space.{root}
+use Rattle.trace_io.specs.Course.{HasRead}
+use Rattle.trace_io.specs.Lines.{TakesLine}
+use Rattle.trace_io.specs.Progress.{Progress}
+use Rattle.trace_io.specs.Reading.{is_last, reading, rest_of}
+use Rattle.trace_io.proofs.CourseLemmas.{HasRead-line}
+use Rattle.session_words.specs.StandsFor.{TellsSettled}
+use Rattle.pilot_engine.specs.Bound.{CostsOther}
+use Rattle.pilot_engine.specs.Closing.{HasShut, IsStop, Throughout}
+use Rattle.pilot_top.specs.Built.{is_built}
+use Rattle.pilot_top.specs.Ending.{closes, halts}
+use Rattle.pilot_top.specs.Headline.{HasFilesAt}
+use Rattle.pilot_top.specs.Moments.{Moments}
+use Rattle.pilot_top.specs.Stopping.{status_of}
+use Rattle.pilot_top.specs.Turn.{Answers, EndsTrace}
+use Rattle.pilot_top.specs.declared.status.Status.{Status}
+use Rattle.pilot_top.specs.declared.status.Status.TheVariants as status
+use Rattle.pilot_top.specs.declared.turn.End.{End}
+use Rattle.pilot_top.specs.declared.turn.End.TheVariants as end
+use Rattle.pilot_top.proofs.ClosedTwice.{shut_again}
+use Rattle.pilot_top.proofs.CostLemmas.{Spends}
+use Rattle.pilot_top.proofs.EndLemmas.{End-halts, End-closes}
+use Rattle.pilot_top.proofs.FrontLemmas.{End-after, ended_by}
+use Rattle.pilot_top.proofs.PlaceLemmas.{files_end, line_files}
+use Rattle.pilot_top.proofs.RestLemmas.{not_closed}
+use Rattle.pilot_top.proofs.StagedLemmas.{after_then}
+use Rattle.pilot_top.proofs.TopLemmas.{last_of, none-push}
+use Rattle.pilot_top.proofs.TurnedLemmas.{Made, Turned, ended_moments, more_costs, more_moments, of_reading, spends_reading, end_spends_reading, files_of_reading, files_of_begun}
+
+-- no session that stopped is done, or was stopped by a stream
+pub halt_not_done : (why : Halt) (s : Status) → s ≡ status_of why → s ≢ status.Done
+halt_not_done halt.Disk s is done = absurd (cc (is, done))
+halt_not_done (halt.Damaged e) s is done = absurd (cc (is, done))
+
+pub halt_not_stream : (why : Halt) (s : Status) → s ≡ status_of why → s ≢ status.StreamFault
+halt_not_stream halt.Disk s is stream = absurd (cc (is, stream))
+halt_not_stream (halt.Damaged e) s is stream = absurd (cc (is, stream))
+
+pub halt_not_damaged : (why : Halt) (s : Status) → s ≡ status_of why → why ≡ halt.Disk → s ≢ status.Damaged
+halt_not_damaged why s is disk damaged = let e : s ≡ status.DiskFault = is ∙ ap status_of disk in absurd (cc (e, damaged))
+
+-- one that stopped at a damaged volume has what shows it
+pub halt_evidence : (why : Halt) (s : Status) → s ≡ status_of why → s ≡ status.Damaged → (e : Evidence) × (why ≡ halt.Damaged e)
+halt_evidence halt.Disk s is damaged = absurd (cc (is, damaged))
+halt_evidence (halt.Damaged e) s is damaged = (e, refl)
+
+-- an end of a session that stood for a machine
+pub three_ways : (s : Status) → (s ≡ status.Done) ⊎ (s ≡ status.StreamFault) ⊎ (s ≡ status.DiskFault) ⊎ (s ≡ status.Damaged) → s ≢ status.Damaged → (s ≡ status.Done) ⊎ (s ≡ status.StreamFault) ⊎ (s ≡ status.DiskFault)
+three_ways s (inl done) sound = inl done
+three_ways s (inr (inl stream)) sound = inr (inl stream)
+three_ways s (inr (inr (inl disk))) sound = inr (inr disk)
+three_ways s (inr (inr (inr damaged))) sound = absurd (sound damaged)
+
+-- a line has a byte, or its line feed
+pub takes_more : (line : TraceLine) (b c : Option (List ℕ)) (p q : Progress) → TakesLine line b c p q → p.taken < q.taken
+takes_more line b c p q takes = elim takes.ends [
+  | inl fed ↦ omega (arith, takes.taken, ap length fed.0, length-append takes.line (10 ∷ []))
+  | inr last ↦ let more = last.1 in omega (arith, takes.taken, ap length last.0, more)
+]
+
+-- The source tells its bytes, and the session stood for a machine.
+module _ (m : Machine) {x : List ℕ} {b t u : Option (List ℕ)} {p : Progress} {first now : Machine → Type 0} {old mid : DiskState} (turned : Turned (Some x) b t u p first now old mid) (is : first m) where
+  abbrev lines : List TraceLine
+  lines = turned.going.lines
+
+  -- nothing was done since the last reply
+  pub still_moments : Moments m (reading x) old mid
+  still_moments = of_reading m turned.going.read (turned.along m is)
+
+  pub still_spends : Spends (reading x) old mid
+  still_spends = spends_reading m turned.going.read old mid (turned.cost m is)
+
+  pub still_files : ((n : Machine) → now n → (e : List Sector) → mid.contents ≡ Some e → TellsSettled e n) → HasFilesAt m (reading x) mid (length lines) 0
+  still_files tells = files_of_reading m turned.going.read mid (files_end m lines mid (tells (last_of m lines) (turned.going.stands m is)))
+
+  -- one line more was read
+  module _ {c : Option (List ℕ)} {q : Progress} {line : TraceLine} (none : p.stopped ≡ None) (takes : TakesLine line b c p q) (goes : is_last line ≡ false) where
+    read_more : HasRead (Some x) c q (lines ++ line ∷ [])
+    read_more = HasRead-line (Some x) b c p q lines line turned.going.read none takes goes
+
+    pub line_moments : {new : DiskState} → Made now line mid new → Moments m (reading x) old new
+    line_moments made = of_reading m read_more (more_moments turned made m is)
+
+    pub line_spends : {new : DiskState} → mid.sectors ≡ old.sectors → Made now line mid new → Spends (reading x) old new
+    line_spends {new = new} same made = spends_reading m read_more old new (more_costs turned same made m is)
+
+    -- it has no reply
+    pub halt_files : {new : DiskState} → Made now line mid new → ((n : Machine) → now n → IsMachine n × (n.spaces ≡ root ∷ [])) → (i : ℕ) × HasFilesAt m (reading x) new (length lines) i
+    halt_files {new = new} made alone =
+        let n = last_of m lines in
+        let stands = turned.going.stands m is in
+        let some = line_files n line (alone n stands).0 (alone n stands).1 (made n stands).0 in
+        (some.0, files_of_begun m lines line read_more new some.0 some.1)
+
+    -- it has this reply
+    pub reply_files : {then : Machine → Type 0} {r : Reply} (new : DiskState) → Answers now then line r → ((n : Machine) → then n → (e : List Sector) → new.contents ≡ Some e → TellsSettled e n)
+        → HasFilesAt m (reading x) new (length (lines ++ line ∷ [])) 0
+    reply_files {then = then} new answers tells =
+        files_of_reading m read_more new
+        (files_end m (lines ++ line ∷ []) new
+        (tells (last_of m (lines ++ line ∷ [])) (subst then (sym (after_then m lines (line ∷ []))) (answers.next (last_of m lines) (turned.going.stands m is) goes))))
+
+    -- and it doesn't end the trace
+    pub line_not_close : c ≡ Some (rest_of x) → closes (reading x) ≡ true → ⊥
+    line_not_close left closed =
+        let open_still = not_closed x (lines ++ line ∷ []) (none-push is_last lines line turned.going.none_last goes) c q read_more left in
+        absurd (cc (closed, open_still))
+
+  -- the session is ended
+  module _ (new : DiskState) where
+    pub stopped_files : ((e : List Sector) → new.contents ≡ Some e → TellsSettled e (last_of m lines)) → HasFilesAt m (reading x) new (length lines) 0
+    stopped_files told = files_of_reading m turned.going.read new (files_end m lines new told)
+
+    pub end_moments : Throughout (IsStop (last_of m lines)) mid new → Moments m (reading x) old new
+    end_moments stops = of_reading m turned.going.read (ended_moments turned m is stops)
+
+    pub end_spent : mid.sectors ≡ old.sectors → CostsOther mid new → Spends (reading x) old new
+    end_spent same last = end_spends_reading m turned.going.read old mid new same (turned.cost m is) last
+
+    -- at the trace's end
+    module _ (how : End) (c : Option (List ℕ)) (q : Progress) (ended : EndsTrace how b c p q) where
+      end_shut : how ≢ end.Halt → (how ≢ end.Halt → HasShut (last_of m lines) new) → HasShut (after is_built m (reading x) (length (reading x))) new
+      end_shut other shut = subst (λ (n : Machine). HasShut n new) (sym (End-after m x b t u p first now turned.going how c q ended)) (by how other (shut other))
+        where
+          by : (how : End) → how ≢ end.Halt → HasShut (last_of m lines) new → HasShut (ended_by (last_of m lines) how) new
+          by end.Close other shut = shut_again (last_of m lines) new shut
+          by end.Halt other shut = absurd (other refl)
+          by end.Trace other shut = shut
+
+      pub end_closed : halts (reading x) ≡ false → (how ≢ end.Halt → HasShut (last_of m lines) new) → HasShut (after is_built m (reading x) (length (reading x))) new
+      end_closed going = end_shut (λ halted. let goes_on = sym (End-halts x b t u p first now turned.going how c q ended) ∙ going in absurd (cc (goes_on, halted)))
+
+      pub end_unheard : closes (reading x) ≡ true → (how ≢ end.Halt → HasShut (last_of m lines) new) → HasShut (after is_built m (reading x) (length (reading x))) new
+      end_unheard closed = end_shut (λ halted. let closes = sym (End-closes x b t u p first now turned.going how c q ended) ∙ closed in absurd (cc (closes, halted)))

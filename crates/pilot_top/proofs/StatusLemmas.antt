@@ -1,0 +1,18 @@
+-- What is left for a status where nothing failed.
+use Rattle.std.proofs.Common.{◌≡◌, ◌≢◌, ◌⊎◌, inl, inr, refl}
+use Rattle.pilot_top.specs.declared.status.Status.{Status}
+use Rattle.pilot_top.specs.declared.status.Status.TheVariants as status
+
+-- where nothing failed and the trace is short, a run of a sound volume is done, or it had no memory
+pub is_done : (s : Status) (disk source sink short : Type 0) → (s ≡ status.DiskFault → disk) → (s ≡ status.StreamFault → source ⊎ sink) → (s ≡ status.Long → short → ⊥)
+    → s ≢ status.NotOpened × s ≢ status.Damaged → s ≢ status.Usage × s ≢ status.Unfit
+    → short → (disk → ⊥) → (source → ⊥) → (sink → ⊥) → (s ≡ status.Done) ⊎ (s ≡ status.NoMemory)
+is_done status.Done disk source sink is_short on_disk on_stream on_long sound other short no_disk no_source no_sink = inl refl
+is_done status.NoMemory disk source sink is_short on_disk on_stream on_long sound other short no_disk no_source no_sink = inr refl
+is_done status.DiskFault disk source sink is_short on_disk on_stream on_long sound other short no_disk no_source no_sink = absurd (no_disk (on_disk refl))
+is_done status.StreamFault disk source sink is_short on_disk on_stream on_long sound other short no_disk no_source no_sink = elim (on_stream refl) [ inl h ↦ absurd (no_source h) | inr h ↦ absurd (no_sink h) ]
+is_done status.Long disk source sink is_short on_disk on_stream on_long sound other short no_disk no_source no_sink = absurd (on_long refl short)
+is_done status.NotOpened disk source sink is_short on_disk on_stream on_long sound other short no_disk no_source no_sink = absurd (sound.0 refl)
+is_done status.Damaged disk source sink is_short on_disk on_stream on_long sound other short no_disk no_source no_sink = absurd (sound.1 refl)
+is_done status.Usage disk source sink is_short on_disk on_stream on_long sound other short no_disk no_source no_sink = absurd (other.0 refl)
+is_done status.Unfit disk source sink is_short on_disk on_stream on_long sound other short no_disk no_source no_sink = absurd (other.1 refl)

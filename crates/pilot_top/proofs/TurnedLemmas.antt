@@ -1,0 +1,111 @@
+-- A run, turn by turn, with what it wrote to the disk.
+use Rattle.std.proofs.Common.{◌≡◌, inl, ℕ, ◌+◌, false, List, [], ◌∷◌, ◌++◌, length, Option, Some, None, sym, subst, arith, append-nil, length-append}
+use Rattle.std.specs.Io.KnownBytes.{Appends}
+use Rattle.labelled_disk.specs.State.{DiskState}
+use Rattle.flat_machine.specs.declared.call.Reply.{Reply}
+use Rattle.flat_machine.specs.After.{TraceLine}
+use Rattle.flat_machine.specs.Machine.{Machine}
+use Rattle.flat_machine.specs.Text.{text}
+use Rattle.trace_io.specs.Course.{HasRead}
+use Rattle.trace_io.specs.Lines.{TakesLine}
+use Rattle.trace_io.specs.Progress.{Progress}
+use Rattle.trace_io.specs.Reading.{is_last, reading}
+use Rattle.pilot_engine.specs.Bound.{CostsOther}
+use Rattle.pilot_engine.specs.Closing.{IsStop, Throughout}
+use Rattle.pilot_top.specs.Headline.{CostsLine, CostsLines, HasFilesAt}
+use Rattle.pilot_top.specs.Moments.{Lawfully, Moments}
+use Rattle.pilot_top.specs.Turn.{Answers}
+use Rattle.pilot_top.proofs.AlongLemmas.{by_itself}
+use Rattle.pilot_top.proofs.CostLemmas.{Spends, end_spends, front_spends, more_cost, none_cost}
+use Rattle.pilot_top.proofs.FrontLemmas.{read_front}
+use Rattle.pilot_top.proofs.LawfulRuns.{lawfully_then}
+use Rattle.pilot_top.proofs.PlaceLemmas.{files_before, files_behind}
+use Rattle.pilot_top.proofs.StagedLemmas.{from_end, moments_before, moments_then}
+use Rattle.pilot_top.proofs.TopLemmas.{Going, Going-start, Going-reply, last_of, reply_lines}
+
+-- what one line has written, and what it cost
+abbrev pub Made : (Machine → Type 0) → TraceLine → DiskState → DiskState → Type 0
+Made now line mid new = (m : Machine) → now m → Moments m (line ∷ []) mid new × CostsLine line mid new
+
+-- So many lines are answered, and these are the moments of what was written in them, and what they cost.
+pub record Turned (a c t u : Option (List ℕ)) (p : Progress) (first now : Machine → Type 0) (old new : DiskState) : Type 0 where
+  pub going : Going a c t u p first now
+  pub along : (m : Machine) → first m → Moments m going.lines old new
+  pub cost : (m : Machine) → first m → CostsLines going.lines old new
+  pub lawful : Lawfully old new
+
+pub Turned-start : (a t : Option (List ℕ)) (p : Progress) (first : Machine → Type 0) (disk : DiskState) → p.taken ≡ 0 → p.stopped ≡ None → ((m : Machine) → first m → Moments m [] disk disk) → Lawfully disk disk
+    → Turned a a t t p first first disk disk
+Turned-start a t p first disk none stopped along lawful = record {
+  going = Going-start a t p first none stopped;
+  along = along;
+  cost = λ m is. none_cost disk;
+  lawful = lawful;
+}
+
+module _ {a b t u : Option (List ℕ)} {p : Progress} {first now : Machine → Type 0} {old mid : DiskState} (turned : Turned a b t u p first now old mid) where
+  -- what one line more has written
+  pub more_moments : {new : DiskState} {line : TraceLine} → Made now line mid new → (m : Machine) → first m → Moments m (turned.going.lines ++ line ∷ []) old new
+  more_moments {line = line} made m is = moments_then m turned.going.lines (line ∷ []) (turned.along m is) (made (last_of m turned.going.lines) (turned.going.stands m is)).0
+
+  -- what the session's end has
+  pub ended_moments : (m : Machine) → first m → {new : DiskState} → Throughout (IsStop (last_of m turned.going.lines)) mid new → Moments m turned.going.lines old new
+  ended_moments m is {new = new} stops =
+      subst (λ (all : List TraceLine). Moments m all old new) (append-nil turned.going.lines) (moments_then m turned.going.lines [] (turned.along m is) (from_end (last_of m turned.going.lines) stops))
+
+  -- what a line more has cost
+  pub more_costs : {new : DiskState} {line : TraceLine} → mid.sectors ≡ old.sectors → Made now line mid new → (m : Machine) → first m → CostsLines (turned.going.lines ++ line ∷ []) old new
+  more_costs {new = new} {line = line} same made m is = more_cost turned.going.lines line old mid new same (turned.cost m is) (made (last_of m turned.going.lines) (turned.going.stands m is)).1
+
+  -- a line was answered, and others follow
+  pub Turned-reply : {c v : Option (List ℕ)} {q : Progress} {then : Machine → Type 0} {new : DiskState} {line : TraceLine} {r : Reply} → mid.sectors ≡ old.sectors → p.stopped ≡ None → TakesLine line b c p q → Answers now then line r
+      → is_last line ≡ false → Made now line mid new → Lawfully mid new → Appends u v (text r) → Turned a c t v q first then old new
+  Turned-reply {c = c} {v = v} {q = q} {then = then} {new = new} {line = line} {r = r} same none takes answers goes made lawful wrote = record {
+    going = Going-reply a b t u p first now turned.going c v q then line r none takes answers goes wrote;
+    along = subst (λ (lines : List TraceLine). (m : Machine) → first m → Moments m lines old new) (sym (reply_lines a b t u p first now turned.going c v q then line r none takes answers goes wrote))
+        (more_moments made);
+    cost = subst (λ (lines : List TraceLine). (m : Machine) → first m → CostsLines lines old new) (sym (reply_lines a b t u p first now turned.going c v q then line r none takes answers goes wrote))
+        (more_costs same made);
+    lawful = lawfully_then turned.lawful lawful;
+  }
+
+  -- where the source tells its bytes, and the sink
+  pub Turned-source : {x : List ℕ} → a ≡ Some x → Turned (Some x) b t u p first now old mid
+  Turned-source source = subst (λ r. Turned r b t u p first now old mid) source turned
+
+  pub Turned-told : {x y : List ℕ} → a ≡ Some x → t ≡ Some y → Turned (Some x) b (Some y) u p first now old mid
+  Turned-told {x = x} source sink = subst (λ s. Turned (Some x) b s u p first now old mid) sink (Turned-source source)
+
+-- for the same session under another name
+pub Turned-same : {S : Type 0} (disk : S → DiskState) (stands : S → Machine → Type 0) {s r : S} {a b t u : Option (List ℕ)} {p : Progress} {first : Machine → Type 0} {old : DiskState} → r ≡ s
+    → Turned a b t u p first (stands s) old (disk s) → Turned a b t u p first (stands r) old (disk r)
+Turned-same disk stands {a = a} {b = b} {t = t} {u = u} {p = p} {first = first} {old = old} same turned = subst (λ z. Turned a b t u p first (stands z) old (disk z)) (sym same) turned
+
+-- The whole trace.
+
+module _ (m : Machine) {x : List ℕ} {c : Option (List ℕ)} {q : Progress} {lines : List TraceLine} (read : HasRead (Some x) c q lines) where
+  pub of_reading : {old new : DiskState} → Moments m lines old new → Moments m (reading x) old new
+  of_reading {old = old} {new = new} on =
+      let front = read_front x c q lines read in
+      subst (λ (all : List TraceLine). Moments m all old new) (sym front.1) (moments_before m lines front.0 on)
+
+  pub spends_reading : (old new : DiskState) → CostsLines lines old new → Spends (reading x) old new
+  spends_reading old new cost = let front = read_front x c q lines read in front_spends lines front.0 (reading x) old new front.1 cost
+
+  pub end_spends_reading : (old mid new : DiskState) → mid.sectors ≡ old.sectors → CostsLines lines old mid → CostsOther mid new → Spends (reading x) old new
+  end_spends_reading old mid new same cost last = let front = read_front x c q lines read in end_spends lines front.0 (reading x) old mid new front.1 same cost last
+
+  pub files_of_reading : (disk : DiskState) → HasFilesAt m lines disk (length lines) 0 → HasFilesAt m (reading x) disk (length lines) 0
+  files_of_reading disk has =
+      let front = read_front x c q lines read in
+      subst (λ (all : List TraceLine). HasFilesAt m all disk (length lines) 0) (sym front.1) (files_before m lines front.0 disk (length lines) 0 (by_itself (length lines) 0) has)
+
+-- a line was begun behind these
+pub files_of_begun : (m : Machine) {x : List ℕ} {c : Option (List ℕ)} {q : Progress} (lines : List TraceLine) (line : TraceLine) → HasRead (Some x) c q (lines ++ line ∷ []) → (disk : DiskState) (i : ℕ)
+    → HasFilesAt (last_of m lines) (line ∷ []) disk 0 i → HasFilesAt m (reading x) disk (length lines) i
+files_of_begun m {x = x} {c = c} {q = q} lines line read disk i has =
+    let front = read_front x c q (lines ++ line ∷ []) read in
+    let here : HasFilesAt m (lines ++ line ∷ []) disk (length lines + 0) i = files_behind m lines (line ∷ []) disk 0 i has in
+    let there : HasFilesAt m (lines ++ line ∷ []) disk (length lines) i = subst (λ (k : ℕ). HasFilesAt m (lines ++ line ∷ []) disk k i) (omega arith) here in
+    subst (λ (all : List TraceLine). HasFilesAt m all disk (length lines) i) (sym front.1)
+    (files_before m (lines ++ line ∷ []) front.0 disk (length lines) i (inl (omega (arith, length-append lines (line ∷ [])))) there)

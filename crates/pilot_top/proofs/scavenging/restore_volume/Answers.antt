@@ -1,0 +1,38 @@
+use Rattle.std.proofs.Common.{List, ℕ, Err, refl, ap, ◌∙◌, subst}
+use Rattle.labelled_disk.specs.declared.layout.RootFault.{RootFault}
+use Rattle.labelled_disk.specs.Calls.{Rose}
+use Rattle.trace_io.specs.Stream.{AppendsFront}
+use Rattle.scavenger.specs.declared.fault.ScavengeFault.{ScavengeFault}
+use Rattle.pilot_top.specs.Last.{last_line, Puts}
+use Rattle.pilot_top.specs.declared.last.Cause.TheVariants as cause
+use Rattle.pilot_top.proofs.ReportingLemmas.{text_is}
+use Rattle.pilot_top.proofs.ScavengingLemmas.{not_restored, not_memory, same_root}
+use Rattle.pilot_top.proofs.scavenging.restore_volume.Goals as goal
+
+-- the volume is restored
+pub returns-in-Ok-put_report-clause-refused : goal.returns-in-Ok-put_report-clause-refused
+returns-in-Ok-put_report-clause-refused g c d f told none = absurd (not_restored c.restored.result f (c.restored.ensures.refused d f told none) _ c.in-Ok.is)
+
+pub returns-in-Ok-clause-refused : goal.returns-in-Ok-clause-refused
+returns-in-Ok-clause-refused g c d f told none = absurd (not_restored c.restored.result f (c.restored.ensures.refused d f told none) _ c.in-Ok.is)
+
+pub returns-in-Ok-clause-part_of_text : goal.returns-in-Ok-clause-part_of_text
+returns-in-Ok-clause-part_of_text g c is d told =
+    subst (λ (t : List ℕ). AppendsFront (g.K.Sink.took c.args.sink.now) (g.K.Sink.took c.put_report.new.sink) t) (text_is d c.in-Ok.report (c.in-Ok.ensures.reports d told))
+    c.in-Err-put_report.ensures.err
+
+-- the root is refused
+pub returns-in-Root-clause-count : goal.returns-in-Root-clause-count
+returns-in-Root-clause-count g c none = (
+  refl,
+  subst (λ (f : RootFault). Puts (Rose (g.K.Sink.faults c.args.sink.now) (g.K.Sink.faults c.put_last.new.sink)) (g.K.Sink.took c.args.sink.now) (g.K.Sink.took c.put_last.new.sink) (last_line (cause.Root f)))
+      (same_root c.restored.result c.in-Err.why _ _ c.in-Err.is c.in-Root.is (c.restored.ensures.count none)) c.put_last.ensures.put,
+)
+
+pub returns-in-Root-clause-not_opened : goal.returns-in-Root-clause-not_opened
+returns-in-Root-clause-not_opened g c d told is =
+    (c.in-Root.why, c.restored.ensures.refusal c.in-Root.why (c.in-Err.is ∙ ap (λ (x : ScavengeFault). Err x) c.in-Root.is) d told, c.put_last.ensures.put)
+
+-- there is no memory
+pub returns-clause-refused : goal.returns-clause-refused
+returns-clause-refused g c d f told none = absurd (not_memory c.restored.result f (c.restored.ensures.refused d f told none) c.in-Err.why c.in-Err.is c.in-NoMemory.is)

@@ -1,0 +1,62 @@
+-- What stands on the disk at each moment of a run.
+use Rattle.std.specs.Prelude.{◌≡◌, ◌⊎◌, ℕ, ◌<◌, ◌≤◌, List, length, Some, Option, slice_get, if◌then◌else◌}
+use Rattle.labelled_disk.specs.declared.disk.DiskWrite.{DiskWrite}
+use Rattle.labelled_disk.specs.Moment.{moment}
+use Rattle.labelled_disk.specs.Root.{root_page, short_at}
+use Rattle.labelled_disk.specs.Sectors.{Sector}
+use Rattle.labelled_disk.specs.State.{DiskState}
+use Rattle.labelled_disk.specs.WriteRuns.{Appended}
+use Rattle.labelled_disk.specs.Lawful.{Lawful}
+use Rattle.flat_machine.specs.After.{TraceLine, after}
+use Rattle.flat_machine.specs.Machine.{Machine}
+use Rattle.volume_root.specs.Sound.{Sound}
+use Rattle.session_words.specs.StandsFor.{TellsSettled}
+use Rattle.pilot_engine.specs.Stages.{last_step, stage}
+use Rattle.pilot_top.specs.Built.{is_built}
+
+-- the machine after so many steps of a line
+abbrev pub step_of : Machine → Option TraceLine → ℕ → Machine
+step_of m (Some (Some call)) i = if is_built call then stage m call i else m
+step_of m line i = m
+
+-- how many steps a line has at most
+abbrev pub steps_of : Machine → Option TraceLine → ℕ
+steps_of m (Some (Some call)) = if is_built call then last_step m call else 0
+steps_of m line = 0
+
+-- the machine after j lines and i steps of the next
+abbrev pub staged : Machine → List TraceLine → ℕ → ℕ → Machine
+staged m lines j i = step_of (after is_built m lines j) (slice_get lines j) i
+
+-- a place in a trace, so many lines and so many steps of the next, is not behind another
+abbrev pub IsBy : ℕ → ℕ → ℕ → ℕ → Type 0
+IsBy j i k h = (j < k) ⊎ ((j ≡ k) × (i ≤ h))
+
+-- Writes were made, and at each moment of them the disk has what it has at a place of the trace; the places lie between
+-- these two, and with each write there is the same or a later one.
+pub record Along (P : ℕ → ℕ → List Sector → Type 0) (j i k h : ℕ) (old new : DiskState) : Type 0 where
+  pub writes : List DiskWrite
+  pub appended : Appended writes old new
+  pub line : ℕ → ℕ
+  pub step : ℕ → ℕ
+  pub rise : (n m : ℕ) → n ≤ m → IsBy (line n) (step n) (line m) (step m)
+  pub first : (n : ℕ) → IsBy j i (line n) (step n)
+  pub last : (n : ℕ) → IsBy (line n) (step n) k h
+  pub each : (d : List Sector) (n : ℕ) → old.contents ≡ Some d → P (line n) (step n) (moment d writes n)
+
+-- the place is one of the trace; the disk tells the settled files of the machine there, its labels are right, and with a set
+-- clean flag the volume is sound
+pub record IsMoment (m : Machine) (lines : List TraceLine) (j i : ℕ) (d : List Sector) : Type 0 where
+  pub within : i ≤ steps_of (after is_built m lines j) (slice_get lines j)
+  pub told : TellsSettled d (staged m lines j i)
+  pub honest : short_at (root_page d) 10 ≡ 1 → Sound d
+
+-- the writes of a run of these lines, from the machine m
+abbrev pub Moments : Machine → List TraceLine → DiskState → DiskState → Type 0
+Moments m lines old new = Along (IsMoment m lines) 0 0 (length lines) 0 old new
+
+-- over any contents: each write was lawful at its moment
+pub record Lawfully (old new : DiskState) : Type 0 where
+  pub writes : List DiskWrite
+  pub appended : Appended writes old new
+  pub lawful : (d : List Sector) (k : ℕ) (w : DiskWrite) → old.contents ≡ Some d → slice_get writes k ≡ Some w → Lawful (moment d writes k) w

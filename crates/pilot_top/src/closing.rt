@@ -1,0 +1,110 @@
+//! The end of a trace, and of the session that it ran in.
+ghost use Rattle.std.specs.Prelude.{◌≡◌, ◌≢◌, ◌⊎◌, ◌≤◌, ℕ, List, Some, None, true};
+ghost use Rattle.std.specs.Io.KnownBytes.{Appends};
+ghost use Rattle.labelled_disk.specs.declared.evidence.Evidence.{Evidence};
+ghost use Rattle.labelled_disk.specs.Calls.{Rose};
+ghost use Rattle.flat_machine.specs.Machine.{Machine};
+ghost use Rattle.trace_io.specs.Stream.{IsFrontOf};
+ghost use Rattle.pilot_engine.specs.Bound.{CostsOther};
+ghost use Rattle.pilot_engine.specs.Closing.{HasShut, IsStop, Throughout, WroteOn};
+ghost use Rattle.pilot_engine.specs.Session.{IsOpen};
+ghost use Rattle.pilot_top.specs.Built.{StandsFor};
+ghost use Rattle.pilot_top.specs.Ending.{end_text};
+ghost use Rattle.pilot_top.specs.Last.{last_line, Puts};
+
+use crate::Status;
+use crate::last::Cause;
+use crate::stopping::stop;
+use crate::turn::End;
+use flat_machine::Reply;
+use labelled_disk::Disk;
+use pilot_engine::SessionOver;
+use std::alloc::Allocator;
+use trace_io::{Sink, write_reply};
+
+// Ends the session, and hands the disk back, with the status where that failed.
+fn close<D: Disk, A: Allocator, K: Sink>(
+    session: SessionOver<D, A>,
+    sink: &mut K,
+) -> (Option<Status>, D)
+    requires size { (D.state session.filer.swapper.under).sectors ≡ session.filer.swapper.layout.sectors }
+    requires opened { IsOpen session.filer.swapper.layout session.volume }
+    requires running { session.running ≡ true }
+    ensures closed { (m : Machine) → StandsFor (D.state session.filer.swapper.under) session.filer.swapper.pool session.filer.swapper.layout session.filer.runs session.volume m
+        → result.0 ≡ None → HasShut m (D.state result.1) }
+    ensures stops { (m : Machine) → StandsFor (D.state session.filer.swapper.under) session.filer.swapper.pool session.filer.swapper.layout session.filer.runs session.volume m
+        → Throughout (IsStop m) (D.state session.filer.swapper.under) (D.state result.1) }
+    ensures sound { (m : Machine) → StandsFor (D.state session.filer.swapper.under) session.filer.swapper.pool session.filer.swapper.layout session.filer.runs session.volume m
+        → result.0 ≢ Some Status.Damaged }
+    ensures cost { (m : Machine) → StandsFor (D.state session.filer.swapper.under) session.filer.swapper.pool session.filer.swapper.layout session.filer.runs session.volume m
+        → CostsOther (D.state session.filer.swapper.under) (D.state result.1) }
+    ensures quiet { result.0 ≡ None → sink.new ≡ sink.old }
+    ensures disk_line { result.0 ≡ Some Status.DiskFault
+        → Puts (Rose (K.faults sink.old) (K.faults sink.new)) (K.took sink.old) (K.took sink.new)
+        (last_line Cause.DiskFault) }
+    ensures disk_cause { result.0 ≡ Some Status.DiskFault
+        → Rose (D.state session.filer.swapper.under).faults (D.state result.1).faults }
+    ensures damage_line { result.0 ≡ Some Status.Damaged → (e : Evidence) × Puts (Rose (K.faults sink.old) (K.faults sink.new)) (K.took sink.old) (K.took sink.new)
+        (last_line (Cause.Damaged e)) }
+    ensures ends { (result.0 ≡ None) ⊎ (result.0 ≡ Some Status.DiskFault)
+        ⊎ (result.0 ≡ Some Status.Damaged) }
+    ensures wrote { WroteOn session.filer.swapper.pool (D.state session.filer.swapper.under) (D.state result.1) }
+    ensures later { K.faults sink.old ≤ K.faults sink.new }
+{
+    let (closed, disk) = session.finish();
+    match closed {
+        Ok(()) => (None, disk),
+        Err(halt) => (Some(stop(halt, sink)), disk),
+    }
+}
+
+/// Ends the session, unless the trace was stopped, and writes the reply to the line that ended it.
+pub(crate) fn end_trace<D: Disk, A: Allocator, K: Sink>(
+    session: SessionOver<D, A>,
+    end: End,
+    sink: &mut K,
+) -> (Status, D)
+    requires size { (D.state session.filer.swapper.under).sectors ≡ session.filer.swapper.layout.sectors }
+    requires opened { IsOpen session.filer.swapper.layout session.volume }
+    requires running { session.running ≡ true }
+    ensures closed { (m : Machine) → StandsFor (D.state session.filer.swapper.under) session.filer.swapper.pool session.filer.swapper.layout session.filer.runs session.volume m
+        → end ≢ End.Halt → (result.0 ≡ Status.Done) ⊎ (result.0 ≡ Status.StreamFault) → HasShut m (D.state result.1) }
+    ensures stops { (m : Machine) → StandsFor (D.state session.filer.swapper.under) session.filer.swapper.pool session.filer.swapper.layout session.filer.runs session.volume m
+        → Throughout (IsStop m) (D.state session.filer.swapper.under) (D.state result.1) }
+    ensures sound { (m : Machine) → StandsFor (D.state session.filer.swapper.under) session.filer.swapper.pool session.filer.swapper.layout session.filer.runs session.volume m
+        → result.0 ≢ Status.Damaged }
+    ensures halted { end ≡ End.Halt → result.1 ≡ session.filer.swapper.under }
+    ensures cost { (m : Machine) → StandsFor (D.state session.filer.swapper.under) session.filer.swapper.pool session.filer.swapper.layout session.filer.runs session.volume m
+        → CostsOther (D.state session.filer.swapper.under) (D.state result.1) }
+    ensures done { result.0 ≡ Status.Done → Appends (K.took sink.old) (K.took sink.new) (end_text end) }
+    ensures part { result.0 ≡ Status.StreamFault → (front : List ℕ) × IsFrontOf front (end_text end)
+        × Appends (K.took sink.old) (K.took sink.new) front }
+    ensures stream_cause { result.0 ≡ Status.StreamFault
+        → Rose (K.faults sink.old) (K.faults sink.new) × (end ≢ End.Trace) }
+    ensures disk_line { result.0 ≡ Status.DiskFault
+        → Puts (Rose (K.faults sink.old) (K.faults sink.new)) (K.took sink.old) (K.took sink.new)
+        (last_line Cause.DiskFault) }
+    ensures disk_cause { result.0 ≡ Status.DiskFault
+        → Rose (D.state session.filer.swapper.under).faults (D.state result.1).faults }
+    ensures damage_line { result.0 ≡ Status.Damaged → (e : Evidence) × Puts (Rose (K.faults sink.old) (K.faults sink.new)) (K.took sink.old) (K.took sink.new)
+        (last_line (Cause.Damaged e)) }
+    ensures ends { (result.0 ≡ Status.Done) ⊎ (result.0 ≡ Status.StreamFault)
+        ⊎ (result.0 ≡ Status.DiskFault) ⊎ (result.0 ≡ Status.Damaged) }
+    ensures wrote { WroteOn session.filer.swapper.pool (D.state session.filer.swapper.under) (D.state result.1) }
+    ensures later { K.faults sink.old ≤ K.faults sink.new }
+{
+    if end == End::Halt {
+        return match write_reply(sink, &Reply::Done) {
+            Ok(()) => (Status::Done, session.into_disk()),
+            Err(_) => (Status::StreamFault, session.into_disk()),
+        };
+    }
+    let (stopped, disk) = close(session, sink);
+    if let Some(status) = stopped {
+        return (status, disk);
+    }
+    if end != End::Trace && write_reply(sink, &Reply::Done).is_err() {
+        return (Status::StreamFault, disk);
+    }
+    (Status::Done, disk)
+}

@@ -1,0 +1,196 @@
+//! A volume is restored, and what was found is told.
+ghost use Rattle.std.specs.Prelude.{◌≡◌, ◌≢◌, ◌⊎◌, ◌++◌, ℕ, List, [], Some, Err, true, false, length, slice_get, IfOk, OnOk};
+ghost use Rattle.std.specs.Io.KnownBytes.{Appends};
+ghost use Rattle.labelled_disk.specs.Calls.{OnlyReads, Rose, TellsSame};
+ghost use Rattle.labelled_disk.specs.Layout.{IsCount};
+ghost use Rattle.labelled_disk.specs.Moment.{moment};
+ghost use Rattle.labelled_disk.specs.Sectors.{Sector};
+ghost use Rattle.labelled_disk.specs.WriteRuns.{Appended};
+ghost use Rattle.trace_io.specs.Stream.{IsFrontOf};
+ghost use Rattle.volume_root.specs.Format.{PartMade};
+ghost use Rattle.volume_root.specs.RootPage.{judged};
+ghost use Rattle.scavenger.specs.Opening.{Accords};
+ghost use Rattle.scavenger.specs.Orders.{Orders, AreFor, scavenge_writes};
+ghost use Rattle.scavenger.specs.Reported.{lost_in, Reports};
+ghost use Rattle.scavenger.specs.Restored.{IsRestored};
+ghost use Rattle.pilot_top.specs.Last.{last_line, Puts};
+ghost use Rattle.pilot_top.specs.Reporting.{restored_text};
+ghost use Rattle.pilot_top.specs.Scavenging.{IsBetween, IsNoVolume};
+
+use crate::Status;
+use crate::last::{Cause, put_last};
+use crate::reporting::put_report;
+use labelled_disk::{Disk, DiskWrite, RootFault};
+use scavenger::{Report, ScavengeFault, scavenge, scavenging_restores};
+use std::alloc::Allocator;
+use trace_io::Sink;
+use volume_root::read_root;
+
+// Whether there is a root, be the volume closed or not.
+fn look_at_root<D: Disk>(disk: &mut D) -> Result<(), ScavengeFault>
+    ensures count { ¬ IsCount (D.state disk.old).sectors
+        → result ≡ Err (ScavengeFault.Root (RootFault.BadCount (D.state disk.old).sectors)) }
+    ensures judged { IsCount (D.state disk.old).sectors → (g : List Sector)
+        → (D.state disk.old).contents ≡ Some g → (s : Sector) → slice_get g 0 ≡ Some s
+        → Accords result (judged false (length g) s) }
+    ensures only_reads { OnlyReads (D.state disk.old) (D.state disk.new) }
+    ensures cause { result ≡ Err ScavengeFault.Disk
+        → Rose (D.state disk.old).faults (D.state disk.new).faults }
+{
+    match read_root(disk, false) {
+        Ok(_) => Ok(()),
+        Err(why) => match why {
+            RootFault::Disk => Err(ScavengeFault::Disk),
+            _ => Err(ScavengeFault::Root(why)),
+        },
+    }
+}
+
+// An empty report, with room for so many lost sectors.
+fn empty_report<A: Allocator + Clone>(alloc: &A, sectors: u32) -> Result<Report<A>, ScavengeFault>
+    ensures empty { IfOk result (λ report. lost_in report ≡ []) }
+    ensures memory { (why : ScavengeFault) → result ≡ Err why → why ≡ ScavengeFault.NoMemory }
+{
+    let Ok(own) = alloc.clone() else {
+        return Err(ScavengeFault::NoMemory);
+    };
+    let Ok(report) = Report::with_room(own, sectors) else {
+        return Err(ScavengeFault::NoMemory);
+    };
+    Ok(report)
+}
+
+// Restores the volume of a disk, and gives what was found.
+fn restored<A: Allocator + Clone, D: Disk>(
+    alloc: A,
+    disk: &mut D,
+) -> Result<Report<A>, ScavengeFault>
+    ensures restored { OnOk result ((g : List Sector) → (D.state disk.old).contents ≡ Some g
+        → (h : List Sector) × ((D.state disk.new).contents ≡ Some h) × IsRestored g h) }
+    ensures reports { IfOk result (λ report. (g : List Sector) → (D.state disk.old).contents ≡ Some g
+        → Reports g report) }
+    ensures synced { OnOk result ((D.state disk.new).synced ≡ true) }
+
+    // The writes: all of them, or where the disk failed none or some first ones.
+    ensures made { OnOk result ((g : List Sector) → (D.state disk.old).contents ≡ Some g
+        → (o : Orders) × AreFor g o
+        × Appended (scavenge_writes o) (D.state disk.old) (D.state disk.new)) }
+    ensures part { result ≡ Err ScavengeFault.Disk
+        → (g : List Sector) → (D.state disk.old).contents ≡ Some g
+        → TellsSame (D.state disk.old) (D.state disk.new) ⊎ ((o : Orders) × AreFor g o
+        × PartMade (scavenge_writes o) (D.state disk.old) (D.state disk.new)) }
+    ensures moments { (g : List Sector) (before writes : List DiskWrite)
+        → (D.state disk.old).contents ≡ Some g → (D.state disk.old).writes ≡ Some before
+        → (D.state disk.new).writes ≡ Some (before ++ writes)
+        → (k : ℕ) → IsBetween g (moment g writes k) }
+
+    // The disk has no volume that can be restored.
+    ensures count { ¬ IsCount (D.state disk.old).sectors
+        → result ≡ Err (ScavengeFault.Root (RootFault.BadCount (D.state disk.old).sectors)) }
+    ensures refusal { (why : RootFault) → result ≡ Err (ScavengeFault.Root why)
+        → (g : List Sector) → (D.state disk.old).contents ≡ Some g → IsNoVolume g why }
+    ensures refused { (g : List Sector) (why : RootFault) → (D.state disk.old).contents ≡ Some g
+        → IsNoVolume g why
+        → (result ≡ Err (ScavengeFault.Root why)) ⊎ (result ≡ Err ScavengeFault.Disk) }
+    ensures refused_unwritten { (g : List Sector) (why : RootFault)
+        → (D.state disk.old).contents ≡ Some g → IsNoVolume g why
+        → OnlyReads (D.state disk.old) (D.state disk.new) }
+
+    ensures unwritten { (why : ScavengeFault) → result ≡ Err why → why ≢ ScavengeFault.Disk
+        → OnlyReads (D.state disk.old) (D.state disk.new) }
+    ensures cause { result ≡ Err ScavengeFault.Disk
+        → Rose (D.state disk.old).faults (D.state disk.new).faults }
+{
+    scavenging_restores();
+    look_at_root(disk)?;
+    let mut report = empty_report(&alloc, disk.sectors())?;
+    scavenge(alloc, disk, &mut report)?;
+    Ok(report)
+}
+
+/// Restores the volume of a disk, and writes what was found. A root that is refused comes before
+/// want of memory.
+pub(crate) fn restore_volume<A: Allocator + Clone, D: Disk, K: Sink>(
+    alloc: A,
+    disk: &mut D,
+    sink: &mut K,
+) -> Status
+    ensures ends { (result ≡ Status.Done) ⊎ (result ≡ Status.StreamFault)
+        ⊎ (result ≡ Status.DiskFault) ⊎ (result ≡ Status.NotOpened) ⊎ (result ≡ Status.NoMemory) }
+
+    // What is restored, and told.
+    ensures restored { (result ≡ Status.Done) ⊎ (result ≡ Status.StreamFault)
+        → (g : List Sector) → (D.state disk.old).contents ≡ Some g
+        → (h : List Sector) × ((D.state disk.new).contents ≡ Some h) × IsRestored g h }
+    ensures synced { (result ≡ Status.Done) ⊎ (result ≡ Status.StreamFault)
+        → (D.state disk.new).synced ≡ true }
+    ensures text { result ≡ Status.Done → (g : List Sector) → (D.state disk.old).contents ≡ Some g
+        → Appends (K.took sink.old) (K.took sink.new) (restored_text g) }
+    ensures part_of_text { result ≡ Status.StreamFault → (g : List Sector)
+        → (D.state disk.old).contents ≡ Some g
+        → (front : List ℕ) × IsFrontOf front (restored_text g)
+        × Appends (K.took sink.old) (K.took sink.new) front }
+    ensures stream_cause { result ≡ Status.StreamFault
+        → Rose (K.faults sink.old) (K.faults sink.new) }
+
+    // The writes: all of them, or where the disk failed none or some first ones.
+    ensures made { (result ≡ Status.Done) ⊎ (result ≡ Status.StreamFault)
+        → (g : List Sector) → (D.state disk.old).contents ≡ Some g
+        → (o : Orders) × AreFor g o
+        × Appended (scavenge_writes o) (D.state disk.old) (D.state disk.new) }
+    ensures part { result ≡ Status.DiskFault
+        → (g : List Sector) → (D.state disk.old).contents ≡ Some g
+        → TellsSame (D.state disk.old) (D.state disk.new) ⊎ ((o : Orders) × AreFor g o
+        × PartMade (scavenge_writes o) (D.state disk.old) (D.state disk.new)) }
+    ensures moments { (g : List Sector) (before writes : List DiskWrite)
+        → (D.state disk.old).contents ≡ Some g → (D.state disk.old).writes ≡ Some before
+        → (D.state disk.new).writes ≡ Some (before ++ writes)
+        → (k : ℕ) → IsBetween g (moment g writes k) }
+
+    // The disk has no volume that can be restored.
+    ensures count { ¬ IsCount (D.state disk.old).sectors → result ≡ Status.NotOpened
+        × Puts (Rose (K.faults sink.old) (K.faults sink.new)) (K.took sink.old) (K.took sink.new)
+        (last_line (Cause.Root (RootFault.BadCount (D.state disk.old).sectors))) }
+    ensures not_opened { (g : List Sector) → (D.state disk.old).contents ≡ Some g
+        → result ≡ Status.NotOpened → (why : RootFault) × IsNoVolume g why
+        × Puts (Rose (K.faults sink.old) (K.faults sink.new)) (K.took sink.old) (K.took sink.new)
+        (last_line (Cause.Root why)) }
+    ensures refused { (g : List Sector) (why : RootFault) → (D.state disk.old).contents ≡ Some g
+        → IsNoVolume g why → result ≡ Status.NotOpened ⊎ result ≡ Status.DiskFault }
+    ensures refused_unwritten { (g : List Sector) (why : RootFault)
+        → (D.state disk.old).contents ≡ Some g → IsNoVolume g why
+        → OnlyReads (D.state disk.old) (D.state disk.new) }
+    ensures refused_line { result ≡ Status.NotOpened → (why : RootFault)
+        × Puts (Rose (K.faults sink.old) (K.faults sink.new)) (K.took sink.old) (K.took sink.new)
+        (last_line (Cause.Root why)) }
+    ensures unwritten { result ≡ Status.NotOpened → OnlyReads (D.state disk.old) (D.state disk.new) }
+
+    // Nothing is touched where there is no memory.
+    ensures no_memory { result ≡ Status.NoMemory
+        → OnlyReads (D.state disk.old) (D.state disk.new) × sink.new ≡ sink.old }
+
+    // The disk failed.
+    ensures disk_cause { result ≡ Status.DiskFault
+        → Rose (D.state disk.old).faults (D.state disk.new).faults }
+    ensures disk_line { result ≡ Status.DiskFault
+        → Puts (Rose (K.faults sink.old) (K.faults sink.new)) (K.took sink.old) (K.took sink.new)
+        (last_line Cause.DiskFault) }
+{
+    match restored(alloc, disk) {
+        Ok(report) => match put_report(sink, &report) {
+            Ok(()) => Status::Done,
+            Err(_) => Status::StreamFault,
+        },
+        Err(why) => match why {
+            ScavengeFault::Root(why) => {
+                put_last(sink, Cause::Root(why));
+                Status::NotOpened
+            }
+            ScavengeFault::Disk => {
+                put_last(sink, Cause::DiskFault);
+                Status::DiskFault
+            }
+            ScavengeFault::NoMemory => Status::NoMemory,
+        },
+    }
+}
