@@ -2,12 +2,13 @@
 use Rattle.std.proofs.Common.{◌≡◌, ◌⊎◌, inl, inr, ℕ, ◌+◌, ◌-◌, ◌*◌, ◌<◌, ◌≤◌, List, length, Some, refl, sym, ◌∙◌, ap, subst, arith}
 use Rattle.std.specs.Prelude.{slice_get}
 use Rattle.std.proofs.lemmas.Bool.{cases_lt, cases_eq}
-use Rattle.std.proofs.lemmas.Option.{same_Some}
+use Rattle.std.proofs.lemmas.Option.{same_Some, none-some}
 use Rattle.labelled_disk.specs.Sectors.{Sector}
 use Rattle.labelled_disk.specs.declared.evidence.Halt.{Halt}
 use Rattle.file_map.specs.FileMap.{Triples}
 use Rattle.frame_pool.specs.ListLaws.{below_of}
 use Rattle.flat_machine.specs.declared.space.Space.{Space}
+use Rattle.flat_machine.specs.Space.{root_pages}
 use Rattle.swap_units.specs.declared.interval.Interval.{Interval}
 use Rattle.swap_units.specs.Unit.{Holds}
 use Rattle.swapper_kernel.specs.Homes.{IsLayout}
@@ -23,7 +24,8 @@ use Rattle.fault_core.specs.Told.{BreaksTables, Told}
 use Rattle.fault_core.specs.View.{View}
 use Rattle.fault_core.proofs.AccessLemmas.{breaks_before}
 use Rattle.fault_core.proofs.ReachLemmas.{reaches_itself, reaches_then, halts_before}
-use Rattle.fault_core.proofs.RestLemmas.{rests_stay, rest_then, rest_nowhere, rest_narrower}
+use Rattle.fault_core.proofs.RestLemmas.{rests_stay, rest_then, rest_nowhere}
+use Rattle.fault_core.proofs.ShowLemmas.{none_past}
 
 -- all was passed, or each interval that has the page has at least so many before it
 abbrev pub IsAhead : List Interval → ℕ → ℕ → ℕ → ℕ → Type 0
@@ -118,13 +120,20 @@ module _ {v : View} {kept : List Interval} {count : ℕ} {way : Way} {first stop
   pub resting_stopped : (x : View) → Reaches w x → Reaches v x
   resting_stopped x next = reaches_then v w is h.reaches x next
 
-  -- all was passed
-  pub resting_done : stop ≤ page → (m : List Sector) (named : Triples) (ss : List Space) → Told v kept count m named ss → AreAtRest way ss w.slots first stop
-  resting_done past m named ss told = rest_narrower way ss w.slots first page stop past (h.told m named ss told).1
+  -- the last page up to this one, or of the root, is reached
+  module _ (to : ℕ) (all : (p : ℕ) → p < to → p < root_pages → p < stop) where
+    pub resting_done : stop ≤ page → (m : List Sector) (named : Triples) (ss : List Space) → Told v kept count m named ss → AreAtRest way ss w.slots first to
+    resting_done past m named ss told p u from below shown = elim (cases_lt p page) [
+      | inl front ↦ (h.told m named ss told).1 p u from front shown
+      | inr behind ↦ elim (cases_lt p root_pages) [
+        | inl inside ↦ let before = all p below inside in absurd (omega (arith, before, past, behind))
+        | inr outside ↦ absurd (none-some u (sym (none_past told.tables p outside) ∙ shown))
+      ]
+    ]
 
-  -- so many steps pass all
-  pub resting_all : count < k → (m : List Sector) (named : Triples) (ss : List Space) → Told v kept count m named ss → AreAtRest way ss w.slots first stop
-  resting_all most m named ss told = elim (h.told m named ss told).2 [ inl past ↦ resting_done past m named ss told | inr (few, behind) ↦ absurd (omega (arith, few, most)) ]
+    -- so many steps reach it
+    pub resting_all : count < k → (m : List Sector) (named : Triples) (ss : List Space) → Told v kept count m named ss → AreAtRest way ss w.slots first to
+    resting_all most m named ss told = elim (h.told m named ss told).2 [ inl past ↦ resting_done past m named ss told | inr (few, behind) ↦ absurd (omega (arith, few, most)) ]
 
   more_steps : (i d a t u : ℕ) → t ≤ u + i * a → t ≤ u + (i + d) * a
   more_steps i d a t u low = omega (arith, low)

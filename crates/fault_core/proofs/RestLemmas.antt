@@ -68,9 +68,6 @@ rest_then way ss s a b c first next page shown above below is = elim (cases_lt p
 pub rest_nowhere : (way : Way) (ss : List Space) (s : Slots) (a : ℕ) → AreAtRest way ss s a a
 rest_nowhere way ss s a page shown above below is = absurd (omega (arith, above, below))
 
-pub rest_narrower : (way : Way) (ss : List Space) (s : Slots) (a b c : ℕ) → c ≤ b → AreAtRest way ss s a b → AreAtRest way ss s a c
-rest_narrower way ss s a b c less rest page shown above below is = rest page shown above (omega (arith, below, less)) is
-
 -- ---- What one interval shows.
 
 module _ {tells : List ℕ → Type 0} {count : ℕ} {ss : List Space} (t : TellSpaces tells count ss) (way : Way) (s : Slots) (page next : ℕ) where

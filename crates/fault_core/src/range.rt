@@ -1,5 +1,5 @@
 //! What windows show in a range of pages is forced, or its frames are let go.
-ghost use Rattle.std.specs.Prelude.{◌≡◌, ◌≤◌, ◌<◌, ◌+◌, ◌*◌, ◌^◌, ℕ, List, length, IfOk, IfErr, OnOk};
+ghost use Rattle.std.specs.Prelude.{◌≡◌, ◌≤◌, ◌<◌, ◌+◌, ◌*◌, ℕ, List, length, IfOk, IfErr, OnOk};
 ghost use Rattle.labelled_disk.specs.declared.evidence.Halt.TheVariants as halt;
 ghost use Rattle.labelled_disk.specs.Sectors.{Sector};
 ghost use Rattle.file_map.specs.FileMap.{Triples};
@@ -11,6 +11,7 @@ ghost use Rattle.fault_core.specs.Reach.{Reaches, ReachHalts, BringsOwn, no_brea
 ghost use Rattle.fault_core.specs.Told.{BreaksTables, Known};
 
 use crate::CoreOver;
+use crate::walk::end_of;
 use filer_kernel::FilerOver;
 use labelled_disk::{Disk, FileId, Halt};
 use std::alloc::Allocator;
@@ -120,10 +121,9 @@ impl<D: Disk, A: Allocator> CoreOver<D, A> {
         }
     }
 
-    // What windows show in a range of pages comes to rest, interval by interval.
+    // What windows show in a range of pages of the root comes to rest, interval by interval.
     fn rest_range(&mut self, way: Way, first: u32, pages: u32) -> Result<(), Halt>
         requires size { (D.state self.old.filer.swapper.under).sectors ≡ self.old.filer.swapper.layout.sectors }
-        requires fits { first + pages < 2 ^ 32 }
         ensures rest { (m : List Sector) (named : Triples) (ss : List Space) → Knows self.old m named ss → OnOk result (AreAtRest way ss self.new.filer.swapper.pool first (first + pages)) }
         ensures cause { IfErr result (ReachHalts (BreaksSome (state self.old) self.old.intervals) (state self.old) (state self.new)) }
         ensures sound { (m : List Sector) (named : Triples) (ss : List Space) → Knows self.old m named ss → IfErr result (λ e. e ≡ halt.Disk) }
@@ -133,7 +133,7 @@ impl<D: Disk, A: Allocator> CoreOver<D, A> {
         ensures intervals { self.new.intervals ≡ self.old.intervals }
         ensures cost { (D.state self.new.filer.swapper.under).transfers ≤ (D.state self.old.filer.swapper.under).transfers + (self.old.intervals + 1) * (196 + length self.old.filer.swapper.pool) }
     {
-        let end = first + pages;
+        let end = end_of(first, pages);
         let mut page = first;
         for _part in 0..self.intervals + 1 {
             if page >= end {
@@ -147,10 +147,9 @@ impl<D: Disk, A: Allocator> CoreOver<D, A> {
         Ok(())
     }
 
-    /// Writes out the dirty frames of the pages that windows show in a range.
+    /// Writes out the dirty frames of the pages that windows show in a range of pages of the root.
     pub fn force(&mut self, first: u32, pages: u32) -> Result<(), Halt>
         requires size { (D.state self.old.filer.swapper.under).sectors ≡ self.old.filer.swapper.layout.sectors }
-        requires fits { first + pages < 2 ^ 32 }
         ensures clean { (m : List Sector) (named : Triples) (ss : List Space) → Knows self.old m named ss → OnOk result (AreAtRest way_is.Force ss self.new.filer.swapper.pool first (first + pages)) }
         ensures cause { IfErr result (ReachHalts (BreaksSome (state self.old) self.old.intervals) (state self.old) (state self.new)) }
         ensures sound { (m : List Sector) (named : Triples) (ss : List Space) → Knows self.old m named ss → IfErr result (λ e. e ≡ halt.Disk) }
@@ -163,10 +162,9 @@ impl<D: Disk, A: Allocator> CoreOver<D, A> {
         self.rest_range(Way::Force, first, pages)
     }
 
-    /// Gives up the frames of the pages that windows show in a range. What is dirty is written out first.
+    /// Gives up the frames of the pages that windows show in a range of pages of the root. What is dirty is written out first.
     pub fn let_go(&mut self, first: u32, pages: u32) -> Result<(), Halt>
         requires size { (D.state self.old.filer.swapper.under).sectors ≡ self.old.filer.swapper.layout.sectors }
-        requires fits { first + pages < 2 ^ 32 }
         ensures gone { (m : List Sector) (named : Triples) (ss : List Space) → Knows self.old m named ss → OnOk result (AreAtRest way_is.LetGo ss self.new.filer.swapper.pool first (first + pages)) }
         ensures cause { IfErr result (ReachHalts (BreaksSome (state self.old) self.old.intervals) (state self.old) (state self.new)) }
         ensures sound { (m : List Sector) (named : Triples) (ss : List Space) → Knows self.old m named ss → IfErr result (λ e. e ≡ halt.Disk) }

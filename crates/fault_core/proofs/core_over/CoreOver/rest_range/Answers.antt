@@ -5,12 +5,12 @@ use Rattle.fault_core.proofs.RangeLemmas.{resting_none, resting_more, resting_ha
 use Rattle.fault_core.proofs.core_over.CoreOver.rest_range.Goals as goal
 
 pub loop-part-init : goal.loop-part-init
-loop-part-init g c = resting_none (state c.args.self.now) (kept c.args.self.now) c.args.self.now.intervals c.args.way c.args.first (c.args.first + c.args.pages) c.requires.size
+loop-part-init g c = resting_none (state c.args.self.now) (kept c.args.self.now) c.args.self.now.intervals c.args.way c.args.first c.end_of-end.result c.requires.size
 
 -- ---- All was passed.
 
 pub returns-then-page-end-clause-rest : goal.returns-then-page-end-clause-rest
-returns-then-page-end-clause-rest g c = resting_done c.args.self.now.filer.swapper.accepted c.loop-part.invariant c.if-page-end.true
+returns-then-page-end-clause-rest g c = resting_done c.args.self.now.filer.swapper.accepted c.loop-part.invariant (c.args.first + c.args.pages) c.end_of-end.ensures.all c.if-page-end.true
 
 pub returns-then-page-end-clause-same : goal.returns-then-page-end-clause-same
 returns-then-page-end-clause-same g c = λ m named ss knows. (c.loop-part.invariant.told m named ss knows).0
@@ -68,7 +68,7 @@ pub returns-clause-rest : goal.returns-clause-rest
 returns-clause-rest g c =
     let past = c.loop-part-test.false in
     let most : c.args.self.now.intervals < c.loop-part._part = omega (arith, past) in
-    resting_all c.args.self.now.filer.swapper.accepted c.loop-part.invariant most
+    resting_all c.args.self.now.filer.swapper.accepted c.loop-part.invariant (c.args.first + c.args.pages) c.end_of-end.ensures.all most
 
 pub returns-clause-same : goal.returns-clause-same
 returns-clause-same g c = λ m named ss knows. (c.loop-part.invariant.told m named ss knows).0
