@@ -63,6 +63,13 @@ impl<D: Disk, A: Allocator> CoreOver<D, A> {
         self.descriptors.clear();
     }
 
+    /// How many intervals the projection has, 1 to 1,023.
+    pub fn interval_count(&self) -> u32
+        ensures { result ≡ self.now.intervals }
+    {
+        self.intervals
+    }
+
     /// How many intervals the projection has now, 1 to 1,023.
     pub fn keep_count(&mut self, intervals: u32)
         requires some { 1 ≤ intervals }
