@@ -143,7 +143,10 @@ module _ (ss : List Space) (writes : Bool) (address count : ℕ) where
 -- ---- A second page is described after the first.
 
 pub breaks_before : (v w : View) → Reaches v w → (n k asked page : ℕ) → k ≡ n → BreaksTables w k asked page → BreaksTables v n asked page
-breaks_before v w h n k asked page same breaks b told = subst (λ (j : ℕ). BreaksLookUp asked j b page) same (breaks b (h.told b told))
+breaks_before v w h n k asked page same g = record {
+  in_root = g.in_root;
+  breaks = λ b told. subst (λ (j : ℕ). BreaksLookUp asked j b page) same (g.breaks b (h.told b told));
+}
 
 pub ready_same : (k l : List Interval) (s t : Slots) (page : ℕ) → l ≡ k → t ≡ s → IsReady k s page → IsReady l t page
 ready_same k l s t page kept slots ready = rw (kept, slots) ready

@@ -133,7 +133,10 @@ module _ {v : View} {kept : List Interval} {count first pages stop : ℕ} {w : V
         asked = page;
         from = h.from;
         below = below;
-        breaks = λ b told. subst (λ (j : ℕ). BreaksLookUp page j b broken) h.intervals (breaks b (h.touches.told b told));
+        breaks = record {
+          in_root = breaks.in_root;
+          breaks = λ b told. subst (λ (j : ℕ). BreaksLookUp page j b broken) h.intervals (breaks.breaks b (h.touches.told b told));
+        };
       }) x x (omega arith) e halts
 
   pub killing_cost : (x : View) (n : ℕ) → k < n → x.disk.transfers ≤ w.disk.transfers + 196 → x.disk.transfers ≤ v.disk.transfers + n * 196

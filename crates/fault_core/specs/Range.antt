@@ -30,7 +30,7 @@ AreAtRest way spaces slots from to = (page : ℕ) (shown : FilePage) → from �
 abbrev pub IsNextPart : List Space → ℕ → ℕ → ℕ → Type 0
 IsNextPart spaces page end next = (next ≡ end) ⊎ ((x : Interval) × IsIntervalAt spaces page x × (next ≡ x.first + x.pages))
 
--- a page of the tables breaks its form for the look-up of some page
+-- a page of the tables breaks its form for the look-up of some page of the root
 abbrev pub BreaksSome : View → ℕ → ℕ → Type 0
 BreaksSome v count page = (asked : ℕ) × BreaksTables v count asked page
 

@@ -8,6 +8,7 @@ use Rattle.file_map.specs.FileMap.{Triples}
 use Rattle.flat_machine.specs.declared.space.Space.{Space}
 use Rattle.flat_machine.specs.declared.space.FilePage.{FilePage}
 use Rattle.flat_machine.specs.At.{shown_at}
+use Rattle.flat_machine.specs.Space.{root_pages}
 use Rattle.swap_units.specs.declared.interval.Interval.{Interval}
 use Rattle.projection_laws.specs.Sight.{AreIntervals}
 use Rattle.space_tables.specs.Form.{BreaksLookUp}
@@ -66,6 +67,7 @@ pub record Told (v : View) (kept : List Interval) (count : ℕ) (memory : List S
   pub cached : (x : Interval) → IsKept kept x → IsIntervalOf spaces x
   pub stored : AreStored named memory spaces
 
--- where the tables are told, a page of them breaks its form for the look-up of this page
-abbrev pub BreaksTables : View → ℕ → ℕ → ℕ → Type 0
-BreaksTables v count asked page = (b : List ℕ) → TablesAre v b → BreaksLookUp asked count b page
+-- a page of the root was looked up, and where the tables are told, a page of them breaks its form for that
+pub record BreaksTables (v : View) (count asked page : ℕ) : Type 0 where
+  pub in_root : asked < root_pages
+  pub breaks : (b : List ℕ) → TablesAre v b → BreaksLookUp asked count b page

@@ -19,6 +19,7 @@ ghost use Rattle.fault_core.specs.Reach.{Reaches, ReachHalts, BringsOwn};
 ghost use Rattle.fault_core.specs.Told.{Known, BreaksTables};
 
 use crate::CoreOver;
+use crate::walk::ROOT_PAGES;
 use filer_kernel::{FilerOver, Window1Over};
 use labelled_disk::{Disk, Evidence, Halt};
 use space_tables::{SpaceError, SpaceTables};
@@ -70,6 +71,9 @@ fn look_up<D: Disk, A: Allocator>(
     ensures came { BringsOwn filer.old.swapper.pool filer.new.swapper.pool }
     ensures cost { (D.state filer.new.swapper.under).transfers ≤ (D.state filer.old.swapper.under).transfers + 196 }
 {
+    if page >= ROOT_PAGES {
+        return Ok(None);
+    }
     match ask(filer, intervals, page) {
         Ok(found) => Ok(found),
         Err(SpaceError::Malformed { page }) => Err(Halt::Damaged(Evidence::Malformed {

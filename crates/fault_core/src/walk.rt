@@ -19,7 +19,7 @@ use std::alloc::Allocator;
 use swap_units::Interval;
 
 /// The pages of the root.
-const ROOT_PAGES: u32 = 8126464;
+pub(crate) const ROOT_PAGES: u32 = 8126464;
 
 /// Where so many pages from one on end, or the root does.
 pub(crate) fn end_of(first: u32, pages: u32) -> u32

@@ -19,7 +19,13 @@ returns-in-Ok-clause-interval g c = λ b ss told t. c.in-Ok.ensures.interval ss 
 
 pub returns-in-Err-Malformed-clause-cause : goal.returns-in-Err-Malformed-clause-cause
 returns-in-Err-Malformed-clause-cause g c =
-    inr (refl, λ b tells. subst (IfMalformed (BreaksLookUp c.args.page c.args.intervals b)) c.in-Err-Malformed.field-0-is (c.in-Err-Malformed.ensures.malformed b tells))
+    inr (
+      refl,
+      record {
+        in_root = c.if-page-ge-ROOT_PAGES.false;
+        breaks = λ b tells. subst (IfMalformed (BreaksLookUp c.args.page c.args.intervals b)) c.in-Err-Malformed.field-0-is (c.in-Err-Malformed.ensures.malformed b tells);
+      },
+    )
 
 pub returns-in-Err-Malformed-clause-sound : goal.returns-in-Err-Malformed-clause-sound
 returns-in-Err-Malformed-clause-sound g c = λ m named b ss known t.
