@@ -1,0 +1,7 @@
+//! Tests of loads and stores over a new volume in memory.
+#![tactic(auto)]
+
+#[cfg(test)]
+mod calls;
+#[cfg(test)]
+mod faults;
