@@ -1,12 +1,12 @@
-mod BeforeLemmas
-mod ReachLemmas
-mod TurnLemmas
+pub mod BeforeLemmas
+pub mod ReachLemmas
+pub mod TurnLemmas
 mod FindLemmas
 mod UnitLemmas
 mod KeptLemmas
-mod ShowLemmas
-mod ToldLemmas
-mod AskLemmas
+pub mod ShowLemmas
+pub mod ToldLemmas
+pub mod AskLemmas
 mod AccessLemmas
 mod LendLemmas
 mod RunLemmas
@@ -15,11 +15,12 @@ mod PieceLemmas
 mod StoreLemmas
 mod LeaveLemmas
 mod PlanLemmas
-mod AllowedLemmas
-mod AnswerLemmas
+pub mod AllowedLemmas
+pub mod AnswerLemmas
 mod RestLemmas
 mod RangeLemmas
-mod ForcedLemmas
+pub mod ForcedLemmas
 mod ForgetLemmas
 mod KilledLemmas
 mod KillLemmas
+mod ActivateLemmas

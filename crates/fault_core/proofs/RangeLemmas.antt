@@ -1,6 +1,6 @@
 -- The intervals of a range, one after the other.
 use Rattle.std.proofs.Common.{◌≡◌, ◌⊎◌, inl, inr, ℕ, ◌+◌, ◌-◌, ◌*◌, ◌<◌, ◌≤◌, List, length, Some, refl, sym, ◌∙◌, ap, subst, arith}
-use Rattle.std.specs.Prelude.{slice_get}
+use Rattle.std.specs.Prelude.{slice_get, find}
 use Rattle.std.proofs.lemmas.Bool.{cases_lt, cases_eq}
 use Rattle.std.proofs.lemmas.Option.{same_Some, none-some}
 use Rattle.labelled_disk.specs.Sectors.{Sector}
@@ -18,13 +18,18 @@ use Rattle.projection_laws.proofs.Finds.{firsts_are_rising}
 use Rattle.projection_laws.proofs.OneLemmas.{intervals_are_one}
 use Rattle.space_tables.specs.Stored.{TellSpaces}
 use Rattle.fault_core.specs.declared.range.Way.{Way}
-use Rattle.fault_core.specs.Range.{AreAtRest, BreaksSome, IsNextPart}
+use Rattle.descriptor_cache.specs.Pages.{has_page}
+use Rattle.frame_pool.specs.Frames.{Slots}
+use Rattle.fault_core.specs.Range.{AreAtRest, BreaksSome, IsNextPart, LeavesFrames}
+use Rattle.fault_core.specs.Unit.{file_page}
 use Rattle.fault_core.specs.Reach.{Reaches, ReachHalts, BringsOwn}
 use Rattle.fault_core.specs.Told.{BreaksTables, Told}
 use Rattle.fault_core.specs.View.{View}
 use Rattle.fault_core.proofs.AccessLemmas.{breaks_before}
+use Rattle.fault_core.specs.Kept.{AreFormed}
+use Rattle.fault_core.proofs.KeptLemmas.{find_is}
 use Rattle.fault_core.proofs.ReachLemmas.{reaches_itself, reaches_then, halts_before}
-use Rattle.fault_core.proofs.RestLemmas.{rests_stay, rest_then, rest_nowhere}
+use Rattle.fault_core.proofs.RestLemmas.{rests_stay, rest_then, rest_nowhere, leaves_same}
 use Rattle.fault_core.proofs.ShowLemmas.{none_past}
 
 -- all was passed, or each interval that has the page has at least so many before it
@@ -72,6 +77,21 @@ more_cost k a b c d e same low high =
     let product : (k + 1) * (196 + a) ≡ k * (196 + a) + (196 + a) = omega arith in
     omega (arith, same, low, high, product)
 
+-- a range that one kept interval has ends in the root
+ends_at : (kept : List Interval) (first pages stop : ℕ) (x : Interval) → AreFormed kept → find (has_page first) kept ≡ Some x → first + pages ≤ x.first + x.pages → stop ≤ first + pages
+    → ((p : ℕ) → p < first + pages → p < root_pages → p < stop) → stop ≡ first + pages
+ends_at kept first pages stop x formed found inside upto each =
+    let is = find_is (has_page first) kept x found in
+    let root = (formed is.0 x is.1).in_root in
+    elim (cases_lt stop (first + pages)) [
+      | inl less ↦ let below = each stop less (omega (arith, less, inside, root)) in absurd (omega (arith, below))
+      | inr from ↦ omega (arith, from, upto)
+    ]
+
+-- in a range that one kept interval has, nothing was done, or all was, and other frames stayed
+abbrev pub IsRestingIn : Interval → View → List Interval → Way → ℕ → ℕ → View → List Interval → ℕ → Type 0
+IsRestingIn x v kept way first stop w now page = ((page ≡ first) × (w.slots ≡ v.slots) × (now ≡ kept)) ⊎ ((stop ≤ page) × LeavesFrames way x.id (file_page x first) (stop - first) v.slots w.slots)
+
 -- The pages from the first one on, up to this one, are at rest, after so many intervals.
 pub record IsResting (v : View) (kept : List Interval) (count : ℕ) (way : Way) (first stop : ℕ) (w : View) (now : List Interval) (still page k : ℕ) : Type 0 where
   pub size : w.disk.sectors ≡ w.layout.sectors
@@ -80,6 +100,7 @@ pub record IsResting (v : View) (kept : List Interval) (count : ℕ) (way : Way)
   pub from : first ≤ page
   pub same_count : still ≡ count
   pub cost : w.disk.transfers ≤ v.disk.transfers + k * (196 + length v.slots)
+  pub frames : (x : Interval) → find (has_page first) kept ≡ Some x → stop ≤ x.first + x.pages → IsRestingIn x v kept way first stop w now page
   pub told : (m : List Sector) (named : Triples) (ss : List Space) (h : Told v kept count m named ss) → Told w now still m named ss × AreAtRest way ss w.slots first page × IsAhead h.tables.xs count stop page k
 
 pub resting_none : (v : View) (kept : List Interval) (count : ℕ) (way : Way) (first stop : ℕ) → v.disk.sectors ≡ v.layout.sectors → IsResting v kept count way first stop v kept count first 0
@@ -90,22 +111,62 @@ resting_none v kept count way first stop size = record {
   from = omega arith;
   same_count = refl;
   cost = omega arith;
+  frames = λ x found inside. inl (refl, refl, refl);
   told = λ m named ss h. (h, rest_nowhere way ss v.slots first, inr (omega arith, λ j x here held. omega arith));
 }
 
 module _ {v : View} {kept : List Interval} {count : ℕ} {way : Way} {first stop : ℕ} {w : View} {now : List Interval} {still page k : ℕ} (is : IsLayout v.layout) (h : IsResting v kept count way first stop w now still page k) where
+  -- one part more
+  resting_frames : (x : View) → page < stop → ((y : Interval) → find (has_page page) now ≡ Some y → stop ≤ y.first + y.pages → LeavesFrames way y.id (file_page y page) (stop - page) w.slots x.slots)
+      → (y : Interval) → find (has_page first) kept ≡ Some y → stop ≤ y.first + y.pages → LeavesFrames way y.id (file_page y first) (stop - first) v.slots x.slots
+  resting_frames x below frames y found inside = elim (h.frames y found inside) [
+    | inl (same_page, same_slots, same_kept) ↦
+        let now_found : find (has_page page) now ≡ Some y = rw (same_page, same_kept) found in
+        let left = frames y now_found inside in
+        subst (λ (p : ℕ). LeavesFrames way y.id (file_page y p) (stop - p) v.slots x.slots) same_page (subst (λ (s : Slots). LeavesFrames way y.id (file_page y page) (stop - page) s x.slots) same_slots left)
+    | inr (past, left) ↦ absurd (omega (arith, past, below))
+  ]
+
+  module _ (formed : AreFormed kept) (pages : ℕ) (upto : stop ≤ first + pages) (each : (p : ℕ) → p < first + pages → p < root_pages → p < stop) where
+    -- a part could not be brought to rest
+    pub frames_stopped : (x : View) → page < stop → ((y : Interval) → find (has_page page) now ≡ Some y → stop ≤ y.first + y.pages → LeavesFrames way y.id (file_page y page) (stop - page) w.slots x.slots)
+        → (y : Interval) → find (has_page first) kept ≡ Some y → first + pages ≤ y.first + y.pages → LeavesFrames way y.id (file_page y first) pages v.slots x.slots
+    frames_stopped x below frames y found inside =
+        let ends = ends_at kept first pages stop y formed found inside upto each in
+        let all : stop - first ≡ pages = omega (arith, ends) in
+        subst (λ (n : ℕ). LeavesFrames way y.id (file_page y first) n v.slots x.slots) all (resting_frames x below frames y found (omega (arith, ends, inside)))
+
+    -- all was
+    pub frames_done : (y : Interval) → find (has_page first) kept ≡ Some y → first + pages ≤ y.first + y.pages → LeavesFrames way y.id (file_page y first) pages v.slots w.slots
+    frames_done y found inside =
+        let ends = ends_at kept first pages stop y formed found inside upto each in
+        let all : stop - first ≡ pages = omega (arith, ends) in
+        elim (h.frames y found (omega (arith, ends, inside))) [
+          | inl (same_page, same_slots, same_kept) ↦ leaves_same way y.id (file_page y first) pages v.slots w.slots same_slots
+          | inr (past, left) ↦ subst (λ (n : ℕ). LeavesFrames way y.id (file_page y first) n v.slots w.slots) all left
+        ]
+
   pub resting_more : (x : View) (later : List Interval) (left next : ℕ) → page < stop → page < next
       → ((m : List Sector) (named : Triples) (ss : List Space) → Told w now still m named ss → AreAtRest way ss x.slots page next)
       → ((m : List Sector) (named : Triples) (ss : List Space) → Told w now still m named ss → IsNextPart ss page stop next)
       → ((m : List Sector) (named : Triples) (ss : List Space) → Told w now still m named ss → Told x later left m named ss)
+      → ((y : Interval) → find (has_page page) now ≡ Some y → stop ≤ y.first + y.pages → LeavesFrames way y.id (file_page y page) (stop - page) w.slots x.slots)
+      → ((y : Interval) → find (has_page page) now ≡ Some y → stop ≤ y.first + y.pages → next ≡ stop)
       → Reaches w x → BringsOwn w.slots x.slots → left ≡ still → x.disk.transfers ≤ w.disk.transfers + (196 + length w.slots) → IsResting v kept count way first stop x later left next (k + 1)
-  resting_more x later left next below further rest part same next_reaches came same_left cost = record {
+  resting_more x later left next below further rest part same frames all next_reaches came same_left cost = record {
     size = next_reaches.goes.makes.went.sectors ∙ h.size ∙ ap (λ l. l.sectors) (sym next_reaches.layout);
     reaches = reaches_then v w is h.reaches x next_reaches;
     came = brings_then h.came came;
     from = let front = h.from in omega (arith, front, further);
     same_count = same_left ∙ h.same_count;
     cost = more_cost k (length v.slots) (length w.slots) w.disk.transfers x.disk.transfers v.disk.transfers h.reaches.goes.makes.count h.cost cost;
+    frames = λ y found inside. inr (
+      elim (h.frames y found inside) [
+        | inl (same_page, same_slots, same_kept) ↦ let end = all y (rw (same_page, same_kept) found) inside in omega (arith, end)
+        | inr (past, left) ↦ absurd (omega (arith, past, below))
+      ],
+      resting_frames x below frames y found inside,
+    );
     told = λ m named ss told.
         let was = h.told m named ss told in (
           same m named ss was.0,

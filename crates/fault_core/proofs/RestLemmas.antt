@@ -20,7 +20,7 @@ use Rattle.session_words.proofs.FoundLemmas.{above_reserved}
 use Rattle.space_tables.specs.Stored.{TellSpaces}
 use Rattle.fault_core.specs.declared.range.Way.{Way}
 use Rattle.fault_core.specs.declared.range.Way.TheVariants.{Force, LetGo}
-use Rattle.fault_core.specs.Range.{AreAtRest, IsAtRest}
+use Rattle.fault_core.specs.Range.{AreAtRest, IsAtRest, LeavesFrames}
 use Rattle.fault_core.specs.Reach.{Reaches, BringsOwn}
 use Rattle.fault_core.specs.Told.{IsIntervalOf, Told}
 use Rattle.fault_core.specs.Unit.{file_page}
@@ -90,3 +90,23 @@ module _ {tells : List ℕ → Type 0} {count : ℕ} {ss : List Space} (t : Tell
 
 pub next_of : (next a b : ℕ) → next ≡ min a b → (next ≡ b) ⊎ (next ≡ a)
 next_of next a b is = elim (cases_lt a b) [ inl less ↦ inr (omega (arith, is, less)) | inr from ↦ inl (omega (arith, is, from)) ]
+
+-- ---- Frames that stay.
+
+pub leaves_same : (way : Way) (id first pages : ℕ) (s t : Slots) → t ≡ s → LeavesFrames way id first pages s t
+leaves_same way id first pages s t same = subst (LeavesFrames way id first pages s) (sym same) (itself way)
+  where
+    itself : (way : Way) → LeavesFrames way id first pages s s
+    itself Force = λ i f has. (f, has, refl, refl)
+    itself LetGo = record { others = λ i outside. refl; frames = λ i f has. (f, has, refl, refl) }
+
+-- an interval that was kept is the one that was looked up
+pub part_all : (x y : Interval) (next end : ℕ) → next ≡ min (x.first + x.pages) end → y ≡ x → end ≤ y.first + y.pages → next ≡ end
+part_all x y next end least same inside =
+    let ends : y.first + y.pages ≡ x.first + x.pages = ap (λ (z : Interval). z.first + z.pages) same in
+    omega (arith, least, ends, inside)
+
+pub part_leaves : (way : Way) (x y : Interval) (page next end : ℕ) (s t u : Slots) → y ≡ x → next ≡ end → t ≡ s → LeavesFrames way x.id (file_page x page) (next - page) t u → LeavesFrames way y.id (file_page y page) (end - page) s u
+part_leaves way x y page next end s t u same all slots left =
+    subst (λ (z : Interval). LeavesFrames way z.id (file_page z page) (end - page) s u) (sym same)
+    (subst (λ (n : ℕ). LeavesFrames way x.id (file_page x page) (n - page) s u) all (subst (λ (b : Slots). LeavesFrames way x.id (file_page x page) (next - page) b u) slots left))

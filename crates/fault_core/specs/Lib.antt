@@ -13,3 +13,4 @@ pub mod Plan
 pub mod ReferenceLaws
 pub mod Range
 pub mod Kill
+pub mod Activate

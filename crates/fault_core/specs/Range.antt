@@ -1,5 +1,6 @@
 -- Pages of a range whose frames are at rest.
 use Rattle.std.specs.Prelude.{◌≡◌, ◌⊎◌, ℕ, ◌+◌, ◌<◌, ◌≤◌, List, Some}
+use Rattle.force_calls.specs.Run.{OnlyRun, Stay}
 use Rattle.frame_pool.specs.Frames.{Slots}
 use Rattle.flat_machine.specs.declared.space.Space.{Space}
 use Rattle.flat_machine.specs.declared.space.FilePage.{FilePage}
@@ -25,6 +26,18 @@ IsAtRest LetGo slots id page = IsResident slots id page → ⊥
 -- so it is with each page of a file that is shown at a page from this one on, up to another
 abbrev pub AreAtRest : Way → List Space → Slots → ℕ → ℕ → Type 0
 AreAtRest way spaces slots from to = (page : ℕ) (shown : FilePage) → from ≤ page → page < to → shown_at spaces page ≡ Some shown → IsAtRest way slots shown.file shown.page
+
+-- each frame stays where it is, with its bytes; or each that has no page of so many of the file, from the first one on
+abbrev pub LeavesFrames : Way → ℕ → ℕ → ℕ → Slots → Slots → Type 0
+LeavesFrames Force id first pages before after = Stay before after
+LeavesFrames LetGo id first pages before after = OnlyRun id first pages before after
+
+-- as words for other crates: no dirty frame has such a page, or no frame at all
+abbrev pub AreClean : List Space → Slots → ℕ → ℕ → Type 0
+AreClean spaces slots from to = AreAtRest Force spaces slots from to
+
+abbrev pub AreGone : List Space → Slots → ℕ → ℕ → Type 0
+AreGone spaces slots from to = AreAtRest LetGo spaces slots from to
 
 -- the end of the range, or the page behind the interval of the projection that has the page
 abbrev pub IsNextPart : List Space → ℕ → ℕ → ℕ → Type 0

@@ -13,7 +13,7 @@ use std::alloc::Allocator;
 /// might be another one.
 #[derive(Drop)]
 pub struct CoreOver<D: Disk, A: Allocator> {
-    pub(crate) filer: FilerOver<D, A>,
+    pub filer: FilerOver<D, A>,
     pub(crate) descriptors: DescriptorCache,
     pub(crate) intervals: u32,
     ghost some: { 1 ≤ intervals },

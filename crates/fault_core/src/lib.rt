@@ -1,6 +1,7 @@
 //! From an address to a byte: pages are described by the projection, and found through the file map.
 #![tactic(auto)]
 
+mod activate;
 mod core_over;
 mod describe;
 mod homes;

@@ -1,11 +1,15 @@
 //! What windows show in a range of pages is forced, or its frames are let go.
-ghost use Rattle.std.specs.Prelude.{◌≡◌, ◌≤◌, ◌<◌, ◌+◌, ◌*◌, ℕ, List, length, IfOk, IfErr, OnOk};
+ghost use Rattle.std.specs.Prelude.{◌≡◌, ◌≤◌, ◌<◌, ◌+◌, ◌-◌, ◌*◌, ℕ, List, length, Some, IfOk, IfErr, OnOk, find};
 ghost use Rattle.labelled_disk.specs.declared.evidence.Halt.TheVariants as halt;
 ghost use Rattle.labelled_disk.specs.Sectors.{Sector};
 ghost use Rattle.file_map.specs.FileMap.{Triples};
 ghost use Rattle.flat_machine.specs.declared.space.Space.{Space};
 ghost use Rattle.fault_core.specs.declared.range.Way.TheVariants as way_is;
-ghost use Rattle.fault_core.specs.Range.{AreAtRest, BreaksSome, IsAtRest, IsNextPart};
+ghost use Rattle.force_calls.specs.Run.{OnlyRun, Stay};
+ghost use Rattle.swap_units.specs.declared.interval.Interval.{Interval as IntervalIs};
+ghost use Rattle.descriptor_cache.specs.Pages.{has_page};
+ghost use Rattle.fault_core.specs.Range.{AreAtRest, BreaksSome, IsAtRest, IsNextPart, LeavesFrames};
+ghost use Rattle.fault_core.specs.Unit.{file_page};
 ghost use Rattle.fault_core.specs.View.{view_of};
 ghost use Rattle.fault_core.specs.Reach.{Reaches, ReachHalts, BringsOwn, no_break};
 ghost use Rattle.fault_core.specs.Told.{BreaksTables, Known};
@@ -36,6 +40,7 @@ fn force_run<D: Disk, A: Allocator>(
     ensures sound { (m : List Sector) (named : Triples) (b : List ℕ) → Known (view_of filer.old) m named b → IfErr result (λ e. e ≡ halt.Disk) }
     ensures reaches { Reaches (view_of filer.old) (view_of filer.new) }
     ensures came { BringsOwn filer.old.swapper.pool filer.new.swapper.pool }
+    ensures frames { Stay filer.old.swapper.pool filer.new.swapper.pool }
     ensures cost { (D.state filer.new.swapper.under).transfers ≤ (D.state filer.old.swapper.under).transfers + length filer.old.swapper.pool }
 {
     force_calls::force(filer.swapper_over(), id, first, pages)
@@ -54,6 +59,7 @@ fn let_run_go<D: Disk, A: Allocator>(
     ensures sound { (m : List Sector) (named : Triples) (b : List ℕ) → Known (view_of filer.old) m named b → IfErr result (λ e. e ≡ halt.Disk) }
     ensures reaches { Reaches (view_of filer.old) (view_of filer.new) }
     ensures came { BringsOwn filer.old.swapper.pool filer.new.swapper.pool }
+    ensures frames { OnlyRun id first pages filer.old.swapper.pool filer.new.swapper.pool }
     ensures cost { (D.state filer.new.swapper.under).transfers ≤ (D.state filer.old.swapper.under).transfers + length filer.old.swapper.pool }
 {
     force_calls::let_go(filer.swapper_over(), id, first, pages)
@@ -73,6 +79,7 @@ fn rest_run<D: Disk, A: Allocator>(
     ensures sound { (m : List Sector) (named : Triples) (b : List ℕ) → Known (view_of filer.old) m named b → IfErr result (λ e. e ≡ halt.Disk) }
     ensures reaches { Reaches (view_of filer.old) (view_of filer.new) }
     ensures came { BringsOwn filer.old.swapper.pool filer.new.swapper.pool }
+    ensures frames { LeavesFrames way id first pages filer.old.swapper.pool filer.new.swapper.pool }
     ensures cost { (D.state filer.new.swapper.under).transfers ≤ (D.state filer.old.swapper.under).transfers + length filer.old.swapper.pool }
 {
     match way {
@@ -97,6 +104,8 @@ impl<D: Disk, A: Allocator> CoreOver<D, A> {
         ensures same { (m : List Sector) (named : Triples) (ss : List Space) → Knows self.old m named ss → Knows self.new m named ss }
         ensures reaches { Reaches (state self.old) (state self.new) }
         ensures came { BringsOwn self.old.filer.swapper.pool self.new.filer.swapper.pool }
+        ensures frames { (x : IntervalIs) → find (has_page page) (kept self.old) ≡ Some x → end ≤ x.first + x.pages → LeavesFrames way x.id (file_page x page) (end - page) self.old.filer.swapper.pool self.new.filer.swapper.pool }
+        ensures all { (x : IntervalIs) → find (has_page page) (kept self.old) ≡ Some x → end ≤ x.first + x.pages → IfOk result (λ next. next ≡ end) }
         ensures intervals { self.new.intervals ≡ self.old.intervals }
         ensures cost { (D.state self.new.filer.swapper.under).transfers ≤ (D.state self.old.filer.swapper.under).transfers + (196 + length self.old.filer.swapper.pool) }
     {
@@ -130,6 +139,7 @@ impl<D: Disk, A: Allocator> CoreOver<D, A> {
         ensures same { (m : List Sector) (named : Triples) (ss : List Space) → Knows self.old m named ss → Knows self.new m named ss }
         ensures reaches { Reaches (state self.old) (state self.new) }
         ensures came { BringsOwn self.old.filer.swapper.pool self.new.filer.swapper.pool }
+        ensures frames { (x : IntervalIs) → find (has_page first) (kept self.old) ≡ Some x → first + pages ≤ x.first + x.pages → LeavesFrames way x.id (file_page x first) pages self.old.filer.swapper.pool self.new.filer.swapper.pool }
         ensures intervals { self.new.intervals ≡ self.old.intervals }
         ensures cost { (D.state self.new.filer.swapper.under).transfers ≤ (D.state self.old.filer.swapper.under).transfers + (self.old.intervals + 1) * (196 + length self.old.filer.swapper.pool) }
     {
@@ -147,7 +157,8 @@ impl<D: Disk, A: Allocator> CoreOver<D, A> {
         Ok(())
     }
 
-    /// Writes out the dirty frames of the pages that windows show in a range of pages of the root.
+    /// Writes out the dirty frames of the pages that windows show in a range of pages of the root. Where an interval that is kept
+    /// has all of it, no table is asked, and each frame stays.
     pub fn force(&mut self, first: u32, pages: u32) -> Result<(), Halt>
         requires size { (D.state self.old.filer.swapper.under).sectors ≡ self.old.filer.swapper.layout.sectors }
         ensures clean { (m : List Sector) (named : Triples) (ss : List Space) → Knows self.old m named ss → OnOk result (AreAtRest way_is.Force ss self.new.filer.swapper.pool first (first + pages)) }
@@ -156,6 +167,7 @@ impl<D: Disk, A: Allocator> CoreOver<D, A> {
         ensures same { (m : List Sector) (named : Triples) (ss : List Space) → Knows self.old m named ss → Knows self.new m named ss }
         ensures reaches { Reaches (state self.old) (state self.new) }
         ensures came { BringsOwn self.old.filer.swapper.pool self.new.filer.swapper.pool }
+        ensures stay { (x : IntervalIs) → find (has_page first) (kept self.old) ≡ Some x → first + pages ≤ x.first + x.pages → Stay self.old.filer.swapper.pool self.new.filer.swapper.pool }
         ensures intervals { self.new.intervals ≡ self.old.intervals }
         ensures cost { (D.state self.new.filer.swapper.under).transfers ≤ (D.state self.old.filer.swapper.under).transfers + (self.old.intervals + 1) * (196 + length self.old.filer.swapper.pool) }
     {
@@ -163,6 +175,7 @@ impl<D: Disk, A: Allocator> CoreOver<D, A> {
     }
 
     /// Gives up the frames of the pages that windows show in a range of pages of the root. What is dirty is written out first.
+    /// Where an interval that is kept has all of it, no other slot changes.
     pub fn let_go(&mut self, first: u32, pages: u32) -> Result<(), Halt>
         requires size { (D.state self.old.filer.swapper.under).sectors ≡ self.old.filer.swapper.layout.sectors }
         ensures gone { (m : List Sector) (named : Triples) (ss : List Space) → Knows self.old m named ss → OnOk result (AreAtRest way_is.LetGo ss self.new.filer.swapper.pool first (first + pages)) }
@@ -171,6 +184,7 @@ impl<D: Disk, A: Allocator> CoreOver<D, A> {
         ensures same { (m : List Sector) (named : Triples) (ss : List Space) → Knows self.old m named ss → Knows self.new m named ss }
         ensures reaches { Reaches (state self.old) (state self.new) }
         ensures came { BringsOwn self.old.filer.swapper.pool self.new.filer.swapper.pool }
+        ensures others { (x : IntervalIs) → find (has_page first) (kept self.old) ≡ Some x → first + pages ≤ x.first + x.pages → OnlyRun x.id (file_page x first) pages self.old.filer.swapper.pool self.new.filer.swapper.pool }
         ensures intervals { self.new.intervals ≡ self.old.intervals }
         ensures cost { (D.state self.new.filer.swapper.under).transfers ≤ (D.state self.old.filer.swapper.under).transfers + (self.old.intervals + 1) * (196 + length self.old.filer.swapper.pool) }
     {

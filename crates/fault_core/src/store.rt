@@ -109,6 +109,7 @@ impl<D: Disk, A: Allocator> CoreOver<D, A> {
         ensures halted { (m : List Sector) (named : Triples) (ss : List Space) → Knows self.old m named ss
             → OnErr result (Goes (StoresSome ss address bytes.now) (IsTouchedOrOwn ss address (length bytes.now)) [] (D.state self.old.filer.swapper.under) self.old.filer.swapper.pool (D.state self.new.filer.swapper.under) self.new.filer.swapper.pool) }
         ensures known { (m n : List Sector) (named : Triples) (ss : List Space) → Knows self.old m named ss → Stands (D.state self.new.filer.swapper.under) self.new.filer.swapper.pool n → Knows self.new n named ss }
+        ensures tested { (m : List Sector) (named : Triples) (ss : List Space) → Knows self.old m named ss → access_of ss true address (length bytes.now) ≢ access.Done → Reaches (state self.old) (state self.new) }
         ensures refused { IfOk result (λ a. a ≢ access.Done → Reaches (state self.old) (state self.new)) }
         ensures ready { IfOk result (λ a. a ≡ access.Done → IsReady (kept self.new) self.new.filer.swapper.pool (last_page address (length bytes.now))) }
         ensures dirty { (m : List Sector) (named : Triples) (ss : List Space) → Knows self.old m named ss → IfOk result (λ a. a ≡ access.Done → IsShownDirty ss self.new.filer.swapper.pool (last_page address (length bytes.now))) }

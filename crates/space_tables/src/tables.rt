@@ -1,5 +1,5 @@
 //! The tables.
-ghost use Rattle.std.specs.Prelude.{◌≡◌, ℕ, ◌+◌, ◌*◌, ◌<◌, ◌≤◌, ◌↔◌, ◌⊎◌, true, List, [], ◌∷◌, Option, Some, None, IfOk, IfErr, IfSome, MatchResult, option_map};
+ghost use Rattle.std.specs.Prelude.{◌≡◌, ℕ, ◌+◌, ◌*◌, ◌<◌, ◌≤◌, ◌↔◌, ◌⊎◌, true, List, [], ◌∷◌, Option, Some, None, IfOk, IfErr, IfSome, OnOk, MatchResult, option_map};
 ghost use Rattle.flat_machine.specs.declared.space.Space.{Space};
 ghost use Rattle.flat_machine.specs.Space.{root, root_pages, space_at, innermost};
 ghost use Rattle.flat_machine.specs.Refusal.{first_of, past_root};
@@ -10,6 +10,7 @@ ghost use Rattle.projection_laws.specs.Tests.{no_space, add_row, made, remove_ro
 ghost use Rattle.space_tables.specs.Form.{in_form, has_page, lies_in_root, first_in_slot, IsRecorded, Breaks, BreaksSlot, BreaksHierarchy, BreaksLookUp, BreaksFor, BreaksAt, MakesTooMany};
 ghost use Rattle.space_tables.specs.Shows.{window_of, shows, IsFirstWith, IsShownAt, IsRunAt};
 ghost use Rattle.space_tables.specs.Answer.{FromMemory, NotRefused, IfMem, IfMalformed, Answers, Replies};
+ghost use Rattle.space_tables.specs.Stored.{TellSpaces};
 
 use crate::add::add;
 use crate::ask::{ROOT_PAGES, existing, place, unmapped};
@@ -54,6 +55,19 @@ impl<M: FlatMem + Drop> SpaceTables<M> {
 
 impl<M: FlatMem> SpaceTables<M> {
     ghost use Rattle.space_tables.specs.SpaceTables.{tables_memory, interval_count, Tells, IsIntervalAt};
+
+    /// Writes the tables of the root alone, with one interval, over any bytes of a memory, which is used on afterwards, whether that
+    /// was done or the memory failed.
+    pub fn begin_in(mem: &mut M) -> Result<(), SpaceError<M::Error>>
+        requires size { 49152 ≤ M.size mem.old }
+        ensures begun { (b : List ℕ) → M.tells mem.old b → OnOk result (TellSpaces (M.tells mem.new) 1 (root ∷ [])) }
+        ensures memory { IfErr result FromMemory }
+        ensures cause { IfErr result (IfMem (M.accounted mem.old mem.new)) }
+        ensures kept { M.beside mem.old mem.new }
+        ensures cost { M.spent mem.new ≤ M.spent mem.old + 514 * M.cost }
+    {
+        begin(mem)
+    }
 
     /// The tables that stand in a memory, with so many intervals.
     pub fn over(mem: M, intervals: u32) -> SpaceTables<M>

@@ -220,6 +220,18 @@ pub fn kill<D: Disk, A: Allocator>(
     core.kill(first, pages)
 }
 
+/// Brings a range in. Gives how many swap units there were.
+pub fn activate<D: Disk, A: Allocator>(
+    core: &mut CoreOver<D, A>,
+    first: u32,
+    pages: u32,
+) -> Result<u32, Halt> {
+    if !fits(core) {
+        return Err(Halt::Disk);
+    }
+    core.activate(first, pages)
+}
+
 /// Touches a page.
 pub fn touch2<D: Disk, A: Allocator>(
     core: &mut CoreOver<D, A>,

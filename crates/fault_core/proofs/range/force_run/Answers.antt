@@ -21,3 +21,6 @@ returns-clause-cost g c =
     let cost = (rw c.swapper_over.ensures.value at c.force.ensures.cost) in
     let few = few_dirty c.args.id c.args.first c.args.pages c.args.filer.now.swapper.pool in
     omega (arith, cost, few)
+
+pub returns-clause-frames : goal.returns-clause-frames
+returns-clause-frames g c = rw c.swapper_over.ensures.value at c.force.ensures.stay

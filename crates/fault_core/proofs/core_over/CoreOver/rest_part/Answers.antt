@@ -5,7 +5,8 @@ use Rattle.fault_core.specs.Told.{BreaksTables}
 use Rattle.fault_core.specs.View.{view_of}
 use Rattle.fault_core.proofs.AccessLemmas.{at_of}
 use Rattle.fault_core.proofs.ReachLemmas.{reaches_then, halts_before}
-use Rattle.fault_core.proofs.RestLemmas.{none_at_rest, bare_at_rest, run_at_rest, next_of}
+use Rattle.fault_core.proofs.KeptLemmas.{same_answer}
+use Rattle.fault_core.proofs.RestLemmas.{none_at_rest, bare_at_rest, run_at_rest, next_of, leaves_same, part_all, part_leaves}
 use Rattle.fault_core.proofs.ToldLemmas.{interval_of, told_after}
 use Rattle.fault_core.proofs.core_over.CoreOver.rest_part.Goals as goal
 
@@ -13,7 +14,28 @@ pub returns-in-Ok-None-clause-rest : goal.returns-in-Ok-None-clause-rest
 returns-in-Ok-None-clause-rest g c = λ m named ss knows.
     none_at_rest knows.tables c.args.way c.describe.new.self.filer.swapper.pool c.args.page c.args.end (c.in-Ok-None.ensures.none.0 c.in-Ok-None.field-0-is)
 
+-- the tables were not asked
+pub returns-in-Ok-None-clause-frames : goal.returns-in-Ok-None-clause-frames
+returns-in-Ok-None-clause-frames g c = λ y found inside.
+    let idle = c.describe.ensures.idle y found in
+    leaves_same c.args.way y.id _ _ c.args.self.now.filer.swapper.pool c.describe.new.self.filer.swapper.pool (λ i. (idle.1 i).swapper.pool)
+
+pub returns-in-Err-clause-frames : goal.returns-in-Err-clause-frames
+returns-in-Err-clause-frames g c = λ y found inside.
+    let idle = c.describe.ensures.idle y found in
+    leaves_same c.args.way y.id _ _ c.args.self.now.filer.swapper.pool c.describe.new.self.filer.swapper.pool (λ i. (idle.1 i).swapper.pool)
+
 -- ---- No window shows the interval.
+
+pub returns-then-x-eq0-clause-frames : goal.returns-then-x-eq0-clause-frames
+returns-then-x-eq0-clause-frames g c = λ y found inside.
+    let idle = c.describe.ensures.idle y found in
+    leaves_same c.args.way y.id _ _ c.args.self.now.filer.swapper.pool c.describe.new.self.filer.swapper.pool (λ i. (idle.1 i).swapper.pool)
+
+pub returns-then-x-eq0-clause-all : goal.returns-then-x-eq0-clause-all
+returns-then-x-eq0-clause-all g c = λ y found inside.
+    let idle = c.describe.ensures.idle y found in
+    part_all c.in-Ok-Some.x y c.min-next.result c.args.end c.min-next.ensures (same_answer c.describe.result y c.in-Ok-Some.x c.in-Ok-Some.field-0 idle.0 c.in-Ok-Some.is c.in-Ok-Some.field-0-is) inside
 
 pub returns-then-x-eq0-clause-rest : goal.returns-then-x-eq0-clause-rest
 returns-then-x-eq0-clause-rest g c = λ m named ss knows.
@@ -60,6 +82,18 @@ returns-in-Ok-clause-cost g c =
     let count = c.describe.ensures.reaches.goes.makes.count in
     omega (arith, first, next, count)
 
+pub returns-in-Ok-clause-frames : goal.returns-in-Ok-clause-frames
+returns-in-Ok-clause-frames g c = λ y found inside.
+    let idle = c.describe.ensures.idle y found in
+    let same = same_answer c.describe.result y c.in-Ok-Some.x c.in-Ok-Some.field-0 idle.0 c.in-Ok-Some.is c.in-Ok-Some.field-0-is in
+    part_leaves c.args.way c.in-Ok-Some.x y c.args.page c.min-next.result c.args.end c.args.self.now.filer.swapper.pool c.describe.new.self.filer.swapper.pool c.rest_run.new.filer.swapper.pool same
+    (part_all c.in-Ok-Some.x y c.min-next.result c.args.end c.min-next.ensures same inside) (λ i. (idle.1 i).swapper.pool) c.rest_run.ensures.frames
+
+pub returns-in-Ok-clause-all : goal.returns-in-Ok-clause-all
+returns-in-Ok-clause-all g c = λ y found inside.
+    let idle = c.describe.ensures.idle y found in
+    part_all c.in-Ok-Some.x y c.min-next.result c.args.end c.min-next.ensures (same_answer c.describe.result y c.in-Ok-Some.x c.in-Ok-Some.field-0 idle.0 c.in-Ok-Some.is c.in-Ok-Some.field-0-is) inside
+
 -- ---- A frame could not be written out.
 
 pub returns-in-Err-rest_run-clause-cause : goal.returns-in-Err-rest_run-clause-cause
@@ -88,3 +122,10 @@ returns-in-Err-rest_run-clause-cost g c =
     let next = c.rest_run.ensures.cost in
     let count = c.describe.ensures.reaches.goes.makes.count in
     omega (arith, first, next, count)
+
+pub returns-in-Err-rest_run-clause-frames : goal.returns-in-Err-rest_run-clause-frames
+returns-in-Err-rest_run-clause-frames g c = λ y found inside.
+    let idle = c.describe.ensures.idle y found in
+    let same = same_answer c.describe.result y c.in-Ok-Some.x c.in-Ok-Some.field-0 idle.0 c.in-Ok-Some.is c.in-Ok-Some.field-0-is in
+    part_leaves c.args.way c.in-Ok-Some.x y c.args.page c.min-next.result c.args.end c.args.self.now.filer.swapper.pool c.describe.new.self.filer.swapper.pool c.rest_run.new.filer.swapper.pool same
+    (part_all c.in-Ok-Some.x y c.min-next.result c.args.end c.min-next.ensures same inside) (λ i. (idle.1 i).swapper.pool) c.rest_run.ensures.frames

@@ -1,7 +1,7 @@
 use Rattle.std.proofs.Common.{◌∙◌, ◌+◌, ◌<◌, arith}
 use Rattle.swapper_kernel.specs.HaltLaws.{brings_then}
 use Rattle.fault_core.specs.Core.{kept, state}
-use Rattle.fault_core.proofs.RangeLemmas.{resting_none, resting_more, resting_halt, resting_stopped, resting_done, resting_all, resting_cost, stopped_cost}
+use Rattle.fault_core.proofs.RangeLemmas.{resting_none, resting_more, resting_halt, resting_stopped, resting_done, resting_all, resting_cost, stopped_cost, frames_stopped, frames_done}
 use Rattle.fault_core.proofs.core_over.CoreOver.rest_range.Goals as goal
 
 pub loop-part-init : goal.loop-part-init
@@ -27,6 +27,9 @@ returns-then-page-end-clause-intervals g c = c.loop-part.invariant.same_count
 pub returns-then-page-end-clause-cost : goal.returns-then-page-end-clause-cost
 returns-then-page-end-clause-cost g c = resting_cost c.args.self.now.filer.swapper.accepted c.loop-part.invariant (c.args.self.now.intervals + 1) c.loop-part.auto._part-end
 
+pub returns-then-page-end-clause-frames : goal.returns-then-page-end-clause-frames
+returns-then-page-end-clause-frames g c = frames_done c.args.self.now.filer.swapper.accepted c.loop-part.invariant c.args.self.now.formed c.args.pages c.end_of-end.ensures.within c.end_of-end.ensures.all
+
 -- ---- One interval more.
 
 pub rest_part-requires-clause-size : goal.rest_part-requires-clause-size
@@ -37,6 +40,7 @@ loop-part-preserved g c =
     let new = c.rest_part.new.self in
     let further = c.in-Ok.ensures.further in
     resting_more c.args.self.now.filer.swapper.accepted c.loop-part.invariant (state new) (kept new) new.intervals c.in-Ok.next c.if-page-end.false further.0 c.in-Ok.ensures.rest c.in-Ok.ensures.part c.in-Ok.ensures.same
+    c.rest_part.ensures.frames c.in-Ok.ensures.all
     c.rest_part.ensures.reaches c.rest_part.ensures.came c.rest_part.ensures.intervals c.rest_part.ensures.cost
 
 -- ---- The disk failed.
@@ -62,6 +66,10 @@ returns-in-Err-clause-intervals g c = c.rest_part.ensures.intervals ∙ c.loop-p
 pub returns-in-Err-clause-cost : goal.returns-in-Err-clause-cost
 returns-in-Err-clause-cost g c = stopped_cost c.args.self.now.filer.swapper.accepted c.loop-part.invariant (state c.rest_part.new.self) (c.args.self.now.intervals + 1) c.loop-part-test.true c.rest_part.ensures.cost
 
+pub returns-in-Err-clause-frames : goal.returns-in-Err-clause-frames
+returns-in-Err-clause-frames g c =
+    frames_stopped c.args.self.now.filer.swapper.accepted c.loop-part.invariant c.args.self.now.formed c.args.pages c.end_of-end.ensures.within c.end_of-end.ensures.all (state c.rest_part.new.self) c.if-page-end.false c.rest_part.ensures.frames
+
 -- ---- So many intervals are all.
 
 pub returns-clause-rest : goal.returns-clause-rest
@@ -84,3 +92,6 @@ returns-clause-intervals g c = c.loop-part.invariant.same_count
 
 pub returns-clause-cost : goal.returns-clause-cost
 returns-clause-cost g c = resting_cost c.args.self.now.filer.swapper.accepted c.loop-part.invariant (c.args.self.now.intervals + 1) c.loop-part.auto._part-end
+
+pub returns-clause-frames : goal.returns-clause-frames
+returns-clause-frames g c = frames_done c.args.self.now.filer.swapper.accepted c.loop-part.invariant c.args.self.now.formed c.args.pages c.end_of-end.ensures.within c.end_of-end.ensures.all

@@ -1,4 +1,4 @@
-use Rattle.std.proofs.Common.{◌/◌, true, refl, arith, length}
+use Rattle.std.proofs.Common.{◌/◌, true, refl, sym, arith, length}
 use Rattle.swapper_kernel.specs.HaltLaws.{brings_then}
 use Rattle.session_words.specs.CellLaws.{IsTouchedOrOwn}
 use Rattle.fault_core.specs.declared.reference.Access.TheVariants as access
@@ -63,6 +63,11 @@ returns-in-Err-clause-touches g c = touches_of client_page c.refer.ensures.reach
 pub returns-in-Ok-clause-access : goal.returns-in-Ok-clause-access
 returns-in-Ok-clause-access g c = λ m named ss knows.
     came_to (access_of ss true c.args.address (length c.args.bytes.now)) c.in-Ok-Shown.field-0 _ c.in-Ok-Shown.field-0-is (c.in-Ok-Shown.ensures.access m named ss knows)
+
+-- one that would be refused doesn't come here
+pub returns-in-Ok-clause-tested : goal.returns-in-Ok-clause-tested
+returns-in-Ok-clause-tested g c = λ m named ss knows other.
+    absurd (other (sym (came_to (access_of ss true c.args.address (length c.args.bytes.now)) c.in-Ok-Shown.field-0 _ c.in-Ok-Shown.field-0-is (c.in-Ok-Shown.ensures.access m named ss knows))))
 
 pub returns-in-Ok-clause-stored : goal.returns-in-Ok-clause-stored
 returns-in-Ok-clause-stored g c = λ m named ss knows.
@@ -138,6 +143,10 @@ returns-in-Ok-clause-idle g c = λ first last apart.
     (refl, rw (← one.2) two.1, one.3)
 
 -- ---- The disk failed.
+
+pub returns-in-Err-store_shown-clause-tested : goal.returns-in-Err-store_shown-clause-tested
+returns-in-Err-store_shown-clause-tested g c = λ m named ss knows other.
+    absurd (other (sym (came_to (access_of ss true c.args.address (length c.args.bytes.now)) c.in-Ok-Shown.field-0 _ c.in-Ok-Shown.field-0-is (c.in-Ok-Shown.ensures.access m named ss knows))))
 
 pub returns-in-Err-store_shown-clause-halted : goal.returns-in-Err-store_shown-clause-halted
 returns-in-Err-store_shown-clause-halted g c = λ m named ss knows.

@@ -1,0 +1,66 @@
+use Rattle.std.proofs.Common.{inl, inr, refl, arith}
+use Rattle.swapper_kernel.specs.HaltLaws.{brings_then}
+use Rattle.fault_core.specs.Core.{state}
+use Rattle.fault_core.specs.Told.{BreaksTables}
+use Rattle.fault_core.proofs.AccessLemmas.{breaks_before}
+use Rattle.fault_core.proofs.ActivateLemmas.{unit_brought}
+use Rattle.fault_core.proofs.ReachLemmas.{reaches_then, halts_before}
+use Rattle.fault_core.proofs.ShowLemmas.{own_came}
+use Rattle.fault_core.proofs.core_over.CoreOver.bring_next.Goals as goal
+
+-- ---- No window shows the page.
+
+pub returns-then-pages-eq0-clause-further : goal.returns-then-pages-eq0-clause-further
+returns-then-pages-eq0-clause-further g c = λ m named ss knows.
+    let passed = c.in-Ok.ensures.bare m named ss knows c.if-pages-eq0.true in
+    inr (refl, passed.0, passed.1)
+
+-- ---- Its unit has too many pages.
+
+pub returns-then-pages-so_far-clause-too_long : goal.returns-then-pages-so_far-clause-too_long
+returns-then-pages-so_far-clause-too_long g c = λ m named ss knows none.
+    (c.if-so_far-ne0.true, c.in-Ok.unit.0, c.in-Ok.unit.1, c.in-Ok.ensures.shown m named ss knows c.if-pages-eq0.false, c.if-pages-so_far.true)
+
+-- ---- It is brought in.
+
+pub returns-in-Ok-touch2-clause-further : goal.returns-in-Ok-touch2-clause-further
+returns-in-Ok-touch2-clause-further g c = λ m named ss knows.
+    unit_brought ss c.args.end c.args.so_far c.in-Ok.unit.0 c.in-Ok.unit.1 c.saturating_sub.result c.saturating_sub.ensures (c.in-Ok.ensures.shown m named ss knows c.if-pages-eq0.false)
+    (λ some. elim c.else-so_far-ne0.either [ inl both ↦ both.1 | inr none ↦ absurd (some none) ])
+
+pub returns-in-Ok-touch2-clause-same : goal.returns-in-Ok-touch2-clause-same
+returns-in-Ok-touch2-clause-same g c = λ m named ss knows. c.touch2.ensures.same m named ss (c.unit_at.ensures.same m named ss knows)
+
+pub returns-in-Ok-touch2-clause-reaches : goal.returns-in-Ok-touch2-clause-reaches
+returns-in-Ok-touch2-clause-reaches g c =
+    reaches_then (state c.args.self.now) (state c.unit_at.new.self) c.args.self.now.filer.swapper.accepted c.unit_at.ensures.reaches (state c.touch2.new.self) c.touch2.ensures.reaches
+
+pub returns-in-Ok-touch2-clause-came : goal.returns-in-Ok-touch2-clause-came
+returns-in-Ok-touch2-clause-came g c = λ m named ss knows.
+    brings_then (own_came ss c.args.self.now.filer.swapper.pool c.unit_at.new.self.filer.swapper.pool c.unit_at.ensures.came) (c.touch2.ensures.came m named ss (c.unit_at.ensures.same m named ss knows))
+
+-- ---- It could not be brought in.
+
+pub returns-in-Err-touch2-clause-cause : goal.returns-in-Err-touch2-clause-cause
+returns-in-Err-touch2-clause-cause g c =
+    let v = state c.args.self.now in
+    let w = state c.unit_at.new.self in
+    let x = state c.touch2.new.self in
+    let page = c.args.so_far.page in
+    let h = c.unit_at.ensures.reaches in
+    halts_before v w c.args.self.now.filer.swapper.accepted h (BreaksTables w c.unit_at.new.self.intervals page) (BreaksTables v c.args.self.now.intervals page)
+    (λ broken breaks. breaks_before v w h c.args.self.now.intervals c.unit_at.new.self.intervals page broken c.unit_at.ensures.intervals breaks) x x (omega arith) c.in-Err-touch2.halt c.in-Err-touch2.ensures.cause
+
+pub returns-in-Err-touch2-clause-sound : goal.returns-in-Err-touch2-clause-sound
+returns-in-Err-touch2-clause-sound g c = λ m named ss knows. c.in-Err-touch2.ensures.sound m named ss (c.unit_at.ensures.same m named ss knows)
+
+pub returns-in-Err-touch2-clause-same : goal.returns-in-Err-touch2-clause-same
+returns-in-Err-touch2-clause-same g c = λ m named ss knows. c.touch2.ensures.same m named ss (c.unit_at.ensures.same m named ss knows)
+
+pub returns-in-Err-touch2-clause-reaches : goal.returns-in-Err-touch2-clause-reaches
+returns-in-Err-touch2-clause-reaches g c =
+    reaches_then (state c.args.self.now) (state c.unit_at.new.self) c.args.self.now.filer.swapper.accepted c.unit_at.ensures.reaches (state c.touch2.new.self) c.touch2.ensures.reaches
+
+pub returns-in-Err-touch2-clause-came : goal.returns-in-Err-touch2-clause-came
+returns-in-Err-touch2-clause-came g c = λ m named ss knows.
+    brings_then (own_came ss c.args.self.now.filer.swapper.pool c.unit_at.new.self.filer.swapper.pool c.unit_at.ensures.came) (c.touch2.ensures.came m named ss (c.unit_at.ensures.same m named ss knows))
