@@ -92,7 +92,6 @@ refusal_plain (why.ReadOnly page) = with_number (codes "readonly ") page refl
 refusal_plain (why.FileMapped handle) = with_number (codes "filemapped ") handle refl
 refusal_plain why.Root = refl
 refusal_plain why.Ids = refl
-refusal_plain why.Later = refl
 
 reply_plain : (r : Reply) → IsPlain (reply_text r)
 reply_plain reply.Done = refl
@@ -145,5 +144,5 @@ feeds_all [] = refl
 feeds_all (r ∷ rs) = feeds_text r (flat_map text rs) ∙ ap suc (feeds_all rs)
 
 pub transcripts_count : TranscriptsCount
-transcripts_count built built' m m' lines lines' k k' bytes t t' =
+transcripts_count m m' lines lines' k k' bytes t t' =
     sym t.one_a_line ∙ sym (feeds_all t.replies) ∙ ap feeds (sym t.text_is ∙ t'.text_is) ∙ feeds_all t'.replies ∙ t'.one_a_line

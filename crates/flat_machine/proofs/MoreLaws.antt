@@ -1,5 +1,5 @@
 -- What a machine shows, forces and reads.
-use Rattle.std.proofs.Common.{◌≡◌, ℕ, zero, suc, ◌+◌, ◌-◌, ◌<◌, Bool, true, false, ◌&&◌, List, [], ◌∷◌, map, filter, Option, Some, None, refl, sym, ◌∙◌, ap, subst, arith}
+use Rattle.std.proofs.Common.{◌≡◌, ℕ, zero, suc, ◌+◌, ◌-◌, ◌<◌, false, ◌&&◌, List, [], ◌∷◌, map, filter, Option, Some, None, refl, sym, ◌∙◌, ap, subst, arith}
 use Rattle.std.specs.Prelude.{IsSomeAnd, IfSome, nat_le, nat_lt, option_map, option_and_then, if◌then◌else◌}
 use Rattle.std.specs.List.{enumerate_from}
 use Rattle.std.proofs.lemmas.Bool.{and_parts, leb-true, ltb-true}
@@ -9,7 +9,6 @@ use Rattle.flat_machine.specs.File.{File, Page, size, file_at, any_page}
 use Rattle.flat_machine.specs.Space.{Space, Window, FilePage, end, holds, is_mapped, mapped_at}
 use Rattle.flat_machine.specs.IsMachine.{IsMachine}
 use Rattle.flat_machine.specs.At.{page_through}
-use Rattle.flat_machine.specs.Next.{next}
 use Rattle.flat_machine.specs.After.{TraceLine, next_line}
 use Rattle.flat_machine.specs.Settled.{settled_file}
 use Rattle.flat_machine.specs.Laws.{ShownIsThere, ForcedIsSettled, AfterIsMachine}
@@ -55,15 +54,11 @@ forced_is_settled m e = ap (λ (us : List FilePage). map (settled_file us) (filt
 -- the machine after lines is one
 
 pub after_is_machine : AfterIsMachine
-after_is_machine built m [] zero typed h = h
-after_is_machine built m [] (suc k) typed h = h
-after_is_machine built m (line ∷ lines) zero typed h = h
-after_is_machine built m (line ∷ lines) (suc k) typed h = after_is_machine built (next_line built m line) lines k typed.1 (step line typed.0)
+after_is_machine m [] zero typed h = h
+after_is_machine m [] (suc k) typed h = h
+after_is_machine m (line ∷ lines) zero typed h = h
+after_is_machine m (line ∷ lines) (suc k) typed h = after_is_machine (next_line m line) lines k typed.1 (step line typed.0)
   where
-    step : (line : TraceLine) → IfSome line IsTyped → IsMachine (next_line built m line)
+    step : (line : TraceLine) → IfSome line IsTyped → IsMachine (next_line m line)
     step None t = h
-    step (Some call) t = either (built call)
-      where
-        either : (b : Bool) → IsMachine (if b then next m call else m)
-        either true = next_keeps_machine m call t h
-        either false = h
+    step (Some call) t = next_keeps_machine m call t h

@@ -1,5 +1,5 @@
 -- What the definitions say.
-use Rattle.std.specs.Prelude.{◌≡◌, ◌≢◌, ◌⊎◌, ◌↔◌, ℕ, suc, ◌+◌, ◌/◌, ◌<◌, ◌≤◌, Bool, false, IsTrue, IsSomeAnd, IfSome, List, [], ◌∷◌, ◌++◌, length, filter, Some, slice_get}
+use Rattle.std.specs.Prelude.{◌≡◌, ◌≢◌, ◌⊎◌, ◌↔◌, ℕ, suc, ◌+◌, ◌/◌, ◌<◌, ◌≤◌, false, IsTrue, IsSomeAnd, IfSome, List, [], ◌∷◌, ◌++◌, length, filter, Some, slice_get}
 use Rattle.std.specs.List.{All, AllByRecursion}
 use Rattle.labelled_disk.specs.Sectors.{Sector, AreSectors}
 use Rattle.labelled_disk.specs.Root.{LabelsRight}
@@ -33,18 +33,18 @@ RefusedChangesNothing = (m : Machine) (call : Call) (word : Refusal) → refusal
 
 -- no line has the empty transcript
 abbrev pub TranscriptBegins : Type 0
-TranscriptBegins = (built : Call → Bool) (m : Machine) (lines : List TraceLine) → Transcript built m lines 0 []
+TranscriptBegins = (m : Machine) (lines : List TraceLine) → Transcript m lines 0 []
 
 -- an allowed reply to the next line makes a transcript longer
 abbrev pub TranscriptGrows : Type 0
-TranscriptGrows = (built : Call → Bool) (m : Machine) (lines : List TraceLine) (k : ℕ) (bytes : List ℕ) (line : TraceLine) (r : Reply)
-    → Transcript built m lines k bytes → slice_get lines k ≡ Some line → AllowsLine built (after built m lines k) line r
-    → Transcript built m lines (suc k) (bytes ++ text r)
+TranscriptGrows = (m : Machine) (lines : List TraceLine) (k : ℕ) (bytes : List ℕ) (line : TraceLine) (r : Reply)
+    → Transcript m lines k bytes → slice_get lines k ≡ Some line → AllowsLine (after m lines k) line r
+    → Transcript m lines (suc k) (bytes ++ text r)
 
 -- one line more, and the machine is the next
 abbrev pub AfterGrows : Type 0
-AfterGrows = (built : Call → Bool) (m : Machine) (lines : List TraceLine) (k : ℕ) (line : TraceLine)
-    → slice_get lines k ≡ Some line → after built m lines (suc k) ≡ next_line built (after built m lines k) line
+AfterGrows = (m : Machine) (lines : List TraceLine) (k : ℕ) (line : TraceLine)
+    → slice_get lines k ≡ Some line → after m lines (suc k) ≡ next_line (after m lines k) line
 
 -- a machine without files is one
 abbrev pub OpenedIsMachine : Type 0
@@ -133,8 +133,8 @@ ForcedIsSettled = (m : Machine) → m.unforced ≡ [] → settled m ≡ filter (
 
 -- the machine after some lines is a machine
 abbrev pub AfterIsMachine : Type 0
-AfterIsMachine = (built : Call → Bool) (m : Machine) (lines : List TraceLine) (k : ℕ) → AllByRecursion (λ line. IfSome line IsTyped) lines
-    → IsMachine m → IsMachine (after built m lines k)
+AfterIsMachine = (m : Machine) (lines : List TraceLine) (k : ℕ) → AllByRecursion (λ line. IfSome line IsTyped) lines
+    → IsMachine m → IsMachine (after m lines k)
 
 -- where each file stands for the machine's of its identifier, the permanent ones agree with the settled machine
 abbrev pub StandingFilesAgree : Type 0
@@ -153,5 +153,5 @@ RepliesAreLines = (r : Reply) → IsOneLine (text r)
 
 -- two transcripts of the same bytes, of any machines and any lines, have as many replies
 abbrev pub TranscriptsCount : Type 0
-TranscriptsCount = (built built' : Call → Bool) (m m' : Machine) (lines lines' : List TraceLine) (k k' : ℕ) (bytes : List ℕ)
-    → Transcript built m lines k bytes → Transcript built' m' lines' k' bytes → k ≡ k'
+TranscriptsCount = (m m' : Machine) (lines lines' : List TraceLine) (k k' : ℕ) (bytes : List ℕ)
+    → Transcript m lines k bytes → Transcript m' lines' k' bytes → k ≡ k'

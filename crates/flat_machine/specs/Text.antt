@@ -32,7 +32,6 @@ refusal_text (refusal.ReadOnly page) = codes "readonly " ++ decimal page
 refusal_text (refusal.FileMapped handle) = codes "filemapped " ++ decimal handle
 refusal_text refusal.Root = codes "root"
 refusal_text refusal.Ids = codes "ids"
-refusal_text refusal.Later = codes "later"
 
 -- the words of a reply
 abbrev pub reply_text : Reply → List ℕ

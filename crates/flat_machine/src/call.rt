@@ -191,7 +191,4 @@ pub enum Refusal {
     /// All identifiers of the volume are given out.
     #[error("ids")]
     Ids,
-    /// The call is not built yet.
-    #[error("later")]
-    Later,
 }

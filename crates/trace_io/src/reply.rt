@@ -107,7 +107,6 @@ fn put_refusal(line: &mut Text, why: Refusal)
         }
         Refusal::Root => line.put(b"error root"),
         Refusal::Ids => line.put(b"error ids"),
-        Refusal::Later => line.put(b"error later"),
     }
 }
 
