@@ -1,0 +1,10 @@
+pub mod SessionLemmas
+pub mod FlagLemmas
+pub mod StageLemmas
+pub mod StoreLemmas
+pub mod PassLemmas
+pub mod JoinedLemmas
+pub mod KnownLemmas
+pub mod LaterLemmas
+pub mod ChangedLemmas
+pub mod RunningLemmas

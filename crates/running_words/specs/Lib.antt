@@ -1,0 +1,5 @@
+pub mod Session
+pub mod Stages
+pub mod Bound
+pub mod Running
+pub mod RunningLaws

@@ -1,0 +1,34 @@
+//! What the space tables answered, as a call over a core answers it.
+ghost use Rattle.std.specs.Prelude.{◌≡◌};
+ghost use Rattle.labelled_disk.specs.declared.evidence.Evidence.TheVariants as evidence;
+ghost use Rattle.labelled_disk.specs.declared.evidence.Halt.TheVariants as halt;
+ghost use Rattle.table_calls.specs.Answers.{settled};
+
+use flat_machine::Refusal;
+use labelled_disk::{Evidence, Halt};
+use space_tables::SpaceError;
+
+/// The window of the space tables, by its number in evidence.
+const TABLES: u8 = 3;
+
+// A page of the space tables breaks its form.
+fn broken(page: u32) -> Halt
+    ensures { result ≡ halt.Damaged (evidence.Malformed 3 page) }
+{
+    Halt::Damaged(Evidence::Malformed {
+        window: TABLES,
+        page,
+    })
+}
+
+/// Tells a refusal, which the client is given, from a halt.
+pub(crate) fn settle<T>(answer: Result<T, SpaceError<Halt>>) -> Result<Result<T, Refusal>, Halt>
+    ensures { result ≡ settled answer }
+{
+    match answer {
+        Ok(given) => Ok(Ok(given)),
+        Err(SpaceError::Refused(word)) => Ok(Err(word)),
+        Err(SpaceError::Malformed { page }) => Err(broken(page)),
+        Err(SpaceError::Mem(halt)) => Err(halt),
+    }
+}
