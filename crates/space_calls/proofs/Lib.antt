@@ -1,0 +1,23 @@
+pub mod NameLemmas
+pub mod ShownLemmas
+pub mod RunLemmas
+pub mod CoreLemmas
+pub mod CarryLemmas
+pub mod SpaceLemmas
+pub mod MapLemmas
+pub mod TableAnswers
+pub mod WindowLemmas
+mod AdviceLemmas
+mod RefusedCalls
+mod SameBooks
+mod CameLemmas
+mod SettledCore
+mod LoadLemmas
+mod MovedLemmas
+mod StoreLemmas
+mod RangeLemmas
+pub mod BareLemmas
+pub mod TakenMachine
+pub mod AwayLemmas
+pub mod FileLemmas
+pub mod TakeLemmas

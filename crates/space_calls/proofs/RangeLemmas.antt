@@ -1,0 +1,91 @@
+-- The range of pages that the tables gave for a space, and what a call on it leaves.
+use Rattle.std.proofs.Common.{◌≡◌, inl, inr, ℕ, ◌+◌, ◌≤◌, Bool, true, false, List, Some, None, Result, Ok, Err, refl, sym, ◌∙◌, subst, arith}
+use Rattle.std.specs.Prelude.{if◌then◌else◌, is_none}
+use Rattle.std.proofs.lemmas.Option.{none-some, same_Some}
+use Rattle.flat_machine.specs.declared.call.Call.TheVariants as call
+use Rattle.flat_machine.specs.declared.call.Refusal.{Refusal}
+use Rattle.flat_machine.specs.declared.space.Space.{Space}
+use Rattle.flat_machine.specs.Machine.{Machine}
+use Rattle.flat_machine.specs.Next.{next}
+use Rattle.flat_machine.specs.Refusal.{refusal, no_space}
+use Rattle.flat_machine.specs.Space.{space_at}
+use Rattle.frame_pool.specs.Frames.{Slots}
+use Rattle.labelled_disk.specs.declared.evidence.Halt.{Halt}
+use Rattle.labelled_disk.specs.declared.evidence.Halt.TheVariants.{Disk}
+use Rattle.labelled_disk.specs.Calls.{Rose}
+use Rattle.space_tables.specs.Form.{BreaksLookUp, BreaksSlot}
+use Rattle.swapper_kernel.specs.HaltLaws.{brings_itself, rose_wider}
+use Rattle.swapper_kernel.specs.Homes.{IsLayout}
+use Rattle.fault_core.specs.Kill.{BreaksWithin}
+use Rattle.fault_core.specs.Range.{BreaksSome}
+use Rattle.fault_core.specs.Reach.{BringsOwn, Reaches, ReachHalts}
+use Rattle.fault_core.specs.View.{View}
+use Rattle.fault_core.proofs.ReachLemmas.{halts_before, reaches_itself}
+use Rattle.table_calls.specs.Answers.{TablesBreak, Tells}
+use Rattle.space_calls.specs.Ranges.{BreaksRange}
+
+-- the run is that of the space of this handle
+abbrev pub IsSpaceRun : List Space → ℕ → (ℕ × ℕ) → Type 0
+IsSpaceRun ss space run = (s : Space) × (space_at ss space ≡ Some s) × (run ≡ (s.first, s.pages))
+
+module _ (ss : List Space) (space : ℕ) where
+  pub found_run : (run : ℕ × ℕ) (r : Result (ℕ × ℕ) Refusal) → r ≡ Ok run → Tells (no_space ss space) (IsSpaceRun ss space) r → (no_space ss space ≡ None) × IsSpaceRun ss space run
+  found_run run r is tells = subst (Tells (no_space ss space) (IsSpaceRun ss space)) is tells
+
+  pub found_word : (word : Refusal) (r : Result (ℕ × ℕ) Refusal) → r ≡ Err word → Tells (no_space ss space) (IsSpaceRun ss space) r → no_space ss space ≡ Some word
+  found_word word r is tells = (subst (Tells (no_space ss space) (IsSpaceRun ss space)) is tells).0
+
+  -- where there is the space, it was not refused
+  pub never_refused : (s : Space) (word : Refusal) → space_at ss space ≡ Some s → no_space ss space ≡ Some word → ⊥
+  never_refused s word there is = none-some word (sym free ∙ is)
+    where
+      free : no_space ss space ≡ None
+      free = rw there refl
+
+  -- what is so of the run is so of the space's pages
+  pub of_space : (s : Space) (run : ℕ × ℕ) (P : ℕ → ℕ → Type 0) → IsSpaceRun ss space run → space_at ss space ≡ Some s → P run.0 (run.0 + run.1) → P s.first (s.first + s.pages)
+  of_space s run P found there is =
+      let same : found.0 ≡ s = same_Some found.0 s (sym found.1 ∙ there) in
+      let pages : run ≡ (s.first, s.pages) = found.2 ∙ (λ i. ((same i).first, (same i).pages)) in
+      subst (λ (q : ℕ × ℕ). P q.0 (q.0 + q.1)) pages is
+
+-- advice changes nothing
+pub deactivate_stays : (m : Machine) (space : ℕ) → m ≡ next m (call.Deactivate space)
+deactivate_stays m space = either (is_none (refusal m (call.Deactivate space)))
+  where
+    either : (b : Bool) → m ≡ (if b then m else m)
+    either true = refl
+    either false = refl
+
+-- the same frames
+pub no_frame_came : (before after : Slots) → after ≡ before → BringsOwn before after
+no_frame_came before after same = subst (λ (s : Slots). BringsOwn before s) (sym same) (brings_itself _ before)
+
+-- ---- Why it failed.
+
+module _ (v w : View) (is : IsLayout v.layout) (space : ℕ) where
+  -- the tables could not be asked
+  pub asked_halt : (count : ℕ) (e : Halt) → ReachHalts (TablesBreak v (λ b page. BreaksSlot b page space)) v w e → ReachHalts (BreaksRange v count space) v w e
+  asked_halt count e halts = halts_before v v is (reaches_itself v) (TablesBreak v (λ b page. BreaksSlot b page space)) (BreaksRange v count space) (λ page breaks. inl breaks) w w (omega arith) e halts
+
+  module _ (reaches : Reaches v w) (count now : ℕ) (same : now ≡ count) (z : View) where
+    some_before : (page : ℕ) → BreaksSome w now page → BreaksSome v count page
+    some_before page (asked, breaks) = (
+      asked,
+      record {
+        in_root = breaks.in_root;
+        breaks = λ b told. subst (λ (j : ℕ). BreaksLookUp asked j b page) same (breaks.breaks b (reaches.told b told));
+      },
+    )
+
+    -- a page could not be looked up
+    pub range_halt : (e : Halt) → ReachHalts (BreaksSome w now) w z e → ReachHalts (BreaksRange v count space) v z e
+    range_halt e halts = halts_before v w is reaches (BreaksSome w now) (BreaksRange v count space) (λ page breaks. inr (some_before page breaks)) z z (omega arith) e halts
+
+    pub within_halt : (first to : ℕ) (e : Halt) → ReachHalts (BreaksWithin w now first to) w z e → ReachHalts (BreaksRange v count space) v z e
+    within_halt first to e halts =
+        halts_before v w is reaches (BreaksWithin w now first to) (BreaksRange v count space) (λ page breaks. inr (some_before page (breaks.asked, breaks.breaks))) z z (omega arith) e halts
+
+-- a fault was counted
+pub fault_halt : (breaks : ℕ → Type 0) (v w z : View) (e : Halt) → v.disk.faults ≤ w.disk.faults → e ≡ Disk → Rose w.disk.faults z.disk.faults → ReachHalts breaks v z e
+fault_halt breaks v w z e later is rose = subst (ReachHalts breaks v z) (sym is) (rose_wider v.disk.faults w.disk.faults z.disk.faults z.disk.faults later (omega arith) rose)

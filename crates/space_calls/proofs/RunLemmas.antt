@@ -1,0 +1,157 @@
+-- A core that stands for a machine, from call to call of its tables.
+use Rattle.std.proofs.Common.{◌≡◌, ◌≤◌, ℕ, true, List, Result, Ok, Err, sym, ◌∙◌, ap, subst}
+use Rattle.std.specs.Prelude.{[], IfOk, IfErr, MatchResult}
+use Rattle.labelled_disk.specs.declared.disk.Disk.{Ghosts}
+use Rattle.labelled_disk.specs.declared.layout.Layout.{Layout}
+use Rattle.labelled_disk.specs.State.{DiskState}
+use Rattle.labelled_disk.specs.Sectors.{Sector}
+use Rattle.file_map.specs.FileMap.{Triples}
+use Rattle.swapper_kernel.specs.HaltLaws.{brings_itself}
+use Rattle.frame_pool.specs.Frames.{ArePages, Slots}
+use Rattle.flat_machine.specs.declared.call.Call.{Call}
+use Rattle.flat_machine.specs.declared.space.FilePage.{FilePage}
+use Rattle.flat_machine.specs.declared.space.Space.{Space}
+use Rattle.flat_machine.specs.IsMachine.{IsMachine}
+use Rattle.flat_machine.specs.Machine.{Machine}
+use Rattle.swap_units.specs.declared.interval.Interval.{Interval}
+use Rattle.swapper_kernel.specs.Goes.{Makes}
+use Rattle.swapper_kernel.specs.GoesLaws.{makes_wider}
+use Rattle.swapper_kernel.specs.Homes.{IsLayout}
+use Rattle.space_tables.specs.Stored.{TellSpaces}
+use Rattle.session_words.specs.FrameLaws.{BringsKnown, HasFrames, is_shown}
+use Rattle.session_words.specs.Parts.{DirtyAreLoose, shapes_of}
+use Rattle.session_words.specs.Volume.{volume_page}
+use Rattle.file_manager.specs.Book.{Books}
+use Rattle.file_manager.specs.declared.volume.Volume.{Volume}
+use Rattle.fault_core.specs.declared.core_over.CoreOver.{CoreOver}
+use Rattle.fault_core.specs.Core.{kept, state, Knows}
+use Rattle.fault_core.specs.Reach.{Reaches, BringsOwn}
+use Rattle.fault_core.specs.Told.{Told}
+use Rattle.fault_core.specs.View.{View, TablesAre}
+use Rattle.table_calls.specs.Answers.{Asked, Retabled}
+use Rattle.running_words.specs.Running.{exactly, IsRunning, Runs}
+use Rattle.running_words.specs.RunningLaws.{IsWhole}
+use Rattle.running_words.specs.Session.{AreInForm, WroteIn}
+use Rattle.running_words.specs.Stages.{Passes}
+use Rattle.running_words.proofs.LaterLemmas.{tables_own}
+use Rattle.running_words.proofs.RunningLemmas.{running_laws}
+use Rattle.running_words.proofs.SessionLemmas.{asked_at, known_brought, session_books}
+
+-- ---- Disk and frames.
+
+pub reached_makes : {v w : View} → Reaches v w → Makes volume_page [] v.disk v.slots w.disk w.slots
+reached_makes reaches = makes_wider volume_page tables_own reaches.goes.makes
+
+pub nothing_labelled : {a b : DiskState} {s t : Slots} → Makes volume_page [] a s b t → WroteIn volume_page a s b t
+nothing_labelled makes = record { labels = []; makes = makes; opens = tt }
+
+-- ---- Results.
+
+pub if_told : {X E : Type 0} (r : Result X E) (P Q : X → Type 0) (F : E → Type 0) → MatchResult r P F → ((x : X) → P x → Q x) → IfOk r Q
+if_told (Ok x) P Q F h wider = wider x h
+if_told (Err e) P Q F h wider = tt
+
+pub if_failed : {X E : Type 0} (r : Result X E) (P : X → Type 0) (F : E → Type 0) → MatchResult r P F → IfErr r F
+if_failed (Ok x) P F h = tt
+if_failed (Err e) P F h = h
+
+-- ---- Machines.
+
+-- what the calls on files know
+pub books_of : {v : View} {kept : List Interval} {count : ℕ} {volume : Volume} {m : Machine} (r : IsRunning v kept count volume m) → Books v.disk v.slots v.layout v.runs (shapes_of m.files) m.spaces r.session.stands.memory
+books_of {v = v} {volume = volume} {m = m} r = session_books (exactly r.pages m.spaces) v.disk v.slots v.layout v.runs volume m r.session
+
+-- a call on files that only asks leaves the machine
+pub looked_runs : {v w : View} {kept : List Interval} {count : ℕ} {volume : Volume} {m : Machine} (r : IsRunning v kept count volume m) → Makes volume_page [] v.disk v.slots w.disk w.slots
+    → BringsOwn v.slots w.slots → Books w.disk w.slots v.layout w.runs (shapes_of m.files) m.spaces r.session.stands.memory → w.layout ≡ v.layout → IsRunning w kept count volume m
+looked_runs {v = v} {w = w} {volume = volume} {m = m} r makes brings books layout = record {
+  pages = r.pages;
+  tables = r.tables;
+  session = asked_at (exactly r.pages m.spaces) v.disk w.disk v.slots w.slots v.layout v.runs w.runs volume m r.session makes brings books w.layout layout;
+  cached = r.cached;
+}
+
+module _ {D A : Type 0} {G : Ghosts D} where
+  -- a core of which the same is seen
+  pub same_runs : (c d : CoreOver D A G) (volume : Volume) (m : Machine) → state d ≡ state c → kept d ≡ kept c → d.intervals ≡ c.intervals → Runs c volume m → Runs d volume m
+  same_runs c d volume m view intervals count r =
+      subst (λ (v : View). IsRunning v (kept d) d.intervals volume m) (sym view) (subst (λ (k : List Interval). IsRunning (state c) k d.intervals volume m) (sym intervals)
+      (subst (λ (n : ℕ). IsRunning (state c) (kept c) n volume m) (sym count) r))
+
+  module _ (c : CoreOver D A G) (layout : IsLayout c.filer.swapper.layout) (size : (G.state c.filer.swapper.under).sectors ≡ c.filer.swapper.layout.sectors) where
+    whole : IsWhole (state c)
+    whole = record { layout = layout; size = size }
+
+    -- what it knows of its memory
+    pub knows : (volume : Volume) (m : Machine) (r : Runs c volume m) → Knows c r.session.stands.memory r.session.stands.is.named m.spaces
+    knows volume m r = running_laws.known (state c) (kept c) c.intervals volume m whole r
+
+    -- a core of which as much is known
+    pub reached_runs : (d : CoreOver D A G) (volume : Volume) (m : Machine) (r : Runs c volume m) → Reaches (state c) (state d) → BringsOwn c.filer.swapper.pool d.filer.swapper.pool → d.intervals ≡ c.intervals
+        → Knows d r.session.stands.memory r.session.stands.is.named m.spaces → Runs d volume m
+    reached_runs d volume m r reaches came count known =
+        let brought : BringsKnown m.spaces (state c).slots (state d).slots = known_brought (exactly r.pages m.spaces) m c.filer.swapper.pool d.filer.swapper.pool came in
+        subst (λ (n : ℕ). IsRunning (state d) (kept d) n volume m) (sym count)
+        (running_laws.asked (state c) (state d) (kept c) (kept d) c.intervals volume m whole r reaches brought
+        (subst (λ (n : ℕ). Told (state d) (kept d) n r.session.stands.memory r.session.stands.is.named m.spaces) count known))
+
+    -- the tables were asked
+    pub asked_runs : (d : CoreOver D A G) (volume : Volume) (m : Machine) → Asked c d → Runs c volume m → Runs d volume m
+    asked_runs d volume m asked r = reached_runs d volume m r asked.reaches asked.came asked.intervals (asked.same _ _ m.spaces (knows volume m r))
+
+    module _ (d : CoreOver D A G) (form : AreInForm (G.state d.filer.swapper.under)) (pages : ArePages d.filer.swapper.pool) (volume : Volume) (m : Machine) (retabled : Retabled c d) (spaces : List Space)
+        (tells : TellSpaces (TablesAre (state d)) d.intervals spaces) (r : Runs c volume m) where
+      -- the tables were changed, and what windows show is still shown
+      pub reshaped_runs : IsMachine (record m { spaces = spaces }) → ((id page : ℕ) → is_shown m.spaces id page ≡ true → is_shown spaces id page ≡ true) → Runs d volume (record m { spaces = spaces })
+      reshaped_runs is still =
+          subst (λ (k : List Interval). IsRunning (state d) k d.intervals volume (record m { spaces = spaces })) (sym retabled.kept)
+          (running_laws.reshaped (state c) (state d) (kept c) c.intervals d.intervals volume m spaces whole form pages r retabled.beside retabled.came tells is still)
+
+      -- and pages became settled
+      pub changed_runs : (unforced : List FilePage) → IsMachine (record m { spaces = spaces; unforced = unforced }) → HasFrames d.filer.swapper.pool spaces → DirtyAreLoose d.filer.swapper.pool unforced
+          → Runs d volume (record m { spaces = spaces; unforced = unforced })
+      changed_runs unforced is frames loose =
+          subst (λ (k : List Interval). IsRunning (state d) k d.intervals volume (record m { spaces = spaces; unforced = unforced })) (sym retabled.kept)
+          (running_laws.changed (state c) (state d) (kept c) c.intervals d.intervals volume m spaces unforced whole form pages r retabled.beside tells is frames loose)
+
+  -- each moment tells the settled files of before
+  pub quiet_passes : (c d : CoreOver D A G) (volume : Volume) (m : Machine) (call : Call) → AreInForm (G.state c.filer.swapper.under) → Runs c volume m
+      → Makes volume_page [] (G.state c.filer.swapper.under) c.filer.swapper.pool (G.state d.filer.swapper.under) d.filer.swapper.pool
+      → Passes m call (G.state c.filer.swapper.under) (G.state d.filer.swapper.under)
+  quiet_passes c d volume m call form r makes = running_laws.quiet call (state c) (state d) (kept c) c.intervals volume m form r makes
+
+  -- ---- What tables that were changed or asked did to the frames.
+
+  pub retabled_makes : (c d : CoreOver D A G) → Retabled c d → Makes volume_page [] (G.state c.filer.swapper.under) c.filer.swapper.pool (G.state d.filer.swapper.under) d.filer.swapper.pool
+  retabled_makes c d retabled = makes_wider volume_page tables_own retabled.beside.goes.makes
+
+  pub retabled_then : (c d e : CoreOver D A G) → Retabled c d → e ≡ d → Makes volume_page [] (G.state c.filer.swapper.under) c.filer.swapper.pool (G.state e.filer.swapper.under) e.filer.swapper.pool
+  retabled_then c d e retabled same =
+      subst (λ (x : CoreOver D A G). Makes volume_page [] (G.state c.filer.swapper.under) c.filer.swapper.pool (G.state x.filer.swapper.under) x.filer.swapper.pool) (sym same) (retabled_makes c d retabled)
+
+  pub asked_makes : (c d : CoreOver D A G) → Asked c d → Makes volume_page [] (G.state c.filer.swapper.under) c.filer.swapper.pool (G.state d.filer.swapper.under) d.filer.swapper.pool
+  asked_makes c d asked = makes_wider volume_page tables_own asked.reaches.goes.makes
+
+  -- the disk still has as many sectors as the layout
+  pub size_kept : (c d : CoreOver D A G) → Makes volume_page [] (G.state c.filer.swapper.under) c.filer.swapper.pool (G.state d.filer.swapper.under) d.filer.swapper.pool
+      → d.filer.swapper.layout ≡ c.filer.swapper.layout → (G.state c.filer.swapper.under).sectors ≡ c.filer.swapper.layout.sectors → (G.state d.filer.swapper.under).sectors ≡ d.filer.swapper.layout.sectors
+  size_kept c d makes layout size = makes.went.sectors ∙ size ∙ ap (λ (l : Layout). l.sectors) (sym layout)
+
+  -- ---- The same core.
+
+  pub moved_runs : (c e : CoreOver D A G) (volume : Volume) (m : Machine) → e ≡ c → Runs c volume m → Runs e volume m
+  moved_runs c e volume m same r = subst (λ (x : CoreOver D A G). Runs x volume m) (sym same) r
+
+  pub moved_size : (c e : CoreOver D A G) → e ≡ c → (G.state c.filer.swapper.under).sectors ≡ c.filer.swapper.layout.sectors → (G.state e.filer.swapper.under).sectors ≡ e.filer.swapper.layout.sectors
+  moved_size c e same size = subst (λ (x : CoreOver D A G). (G.state x.filer.swapper.under).sectors ≡ x.filer.swapper.layout.sectors) (sym same) size
+
+  pub moved_reaches : (c e d : CoreOver D A G) → e ≡ c → Reaches (state e) (state d) → Makes volume_page [] (G.state c.filer.swapper.under) c.filer.swapper.pool (G.state d.filer.swapper.under) d.filer.swapper.pool
+  moved_reaches c e d same reaches =
+      subst (λ (x : CoreOver D A G). Makes volume_page [] (G.state x.filer.swapper.under) x.filer.swapper.pool (G.state d.filer.swapper.under) d.filer.swapper.pool) same (makes_wider volume_page tables_own reaches.goes.makes)
+
+  -- what was written is on the medium
+  pub settled_runs : (c d : CoreOver D A G) → IsLayout c.filer.swapper.layout → (G.state c.filer.swapper.under).sectors ≡ c.filer.swapper.layout.sectors → (volume : Volume) (m : Machine) → Runs c volume m → Reaches (state c) (state d)
+      → d.filer.swapper.pool ≡ c.filer.swapper.pool → d.intervals ≡ c.intervals → ((x : List Sector) (named : Triples) (ss : List Space) → Knows c x named ss → Knows d x named ss) → Runs d volume m
+  settled_runs c d layout size volume m r reaches frames count same =
+      let came : BringsOwn c.filer.swapper.pool d.filer.swapper.pool = subst (λ (s : Slots). BringsOwn c.filer.swapper.pool s) (sym frames) (brings_itself (λ home. (1 ≤ home.id) × (home.id ≤ 3)) c.filer.swapper.pool) in
+      reached_runs c layout size d volume m r reaches came count (same _ _ m.spaces (knows c layout size volume m r))

@@ -1,0 +1,74 @@
+-- A disk that is settled tells the same, and a core over it knows the same.
+use Rattle.std.proofs.Common.{inl, ℕ, List, [], Result, ◌∙◌, refl, arith}
+use Rattle.labelled_disk.specs.declared.disk.DiskError.{DiskError}
+use Rattle.labelled_disk.specs.Calls.{Settles, TellsSame}
+use Rattle.labelled_disk.specs.Sectors.{Sector}
+use Rattle.labelled_disk.specs.State.{DiskState}
+use Rattle.file_map.specs.FileMap.{Triples}
+use Rattle.flat_machine.specs.declared.space.Space.{Space}
+use Rattle.swap_units.specs.declared.interval.Interval.{Interval}
+use Rattle.swapper_kernel.specs.DiffersLaws.{differs_itself}
+use Rattle.swapper_kernel.specs.Goes.{Makes, Pages, Went}
+use Rattle.swapper_kernel.specs.GoesLaws.{wrote_none}
+use Rattle.swapper_kernel.specs.HaltLaws.{brings_itself}
+use Rattle.swapper_kernel.specs.Stands.{Stands}
+use Rattle.filer_kernel.specs.Tables.{in_tables, table_pages}
+use Rattle.fault_core.specs.Reach.{IsReached, Reaches}
+use Rattle.fault_core.specs.Told.{Told}
+use Rattle.fault_core.specs.View.{View, TablesAre}
+
+module _ (v : View) (disk : DiskState) (went : Went v.disk disk) (same : TellsSame v.disk disk) where
+  now_view : View
+  now_view = record v { disk = disk }
+
+  stands_settled : (x : List Sector) → Stands v.disk v.slots x → Stands disk v.slots x
+  stands_settled x s = record { sectors = s.sectors; told = same.contents ∙ s.told; merged = s.merged }
+
+  settled_makes : (pages : Pages) → Makes pages [] v.disk v.slots disk v.slots
+  settled_makes pages = record { went = went; dirty = λ id page is. inl is; wrote = wrote_none pages v.slots same; count = refl }
+
+  tables_settled : (b : List ℕ) → TablesAre v b → TablesAre (record v { disk = disk }) b
+  tables_settled b t = record {
+    memory = t.memory;
+    stands = stands_settled t.memory t.stands;
+    triples = t.triples;
+    map = t.map;
+    kept = t.kept;
+    size = went.sectors ∙ t.size;
+    count = t.count;
+    page = t.page;
+  }
+
+  pub settled_reaches : Reaches v (record v { disk = disk })
+  settled_reaches = record {
+    goes = record { makes = settled_makes table_pages; memory = λ x s. (x, stands_settled x s, differs_itself (in_tables v.layout) x) };
+    brings = brings_itself (IsReached v) v.slots;
+    layout = refl;
+    given = λ r one. inl one;
+    runs_are = λ x named s map are. are;
+    told = tables_settled;
+  }
+
+  pub settled_told : (kept : List Interval) (count : ℕ) (x : List Sector) (named : Triples) (ss : List Space) → Told v kept count x named ss → Told (record v { disk = disk }) kept count x named ss
+  settled_told kept count x named ss t = record {
+    bytes = t.bytes;
+    known = record {
+      stands = stands_settled x t.known.stands;
+      size = went.sectors ∙ t.known.size;
+      long = t.known.long;
+      sectors = t.known.sectors;
+      map = t.known.map;
+      map_labels = t.known.map_labels;
+      runs = t.known.runs;
+      tabled = t.known.tabled;
+      count = t.known.count;
+      page = t.known.page;
+    };
+    tables = t.tables;
+    cached = t.cached;
+    stored = t.stored;
+  }
+
+-- the same disk later
+pub settled_went : (old new : DiskState) (result : Result (Unit {0}) DiskError) → Settles old result new → Went old new
+settled_went old new result s = record { sectors = s.sectors; lent = s.lent; faults = s.faults; transfers = omega (arith, s.transfers) }

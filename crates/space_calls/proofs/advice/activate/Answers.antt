@@ -1,0 +1,120 @@
+use Rattle.std.proofs.Common.{refl, subst}
+use Rattle.flat_machine.specs.declared.call.Call.TheVariants as call
+use Rattle.flat_machine.specs.declared.call.Reply.TheVariants.{Done}
+use Rattle.flat_machine.specs.Machine.{Machine}
+use Rattle.fault_core.specs.Core.{kept, state}
+use Rattle.fault_core.proofs.ReachLemmas.{reaches_then}
+use Rattle.running_words.specs.Running.{Runs}
+use Rattle.running_words.proofs.RunningLemmas.{running_laws}
+use Rattle.space_calls.proofs.AdviceLemmas.{activate_refused, activate_stays, activate_there, asked_range, asked_word, came_asked, never_brought, never_refused, range_active, range_brought, whole_core}
+use Rattle.space_calls.proofs.CameLemmas.{came_then, knows, still_runs, still_tells, wrote_so}
+use Rattle.space_calls.proofs.CarryLemmas.{allowed_done, allowed_refused}
+use Rattle.space_calls.proofs.RunLemmas.{reached_makes}
+use Rattle.space_calls.proofs.advice.activate.Goals as goal
+
+-- ---- It is refused.
+
+pub returns-in-Ok-Err-clause-carried : goal.returns-in-Ok-Err-clause-carried
+returns-in-Ok-Err-clause-carried g c = λ volume m runs.
+    let whole = whole_core c.args.core.now c.requires.size in
+    let told = knows running_laws whole runs in
+    let is = asked_word m.spaces c.args.space c.in-Ok-Err.field-0 c.in-Ok-Err.word c.in-Ok-Err.field-0-is (c.in-Ok-Err.ensures.answer _ _ m.spaces told) in
+    record {
+      allowed = allowed_refused m (call.Activate c.args.space) c.in-Ok-Err.word (activate_refused m c.args.space c.in-Ok-Err.word is);
+      runs = subst (λ (n : Machine). Runs c.bounds.new.core volume n) (activate_stays m c.args.space) (still_runs running_laws whole runs (came_asked c.bounds.ensures.asked));
+    }
+
+pub returns-in-Ok-Err-clause-passes : goal.returns-in-Ok-Err-clause-passes
+returns-in-Ok-Err-clause-passes g c = λ volume m runs.
+    let whole = whole_core c.args.core.now c.requires.size in
+    still_tells running_laws whole runs (state c.bounds.new.core) (g.met.D.Disk.in_form c.args.core.now.filer.swapper.under) (call.Activate c.args.space) (reached_makes c.bounds.ensures.asked.reaches)
+
+pub returns-in-Ok-Err-clause-wrote : goal.returns-in-Ok-Err-clause-wrote
+returns-in-Ok-Err-clause-wrote g c = wrote_so (reached_makes c.bounds.ensures.asked.reaches)
+
+pub returns-in-Ok-Err-clause-whole : goal.returns-in-Ok-Err-clause-whole
+returns-in-Ok-Err-clause-whole g c = λ volume m s runs there.
+    let whole = whole_core c.args.core.now c.requires.size in
+    let told = knows running_laws whole runs in
+    never_refused m c.args.space (kept c.bounds.new.core) c.bounds.new.core.filer.swapper.pool s c.in-Ok-Err.word there
+    (asked_word m.spaces c.args.space c.in-Ok-Err.field-0 c.in-Ok-Err.word c.in-Ok-Err.field-0-is (c.in-Ok-Err.ensures.answer _ _ m.spaces told))
+
+pub returns-in-Ok-Err-clause-brought : goal.returns-in-Ok-Err-clause-brought
+returns-in-Ok-Err-clause-brought g c = λ volume m s runs there.
+    let whole = whole_core c.args.core.now c.requires.size in
+    let told = knows running_laws whole runs in
+    never_brought m c.args.space (kept c.bounds.new.core) c.bounds.new.core.filer.swapper.pool _ s c.in-Ok-Err.word there
+    (asked_word m.spaces c.args.space c.in-Ok-Err.field-0 c.in-Ok-Err.word c.in-Ok-Err.field-0-is (c.in-Ok-Err.ensures.answer _ _ m.spaces told))
+
+-- ---- The tables could not be asked.
+
+pub returns-in-Err-clause-sound : goal.returns-in-Err-clause-sound
+returns-in-Err-clause-sound g c = λ volume m runs.
+    let whole = whole_core c.args.core.now c.requires.size in
+    c.in-Err.ensures.sound _ _ m.spaces (knows running_laws whole runs)
+
+pub returns-in-Err-clause-passes : goal.returns-in-Err-clause-passes
+returns-in-Err-clause-passes g c = λ volume m runs.
+    let whole = whole_core c.args.core.now c.requires.size in
+    still_tells running_laws whole runs (state c.bounds.new.core) (g.met.D.Disk.in_form c.args.core.now.filer.swapper.under) (call.Activate c.args.space) (reached_makes c.bounds.ensures.asked.reaches)
+
+pub returns-in-Err-clause-wrote : goal.returns-in-Err-clause-wrote
+returns-in-Err-clause-wrote g c = wrote_so (reached_makes c.bounds.ensures.asked.reaches)
+
+-- ---- The units were brought in.
+
+pub returns-in-Ok-clause-carried : goal.returns-in-Ok-clause-carried
+returns-in-Ok-clause-carried g c = λ volume m runs.
+    let whole = whole_core c.args.core.now c.requires.size in
+    let told = knows running_laws whole runs in
+    let found = asked_range m.spaces c.args.space c.in-Ok-Ok.field-0 c.in-Ok-Ok.run' c.in-Ok-Ok.field-0-is (c.in-Ok-Ok.ensures.answer _ _ m.spaces told) in
+    let e = c.activate.ensures in
+    let came = came_then (state c.args.core.now) (state c.bounds.new.core) (state c.activate.new.self) whole.layout (came_asked c.bounds.ensures.asked)
+    (record { reaches = e.reaches; brings = e.came; known = e.same; same_count = e.intervals }) in
+    record {
+      allowed = allowed_done m (call.Activate c.args.space) Done (activate_there m c.args.space found.0) refl;
+      runs = subst (λ (n : Machine). Runs c.activate.new.self volume n) (activate_stays m c.args.space) (still_runs running_laws whole runs came);
+    }
+
+pub returns-in-Ok-clause-passes : goal.returns-in-Ok-clause-passes
+returns-in-Ok-clause-passes g c = λ volume m runs.
+    let whole = whole_core c.args.core.now c.requires.size in
+    let reaches = reaches_then (state c.args.core.now) (state c.bounds.new.core) whole.layout c.bounds.ensures.asked.reaches (state c.activate.new.self) c.activate.ensures.reaches in
+    still_tells running_laws whole runs (state c.activate.new.self) (g.met.D.Disk.in_form c.args.core.now.filer.swapper.under) (call.Activate c.args.space) (reached_makes reaches)
+
+pub returns-in-Ok-clause-wrote : goal.returns-in-Ok-clause-wrote
+returns-in-Ok-clause-wrote g c =
+    wrote_so (reached_makes (reaches_then (state c.args.core.now) (state c.bounds.new.core) c.args.core.now.filer.swapper.accepted c.bounds.ensures.asked.reaches (state c.activate.new.self) c.activate.ensures.reaches))
+
+pub returns-in-Ok-clause-whole : goal.returns-in-Ok-clause-whole
+returns-in-Ok-clause-whole g c = λ volume m s runs there.
+    let whole = whole_core c.args.core.now c.requires.size in
+    let told = knows running_laws whole runs in
+    let found = asked_range m.spaces c.args.space c.in-Ok-Ok.field-0 c.in-Ok-Ok.run' c.in-Ok-Ok.field-0-is (c.in-Ok-Ok.ensures.answer _ _ m.spaces told) in
+    range_active m.spaces (kept c.activate.new.self) c.activate.new.self.filer.swapper.pool c.args.space s c.in-Ok-Ok.run' there found.1
+    (c.in-Ok.ensures.whole _ _ m.spaces (c.bounds.ensures.asked.same _ _ m.spaces told))
+
+pub returns-in-Ok-clause-brought : goal.returns-in-Ok-clause-brought
+returns-in-Ok-clause-brought g c = λ volume m s runs there.
+    let whole = whole_core c.args.core.now c.requires.size in
+    let told = knows running_laws whole runs in
+    let found = asked_range m.spaces c.args.space c.in-Ok-Ok.field-0 c.in-Ok-Ok.run' c.in-Ok-Ok.field-0-is (c.in-Ok-Ok.ensures.answer _ _ m.spaces told) in
+    range_brought m.spaces (kept c.activate.new.self) c.activate.new.self.filer.swapper.pool c.args.space s c.in-Ok-Ok.run' _ _ c.in-Ok._units c.bounds.ensures.asked.reaches.goes.makes.count there found.1
+    (c.in-Ok.ensures.units _ _ m.spaces (c.bounds.ensures.asked.same _ _ m.spaces told))
+
+-- ---- A unit could not be brought in.
+
+pub returns-in-Err-activate-clause-sound : goal.returns-in-Err-activate-clause-sound
+returns-in-Err-activate-clause-sound g c = λ volume m runs.
+    let whole = whole_core c.args.core.now c.requires.size in
+    c.in-Err-activate.ensures.sound _ _ m.spaces (c.bounds.ensures.asked.same _ _ m.spaces (knows running_laws whole runs))
+
+pub returns-in-Err-activate-clause-passes : goal.returns-in-Err-activate-clause-passes
+returns-in-Err-activate-clause-passes g c = λ volume m runs.
+    let whole = whole_core c.args.core.now c.requires.size in
+    let reaches = reaches_then (state c.args.core.now) (state c.bounds.new.core) whole.layout c.bounds.ensures.asked.reaches (state c.activate.new.self) c.activate.ensures.reaches in
+    still_tells running_laws whole runs (state c.activate.new.self) (g.met.D.Disk.in_form c.args.core.now.filer.swapper.under) (call.Activate c.args.space) (reached_makes reaches)
+
+pub returns-in-Err-activate-clause-wrote : goal.returns-in-Err-activate-clause-wrote
+returns-in-Err-activate-clause-wrote g c =
+    wrote_so (reached_makes (reaches_then (state c.args.core.now) (state c.bounds.new.core) c.args.core.now.filer.swapper.accepted c.bounds.ensures.asked.reaches (state c.activate.new.self) c.activate.ensures.reaches))

@@ -1,0 +1,27 @@
+use Rattle.std.proofs.Common.{◌∙◌, sym}
+use Rattle.space_calls.proofs.BareLemmas.{bare_core}
+use Rattle.space_calls.proofs.RunLemmas.{knows, reached_runs}
+use Rattle.space_calls.proofs.bare.shows_nothing.Goals as goal
+
+pub returns-in-Ok-Some-clause-answer : goal.returns-in-Ok-Some-clause-answer
+returns-in-Ok-Some-clause-answer g c = λ volume m r.
+    bare_core c.args.core.now c.args.core.now.filer.swapper.accepted c.requires.size volume m r c.in-Ok-Some.interval c.in-Ok-Some.field-0 c.in-Ok-Some.field-0-is c.in-Ok-Some.ensures.interval
+    (sym c.interval_count.ensures ∙ c.if-interval_count-ne1.false)
+
+pub returns-in-Ok-Some-clause-runs : goal.returns-in-Ok-Some-clause-runs
+returns-in-Ok-Some-clause-runs g c = λ volume m r.
+    let known = knows c.args.core.now c.args.core.now.filer.swapper.accepted c.requires.size volume m r in
+    reached_runs c.args.core.now c.args.core.now.filer.swapper.accepted c.requires.size c.describe.new.self volume m r c.describe.ensures.reaches c.describe.ensures.came c.describe.ensures.intervals (c.describe.ensures.same _ _ m.spaces known)
+
+pub returns-in-Ok-None-clause-runs : goal.returns-in-Ok-None-clause-runs
+returns-in-Ok-None-clause-runs g c = λ volume m r.
+    let known = knows c.args.core.now c.args.core.now.filer.swapper.accepted c.requires.size volume m r in
+    reached_runs c.args.core.now c.args.core.now.filer.swapper.accepted c.requires.size c.describe.new.self volume m r c.describe.ensures.reaches c.describe.ensures.came c.describe.ensures.intervals (c.describe.ensures.same _ _ m.spaces known)
+
+pub returns-in-Err-clause-runs : goal.returns-in-Err-clause-runs
+returns-in-Err-clause-runs g c = λ volume m r.
+    let known = knows c.args.core.now c.args.core.now.filer.swapper.accepted c.requires.size volume m r in
+    reached_runs c.args.core.now c.args.core.now.filer.swapper.accepted c.requires.size c.describe.new.self volume m r c.describe.ensures.reaches c.describe.ensures.came c.describe.ensures.intervals (c.describe.ensures.same _ _ m.spaces known)
+
+pub returns-in-Err-clause-sound : goal.returns-in-Err-clause-sound
+returns-in-Err-clause-sound g c = λ volume m r. c.in-Err.ensures.sound _ _ m.spaces (knows c.args.core.now c.args.core.now.filer.swapper.accepted c.requires.size volume m r)

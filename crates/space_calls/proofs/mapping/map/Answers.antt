@@ -1,0 +1,39 @@
+use Rattle.flat_machine.specs.declared.call.Call.TheVariants as call
+use Rattle.swapper_kernel.specs.GoesLaws.{makes_then}
+use Rattle.filer_kernel.proofs.Outcomes.{ok_wider}
+use Rattle.space_calls.proofs.CarryLemmas.{refused_carried}
+use Rattle.space_calls.proofs.MapLemmas.{map_passed, map_stopped, may_be_given}
+use Rattle.space_calls.proofs.RunLemmas.{nothing_labelled, quiet_passes}
+use Rattle.space_calls.proofs.WindowLemmas.{window_carried}
+use Rattle.space_calls.proofs.mapping.map.Goals as goal
+
+pub returns-in-Ok-Err-clause-carried : goal.returns-in-Ok-Err-clause-carried
+returns-in-Ok-Err-clause-carried g c = λ volume m r.
+    refused_carried c.may_map.new.core volume m (call.Map c.args.space c.args.id c.args.page c.args.writable) c.in-Ok-Err.word
+    (map_stopped m c.args.space c.args.id c.args.page c.args.writable c.in-Ok-Err.field-0 c.in-Ok-Err.word c.in-Ok-Err.field-0-is (c.in-Ok-Err.ensures.answer volume m r)) (c.may_map.ensures.runs volume m r)
+
+pub returns-clause-carried : goal.returns-clause-carried
+returns-clause-carried g c = λ volume m r.
+    let told = map_passed m c.args.space c.args.id c.args.page c.args.writable c.in-Ok-Ok.field-0 c.in-Ok-Ok.field-0-0 c.in-Ok-Ok.field-0-is (c.in-Ok-Ok.ensures.answer volume m r) in
+    let may = may_be_given m c.args.space c.args.id c.args.page c.args.writable r.session.stands.is.by.machine told.0 told.1 in
+    ok_wider c.give_window.result _ _ (λ reply done. window_carried c.give_window.new.core volume m c.args.space c.args.id c.args.page c.args.writable told.0 reply done.0 done.1)
+    (c.give_window.ensures.given volume m may.x (c.may_map.ensures.runs volume m r) may.may may.named_so may.bare may.fits may.machine)
+
+pub returns-in-Err-clause-passes : goal.returns-in-Err-clause-passes
+returns-in-Err-clause-passes g c = λ volume m r. quiet_passes c.args.core.now c.may_map.new.core volume m _ (g.met.D.Disk.in_form c.args.core.now.filer.swapper.under) r c.may_map.ensures.makes
+
+pub returns-in-Ok-Err-clause-passes : goal.returns-in-Ok-Err-clause-passes
+returns-in-Ok-Err-clause-passes g c = λ volume m r. quiet_passes c.args.core.now c.may_map.new.core volume m _ (g.met.D.Disk.in_form c.args.core.now.filer.swapper.under) r c.may_map.ensures.makes
+
+pub returns-clause-passes : goal.returns-clause-passes
+returns-clause-passes g c = λ volume m r.
+    quiet_passes c.args.core.now c.give_window.new.core volume m _ (g.met.D.Disk.in_form c.args.core.now.filer.swapper.under) r (makes_then c.may_map.ensures.makes c.give_window.ensures.makes)
+
+pub returns-clause-wrote : goal.returns-clause-wrote
+returns-clause-wrote g c = nothing_labelled (makes_then c.may_map.ensures.makes c.give_window.ensures.makes)
+
+pub returns-clause-sound : goal.returns-clause-sound
+returns-clause-sound g c = λ volume m r.
+    let told = map_passed m c.args.space c.args.id c.args.page c.args.writable c.in-Ok-Ok.field-0 c.in-Ok-Ok.field-0-0 c.in-Ok-Ok.field-0-is (c.in-Ok-Ok.ensures.answer volume m r) in
+    let may = may_be_given m c.args.space c.args.id c.args.page c.args.writable r.session.stands.is.by.machine told.0 told.1 in
+    c.give_window.ensures.sound volume m may.x (c.may_map.ensures.runs volume m r) may.may may.named_so may.bare may.fits

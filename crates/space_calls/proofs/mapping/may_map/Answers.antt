@@ -1,0 +1,240 @@
+use Rattle.std.proofs.Common.{◌≡◌, inl, inr, ◌+◌, ◌≤◌, ◌&&◌, ℕ, Option, false, ap, subst, arith}
+use Rattle.file_manager.specs.declared.attributes.Attributes.{Attributes}
+use Rattle.flat_machine.specs.declared.space.Space.{Space}
+use Rattle.flat_machine.specs.Machine.{nameable}
+use Rattle.swapper_kernel.specs.GoesLaws.{makes_then}
+use Rattle.space_calls.specs.Naming.{IsNameable}
+use Rattle.space_calls.proofs.MapLemmas.{both_not, file_immutable, no_such_file, path_taken, root_given, space_missing, window_allowed, window_long}
+use Rattle.space_calls.proofs.RunLemmas.{asked_makes, asked_runs, knows, size_kept}
+use Rattle.space_calls.proofs.TableAnswers.{bounds_refused, bounds_told, map_refused, map_told}
+use Rattle.space_calls.proofs.mapping.may_map.Goals as goal
+use Rattle.space_calls.proofs.mapping.may_map.Goals.{else-writable-via-then-writable+else-found, else-writable-via-else-writable}
+
+-- ---- The space.
+
+pub returns-in-Ok-Err-clause-answer : goal.returns-in-Ok-Err-clause-answer
+returns-in-Ok-Err-clause-answer g c = λ volume m r.
+    let old = c.args.core.now in
+    (space_missing m c.args.space c.args.id c.args.page c.args.writable c.in-Ok-Err.word (bounds_refused m.spaces c.args.space c.in-Ok-Err.field-0 c.in-Ok-Err.word c.in-Ok-Err.field-0-is (c.in-Ok-Err.ensures.answer _ _ m.spaces (knows old old.filer.swapper.accepted c.requires.size volume m r))), tt)
+
+pub returns-in-Ok-Err-clause-runs : goal.returns-in-Ok-Err-clause-runs
+returns-in-Ok-Err-clause-runs g c = λ volume m r.
+    let old = c.args.core.now in
+    let r1 = asked_runs old old.filer.swapper.accepted c.requires.size c.bounds.new.core volume m c.bounds.ensures.asked r in
+    r1
+
+pub returns-in-Err-clause-runs : goal.returns-in-Err-clause-runs
+returns-in-Err-clause-runs g c = λ volume m r.
+    let old = c.args.core.now in
+    let r1 = asked_runs old old.filer.swapper.accepted c.requires.size c.bounds.new.core volume m c.bounds.ensures.asked r in
+    r1
+
+pub returns-then-space-eq0-clause-runs : goal.returns-then-space-eq0-clause-runs
+returns-then-space-eq0-clause-runs g c = λ volume m r.
+    let old = c.args.core.now in
+    let r1 = asked_runs old old.filer.swapper.accepted c.requires.size c.bounds.new.core volume m c.bounds.ensures.asked r in
+    r1
+
+pub returns-in-Err-clause-sound : goal.returns-in-Err-clause-sound
+returns-in-Err-clause-sound g c = λ volume m r.
+    let old = c.args.core.now in
+    c.in-Err.ensures.sound _ _ m.spaces (knows old old.filer.swapper.accepted c.requires.size volume m r)
+
+pub returns-then-space-eq0-clause-answer : goal.returns-then-space-eq0-clause-answer
+returns-then-space-eq0-clause-answer g c = λ volume m r.
+    let old = c.args.core.now in
+    let there = (bounds_told m.spaces c.args.space c.in-Ok-Ok.field-0 c.in-Ok-Ok.field-0-0 c.in-Ok-Ok.field-0-is (c.in-Ok-Ok.ensures.answer _ _ m.spaces (knows old old.filer.swapper.accepted c.requires.size volume m r))).0 in
+    (root_given m c.args.space c.args.id c.args.page c.args.writable there c.if-space-eq0.true, tt)
+
+-- ---- The file.
+
+pub returns-in-Ok-None-clause-answer : goal.returns-in-Ok-None-clause-answer
+returns-in-Ok-None-clause-answer g c = λ volume m r.
+    let old = c.args.core.now in
+    let r1 = asked_runs old old.filer.swapper.accepted c.requires.size c.bounds.new.core volume m c.bounds.ensures.asked r in
+    let there = (bounds_told m.spaces c.args.space c.in-Ok-Ok.field-0 c.in-Ok-Ok.field-0-0 c.in-Ok-Ok.field-0-is (c.in-Ok-Ok.ensures.answer _ _ m.spaces (knows old old.filer.swapper.accepted c.requires.size volume m r))).0 in
+    let told = subst (λ (o : Option Attributes). IsNameable (nameable m c.args.id) o) c.in-Ok-None.field-0-is (c.in-Ok-None.ensures.answer volume m r1) in
+    (no_such_file m c.args.space c.args.id c.args.page c.args.writable there c.if-space-eq0.false told, tt)
+
+pub returns-in-Ok-None-clause-runs : goal.returns-in-Ok-None-clause-runs
+returns-in-Ok-None-clause-runs g c = λ volume m r.
+    let old = c.args.core.now in
+    let r1 = asked_runs old old.filer.swapper.accepted c.requires.size c.bounds.new.core volume m c.bounds.ensures.asked r in
+    let r2 = c.named_file.ensures.runs volume m r1 in
+    r2
+
+pub returns-in-Ok-None-clause-makes : goal.returns-in-Ok-None-clause-makes
+returns-in-Ok-None-clause-makes g c = makes_then (asked_makes _ _ c.bounds.ensures.asked) c.named_file.ensures.makes
+
+pub returns-in-Err-named_file-clause-runs : goal.returns-in-Err-named_file-clause-runs
+returns-in-Err-named_file-clause-runs g c = λ volume m r.
+    let old = c.args.core.now in
+    let r1 = asked_runs old old.filer.swapper.accepted c.requires.size c.bounds.new.core volume m c.bounds.ensures.asked r in
+    let r2 = c.named_file.ensures.runs volume m r1 in
+    r2
+
+pub returns-in-Err-named_file-clause-makes : goal.returns-in-Err-named_file-clause-makes
+returns-in-Err-named_file-clause-makes g c = makes_then (asked_makes _ _ c.bounds.ensures.asked) c.named_file.ensures.makes
+
+pub returns-in-Err-named_file-clause-sound : goal.returns-in-Err-named_file-clause-sound
+returns-in-Err-named_file-clause-sound g c = λ volume m r.
+    let old = c.args.core.now in
+    let r1 = asked_runs old old.filer.swapper.accepted c.requires.size c.bounds.new.core volume m c.bounds.ensures.asked r in
+    c.in-Err-named_file.ensures.sound volume m r1
+
+-- ---- The path.
+
+pub returns-in-Ok-Err-can_map-clause-answer : goal.returns-in-Ok-Err-can_map-clause-answer
+returns-in-Ok-Err-can_map-clause-answer g c = λ volume m r.
+    let old = c.args.core.now in
+    let r1 = asked_runs old old.filer.swapper.accepted c.requires.size c.bounds.new.core volume m c.bounds.ensures.asked r in
+    let r2 = c.named_file.ensures.runs volume m r1 in
+    let size1 = size_kept old c.bounds.new.core (asked_makes old c.bounds.new.core c.bounds.ensures.asked) c.bounds.ensures.asked.reaches.layout c.requires.size in
+    let size2 = size_kept c.bounds.new.core c.named_file.new.core c.named_file.ensures.makes c.named_file.ensures.layout size1 in
+    let named = c.named_file.new.core in
+    let there = (bounds_told m.spaces c.args.space c.in-Ok-Ok.field-0 c.in-Ok-Ok.field-0-0 c.in-Ok-Ok.field-0-is (c.in-Ok-Ok.ensures.answer _ _ m.spaces (knows old old.filer.swapper.accepted c.requires.size volume m r))).0 in
+    let told = subst (λ (o : Option Attributes). IsNameable (nameable m c.args.id) o) c.in-Ok-Some.field-0-is (c.in-Ok-Some.ensures.answer volume m r1) in
+    let taken = map_refused m.spaces c.args.space c.in-Ok-Err-can_map.field-0 c.in-Ok-Err-can_map.word c.in-Ok-Err-can_map.field-0-is (c.in-Ok-Err-can_map.ensures.answer _ _ m.spaces (knows named named.filer.swapper.accepted size2 volume m r2)) in
+    (path_taken m c.args.space c.args.id c.args.page c.args.writable there c.if-space-eq0.false c.in-Ok-Some.found told c.in-Ok-Err-can_map.word taken, tt)
+
+pub returns-in-Err-can_map-clause-sound : goal.returns-in-Err-can_map-clause-sound
+returns-in-Err-can_map-clause-sound g c = λ volume m r.
+    let old = c.args.core.now in
+    let r1 = asked_runs old old.filer.swapper.accepted c.requires.size c.bounds.new.core volume m c.bounds.ensures.asked r in
+    let r2 = c.named_file.ensures.runs volume m r1 in
+    let size1 = size_kept old c.bounds.new.core (asked_makes old c.bounds.new.core c.bounds.ensures.asked) c.bounds.ensures.asked.reaches.layout c.requires.size in
+    let size2 = size_kept c.bounds.new.core c.named_file.new.core c.named_file.ensures.makes c.named_file.ensures.layout size1 in
+    let named = c.named_file.new.core in
+    c.in-Err-can_map.ensures.sound _ _ m.spaces (knows named named.filer.swapper.accepted size2 volume m r2)
+
+pub returns-in-Ok-Err-can_map-clause-runs : goal.returns-in-Ok-Err-can_map-clause-runs
+returns-in-Ok-Err-can_map-clause-runs g c = λ volume m r.
+    let old = c.args.core.now in
+    let r1 = asked_runs old old.filer.swapper.accepted c.requires.size c.bounds.new.core volume m c.bounds.ensures.asked r in
+    let r2 = c.named_file.ensures.runs volume m r1 in
+    let size1 = size_kept old c.bounds.new.core (asked_makes old c.bounds.new.core c.bounds.ensures.asked) c.bounds.ensures.asked.reaches.layout c.requires.size in
+    let size2 = size_kept c.bounds.new.core c.named_file.new.core c.named_file.ensures.makes c.named_file.ensures.layout size1 in
+    let named = c.named_file.new.core in
+    asked_runs named named.filer.swapper.accepted size2 c.can_map.new.core volume m c.can_map.ensures.asked r2
+
+pub returns-in-Ok-Err-can_map-clause-makes : goal.returns-in-Ok-Err-can_map-clause-makes
+returns-in-Ok-Err-can_map-clause-makes g c = makes_then (makes_then (asked_makes _ _ c.bounds.ensures.asked) c.named_file.ensures.makes) (asked_makes _ _ c.can_map.ensures.asked)
+
+pub returns-in-Err-can_map-clause-runs : goal.returns-in-Err-can_map-clause-runs
+returns-in-Err-can_map-clause-runs g c = λ volume m r.
+    let old = c.args.core.now in
+    let r1 = asked_runs old old.filer.swapper.accepted c.requires.size c.bounds.new.core volume m c.bounds.ensures.asked r in
+    let r2 = c.named_file.ensures.runs volume m r1 in
+    let size1 = size_kept old c.bounds.new.core (asked_makes old c.bounds.new.core c.bounds.ensures.asked) c.bounds.ensures.asked.reaches.layout c.requires.size in
+    let size2 = size_kept c.bounds.new.core c.named_file.new.core c.named_file.ensures.makes c.named_file.ensures.layout size1 in
+    let named = c.named_file.new.core in
+    asked_runs named named.filer.swapper.accepted size2 c.can_map.new.core volume m c.can_map.ensures.asked r2
+
+pub returns-in-Err-can_map-clause-makes : goal.returns-in-Err-can_map-clause-makes
+returns-in-Err-can_map-clause-makes g c = makes_then (makes_then (asked_makes _ _ c.bounds.ensures.asked) c.named_file.ensures.makes) (asked_makes _ _ c.can_map.ensures.asked)
+
+pub returns-then-from-clause-runs : goal.returns-then-from-clause-runs
+returns-then-from-clause-runs g c = λ volume m r.
+    let old = c.args.core.now in
+    let r1 = asked_runs old old.filer.swapper.accepted c.requires.size c.bounds.new.core volume m c.bounds.ensures.asked r in
+    let r2 = c.named_file.ensures.runs volume m r1 in
+    let size1 = size_kept old c.bounds.new.core (asked_makes old c.bounds.new.core c.bounds.ensures.asked) c.bounds.ensures.asked.reaches.layout c.requires.size in
+    let size2 = size_kept c.bounds.new.core c.named_file.new.core c.named_file.ensures.makes c.named_file.ensures.layout size1 in
+    let named = c.named_file.new.core in
+    asked_runs named named.filer.swapper.accepted size2 c.can_map.new.core volume m c.can_map.ensures.asked r2
+
+pub returns-then-from-clause-makes : goal.returns-then-from-clause-makes
+returns-then-from-clause-makes g c = makes_then (makes_then (asked_makes _ _ c.bounds.ensures.asked) c.named_file.ensures.makes) (asked_makes _ _ c.can_map.ensures.asked)
+
+pub returns-then-found-clause-runs : goal.returns-then-found-clause-runs
+returns-then-found-clause-runs g c = λ volume m r.
+    let old = c.args.core.now in
+    let r1 = asked_runs old old.filer.swapper.accepted c.requires.size c.bounds.new.core volume m c.bounds.ensures.asked r in
+    let r2 = c.named_file.ensures.runs volume m r1 in
+    let size1 = size_kept old c.bounds.new.core (asked_makes old c.bounds.new.core c.bounds.ensures.asked) c.bounds.ensures.asked.reaches.layout c.requires.size in
+    let size2 = size_kept c.bounds.new.core c.named_file.new.core c.named_file.ensures.makes c.named_file.ensures.layout size1 in
+    let named = c.named_file.new.core in
+    asked_runs named named.filer.swapper.accepted size2 c.can_map.new.core volume m c.can_map.ensures.asked r2
+
+pub returns-then-found-clause-makes : goal.returns-then-found-clause-makes
+returns-then-found-clause-makes g c = makes_then (makes_then (asked_makes _ _ c.bounds.ensures.asked) c.named_file.ensures.makes) (asked_makes _ _ c.can_map.ensures.asked)
+
+pub returns-clause-runs : goal.returns-clause-runs
+returns-clause-runs g c = λ volume m r.
+    let old = c.args.core.now in
+    let r1 = asked_runs old old.filer.swapper.accepted c.requires.size c.bounds.new.core volume m c.bounds.ensures.asked r in
+    let r2 = c.named_file.ensures.runs volume m r1 in
+    let size1 = size_kept old c.bounds.new.core (asked_makes old c.bounds.new.core c.bounds.ensures.asked) c.bounds.ensures.asked.reaches.layout c.requires.size in
+    let size2 = size_kept c.bounds.new.core c.named_file.new.core c.named_file.ensures.makes c.named_file.ensures.layout size1 in
+    let named = c.named_file.new.core in
+    asked_runs named named.filer.swapper.accepted size2 c.can_map.new.core volume m c.can_map.ensures.asked r2
+
+pub returns-clause-makes : goal.returns-clause-makes
+returns-clause-makes g c = makes_then (makes_then (asked_makes _ _ c.bounds.ensures.asked) c.named_file.ensures.makes) (asked_makes _ _ c.can_map.ensures.asked)
+
+-- ---- The window.
+
+pub returns-then-from-clause-answer : goal.returns-then-from-clause-answer
+returns-then-from-clause-answer g c = λ volume m r.
+    let old = c.args.core.now in
+    let r1 = asked_runs old old.filer.swapper.accepted c.requires.size c.bounds.new.core volume m c.bounds.ensures.asked r in
+    let r2 = c.named_file.ensures.runs volume m r1 in
+    let size1 = size_kept old c.bounds.new.core (asked_makes old c.bounds.new.core c.bounds.ensures.asked) c.bounds.ensures.asked.reaches.layout c.requires.size in
+    let size2 = size_kept c.bounds.new.core c.named_file.new.core c.named_file.ensures.makes c.named_file.ensures.layout size1 in
+    let named = c.named_file.new.core in
+    let there = (bounds_told m.spaces c.args.space c.in-Ok-Ok.field-0 c.in-Ok-Ok.field-0-0 c.in-Ok-Ok.field-0-is (c.in-Ok-Ok.ensures.answer _ _ m.spaces (knows old old.filer.swapper.accepted c.requires.size volume m r))).0 in
+    let told = subst (λ (o : Option Attributes). IsNameable (nameable m c.args.id) o) c.in-Ok-Some.field-0-is (c.in-Ok-Some.ensures.answer volume m r1) in
+    let free = map_told m.spaces c.args.space c.in-Ok-Ok-can_map.field-0 c.in-Ok-Ok-can_map.run' c.in-Ok-Ok-can_map.field-0-is (c.in-Ok-Ok-can_map.ensures.answer _ _ m.spaces (knows named named.filer.swapper.accepted size2 volume m r2)) in
+    let s : Space = free.1.0 in
+    let long : c.in-Ok-Ok-can_map.run'.1 ≡ s.pages = ap (λ (run : ℕ × ℕ). run.1) free.1.2 in
+    let first = c.from.ensures in
+    let more = c.from-2.ensures in
+    let whole = c.from-3.ensures in
+    let count = c.page_count.ensures.same in
+    let small = c.page_count.type_inv in
+    let past = c.if-from.true in
+    (window_long m c.args.space c.args.id c.args.page c.args.writable there c.if-space-eq0.false c.in-Ok-Some.found told free.0 s free.1.1 (omega (arith, past, first, more, whole, count, long)), tt)
+
+pub returns-then-found-clause-answer : goal.returns-then-found-clause-answer
+returns-then-found-clause-answer g c = λ volume m r.
+    let old = c.args.core.now in
+    let r1 = asked_runs old old.filer.swapper.accepted c.requires.size c.bounds.new.core volume m c.bounds.ensures.asked r in
+    let r2 = c.named_file.ensures.runs volume m r1 in
+    let size1 = size_kept old c.bounds.new.core (asked_makes old c.bounds.new.core c.bounds.ensures.asked) c.bounds.ensures.asked.reaches.layout c.requires.size in
+    let size2 = size_kept c.bounds.new.core c.named_file.new.core c.named_file.ensures.makes c.named_file.ensures.layout size1 in
+    let named = c.named_file.new.core in
+    let there = (bounds_told m.spaces c.args.space c.in-Ok-Ok.field-0 c.in-Ok-Ok.field-0-0 c.in-Ok-Ok.field-0-is (c.in-Ok-Ok.ensures.answer _ _ m.spaces (knows old old.filer.swapper.accepted c.requires.size volume m r))).0 in
+    let told = subst (λ (o : Option Attributes). IsNameable (nameable m c.args.id) o) c.in-Ok-Some.field-0-is (c.in-Ok-Some.ensures.answer volume m r1) in
+    let free = map_told m.spaces c.args.space c.in-Ok-Ok-can_map.field-0 c.in-Ok-Ok-can_map.run' c.in-Ok-Ok-can_map.field-0-is (c.in-Ok-Ok-can_map.ensures.answer _ _ m.spaces (knows named named.filer.swapper.accepted size2 volume m r2)) in
+    let s : Space = free.1.0 in
+    let long : c.in-Ok-Ok-can_map.run'.1 ≡ s.pages = ap (λ (run : ℕ × ℕ). run.1) free.1.2 in
+    let first = c.from.ensures in
+    let more = c.from-2.ensures in
+    let whole = c.from-3.ensures in
+    let count = c.page_count.ensures.same in
+    let small = c.page_count.type_inv in
+    let inside = c.if-from.false in
+    (file_immutable m c.args.space c.args.id c.args.page c.args.writable there c.if-space-eq0.false c.in-Ok-Some.found told free.0 s free.1.1 (omega (arith, inside, first, more, whole, count, long)) c.if-writable.true c.if-found.true, tt)
+
+pub returns-clause-answer : goal.returns-clause-answer
+returns-clause-answer g c = λ volume m r.
+    let old = c.args.core.now in
+    let r1 = asked_runs old old.filer.swapper.accepted c.requires.size c.bounds.new.core volume m c.bounds.ensures.asked r in
+    let r2 = c.named_file.ensures.runs volume m r1 in
+    let size1 = size_kept old c.bounds.new.core (asked_makes old c.bounds.new.core c.bounds.ensures.asked) c.bounds.ensures.asked.reaches.layout c.requires.size in
+    let size2 = size_kept c.bounds.new.core c.named_file.new.core c.named_file.ensures.makes c.named_file.ensures.layout size1 in
+    let named = c.named_file.new.core in
+    let there = (bounds_told m.spaces c.args.space c.in-Ok-Ok.field-0 c.in-Ok-Ok.field-0-0 c.in-Ok-Ok.field-0-is (c.in-Ok-Ok.ensures.answer _ _ m.spaces (knows old old.filer.swapper.accepted c.requires.size volume m r))).0 in
+    let told = subst (λ (o : Option Attributes). IsNameable (nameable m c.args.id) o) c.in-Ok-Some.field-0-is (c.in-Ok-Some.ensures.answer volume m r1) in
+    let free = map_told m.spaces c.args.space c.in-Ok-Ok-can_map.field-0 c.in-Ok-Ok-can_map.run' c.in-Ok-Ok-can_map.field-0-is (c.in-Ok-Ok-can_map.ensures.answer _ _ m.spaces (knows named named.filer.swapper.accepted size2 volume m r2)) in
+    let s : Space = free.1.0 in
+    let long : c.in-Ok-Ok-can_map.run'.1 ≡ s.pages = ap (λ (run : ℕ × ℕ). run.1) free.1.2 in
+    let first = c.from.ensures in
+    let more = c.from-2.ensures in
+    let whole = c.from-3.ensures in
+    let count = c.page_count.ensures.same in
+    let small = c.page_count.type_inv in
+    let inside = c.if-from.false in
+    let fits : c.args.page + s.pages ≤ c.in-Ok-Some.found.pages = omega (arith, inside, first, more, whole, count, long) in
+    let mutable : c.args.writable && c.in-Ok-Some.found.immutable ≡ false = elim c.else-writable.branch [ else-writable-via-then-writable+else-found w ↦ both_not c.args.writable c.in-Ok-Some.found.immutable (inr w.if-found.false) | else-writable-via-else-writable w ↦ both_not c.args.writable c.in-Ok-Some.found.immutable (inl w.if-writable.false) ] in
+    (window_allowed m c.args.space c.args.id c.args.page c.args.writable there c.if-space-eq0.false c.in-Ok-Some.found told free.0 s free.1.1 fits mutable, (s, free.1.1, omega (arith, fits, count, small)))

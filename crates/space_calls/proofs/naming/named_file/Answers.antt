@@ -1,0 +1,25 @@
+use Rattle.session_words.specs.Parts.{shapes_of}
+use Rattle.swapper_kernel.specs.GoesLaws.{makes_then}
+use Rattle.space_calls.proofs.NameLemmas.{seen_not, seen_told}
+use Rattle.space_calls.proofs.RunLemmas.{books_of, if_failed, if_told, looked_runs}
+use Rattle.space_calls.proofs.naming.named_file.Goals as goal
+
+pub returns-in-Ok-false-clause-answer : goal.returns-in-Ok-false-clause-answer
+returns-in-Ok-false-clause-answer g c = λ volume m r. seen_not m c.args.id c.in-Ok-false.field-0 c.in-Ok-false.field-0-test (c.in-Ok-false.ensures.answer volume m r)
+
+pub returns-clause-answer : goal.returns-clause-answer
+returns-clause-answer g c = λ volume m r.
+    let s = c.may_be_named.ensures.runs volume m r in
+    if_told c.attributes_of.result _ _ _ (c.attributes_of.ensures.told _ (shapes_of m.files) m.spaces (books_of s))
+    (λ told same. seen_told m c.args.id c.in-Ok-true.field-0 told c.in-Ok-true.field-0-test (c.in-Ok-true.ensures.answer volume m r) same)
+
+pub returns-clause-runs : goal.returns-clause-runs
+returns-clause-runs g c = λ volume m r.
+    let s = c.may_be_named.ensures.runs volume m r in
+    looked_runs s c.attributes_of.ensures.makes c.attributes_of.ensures.brings (c.attributes_of.ensures.same _ (shapes_of m.files) m.spaces (books_of s)) c.attributes_of.ensures.layout
+
+pub returns-clause-sound : goal.returns-clause-sound
+returns-clause-sound g c = λ volume m r. if_failed c.attributes_of.result _ _ (c.attributes_of.ensures.told _ (shapes_of m.files) m.spaces (books_of (c.may_be_named.ensures.runs volume m r)))
+
+pub returns-clause-makes : goal.returns-clause-makes
+returns-clause-makes g c = makes_then c.may_be_named.ensures.makes c.attributes_of.ensures.makes

@@ -1,0 +1,120 @@
+use Rattle.std.proofs.Common.{sym, subst, refl}
+use Rattle.flat_machine.specs.declared.call.Call.TheVariants as call
+use Rattle.flat_machine.specs.declared.call.Reply.TheVariants as reply
+use Rattle.flat_machine.specs.Machine.{Machine}
+use Rattle.swapper_kernel.specs.GoesLaws.{makes_then}
+use Rattle.fault_core.specs.Core.{state}
+use Rattle.running_words.specs.Running.{Runs}
+use Rattle.running_words.proofs.RunningLemmas.{running_laws}
+use Rattle.space_calls.proofs.CarryLemmas.{allowed_done, allowed_refused, next_refused}
+use Rattle.space_calls.proofs.RunLemmas.{reached_makes}
+use Rattle.space_calls.proofs.CameLemmas.{came_own, came_then, knows, still_runs, still_tells, whole_of, wrote_so}
+use Rattle.space_calls.proofs.RangeLemmas.{asked_halt, range_halt, deactivate_stays, found_run, found_word, never_refused, of_space}
+use Rattle.space_calls.proofs.RefusedCalls.{deactivate_refused, deactivate_there}
+use Rattle.fault_core.specs.Range.{AreGone}
+use Rattle.space_calls.proofs.range.deactivate.Goals as goal
+
+-- ---- There is no such space.
+
+pub returns-in-Ok-Err-clause-carried : goal.returns-in-Ok-Err-clause-carried
+returns-in-Ok-Err-clause-carried g c = λ volume m r.
+    let whole = whole_of c.args.core.now c.requires.size in
+    let x = r.session.stands.memory in
+    let named = r.session.stands.is.named in
+    let told = knows running_laws whole r in
+    let asked = c.range_of.ensures.asked in
+    let is = deactivate_refused m c.args.space c.in-Ok-Err.word (found_word m.spaces c.args.space c.in-Ok-Err.word c.in-Ok-Err.field-0 c.in-Ok-Err.field-0-is (c.in-Ok-Err.ensures.answer x named m.spaces told)) in
+    record {
+      allowed = allowed_refused m (call.Deactivate c.args.space) c.in-Ok-Err.word is;
+      runs = subst (λ (n : Machine). Runs c.range_of.new.core volume n) (sym (next_refused m (call.Deactivate c.args.space) c.in-Ok-Err.word is)) (still_runs running_laws whole r (came_own asked.reaches asked.came asked.same asked.intervals));
+    }
+
+pub returns-in-Ok-Err-clause-gone : goal.returns-in-Ok-Err-clause-gone
+returns-in-Ok-Err-clause-gone g c = λ volume m s r there.
+    let whole = whole_of c.args.core.now c.requires.size in
+    let x = r.session.stands.memory in
+    let named = r.session.stands.is.named in
+    let told = knows running_laws whole r in
+    absurd (never_refused m.spaces c.args.space s c.in-Ok-Err.word there (found_word m.spaces c.args.space c.in-Ok-Err.word c.in-Ok-Err.field-0 c.in-Ok-Err.field-0-is (c.in-Ok-Err.ensures.answer x named m.spaces told)))
+
+pub returns-in-Ok-Err-clause-passes : goal.returns-in-Ok-Err-clause-passes
+returns-in-Ok-Err-clause-passes g c = λ volume m r.
+    still_tells running_laws (whole_of c.args.core.now c.requires.size) r (state c.range_of.new.core) (λ d told. g.met.D.Disk.in_form c.args.core.now.filer.swapper.under d told) (call.Deactivate c.args.space) (reached_makes c.range_of.ensures.asked.reaches)
+
+pub returns-in-Ok-Err-clause-wrote : goal.returns-in-Ok-Err-clause-wrote
+returns-in-Ok-Err-clause-wrote g c = wrote_so (reached_makes c.range_of.ensures.asked.reaches)
+
+-- ---- The disk failed.
+
+pub returns-in-Err-clause-sound : goal.returns-in-Err-clause-sound
+returns-in-Err-clause-sound g c = λ volume m r.
+    let whole = whole_of c.args.core.now c.requires.size in
+    let x = r.session.stands.memory in
+    let named = r.session.stands.is.named in
+    let told = knows running_laws whole r in
+    c.in-Err.ensures.sound x named m.spaces told
+
+pub returns-in-Err-clause-passes : goal.returns-in-Err-clause-passes
+returns-in-Err-clause-passes g c = λ volume m r.
+    still_tells running_laws (whole_of c.args.core.now c.requires.size) r (state c.range_of.new.core) (λ d told. g.met.D.Disk.in_form c.args.core.now.filer.swapper.under d told) (call.Deactivate c.args.space) (reached_makes c.range_of.ensures.asked.reaches)
+
+pub returns-in-Err-clause-wrote : goal.returns-in-Err-clause-wrote
+returns-in-Err-clause-wrote g c = wrote_so (reached_makes c.range_of.ensures.asked.reaches)
+
+pub returns-in-Err-let_go-clause-sound : goal.returns-in-Err-let_go-clause-sound
+returns-in-Err-let_go-clause-sound g c = λ volume m r.
+    let whole = whole_of c.args.core.now c.requires.size in
+    let x = r.session.stands.memory in
+    let named = r.session.stands.is.named in
+    let told = knows running_laws whole r in
+    c.in-Err-let_go.ensures.sound x named m.spaces (c.range_of.ensures.asked.same x named m.spaces told)
+
+pub returns-in-Err-let_go-clause-passes : goal.returns-in-Err-let_go-clause-passes
+returns-in-Err-let_go-clause-passes g c = λ volume m r.
+    still_tells running_laws (whole_of c.args.core.now c.requires.size) r (state c.let_go.new.self) (λ d told. g.met.D.Disk.in_form c.args.core.now.filer.swapper.under d told) (call.Deactivate c.args.space) (makes_then (reached_makes c.range_of.ensures.asked.reaches) (reached_makes c.let_go.ensures.reaches))
+
+pub returns-in-Err-let_go-clause-wrote : goal.returns-in-Err-let_go-clause-wrote
+returns-in-Err-let_go-clause-wrote g c = wrote_so (makes_then (reached_makes c.range_of.ensures.asked.reaches) (reached_makes c.let_go.ensures.reaches))
+
+-- ---- It is done.
+
+pub returns-clause-carried : goal.returns-clause-carried
+returns-clause-carried g c = λ volume m r.
+    let whole = whole_of c.args.core.now c.requires.size in
+    let x = r.session.stands.memory in
+    let named = r.session.stands.is.named in
+    let told = knows running_laws whole r in
+    let asked = c.range_of.ensures.asked in
+    let found = found_run m.spaces c.args.space c.in-Ok-Ok.found c.in-Ok-Ok.field-0 c.in-Ok-Ok.field-0-is (c.in-Ok-Ok.ensures.answer x named m.spaces told) in
+    let gave = c.let_go.ensures in
+    record {
+      allowed = allowed_done m (call.Deactivate c.args.space) reply.Done (deactivate_there m c.args.space found.0) refl;
+      runs = subst (λ (n : Machine). Runs c.let_go.new.self volume n) (deactivate_stays m c.args.space) (still_runs running_laws whole r (came_then (state c.args.core.now) (state c.range_of.new.core) (state c.let_go.new.self) whole.layout
+          (came_own asked.reaches asked.came asked.same asked.intervals) (came_own gave.reaches gave.came gave.same gave.intervals)));
+    }
+
+pub returns-clause-gone : goal.returns-clause-gone
+returns-clause-gone g c = λ volume m s r there.
+    let whole = whole_of c.args.core.now c.requires.size in
+    let x = r.session.stands.memory in
+    let named = r.session.stands.is.named in
+    let told = knows running_laws whole r in
+    let found = found_run m.spaces c.args.space c.in-Ok-Ok.found c.in-Ok-Ok.field-0 c.in-Ok-Ok.field-0-is (c.in-Ok-Ok.ensures.answer x named m.spaces told) in
+    of_space m.spaces c.args.space s c.in-Ok-Ok.found (AreGone m.spaces c.let_go.new.self.filer.swapper.pool) found.1 there (c.in-Ok.ensures.gone x named m.spaces (c.range_of.ensures.asked.same x named m.spaces told))
+
+pub returns-clause-passes : goal.returns-clause-passes
+returns-clause-passes g c = λ volume m r.
+    still_tells running_laws (whole_of c.args.core.now c.requires.size) r (state c.let_go.new.self) (λ d told. g.met.D.Disk.in_form c.args.core.now.filer.swapper.under d told) (call.Deactivate c.args.space) (makes_then (reached_makes c.range_of.ensures.asked.reaches) (reached_makes c.let_go.ensures.reaches))
+
+pub returns-clause-wrote : goal.returns-clause-wrote
+returns-clause-wrote g c = wrote_so (makes_then (reached_makes c.range_of.ensures.asked.reaches) (reached_makes c.let_go.ensures.reaches))
+
+-- ---- Why it failed.
+
+pub returns-in-Err-clause-cause : goal.returns-in-Err-clause-cause
+returns-in-Err-clause-cause g c = asked_halt (state c.args.core.now) (state c.range_of.new.core) c.args.core.now.filer.swapper.accepted c.args.space c.args.core.now.intervals c.in-Err.halt c.in-Err.ensures.cause
+
+pub returns-in-Err-let_go-clause-cause : goal.returns-in-Err-let_go-clause-cause
+returns-in-Err-let_go-clause-cause g c =
+    let asked = c.range_of.ensures.asked in
+    range_halt (state c.args.core.now) (state c.range_of.new.core) c.args.core.now.filer.swapper.accepted c.args.space asked.reaches c.args.core.now.intervals c.range_of.new.core.intervals asked.intervals (state c.let_go.new.self) c.in-Err-let_go.halt c.in-Err-let_go.ensures.cause

@@ -1,0 +1,152 @@
+use Rattle.std.proofs.Common.{◌∙◌, sym, subst, ◌+◌, refl}
+use Rattle.std.proofs.lemmas.Option.{none-some}
+use Rattle.flat_machine.specs.declared.call.Call.TheVariants as call
+use Rattle.flat_machine.specs.declared.call.Reply.TheVariants as reply
+use Rattle.flat_machine.specs.Machine.{Machine}
+use Rattle.swapper_kernel.specs.GoesLaws.{makes_then}
+use Rattle.fault_core.specs.Core.{state}
+use Rattle.running_words.specs.Running.{Runs}
+use Rattle.running_words.proofs.RunningLemmas.{running_laws}
+use Rattle.space_calls.specs.Ranges.{BreaksRange}
+use Rattle.space_calls.proofs.CarryLemmas.{allowed_done, allowed_refused, next_refused}
+use Rattle.space_calls.proofs.RunLemmas.{reached_makes}
+use Rattle.space_calls.proofs.CameLemmas.{came_own, came_then, knows, still_runs, still_tells, whole_after, whole_of, wrote_so}
+use Rattle.space_calls.proofs.RangeLemmas.{asked_halt, fault_halt, range_halt, found_run, found_word, never_refused, no_frame_came, of_space}
+use Rattle.space_calls.proofs.RefusedCalls.{force_refused, force_there}
+use Rattle.space_calls.proofs.MovedLemmas.{force_runs}
+use Rattle.fault_core.specs.Range.{AreClean}
+use Rattle.frame_pool.specs.Frames.{Slots}
+use Rattle.space_calls.proofs.range.force_out.Goals as goal
+
+-- ---- There is no such space.
+
+pub returns-in-Ok-Err-clause-carried : goal.returns-in-Ok-Err-clause-carried
+returns-in-Ok-Err-clause-carried g c = λ volume m r.
+    let whole = whole_of c.args.core.now c.requires.size in
+    let x = r.session.stands.memory in
+    let named = r.session.stands.is.named in
+    let told = knows running_laws whole r in
+    let asked = c.range_of.ensures.asked in
+    let is = force_refused m c.args.space c.in-Ok-Err.word (found_word m.spaces c.args.space c.in-Ok-Err.word c.in-Ok-Err.field-0 c.in-Ok-Err.field-0-is (c.in-Ok-Err.ensures.answer x named m.spaces told)) in
+    record {
+      allowed = allowed_refused m (call.ForceOut c.args.space) c.in-Ok-Err.word is;
+      runs = subst (λ (n : Machine). Runs c.range_of.new.core volume n) (sym (next_refused m (call.ForceOut c.args.space) c.in-Ok-Err.word is)) (still_runs running_laws whole r (came_own asked.reaches asked.came asked.same asked.intervals));
+    }
+
+pub returns-in-Ok-Err-clause-clean : goal.returns-in-Ok-Err-clause-clean
+returns-in-Ok-Err-clause-clean g c = λ volume m s r there.
+    let whole = whole_of c.args.core.now c.requires.size in
+    let x = r.session.stands.memory in
+    let named = r.session.stands.is.named in
+    let told = knows running_laws whole r in
+    absurd (never_refused m.spaces c.args.space s c.in-Ok-Err.word there (found_word m.spaces c.args.space c.in-Ok-Err.word c.in-Ok-Err.field-0 c.in-Ok-Err.field-0-is (c.in-Ok-Err.ensures.answer x named m.spaces told)))
+
+pub returns-in-Ok-Err-clause-synced : goal.returns-in-Ok-Err-clause-synced
+returns-in-Ok-Err-clause-synced g c = λ volume m r free.
+    let whole = whole_of c.args.core.now c.requires.size in
+    let x = r.session.stands.memory in
+    let named = r.session.stands.is.named in
+    let told = knows running_laws whole r in
+    absurd (none-some c.in-Ok-Err.word (sym free ∙ force_refused m c.args.space c.in-Ok-Err.word
+    (found_word m.spaces c.args.space c.in-Ok-Err.word c.in-Ok-Err.field-0 c.in-Ok-Err.field-0-is (c.in-Ok-Err.ensures.answer x named m.spaces told))))
+
+pub returns-in-Ok-Err-clause-passes : goal.returns-in-Ok-Err-clause-passes
+returns-in-Ok-Err-clause-passes g c = λ volume m r.
+    still_tells running_laws (whole_of c.args.core.now c.requires.size) r (state c.range_of.new.core) (λ d told. g.met.D.Disk.in_form c.args.core.now.filer.swapper.under d told) (call.ForceOut c.args.space) (reached_makes c.range_of.ensures.asked.reaches)
+
+pub returns-in-Ok-Err-clause-wrote : goal.returns-in-Ok-Err-clause-wrote
+returns-in-Ok-Err-clause-wrote g c = wrote_so (reached_makes c.range_of.ensures.asked.reaches)
+
+-- ---- The disk failed.
+
+pub returns-in-Err-clause-sound : goal.returns-in-Err-clause-sound
+returns-in-Err-clause-sound g c = λ volume m r.
+    let whole = whole_of c.args.core.now c.requires.size in
+    let x = r.session.stands.memory in
+    let named = r.session.stands.is.named in
+    let told = knows running_laws whole r in
+    c.in-Err.ensures.sound x named m.spaces told
+
+pub returns-in-Err-clause-passes : goal.returns-in-Err-clause-passes
+returns-in-Err-clause-passes g c = λ volume m r.
+    still_tells running_laws (whole_of c.args.core.now c.requires.size) r (state c.range_of.new.core) (λ d told. g.met.D.Disk.in_form c.args.core.now.filer.swapper.under d told) (call.ForceOut c.args.space) (reached_makes c.range_of.ensures.asked.reaches)
+
+pub returns-in-Err-clause-wrote : goal.returns-in-Err-clause-wrote
+returns-in-Err-clause-wrote g c = wrote_so (reached_makes c.range_of.ensures.asked.reaches)
+
+pub returns-in-Err-force-clause-sound : goal.returns-in-Err-force-clause-sound
+returns-in-Err-force-clause-sound g c = λ volume m r.
+    let whole = whole_of c.args.core.now c.requires.size in
+    let x = r.session.stands.memory in
+    let named = r.session.stands.is.named in
+    let told = knows running_laws whole r in
+    c.in-Err-force.ensures.sound x named m.spaces (c.range_of.ensures.asked.same x named m.spaces told)
+
+pub returns-in-Err-force-clause-passes : goal.returns-in-Err-force-clause-passes
+returns-in-Err-force-clause-passes g c = λ volume m r.
+    still_tells running_laws (whole_of c.args.core.now c.requires.size) r (state c.force.new.self) (λ d told. g.met.D.Disk.in_form c.args.core.now.filer.swapper.under d told) (call.ForceOut c.args.space) (makes_then (reached_makes c.range_of.ensures.asked.reaches) (reached_makes c.force.ensures.reaches))
+
+pub returns-in-Err-force-clause-wrote : goal.returns-in-Err-force-clause-wrote
+returns-in-Err-force-clause-wrote g c = wrote_so (makes_then (reached_makes c.range_of.ensures.asked.reaches) (reached_makes c.force.ensures.reaches))
+
+pub returns-in-Err-settle-clause-passes : goal.returns-in-Err-settle-clause-passes
+returns-in-Err-settle-clause-passes g c = λ volume m r.
+    still_tells running_laws (whole_of c.args.core.now c.requires.size) r (state c.settle.new.core) (λ d told. g.met.D.Disk.in_form c.args.core.now.filer.swapper.under d told) (call.ForceOut c.args.space) (makes_then (reached_makes c.range_of.ensures.asked.reaches) (makes_then (reached_makes c.force.ensures.reaches) (reached_makes c.settle.ensures.reaches)))
+
+pub returns-in-Err-settle-clause-wrote : goal.returns-in-Err-settle-clause-wrote
+returns-in-Err-settle-clause-wrote g c = wrote_so (makes_then (reached_makes c.range_of.ensures.asked.reaches) (makes_then (reached_makes c.force.ensures.reaches) (reached_makes c.settle.ensures.reaches)))
+
+-- ---- It is done.
+
+pub returns-in-Ok-settle-clause-carried : goal.returns-in-Ok-settle-clause-carried
+returns-in-Ok-settle-clause-carried g c = λ volume m r.
+    let whole = whole_of c.args.core.now c.requires.size in
+    let x = r.session.stands.memory in
+    let named = r.session.stands.is.named in
+    let told = knows running_laws whole r in
+    let asked = c.range_of.ensures.asked in
+    let found = found_run m.spaces c.args.space c.in-Ok-Ok.found c.in-Ok-Ok.field-0 c.in-Ok-Ok.field-0-is (c.in-Ok-Ok.ensures.answer x named m.spaces told) in
+    let free = force_there m c.args.space found.0 in
+    let forced = c.force.ensures in
+    let settled = c.settle.ensures in
+    let came = came_then (state c.args.core.now) (state c.range_of.new.core) (state c.force.new.self) whole.layout
+    (came_own asked.reaches asked.came asked.same asked.intervals) (came_own forced.reaches forced.came forced.same forced.intervals) in
+    let s = found.1.0 in
+    let rest = of_space m.spaces c.args.space s c.in-Ok-Ok.found (AreClean m.spaces c.force.new.self.filer.swapper.pool) found.1 found.1.1 (c.in-Ok.ensures.clean x named m.spaces (asked.same x named m.spaces told)) in
+    record {
+      allowed = allowed_done m (call.ForceOut c.args.space) reply.Done free refl;
+      runs = still_runs running_laws (whole_after whole came.reaches) (force_runs running_laws whole r came c.args.space s free found.1.1 rest)
+          (came_own settled.reaches (no_frame_came c.force.new.self.filer.swapper.pool c.settle.new.core.filer.swapper.pool settled.frames) settled.known settled.intervals);
+    }
+
+pub returns-in-Ok-settle-clause-clean : goal.returns-in-Ok-settle-clause-clean
+returns-in-Ok-settle-clause-clean g c = λ volume m s r there.
+    let whole = whole_of c.args.core.now c.requires.size in
+    let x = r.session.stands.memory in
+    let named = r.session.stands.is.named in
+    let told = knows running_laws whole r in
+    let found = found_run m.spaces c.args.space c.in-Ok-Ok.found c.in-Ok-Ok.field-0 c.in-Ok-Ok.field-0-is (c.in-Ok-Ok.ensures.answer x named m.spaces told) in
+    subst (λ (p : Slots). AreClean m.spaces p s.first (s.first + s.pages)) (sym c.settle.ensures.frames)
+    (of_space m.spaces c.args.space s c.in-Ok-Ok.found (AreClean m.spaces c.force.new.self.filer.swapper.pool) found.1 there (c.in-Ok.ensures.clean x named m.spaces (c.range_of.ensures.asked.same x named m.spaces told)))
+
+pub returns-in-Ok-settle-clause-passes : goal.returns-in-Ok-settle-clause-passes
+returns-in-Ok-settle-clause-passes g c = λ volume m r.
+    still_tells running_laws (whole_of c.args.core.now c.requires.size) r (state c.settle.new.core) (λ d told. g.met.D.Disk.in_form c.args.core.now.filer.swapper.under d told) (call.ForceOut c.args.space) (makes_then (reached_makes c.range_of.ensures.asked.reaches) (makes_then (reached_makes c.force.ensures.reaches) (reached_makes c.settle.ensures.reaches)))
+
+pub returns-in-Ok-settle-clause-wrote : goal.returns-in-Ok-settle-clause-wrote
+returns-in-Ok-settle-clause-wrote g c = wrote_so (makes_then (reached_makes c.range_of.ensures.asked.reaches) (makes_then (reached_makes c.force.ensures.reaches) (reached_makes c.settle.ensures.reaches)))
+
+-- ---- Why it failed.
+
+pub returns-in-Err-clause-cause : goal.returns-in-Err-clause-cause
+returns-in-Err-clause-cause g c = asked_halt (state c.args.core.now) (state c.range_of.new.core) c.args.core.now.filer.swapper.accepted c.args.space c.args.core.now.intervals c.in-Err.halt c.in-Err.ensures.cause
+
+pub returns-in-Err-force-clause-cause : goal.returns-in-Err-force-clause-cause
+returns-in-Err-force-clause-cause g c =
+    let asked = c.range_of.ensures.asked in
+    range_halt (state c.args.core.now) (state c.range_of.new.core) c.args.core.now.filer.swapper.accepted c.args.space asked.reaches c.args.core.now.intervals c.range_of.new.core.intervals asked.intervals (state c.force.new.self) c.in-Err-force.halt c.in-Err-force.ensures.cause
+
+pub returns-in-Err-settle-clause-cause : goal.returns-in-Err-settle-clause-cause
+returns-in-Err-settle-clause-cause g c =
+    fault_halt (BreaksRange (state c.args.core.now) c.args.core.now.intervals c.args.space) (state c.args.core.now) (state c.force.new.self) (state c.settle.new.core) c.in-Err-settle.halt
+    (makes_then (reached_makes c.range_of.ensures.asked.reaches) (reached_makes c.force.ensures.reaches)).went.faults c.in-Err-settle.ensures.fault c.in-Err-settle.ensures.counted

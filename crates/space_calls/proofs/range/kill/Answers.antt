@@ -1,0 +1,129 @@
+use Rattle.std.proofs.Common.{sym, ap, subst, ℕ, refl}
+use Rattle.flat_machine.specs.declared.call.Call.TheVariants as call
+use Rattle.flat_machine.specs.declared.call.Reply.TheVariants as reply
+use Rattle.flat_machine.specs.Machine.{Machine}
+use Rattle.swapper_kernel.specs.GoesLaws.{makes_then}
+use Rattle.fault_core.specs.Core.{state}
+use Rattle.running_words.specs.Running.{Runs}
+use Rattle.running_words.proofs.RunningLemmas.{running_laws}
+use Rattle.space_calls.proofs.CarryLemmas.{allowed_done, allowed_refused, next_refused}
+use Rattle.space_calls.proofs.RunLemmas.{reached_makes}
+use Rattle.space_calls.proofs.CameLemmas.{came_own, knows, give_makes, still_runs, still_tells, whole_after, whole_of, wrote_so}
+use Rattle.space_calls.proofs.RangeLemmas.{asked_halt, within_halt, found_run, found_word, never_refused, of_space}
+use Rattle.space_calls.proofs.RefusedCalls.{kill_refused, kill_there}
+use Rattle.space_calls.proofs.MovedLemmas.{kill_runs}
+use Rattle.fault_core.specs.Kill.{AreWritableSo, is_absent}
+use Rattle.space_calls.proofs.range.kill.Goals as goal
+
+-- ---- There is no such space.
+
+pub returns-in-Ok-Err-clause-carried : goal.returns-in-Ok-Err-clause-carried
+returns-in-Ok-Err-clause-carried g c = λ volume m r.
+    let whole = whole_of c.args.core.now c.requires.size in
+    let x = r.session.stands.memory in
+    let named = r.session.stands.is.named in
+    let told = knows running_laws whole r in
+    let asked = c.range_of.ensures.asked in
+    let is = kill_refused m c.args.space c.in-Ok-Err.word (found_word m.spaces c.args.space c.in-Ok-Err.word c.in-Ok-Err.field-0 c.in-Ok-Err.field-0-is (c.in-Ok-Err.ensures.answer x named m.spaces told)) in
+    record {
+      allowed = allowed_refused m (call.Kill c.args.space) c.in-Ok-Err.word is;
+      runs = subst (λ (n : Machine). Runs c.range_of.new.core volume n) (sym (next_refused m (call.Kill c.args.space) c.in-Ok-Err.word is)) (still_runs running_laws whole r (came_own asked.reaches asked.came asked.same asked.intervals));
+    }
+
+pub returns-in-Ok-Err-clause-gone : goal.returns-in-Ok-Err-clause-gone
+returns-in-Ok-Err-clause-gone g c = λ volume m s r there.
+    let whole = whole_of c.args.core.now c.requires.size in
+    let x = r.session.stands.memory in
+    let named = r.session.stands.is.named in
+    let told = knows running_laws whole r in
+    absurd (never_refused m.spaces c.args.space s c.in-Ok-Err.word there (found_word m.spaces c.args.space c.in-Ok-Err.word c.in-Ok-Err.field-0 c.in-Ok-Err.field-0-is (c.in-Ok-Err.ensures.answer x named m.spaces told)))
+
+pub returns-in-Ok-Err-clause-passes : goal.returns-in-Ok-Err-clause-passes
+returns-in-Ok-Err-clause-passes g c = λ volume m r.
+    still_tells running_laws (whole_of c.args.core.now c.requires.size) r (state c.range_of.new.core) (λ d told. g.met.D.Disk.in_form c.args.core.now.filer.swapper.under d told) (call.Kill c.args.space) (reached_makes c.range_of.ensures.asked.reaches)
+
+pub returns-in-Ok-Err-clause-wrote : goal.returns-in-Ok-Err-clause-wrote
+returns-in-Ok-Err-clause-wrote g c = wrote_so (reached_makes c.range_of.ensures.asked.reaches)
+
+-- ---- The disk failed.
+
+pub returns-in-Err-clause-sound : goal.returns-in-Err-clause-sound
+returns-in-Err-clause-sound g c = λ volume m r.
+    let whole = whole_of c.args.core.now c.requires.size in
+    let x = r.session.stands.memory in
+    let named = r.session.stands.is.named in
+    let told = knows running_laws whole r in
+    c.in-Err.ensures.sound x named m.spaces told
+
+pub returns-in-Err-clause-passes : goal.returns-in-Err-clause-passes
+returns-in-Err-clause-passes g c = λ volume m r.
+    still_tells running_laws (whole_of c.args.core.now c.requires.size) r (state c.range_of.new.core) (λ d told. g.met.D.Disk.in_form c.args.core.now.filer.swapper.under d told) (call.Kill c.args.space) (reached_makes c.range_of.ensures.asked.reaches)
+
+pub returns-in-Err-clause-wrote : goal.returns-in-Err-clause-wrote
+returns-in-Err-clause-wrote g c = wrote_so (reached_makes c.range_of.ensures.asked.reaches)
+
+pub returns-in-Err-kill-clause-sound : goal.returns-in-Err-kill-clause-sound
+returns-in-Err-kill-clause-sound g c = λ volume m r.
+    let whole = whole_of c.args.core.now c.requires.size in
+    let x = r.session.stands.memory in
+    let named = r.session.stands.is.named in
+    let told = knows running_laws whole r in
+    c.in-Err-kill.ensures.sound x named m.spaces (c.range_of.ensures.asked.same x named m.spaces told)
+
+pub returns-in-Err-kill-clause-passes : goal.returns-in-Err-kill-clause-passes
+returns-in-Err-kill-clause-passes g c = λ volume m r.
+    still_tells running_laws (whole_of c.args.core.now c.requires.size) r (state c.kill.new.self) (λ d told. g.met.D.Disk.in_form c.args.core.now.filer.swapper.under d told) (call.Kill c.args.space) (makes_then (reached_makes c.range_of.ensures.asked.reaches) (give_makes c.kill.ensures.touches))
+
+pub returns-in-Err-kill-clause-wrote : goal.returns-in-Err-kill-clause-wrote
+returns-in-Err-kill-clause-wrote g c = wrote_so (makes_then (reached_makes c.range_of.ensures.asked.reaches) (give_makes c.kill.ensures.touches))
+
+-- ---- It is done.
+
+pub returns-clause-carried : goal.returns-clause-carried
+returns-clause-carried g c = λ volume m r.
+    let whole = whole_of c.args.core.now c.requires.size in
+    let x = r.session.stands.memory in
+    let named = r.session.stands.is.named in
+    let told = knows running_laws whole r in
+    let asked = c.range_of.ensures.asked in
+    let found = found_run m.spaces c.args.space c.in-Ok-Ok.found c.in-Ok-Ok.field-0 c.in-Ok-Ok.field-0-is (c.in-Ok-Ok.ensures.answer x named m.spaces told) in
+    let free = kill_there m c.args.space found.0 in
+    let then_whole = whole_after whole asked.reaches in
+    let then_runs = still_runs running_laws whole r (came_own asked.reaches asked.came asked.same asked.intervals) in
+    let y = then_runs.session.stands.memory in
+    let triples = then_runs.session.stands.is.named in
+    let then_told = knows running_laws then_whole then_runs in
+    let s = found.1.0 in
+    let run = found.1.2 in
+    record {
+      allowed = allowed_done m (call.Kill c.args.space) reply.Done free refl;
+      runs = kill_runs running_laws then_whole then_runs c.kill.ensures.intervals c.kill.ensures.touches.layout c.args.space s free found.1.1
+          (c.kill.ensures.killed y triples m.spaces s then_told (ap (λ (q : ℕ × ℕ). q.0) (sym run)) (ap (λ (q : ℕ × ℕ). q.1) (sym run)))
+          c.kill.ensures.came (λ z is. c.kill.ensures.known y z triples m.spaces then_told is);
+    }
+
+pub returns-clause-gone : goal.returns-clause-gone
+returns-clause-gone g c = λ volume m s r there.
+    let whole = whole_of c.args.core.now c.requires.size in
+    let x = r.session.stands.memory in
+    let named = r.session.stands.is.named in
+    let told = knows running_laws whole r in
+    let found = found_run m.spaces c.args.space c.in-Ok-Ok.found c.in-Ok-Ok.field-0 c.in-Ok-Ok.field-0-is (c.in-Ok-Ok.ensures.answer x named m.spaces told) in
+    of_space m.spaces c.args.space s c.in-Ok-Ok.found (AreWritableSo (is_absent c.kill.new.self.filer.swapper.pool) m.spaces) found.1 there (c.in-Ok.ensures.gone x named m.spaces (c.range_of.ensures.asked.same x named m.spaces told))
+
+pub returns-clause-passes : goal.returns-clause-passes
+returns-clause-passes g c = λ volume m r.
+    still_tells running_laws (whole_of c.args.core.now c.requires.size) r (state c.kill.new.self) (λ d told. g.met.D.Disk.in_form c.args.core.now.filer.swapper.under d told) (call.Kill c.args.space) (makes_then (reached_makes c.range_of.ensures.asked.reaches) (give_makes c.kill.ensures.touches))
+
+pub returns-clause-wrote : goal.returns-clause-wrote
+returns-clause-wrote g c = wrote_so (makes_then (reached_makes c.range_of.ensures.asked.reaches) (give_makes c.kill.ensures.touches))
+
+-- ---- Why it failed.
+
+pub returns-in-Err-clause-cause : goal.returns-in-Err-clause-cause
+returns-in-Err-clause-cause g c = asked_halt (state c.args.core.now) (state c.range_of.new.core) c.args.core.now.filer.swapper.accepted c.args.space c.args.core.now.intervals c.in-Err.halt c.in-Err.ensures.cause
+
+pub returns-in-Err-kill-clause-cause : goal.returns-in-Err-kill-clause-cause
+returns-in-Err-kill-clause-cause g c =
+    let asked = c.range_of.ensures.asked in
+    within_halt (state c.args.core.now) (state c.range_of.new.core) c.args.core.now.filer.swapper.accepted c.args.space asked.reaches c.args.core.now.intervals c.range_of.new.core.intervals asked.intervals (state c.kill.new.self) _ _ c.in-Err-kill.halt c.in-Err-kill.ensures.cause

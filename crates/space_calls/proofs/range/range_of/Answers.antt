@@ -1,0 +1,10 @@
+use Rattle.space_calls.proofs.range.range_of.Goals as goal
+
+pub returns-clause-answer : goal.returns-clause-answer
+returns-clause-answer g c = rw c.frame_count-frames.ensures.same at c.bounds.ensures.answer
+
+pub returns-clause-sound : goal.returns-clause-sound
+returns-clause-sound g c = rw c.frame_count-frames.ensures.same at c.bounds.ensures.sound
+
+pub returns-clause-cause : goal.returns-clause-cause
+returns-clause-cause g c = rw c.frame_count-frames.ensures.same at c.bounds.ensures.cause

@@ -1,0 +1,137 @@
+use Rattle.std.proofs.Common.{◌≡◌, ◌∙◌, sym, subst, length, ℕ, List, refl, rules}
+use Rattle.flat_machine.specs.declared.call.Call.TheVariants as call
+use Rattle.flat_machine.specs.declared.call.Reply.TheVariants as reply
+use Rattle.flat_machine.specs.Allows.{Allows}
+use Rattle.fault_core.specs.declared.reference.Access.TheVariants as access
+use Rattle.fault_core.specs.Access.{BreaksFor, last_page}
+use Rattle.fault_core.specs.Core.{kept, state}
+use Rattle.fault_core.specs.Reach.{ReachHalts}
+use Rattle.fault_core.specs.Unit.{IsReady}
+use Rattle.running_words.proofs.RunningLemmas.{running_laws}
+use Rattle.space_calls.proofs.RunLemmas.{reached_makes}
+use Rattle.space_calls.proofs.CameLemmas.{Came, knows, still_tells, whole_of, wrote_so}
+use Rattle.space_calls.proofs.LoadLemmas.{load_carried, load_not_refused}
+use Rattle.space_calls.proofs.reference.load.Goals as goal
+
+-- ---- The bytes were loaded.
+
+pub returns-in-Ok-Done-clause-carried : goal.returns-in-Ok-Done-clause-carried
+returns-in-Ok-Done-clause-carried g c =
+    let long : length c.load.new.into ≡ c.args.count = search rules in
+    let came : Came (state c.args.core.now) (state c.load.new.self) (kept c.args.core.now) (kept c.load.new.self) c.args.core.now.intervals c.load.new.self.intervals =
+    record { reaches = c.load.ensures.reaches; brings = c.load.ensures.came; known = c.load.ensures.same; same_count = c.load.ensures.intervals } in
+    λ volume m r.
+    let done = load_carried running_laws (whole_of c.args.core.now c.requires.size) r came c.args.address c.args.count _ c.load.new.into c.in-Ok-Done.field-0 access.Done
+    c.load.ensures.width long c.in-Ok-Done.field-0-is c.in-Ok-Done.ensures.access c.in-Ok-Done.ensures.bytes in
+    record { allowed = subst (λ (b : List ℕ). Allows m (call.Load c.args.address c.args.count) (reply.Bytes b)) (sym c.piece_of.ensures) done.0; runs = done.1 }
+
+pub returns-in-Ok-Done-clause-ready : goal.returns-in-Ok-Done-clause-ready
+returns-in-Ok-Done-clause-ready g c =
+    let long : length c.load.new.into ≡ c.args.count = search rules in
+    λ volume m r free.
+    subst (λ (n : ℕ). IsReady (kept c.load.new.self) c.load.new.self.filer.swapper.pool (last_page c.args.address n)) (sym c.load.ensures.width ∙ long) (c.in-Ok-Done.ensures.ready c.in-Ok-Done.field-0-is)
+
+-- ---- It was refused (NoMap).
+
+pub returns-in-Ok-NoMap-clause-carried : goal.returns-in-Ok-NoMap-clause-carried
+returns-in-Ok-NoMap-clause-carried g c =
+    let long : length c.load.new.into ≡ c.args.count = search rules in
+    let came : Came (state c.args.core.now) (state c.load.new.self) (kept c.args.core.now) (kept c.load.new.self) c.args.core.now.intervals c.load.new.self.intervals =
+    record { reaches = c.load.ensures.reaches; brings = c.load.ensures.came; known = c.load.ensures.same; same_count = c.load.ensures.intervals } in
+    λ volume m r.
+    let done = load_carried running_laws (whole_of c.args.core.now c.requires.size) r came c.args.address c.args.count _ c.load.new.into c.in-Ok-NoMap.field-0 (access.NoMap c.in-Ok-NoMap.page)
+    c.load.ensures.width long c.in-Ok-NoMap.field-0-is c.in-Ok-NoMap.ensures.access c.in-Ok-NoMap.ensures.bytes in
+    record { allowed = done.0; runs = done.1 }
+
+pub returns-in-Ok-NoMap-clause-ready : goal.returns-in-Ok-NoMap-clause-ready
+returns-in-Ok-NoMap-clause-ready g c =
+    let long : length c.load.new.into ≡ c.args.count = search rules in
+    λ volume m r free.
+    absurd (load_not_refused running_laws (whole_of c.args.core.now c.requires.size) r c.args.address c.args.count _ c.in-Ok-NoMap.field-0 (access.NoMap c.in-Ok-NoMap.page)
+    (sym c.load.ensures.width ∙ long) c.in-Ok-NoMap.field-0-is c.in-Ok-NoMap.ensures.access free)
+
+-- ---- It was refused (ReadOnly).
+
+pub returns-in-Ok-ReadOnly-clause-carried : goal.returns-in-Ok-ReadOnly-clause-carried
+returns-in-Ok-ReadOnly-clause-carried g c =
+    let long : length c.load.new.into ≡ c.args.count = search rules in
+    let came : Came (state c.args.core.now) (state c.load.new.self) (kept c.args.core.now) (kept c.load.new.self) c.args.core.now.intervals c.load.new.self.intervals =
+    record { reaches = c.load.ensures.reaches; brings = c.load.ensures.came; known = c.load.ensures.same; same_count = c.load.ensures.intervals } in
+    λ volume m r.
+    let done = load_carried running_laws (whole_of c.args.core.now c.requires.size) r came c.args.address c.args.count _ c.load.new.into c.in-Ok-ReadOnly.field-0 (access.ReadOnly c.in-Ok-ReadOnly.page)
+    c.load.ensures.width long c.in-Ok-ReadOnly.field-0-is c.in-Ok-ReadOnly.ensures.access c.in-Ok-ReadOnly.ensures.bytes in
+    record { allowed = done.0; runs = done.1 }
+
+pub returns-in-Ok-ReadOnly-clause-ready : goal.returns-in-Ok-ReadOnly-clause-ready
+returns-in-Ok-ReadOnly-clause-ready g c =
+    let long : length c.load.new.into ≡ c.args.count = search rules in
+    λ volume m r free.
+    absurd (load_not_refused running_laws (whole_of c.args.core.now c.requires.size) r c.args.address c.args.count _ c.in-Ok-ReadOnly.field-0 (access.ReadOnly c.in-Ok-ReadOnly.page)
+    (sym c.load.ensures.width ∙ long) c.in-Ok-ReadOnly.field-0-is c.in-Ok-ReadOnly.ensures.access free)
+
+-- ---- Whatever it came to.
+
+pub returns-in-Ok-Done-clause-passes : goal.returns-in-Ok-Done-clause-passes
+returns-in-Ok-Done-clause-passes g c = λ volume m r.
+    still_tells running_laws (whole_of c.args.core.now c.requires.size) r (state c.load.new.self) (λ d told. g.met.D.Disk.in_form c.args.core.now.filer.swapper.under d told) (call.Load c.args.address c.args.count) (reached_makes c.load.ensures.reaches)
+
+pub returns-in-Ok-Done-clause-wrote : goal.returns-in-Ok-Done-clause-wrote
+returns-in-Ok-Done-clause-wrote g c = wrote_so (reached_makes c.load.ensures.reaches)
+
+pub returns-in-Ok-NoMap-clause-passes : goal.returns-in-Ok-NoMap-clause-passes
+returns-in-Ok-NoMap-clause-passes g c = λ volume m r.
+    still_tells running_laws (whole_of c.args.core.now c.requires.size) r (state c.load.new.self) (λ d told. g.met.D.Disk.in_form c.args.core.now.filer.swapper.under d told) (call.Load c.args.address c.args.count) (reached_makes c.load.ensures.reaches)
+
+pub returns-in-Ok-NoMap-clause-wrote : goal.returns-in-Ok-NoMap-clause-wrote
+returns-in-Ok-NoMap-clause-wrote g c = wrote_so (reached_makes c.load.ensures.reaches)
+
+pub returns-in-Ok-ReadOnly-clause-passes : goal.returns-in-Ok-ReadOnly-clause-passes
+returns-in-Ok-ReadOnly-clause-passes g c = λ volume m r.
+    still_tells running_laws (whole_of c.args.core.now c.requires.size) r (state c.load.new.self) (λ d told. g.met.D.Disk.in_form c.args.core.now.filer.swapper.under d told) (call.Load c.args.address c.args.count) (reached_makes c.load.ensures.reaches)
+
+pub returns-in-Ok-ReadOnly-clause-wrote : goal.returns-in-Ok-ReadOnly-clause-wrote
+returns-in-Ok-ReadOnly-clause-wrote g c = wrote_so (reached_makes c.load.ensures.reaches)
+
+pub returns-in-Err-clause-passes : goal.returns-in-Err-clause-passes
+returns-in-Err-clause-passes g c = λ volume m r.
+    still_tells running_laws (whole_of c.args.core.now c.requires.size) r (state c.load.new.self) (λ d told. g.met.D.Disk.in_form c.args.core.now.filer.swapper.under d told) (call.Load c.args.address c.args.count) (reached_makes c.load.ensures.reaches)
+
+pub returns-in-Err-clause-wrote : goal.returns-in-Err-clause-wrote
+returns-in-Err-clause-wrote g c = wrote_so (reached_makes c.load.ensures.reaches)
+
+pub returns-in-Err-clause-sound : goal.returns-in-Err-clause-sound
+returns-in-Err-clause-sound g c = λ volume m r.
+    c.in-Err.ensures.sound r.session.stands.memory r.session.stands.is.named m.spaces (knows running_laws (whole_of c.args.core.now c.requires.size) r)
+
+pub returns-in-Ok-Done-clause-idle : goal.returns-in-Ok-Done-clause-idle
+returns-in-Ok-Done-clause-idle g c =
+    let long : length c.load.new.into ≡ c.args.count = search rules in
+    λ first last apart.
+    let two = c.in-Ok-Done.ensures.idle first (subst (λ (n : ℕ). IsReady (kept c.args.core.now) c.args.core.now.filer.swapper.pool (last_page c.args.address n)) (sym long ∙ c.load.ensures.width) last) apart in
+    (refl, two.1, two.2)
+
+pub returns-in-Ok-NoMap-clause-idle : goal.returns-in-Ok-NoMap-clause-idle
+returns-in-Ok-NoMap-clause-idle g c =
+    let long : length c.load.new.into ≡ c.args.count = search rules in
+    λ first last apart.
+    let two = c.in-Ok-NoMap.ensures.idle first (subst (λ (n : ℕ). IsReady (kept c.args.core.now) c.args.core.now.filer.swapper.pool (last_page c.args.address n)) (sym long ∙ c.load.ensures.width) last) apart in
+    (refl, two.1, two.2)
+
+pub returns-in-Ok-ReadOnly-clause-idle : goal.returns-in-Ok-ReadOnly-clause-idle
+returns-in-Ok-ReadOnly-clause-idle g c =
+    let long : length c.load.new.into ≡ c.args.count = search rules in
+    λ first last apart.
+    let two = c.in-Ok-ReadOnly.ensures.idle first (subst (λ (n : ℕ). IsReady (kept c.args.core.now) c.args.core.now.filer.swapper.pool (last_page c.args.address n)) (sym long ∙ c.load.ensures.width) last) apart in
+    (refl, two.1, two.2)
+
+pub returns-in-Err-clause-idle : goal.returns-in-Err-clause-idle
+returns-in-Err-clause-idle g c =
+    let long : length c.load.new.into ≡ c.args.count = search rules in
+    λ first last apart.
+    let two = c.in-Err.ensures.idle first (subst (λ (n : ℕ). IsReady (kept c.args.core.now) c.args.core.now.filer.swapper.pool (last_page c.args.address n)) (sym long ∙ c.load.ensures.width) last) apart in
+    (two.0, two.1, two.2)
+
+pub returns-in-Err-clause-cause : goal.returns-in-Err-clause-cause
+returns-in-Err-clause-cause g c =
+    let long : length c.load.new.into ≡ c.args.count = search rules in
+    subst (λ (n : ℕ). ReachHalts (BreaksFor (state c.args.core.now) c.args.core.now.intervals c.args.address n) (state c.args.core.now) (state c.load.new.self) c.in-Err.halt) (sym c.load.ensures.width ∙ long) c.in-Err.ensures.cause

@@ -1,0 +1,142 @@
+use Rattle.std.proofs.Common.{◌∙◌, sym, subst, length, [], refl, arith}
+use Rattle.flat_machine.specs.declared.call.Refusal.TheVariants as why
+use Rattle.flat_machine.specs.Bytes.{AreBytes}
+use Rattle.fault_core.specs.declared.reference.Access.{Access}
+use Rattle.fault_core.specs.declared.reference.Access.TheVariants as access
+use Rattle.fault_core.specs.Core.{kept, state}
+use Rattle.fault_core.specs.Moves.{StoresAs}
+use Rattle.session_words.specs.CellLaws.{IsTouchedOrOwn}
+use Rattle.swapper_kernel.specs.Goes.{Goes}
+use Rattle.running_words.proofs.RunningLemmas.{running_laws}
+use Rattle.space_calls.proofs.CameLemmas.{Came, knows, store_makes, whole_of, wrote_so}
+use Rattle.space_calls.proofs.MovedLemmas.{store_runs}
+use Rattle.space_calls.proofs.StoreLemmas.{are_bytes, other_than_done, refused_came, stays_where, store_allowed, store_not_refused, store_stays, store_tells, store_word}
+use Rattle.space_calls.proofs.reference.store.Goals as goal
+
+-- ---- The bytes were stored.
+
+pub returns-in-Ok-Done-clause-carried : goal.returns-in-Ok-Done-clause-carried
+returns-in-Ok-Done-clause-carried g c = λ volume m r.
+    let typed : AreBytes c.args.bytes.now = are_bytes c.args.bytes.now (λ k. let fits = c.type_inv.bytes k in omega (arith, fits)) in
+    let whole = whole_of c.args.core.now c.requires.size in
+    let x = r.session.stands.memory in
+    let named = r.session.stands.is.named in
+    let told = knows running_laws whole r in
+    record {
+      allowed = store_allowed running_laws whole r c.args.address c.args.bytes.now c.in-Ok-Done.field-0 access.Done c.in-Ok-Done.field-0-is c.in-Ok-Done.ensures.access;
+      runs = store_runs running_laws whole r c.store.ensures.intervals c.store.ensures.touches.layout c.args.address c.args.bytes.now typed
+          (sym c.in-Ok-Done.field-0-is ∙ c.in-Ok-Done.ensures.access x named m.spaces told)
+          (subst (λ (a : Access). Goes (StoresAs a m.spaces c.args.address c.args.bytes.now) (IsTouchedOrOwn m.spaces c.args.address (length c.args.bytes.now)) [] (state c.args.core.now).disk (state c.args.core.now).slots (state c.store.new.self).disk (state c.store.new.self).slots)
+          c.in-Ok-Done.field-0-is (c.in-Ok-Done.ensures.stored x named m.spaces told))
+          (c.store.ensures.came x named m.spaces told) (λ y is. c.store.ensures.known x y named m.spaces told is);
+    }
+
+pub returns-in-Ok-Done-clause-passes : goal.returns-in-Ok-Done-clause-passes
+returns-in-Ok-Done-clause-passes g c = λ volume m r.
+    let typed : AreBytes c.args.bytes.now = are_bytes c.args.bytes.now (λ k. let fits = c.type_inv.bytes k in omega (arith, fits)) in
+    let whole = whole_of c.args.core.now c.requires.size in
+    let x = r.session.stands.memory in
+    let named = r.session.stands.is.named in
+    let told = knows running_laws whole r in
+    store_tells running_laws whole r (λ d told. g.met.D.Disk.in_form c.args.core.now.filer.swapper.under d told) (state c.store.new.self) c.args.address c.args.bytes.now typed c.requires.few
+    (c.in-Ok-Done.ensures.stored x named m.spaces told).makes (c.store.ensures.tested x named m.spaces told)
+
+pub returns-in-Ok-Done-clause-ready : goal.returns-in-Ok-Done-clause-ready
+returns-in-Ok-Done-clause-ready g c = λ volume m r free. c.in-Ok-Done.ensures.ready c.in-Ok-Done.field-0-is
+
+-- ---- It was refused (NoMap).
+
+pub returns-in-Ok-NoMap-clause-carried : goal.returns-in-Ok-NoMap-clause-carried
+returns-in-Ok-NoMap-clause-carried g c = λ volume m r.
+    let whole = whole_of c.args.core.now c.requires.size in
+    let a = access.NoMap c.in-Ok-NoMap.page in
+    let came : Came (state c.args.core.now) (state c.store.new.self) (kept c.args.core.now) (kept c.store.new.self) c.args.core.now.intervals c.store.new.self.intervals =
+    refused_came (c.in-Ok-NoMap.ensures.refused (λ done. other_than_done a (λ no. no) (sym c.in-Ok-NoMap.field-0-is ∙ done))) c.store.ensures.came
+    (λ x named ss told. stays_where (state c.args.core.now) (state c.store.new.self) (access.NoMap c.in-Ok-NoMap.page) c.in-Ok-NoMap.field-0 ss c.args.address c.args.bytes.now x c.in-Ok-NoMap.field-0-is (λ no. no) told.known.stands (c.in-Ok-NoMap.ensures.stored x named ss told))
+    c.store.ensures.known c.store.ensures.intervals in
+    record {
+      allowed = store_allowed running_laws whole r c.args.address c.args.bytes.now c.in-Ok-NoMap.field-0 a c.in-Ok-NoMap.field-0-is c.in-Ok-NoMap.ensures.access;
+      runs = store_stays running_laws whole r c.args.address c.args.bytes.now (why.NoMap c.in-Ok-NoMap.page) (store_word running_laws whole r c.args.address c.args.bytes.now c.in-Ok-NoMap.field-0 a c.in-Ok-NoMap.field-0-is c.in-Ok-NoMap.ensures.access) came;
+    }
+
+pub returns-in-Ok-NoMap-clause-passes : goal.returns-in-Ok-NoMap-clause-passes
+returns-in-Ok-NoMap-clause-passes g c = λ volume m r.
+    let typed : AreBytes c.args.bytes.now = are_bytes c.args.bytes.now (λ k. let fits = c.type_inv.bytes k in omega (arith, fits)) in
+    let whole = whole_of c.args.core.now c.requires.size in
+    let x = r.session.stands.memory in
+    let named = r.session.stands.is.named in
+    let told = knows running_laws whole r in
+    store_tells running_laws whole r (λ d told. g.met.D.Disk.in_form c.args.core.now.filer.swapper.under d told) (state c.store.new.self) c.args.address c.args.bytes.now typed c.requires.few
+    (c.in-Ok-NoMap.ensures.stored x named m.spaces told).makes (c.store.ensures.tested x named m.spaces told)
+
+pub returns-in-Ok-NoMap-clause-ready : goal.returns-in-Ok-NoMap-clause-ready
+returns-in-Ok-NoMap-clause-ready g c = λ volume m r free.
+    absurd (store_not_refused running_laws (whole_of c.args.core.now c.requires.size) r c.args.address c.args.bytes.now c.in-Ok-NoMap.field-0 (access.NoMap c.in-Ok-NoMap.page) c.in-Ok-NoMap.field-0-is c.in-Ok-NoMap.ensures.access free)
+
+-- ---- It was refused (ReadOnly).
+
+pub returns-in-Ok-ReadOnly-clause-carried : goal.returns-in-Ok-ReadOnly-clause-carried
+returns-in-Ok-ReadOnly-clause-carried g c = λ volume m r.
+    let whole = whole_of c.args.core.now c.requires.size in
+    let a = access.ReadOnly c.in-Ok-ReadOnly.page in
+    let came : Came (state c.args.core.now) (state c.store.new.self) (kept c.args.core.now) (kept c.store.new.self) c.args.core.now.intervals c.store.new.self.intervals =
+    refused_came (c.in-Ok-ReadOnly.ensures.refused (λ done. other_than_done a (λ no. no) (sym c.in-Ok-ReadOnly.field-0-is ∙ done))) c.store.ensures.came
+    (λ x named ss told. stays_where (state c.args.core.now) (state c.store.new.self) (access.ReadOnly c.in-Ok-ReadOnly.page) c.in-Ok-ReadOnly.field-0 ss c.args.address c.args.bytes.now x c.in-Ok-ReadOnly.field-0-is (λ no. no) told.known.stands (c.in-Ok-ReadOnly.ensures.stored x named ss told))
+    c.store.ensures.known c.store.ensures.intervals in
+    record {
+      allowed = store_allowed running_laws whole r c.args.address c.args.bytes.now c.in-Ok-ReadOnly.field-0 a c.in-Ok-ReadOnly.field-0-is c.in-Ok-ReadOnly.ensures.access;
+      runs = store_stays running_laws whole r c.args.address c.args.bytes.now (why.ReadOnly c.in-Ok-ReadOnly.page) (store_word running_laws whole r c.args.address c.args.bytes.now c.in-Ok-ReadOnly.field-0 a c.in-Ok-ReadOnly.field-0-is c.in-Ok-ReadOnly.ensures.access) came;
+    }
+
+pub returns-in-Ok-ReadOnly-clause-passes : goal.returns-in-Ok-ReadOnly-clause-passes
+returns-in-Ok-ReadOnly-clause-passes g c = λ volume m r.
+    let typed : AreBytes c.args.bytes.now = are_bytes c.args.bytes.now (λ k. let fits = c.type_inv.bytes k in omega (arith, fits)) in
+    let whole = whole_of c.args.core.now c.requires.size in
+    let x = r.session.stands.memory in
+    let named = r.session.stands.is.named in
+    let told = knows running_laws whole r in
+    store_tells running_laws whole r (λ d told. g.met.D.Disk.in_form c.args.core.now.filer.swapper.under d told) (state c.store.new.self) c.args.address c.args.bytes.now typed c.requires.few
+    (c.in-Ok-ReadOnly.ensures.stored x named m.spaces told).makes (c.store.ensures.tested x named m.spaces told)
+
+pub returns-in-Ok-ReadOnly-clause-ready : goal.returns-in-Ok-ReadOnly-clause-ready
+returns-in-Ok-ReadOnly-clause-ready g c = λ volume m r free.
+    absurd (store_not_refused running_laws (whole_of c.args.core.now c.requires.size) r c.args.address c.args.bytes.now c.in-Ok-ReadOnly.field-0 (access.ReadOnly c.in-Ok-ReadOnly.page) c.in-Ok-ReadOnly.field-0-is c.in-Ok-ReadOnly.ensures.access free)
+
+-- ---- The disk failed.
+
+pub returns-in-Err-clause-passes : goal.returns-in-Err-clause-passes
+returns-in-Err-clause-passes g c = λ volume m r.
+    let typed : AreBytes c.args.bytes.now = are_bytes c.args.bytes.now (λ k. let fits = c.type_inv.bytes k in omega (arith, fits)) in
+    let whole = whole_of c.args.core.now c.requires.size in
+    let x = r.session.stands.memory in
+    let named = r.session.stands.is.named in
+    let told = knows running_laws whole r in
+    store_tells running_laws whole r (λ d told. g.met.D.Disk.in_form c.args.core.now.filer.swapper.under d told) (state c.store.new.self) c.args.address c.args.bytes.now typed c.requires.few
+    (c.in-Err.ensures.halted x named m.spaces told).makes (c.store.ensures.tested x named m.spaces told)
+
+pub returns-in-Err-clause-sound : goal.returns-in-Err-clause-sound
+returns-in-Err-clause-sound g c = λ volume m r.
+    c.in-Err.ensures.sound r.session.stands.memory r.session.stands.is.named m.spaces (knows running_laws (whole_of c.args.core.now c.requires.size) r)
+
+-- ---- Whatever it came to.
+
+pub returns-in-Ok-Done-clause-wrote : goal.returns-in-Ok-Done-clause-wrote
+returns-in-Ok-Done-clause-wrote g c = wrote_so (store_makes c.store.ensures.touches)
+
+pub returns-in-Ok-NoMap-clause-wrote : goal.returns-in-Ok-NoMap-clause-wrote
+returns-in-Ok-NoMap-clause-wrote g c = wrote_so (store_makes c.store.ensures.touches)
+
+pub returns-in-Ok-ReadOnly-clause-wrote : goal.returns-in-Ok-ReadOnly-clause-wrote
+returns-in-Ok-ReadOnly-clause-wrote g c = wrote_so (store_makes c.store.ensures.touches)
+
+pub returns-in-Err-clause-wrote : goal.returns-in-Err-clause-wrote
+returns-in-Err-clause-wrote g c = wrote_so (store_makes c.store.ensures.touches)
+
+pub returns-in-Ok-Done-clause-idle : goal.returns-in-Ok-Done-clause-idle
+returns-in-Ok-Done-clause-idle g c = λ first last apart. let two = c.in-Ok-Done.ensures.idle first last apart in (refl, two.1, two.2)
+
+pub returns-in-Ok-NoMap-clause-idle : goal.returns-in-Ok-NoMap-clause-idle
+returns-in-Ok-NoMap-clause-idle g c = λ first last apart. let two = c.in-Ok-NoMap.ensures.idle first last apart in (refl, two.1, two.2)
+
+pub returns-in-Ok-ReadOnly-clause-idle : goal.returns-in-Ok-ReadOnly-clause-idle
+returns-in-Ok-ReadOnly-clause-idle g c = λ first last apart. let two = c.in-Ok-ReadOnly.ensures.idle first last apart in (refl, two.1, two.2)

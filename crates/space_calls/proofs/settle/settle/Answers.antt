@@ -1,0 +1,15 @@
+use Rattle.std.proofs.Common.{rules}
+use Rattle.labelled_disk.specs.Calls.{Settles}
+use Rattle.fault_core.specs.Core.{state}
+use Rattle.space_calls.proofs.SettledCore.{settled_reaches, settled_went}
+use Rattle.space_calls.proofs.settle.settle.Goals as goal
+
+pub returns-in-Ok-clause-reaches : goal.returns-in-Ok-clause-reaches
+returns-in-Ok-clause-reaches g c =
+    let settles : Settles (g.D.Disk.state c.args.core.now.filer.swapper.under) c.settle.result (g.D.Disk.state c.settle.new.self) = search rules in
+    settled_reaches (state c.args.core.now) (g.D.Disk.state c.settle.new.self) (settled_went _ _ c.settle.result settles) settles.same
+
+pub returns-in-Err-clause-reaches : goal.returns-in-Err-clause-reaches
+returns-in-Err-clause-reaches g c =
+    let settles : Settles (g.D.Disk.state c.args.core.now.filer.swapper.under) c.settle.result (g.D.Disk.state c.settle.new.self) = search rules in
+    settled_reaches (state c.args.core.now) (g.D.Disk.state c.settle.new.self) (settled_went _ _ c.settle.result settles) settles.same

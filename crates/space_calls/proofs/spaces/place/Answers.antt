@@ -1,0 +1,36 @@
+use Rattle.space_calls.proofs.RunLemmas.{asked_makes, asked_runs, knows, nothing_labelled, quiet_passes}
+use Rattle.space_calls.proofs.SpaceLemmas.{place_refused, space_placed}
+use Rattle.space_calls.proofs.spaces.place.Goals as goal
+
+pub returns-in-Ok-Ok-clause-carried : goal.returns-in-Ok-Ok-clause-carried
+returns-in-Ok-Ok-clause-carried g c = λ volume m r.
+    let old = c.args.core.now in
+    space_placed c.place.new.core volume m (asked_runs old old.filer.swapper.accepted c.requires.size c.place.new.core volume m c.place.ensures.asked r) c.args.page c.in-Ok-Ok.field-0 c.in-Ok-Ok.handle c.in-Ok-Ok.first c.in-Ok-Ok.pages c.in-Ok-Ok.field-0-is
+    (c.in-Ok-Ok.ensures.answer _ _ m.spaces (knows old old.filer.swapper.accepted c.requires.size volume m r))
+
+pub returns-in-Ok-Err-clause-carried : goal.returns-in-Ok-Err-clause-carried
+returns-in-Ok-Err-clause-carried g c = λ volume m r.
+    let old = c.args.core.now in
+    place_refused c.place.new.core volume m (asked_runs old old.filer.swapper.accepted c.requires.size c.place.new.core volume m c.place.ensures.asked r) c.args.page c.in-Ok-Err.field-0 c.in-Ok-Err.word c.in-Ok-Err.field-0-is
+    (c.in-Ok-Err.ensures.answer _ _ m.spaces (knows old old.filer.swapper.accepted c.requires.size volume m r))
+
+pub returns-in-Err-clause-sound : goal.returns-in-Err-clause-sound
+returns-in-Err-clause-sound g c = λ volume m r. c.in-Err.ensures.sound _ _ m.spaces (knows c.args.core.now c.args.core.now.filer.swapper.accepted c.requires.size volume m r)
+
+pub returns-in-Ok-Ok-clause-passes : goal.returns-in-Ok-Ok-clause-passes
+returns-in-Ok-Ok-clause-passes g c = λ volume m r. quiet_passes c.args.core.now c.place.new.core volume m _ (g.met.D.Disk.in_form c.args.core.now.filer.swapper.under) r (asked_makes _ _ c.place.ensures.asked)
+
+pub returns-in-Ok-Ok-clause-wrote : goal.returns-in-Ok-Ok-clause-wrote
+returns-in-Ok-Ok-clause-wrote g c = nothing_labelled (asked_makes _ _ c.place.ensures.asked)
+
+pub returns-in-Ok-Err-clause-passes : goal.returns-in-Ok-Err-clause-passes
+returns-in-Ok-Err-clause-passes g c = λ volume m r. quiet_passes c.args.core.now c.place.new.core volume m _ (g.met.D.Disk.in_form c.args.core.now.filer.swapper.under) r (asked_makes _ _ c.place.ensures.asked)
+
+pub returns-in-Ok-Err-clause-wrote : goal.returns-in-Ok-Err-clause-wrote
+returns-in-Ok-Err-clause-wrote g c = nothing_labelled (asked_makes _ _ c.place.ensures.asked)
+
+pub returns-in-Err-clause-passes : goal.returns-in-Err-clause-passes
+returns-in-Err-clause-passes g c = λ volume m r. quiet_passes c.args.core.now c.place.new.core volume m _ (g.met.D.Disk.in_form c.args.core.now.filer.swapper.under) r (asked_makes _ _ c.place.ensures.asked)
+
+pub returns-in-Err-clause-wrote : goal.returns-in-Err-clause-wrote
+returns-in-Err-clause-wrote g c = nothing_labelled (asked_makes _ _ c.place.ensures.asked)

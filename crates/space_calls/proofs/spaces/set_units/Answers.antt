@@ -1,0 +1,40 @@
+use Rattle.space_calls.proofs.RunLemmas.{knows, nothing_labelled, quiet_passes, retabled_makes, retabled_then}
+use Rattle.space_calls.proofs.SpaceLemmas.{unit_refused, unit_set}
+use Rattle.space_calls.proofs.spaces.set_units.Goals as goal
+
+pub returns-in-Err-clause-sound : goal.returns-in-Err-clause-sound
+returns-in-Err-clause-sound g c = λ volume m r. c.in-Err.ensures.sound _ _ m.spaces (knows c.args.core.now c.args.core.now.filer.swapper.accepted c.requires.size volume m r)
+
+pub returns-in-Err-clause-passes : goal.returns-in-Err-clause-passes
+returns-in-Err-clause-passes g c = λ volume m r. quiet_passes c.args.core.now c.set_unit.new.core volume m _ (g.met.D.Disk.in_form c.args.core.now.filer.swapper.under) r (retabled_makes _ _ c.set_unit.ensures.retabled)
+
+pub returns-in-Err-clause-wrote : goal.returns-in-Err-clause-wrote
+returns-in-Err-clause-wrote g c = nothing_labelled (retabled_makes _ _ c.set_unit.ensures.retabled)
+
+pub returns-in-Ok-answer-clause-carried : goal.returns-in-Ok-answer-clause-carried
+returns-in-Ok-answer-clause-carried g c = λ volume m r.
+    let old = c.args.core.now in
+    unit_set old c.set_unit.new.core c.frame_count-frames.new.core old.filer.swapper.accepted c.requires.size (g.met.D.Disk.in_form c.set_unit.new.core.filer.swapper.under)
+    c.frame_count-frames.ensures.pages c.frame_count-frames.ensures.same c.set_unit.ensures.retabled volume m r c.args.space c.args.pages c.in-Ok.answer c.in-Ok-answer.is
+    (c.in-Ok.ensures.answer _ _ m.spaces (knows old old.filer.swapper.accepted c.requires.size volume m r))
+
+pub returns-in-Ok-answer-clause-passes : goal.returns-in-Ok-answer-clause-passes
+returns-in-Ok-answer-clause-passes g c = λ volume m r.
+    quiet_passes c.args.core.now c.frame_count-frames.new.core volume m _ (g.met.D.Disk.in_form c.args.core.now.filer.swapper.under) r (retabled_then _ _ _ c.set_unit.ensures.retabled c.frame_count-frames.ensures.same)
+
+pub returns-in-Ok-answer-clause-wrote : goal.returns-in-Ok-answer-clause-wrote
+returns-in-Ok-answer-clause-wrote g c = nothing_labelled (retabled_then _ _ _ c.set_unit.ensures.retabled c.frame_count-frames.ensures.same)
+
+pub returns-in-Err-answer-clause-carried : goal.returns-in-Err-answer-clause-carried
+returns-in-Err-answer-clause-carried g c = λ volume m r.
+    let old = c.args.core.now in
+    unit_refused old c.set_unit.new.core c.frame_count-frames.new.core old.filer.swapper.accepted c.requires.size (g.met.D.Disk.in_form c.set_unit.new.core.filer.swapper.under)
+    c.frame_count-frames.ensures.pages c.frame_count-frames.ensures.same c.set_unit.ensures.retabled volume m r c.args.space c.args.pages c.in-Ok.answer c.in-Err-answer.word c.in-Err-answer.is
+    (c.in-Ok.ensures.answer _ _ m.spaces (knows old old.filer.swapper.accepted c.requires.size volume m r))
+
+pub returns-in-Err-answer-clause-passes : goal.returns-in-Err-answer-clause-passes
+returns-in-Err-answer-clause-passes g c = λ volume m r.
+    quiet_passes c.args.core.now c.frame_count-frames.new.core volume m _ (g.met.D.Disk.in_form c.args.core.now.filer.swapper.under) r (retabled_then _ _ _ c.set_unit.ensures.retabled c.frame_count-frames.ensures.same)
+
+pub returns-in-Err-answer-clause-wrote : goal.returns-in-Err-answer-clause-wrote
+returns-in-Err-answer-clause-wrote g c = nothing_labelled (retabled_then _ _ _ c.set_unit.ensures.retabled c.frame_count-frames.ensures.same)

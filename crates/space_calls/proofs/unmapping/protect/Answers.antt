@@ -1,0 +1,75 @@
+use Rattle.std.proofs.Common.{Bool, sym, ◌∙◌, subst}
+use Rattle.std.specs.Prelude.{IfOk}
+use Rattle.std.proofs.lemmas.Bool.{true≢false}
+use Rattle.std.proofs.lemmas.Option.{none-some}
+use Rattle.flat_machine.specs.declared.call.Call.TheVariants as call
+use Rattle.running_words.specs.Running.{Carried}
+use Rattle.swapper_kernel.specs.GoesLaws.{makes_then}
+use Rattle.space_calls.proofs.CarryLemmas.{refused_carried}
+use Rattle.space_calls.proofs.FileLemmas.{found_refused, found_told}
+use Rattle.space_calls.proofs.RunLemmas.{nothing_labelled, quiet_passes}
+use Rattle.space_calls.proofs.TakeLemmas.{row_refused}
+use Rattle.space_calls.proofs.unmapping.protect.Goals as goal
+
+pub returns-in-Ok-Err-clause-carried : goal.returns-in-Ok-Err-clause-carried
+returns-in-Ok-Err-clause-carried g c = λ volume m r. refused_carried c.find_window.new.core volume m (call.Protect c.args.space c.args.writable) c.in-Ok-Err.word (row_refused m c.args.space c.args.writable c.in-Ok-Err.word (found_refused m.spaces c.args.space c.in-Ok-Err.field-0 (c.in-Ok-Err.ensures.answer volume m r) c.in-Ok-Err.word c.in-Ok-Err.field-0-is)) (c.find_window.ensures.runs volume m r)
+
+pub returns-in-Ok-Err-clause-synced : goal.returns-in-Ok-Err-clause-synced
+returns-in-Ok-Err-clause-synced g c = λ volume m r read_only none. absurd (none-some c.in-Ok-Err.word (sym none ∙ row_refused m c.args.space c.args.writable c.in-Ok-Err.word (found_refused m.spaces c.args.space c.in-Ok-Err.field-0 (c.in-Ok-Err.ensures.answer volume m r) c.in-Ok-Err.word c.in-Ok-Err.field-0-is)))
+
+pub returns-in-Ok-Err-clause-passes : goal.returns-in-Ok-Err-clause-passes
+returns-in-Ok-Err-clause-passes g c = λ volume m r. quiet_passes c.args.core.now c.find_window.new.core volume m _ (g.met.D.Disk.in_form c.args.core.now.filer.swapper.under) r (c.find_window.ensures.makes)
+
+pub returns-in-Ok-Err-clause-wrote : goal.returns-in-Ok-Err-clause-wrote
+returns-in-Ok-Err-clause-wrote g c = nothing_labelled (c.find_window.ensures.makes)
+
+pub returns-in-Err-clause-passes : goal.returns-in-Err-clause-passes
+returns-in-Err-clause-passes g c = λ volume m r. quiet_passes c.args.core.now c.find_window.new.core volume m _ (g.met.D.Disk.in_form c.args.core.now.filer.swapper.under) r (c.find_window.ensures.makes)
+
+pub returns-in-Err-clause-wrote : goal.returns-in-Err-clause-wrote
+returns-in-Err-clause-wrote g c = nothing_labelled (c.find_window.ensures.makes)
+
+pub returns-then-writable-clause-carried : goal.returns-then-writable-clause-carried
+returns-then-writable-clause-carried g c = λ volume m r.
+    let r1 = c.find_window.ensures.runs volume m r in
+    let w = (found_told m.spaces c.args.space c.in-Ok-Ok.field-0 (c.in-Ok-Ok.ensures.answer volume m r) c.in-Ok-Ok.found c.in-Ok-Ok.field-0-is).1 in
+    subst (λ (b : Bool). IfOk c.protect_writable.result (Carried m (call.Protect c.args.space b) c.protect_writable.new.core volume)) (sym c.if-writable.true) (c.protect_writable.ensures.carried volume m w.0 r1 w.1 w.2)
+
+pub returns-then-writable-clause-sound : goal.returns-then-writable-clause-sound
+returns-then-writable-clause-sound g c = λ volume m r.
+    let r1 = c.find_window.ensures.runs volume m r in
+    let w = (found_told m.spaces c.args.space c.in-Ok-Ok.field-0 (c.in-Ok-Ok.ensures.answer volume m r) c.in-Ok-Ok.found c.in-Ok-Ok.field-0-is).1 in
+    c.protect_writable.ensures.sound volume m w.0 r1 w.1 w.2
+
+pub returns-then-writable-clause-passes : goal.returns-then-writable-clause-passes
+returns-then-writable-clause-passes g c = λ volume m r. quiet_passes c.args.core.now c.protect_writable.new.core volume m _ (g.met.D.Disk.in_form c.args.core.now.filer.swapper.under) r (makes_then c.find_window.ensures.makes c.protect_writable.ensures.makes)
+
+pub returns-then-writable-clause-wrote : goal.returns-then-writable-clause-wrote
+returns-then-writable-clause-wrote g c = nothing_labelled (makes_then c.find_window.ensures.makes c.protect_writable.ensures.makes)
+
+pub returns-then-writable-clause-synced : goal.returns-then-writable-clause-synced
+returns-then-writable-clause-synced g c = λ volume m r read_only none. absurd (true≢false (sym c.if-writable.true ∙ read_only))
+
+pub returns-clause-carried : goal.returns-clause-carried
+returns-clause-carried g c = λ volume m r.
+    let r1 = c.find_window.ensures.runs volume m r in
+    let w = (found_told m.spaces c.args.space c.in-Ok-Ok.field-0 (c.in-Ok-Ok.ensures.answer volume m r) c.in-Ok-Ok.found c.in-Ok-Ok.field-0-is).1 in
+    subst (λ (b : Bool). IfOk c.protect_read_only.result (Carried m (call.Protect c.args.space b) c.protect_read_only.new.core volume)) (sym c.if-writable.false) (c.protect_read_only.ensures.carried volume m w.0 r1 w.1 w.2 w.3 w.4)
+
+pub returns-clause-sound : goal.returns-clause-sound
+returns-clause-sound g c = λ volume m r.
+    let r1 = c.find_window.ensures.runs volume m r in
+    let w = (found_told m.spaces c.args.space c.in-Ok-Ok.field-0 (c.in-Ok-Ok.ensures.answer volume m r) c.in-Ok-Ok.found c.in-Ok-Ok.field-0-is).1 in
+    c.protect_read_only.ensures.sound volume m w.0 r1 w.1 w.2 w.3 w.4
+
+pub returns-clause-passes : goal.returns-clause-passes
+returns-clause-passes g c = λ volume m r. quiet_passes c.args.core.now c.protect_read_only.new.core volume m _ (g.met.D.Disk.in_form c.args.core.now.filer.swapper.under) r (makes_then c.find_window.ensures.makes c.protect_read_only.ensures.makes)
+
+pub returns-clause-wrote : goal.returns-clause-wrote
+returns-clause-wrote g c = nothing_labelled (makes_then c.find_window.ensures.makes c.protect_read_only.ensures.makes)
+
+pub returns-clause-synced : goal.returns-clause-synced
+returns-clause-synced g c = λ volume m r read_only none.
+    let r1 = c.find_window.ensures.runs volume m r in
+    let w = (found_told m.spaces c.args.space c.in-Ok-Ok.field-0 (c.in-Ok-Ok.ensures.answer volume m r) c.in-Ok-Ok.found c.in-Ok-Ok.field-0-is).1 in
+    c.protect_read_only.ensures.synced volume m w.0 r1 w.1 w.2 w.3 w.4

@@ -1,0 +1,62 @@
+use Rattle.std.proofs.Common.{false, ◌∙◌}
+use Rattle.flat_machine.specs.Next.{without_window_of}
+use Rattle.swapper_kernel.specs.GoesLaws.{makes_then}
+use Rattle.space_calls.proofs.RunLemmas.{reached_makes, settled_runs, size_kept}
+use Rattle.space_calls.proofs.TableAnswers.{not_refused, was_done}
+use Rattle.space_calls.proofs.TakeLemmas.{clean_loose, handle_is, may, mode_carried, mode_fits, mode_frames, mode_machine, read_only_allowed}
+use Rattle.space_calls.proofs.unmapping.protect_read_only.Goals as goal
+
+pub returns-in-Err-clause-sound : goal.returns-in-Err-clause-sound
+returns-in-Err-clause-sound g c = λ volume m s r at has begins long. c.in-Err.ensures.sound volume m r
+
+pub returns-in-Ok-Err-clause-carried : goal.returns-in-Ok-Err-clause-carried
+returns-in-Ok-Err-clause-carried g c = λ volume m s r at has begins long.
+    let r1 = c.force_range.ensures.runs volume m r in
+    let l = c.force_range.new.core in
+    let decided = read_only_allowed l volume m r1 c.args.space c.args.shown s at has in
+    let done = c.in-Ok-Err.ensures.done volume m s (without_window_of s m.unforced) r1 (may l volume m r1 c.args.space c.args.shown s at has) (handle_is l volume m r1 c.args.space c.args.shown s at has) (mode_fits l volume m r1 c.args.space c.args.shown s at has false)
+    (mode_machine l volume m r1 c.args.space c.args.shown s at has false decided) (mode_frames l volume m r1 c.args.space c.args.shown s at has false)
+    (clean_loose l volume m r1 c.args.space c.args.shown s at has c.args.first c.args.pages begins long (c.in-Ok.ensures.rest volume m r)) in
+    absurd (not_refused _ c.in-Ok-Err.field-0 c.in-Ok-Err.word c.in-Ok-Err.field-0-is done)
+
+pub returns-in-Ok-Err-clause-synced : goal.returns-in-Ok-Err-clause-synced
+returns-in-Ok-Err-clause-synced g c = λ volume m s r at has begins long.
+    let r1 = c.force_range.ensures.runs volume m r in
+    let l = c.force_range.new.core in
+    let decided = read_only_allowed l volume m r1 c.args.space c.args.shown s at has in
+    let done = c.in-Ok-Err.ensures.done volume m s (without_window_of s m.unforced) r1 (may l volume m r1 c.args.space c.args.shown s at has) (handle_is l volume m r1 c.args.space c.args.shown s at has) (mode_fits l volume m r1 c.args.space c.args.shown s at has false)
+    (mode_machine l volume m r1 c.args.space c.args.shown s at has false decided) (mode_frames l volume m r1 c.args.space c.args.shown s at has false)
+    (clean_loose l volume m r1 c.args.space c.args.shown s at has c.args.first c.args.pages begins long (c.in-Ok.ensures.rest volume m r)) in
+    absurd (not_refused _ c.in-Ok-Err.field-0 c.in-Ok-Err.word c.in-Ok-Err.field-0-is done)
+
+pub returns-in-Ok-Err-clause-makes : goal.returns-in-Ok-Err-clause-makes
+returns-in-Ok-Err-clause-makes g c = makes_then c.force_range.ensures.makes c.change_window.ensures.makes
+
+pub returns-in-Err-change_window-clause-sound : goal.returns-in-Err-change_window-clause-sound
+returns-in-Err-change_window-clause-sound g c = λ volume m s r at has begins long.
+    let r1 = c.force_range.ensures.runs volume m r in
+    let l = c.force_range.new.core in
+    c.in-Err-change_window.ensures.sound volume m s r1 (may l volume m r1 c.args.space c.args.shown s at has) (handle_is l volume m r1 c.args.space c.args.shown s at has) (mode_fits l volume m r1 c.args.space c.args.shown s at has false)
+
+pub returns-in-Err-change_window-clause-makes : goal.returns-in-Err-change_window-clause-makes
+returns-in-Err-change_window-clause-makes g c = makes_then c.force_range.ensures.makes c.change_window.ensures.makes
+
+pub returns-in-Ok-settle-clause-carried : goal.returns-in-Ok-settle-clause-carried
+returns-in-Ok-settle-clause-carried g c = λ volume m s r at has begins long.
+    let r1 = c.force_range.ensures.runs volume m r in
+    let l = c.force_range.new.core in
+    let decided = read_only_allowed l volume m r1 c.args.space c.args.shown s at has in
+    let done = c.in-Ok-Ok.ensures.done volume m s (without_window_of s m.unforced) r1 (may l volume m r1 c.args.space c.args.shown s at has) (handle_is l volume m r1 c.args.space c.args.shown s at has) (mode_fits l volume m r1 c.args.space c.args.shown s at has false)
+    (mode_machine l volume m r1 c.args.space c.args.shown s at has false decided) (mode_frames l volume m r1 c.args.space c.args.shown s at has false)
+    (clean_loose l volume m r1 c.args.space c.args.shown s at has c.args.first c.args.pages begins long (c.in-Ok.ensures.rest volume m r)) in
+    let h = c.change_window.new.core in
+    let size = size_kept c.args.core.now h (makes_then c.force_range.ensures.makes c.change_window.ensures.makes) (c.change_window.ensures.layout ∙ c.force_range.ensures.layout) c.requires.size in
+    let r2 = was_done _ c.in-Ok-Ok.field-0 c.in-Ok-Ok.field-0-is done in
+    mode_carried l volume m r1 c.args.space c.args.shown s at has false decided c.settle.new.core
+    (settled_runs h c.settle.new.core h.filer.swapper.accepted size volume _ r2 c.settle.ensures.reaches c.settle.ensures.frames c.settle.ensures.intervals c.settle.ensures.known)
+
+pub returns-in-Ok-settle-clause-makes : goal.returns-in-Ok-settle-clause-makes
+returns-in-Ok-settle-clause-makes g c = makes_then (makes_then c.force_range.ensures.makes c.change_window.ensures.makes) (reached_makes c.settle.ensures.reaches)
+
+pub returns-in-Err-settle-clause-makes : goal.returns-in-Err-settle-clause-makes
+returns-in-Err-settle-clause-makes g c = makes_then (makes_then c.force_range.ensures.makes c.change_window.ensures.makes) (reached_makes c.settle.ensures.reaches)

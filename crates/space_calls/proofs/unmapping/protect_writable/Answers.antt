@@ -1,0 +1,56 @@
+use Rattle.std.proofs.Common.{◌≡◌, Bool, true, false, subst}
+use Rattle.std.specs.Bool.{then_some}
+use Rattle.flat_machine.specs.declared.call.Call.TheVariants as call
+use Rattle.flat_machine.specs.declared.call.Refusal.TheVariants as why
+use Rattle.flat_machine.specs.Refusal.{is_immutable}
+use Rattle.swapper_kernel.specs.GoesLaws.{makes_then}
+use Rattle.space_calls.proofs.CarryLemmas.{refused_carried}
+use Rattle.space_calls.proofs.TableAnswers.{not_refused, was_done}
+use Rattle.space_calls.proofs.TakeLemmas.{handle_is, may, mode_carried, mode_fits, mode_frames, mode_machine, mode_refused}
+use Rattle.space_calls.proofs.unmapping.protect_writable.Goals as goal
+
+pub returns-in-Ok-true-clause-carried : goal.returns-in-Ok-true-clause-carried
+returns-in-Ok-true-clause-carried g c = λ volume m s r at has.
+    let r1 = c.shows_immutable.ensures.runs volume m r in
+    let l = c.shows_immutable.new.core in
+    let told = subst (λ (b : Bool). is_immutable m c.args.shown.id ≡ then_some b why.Immutable) c.in-Ok-true.field-0-test (c.in-Ok-true.ensures.answer volume m r) in
+    let decided = mode_refused l volume m r1 c.args.space c.args.shown s at has true told in
+    refused_carried l volume m (call.Protect c.args.space true) why.Immutable decided r1
+
+pub returns-in-Err-clause-sound : goal.returns-in-Err-clause-sound
+returns-in-Err-clause-sound g c = λ volume m s r at has. c.in-Err.ensures.sound volume m r
+
+pub returns-in-Ok-Ok-clause-carried : goal.returns-in-Ok-Ok-clause-carried
+returns-in-Ok-Ok-clause-carried g c = λ volume m s r at has.
+    let r1 = c.shows_immutable.ensures.runs volume m r in
+    let l = c.shows_immutable.new.core in
+    let told = subst (λ (b : Bool). is_immutable m c.args.shown.id ≡ then_some b why.Immutable) c.in-Ok-false.field-0-test (c.in-Ok-false.ensures.answer volume m r) in
+    let decided = mode_refused l volume m r1 c.args.space c.args.shown s at has false told in
+    let done = c.in-Ok-Ok.ensures.done volume m s m.unforced r1 (may l volume m r1 c.args.space c.args.shown s at has) (handle_is l volume m r1 c.args.space c.args.shown s at has) (mode_fits l volume m r1 c.args.space c.args.shown s at has true)
+    (mode_machine l volume m r1 c.args.space c.args.shown s at has true decided) (mode_frames l volume m r1 c.args.space c.args.shown s at has true) r1.session.stands.dirty in
+    mode_carried l volume m r1 c.args.space c.args.shown s at has true decided c.change_window.new.core (was_done _ c.in-Ok-Ok.field-0 c.in-Ok-Ok.field-0-is done)
+
+pub returns-in-Ok-Ok-clause-makes : goal.returns-in-Ok-Ok-clause-makes
+returns-in-Ok-Ok-clause-makes g c = makes_then c.shows_immutable.ensures.makes c.change_window.ensures.makes
+
+pub returns-in-Ok-Err-clause-carried : goal.returns-in-Ok-Err-clause-carried
+returns-in-Ok-Err-clause-carried g c = λ volume m s r at has.
+    let r1 = c.shows_immutable.ensures.runs volume m r in
+    let l = c.shows_immutable.new.core in
+    let told = subst (λ (b : Bool). is_immutable m c.args.shown.id ≡ then_some b why.Immutable) c.in-Ok-false.field-0-test (c.in-Ok-false.ensures.answer volume m r) in
+    let decided = mode_refused l volume m r1 c.args.space c.args.shown s at has false told in
+    let done = c.in-Ok-Err.ensures.done volume m s m.unforced r1 (may l volume m r1 c.args.space c.args.shown s at has) (handle_is l volume m r1 c.args.space c.args.shown s at has) (mode_fits l volume m r1 c.args.space c.args.shown s at has true)
+    (mode_machine l volume m r1 c.args.space c.args.shown s at has true decided) (mode_frames l volume m r1 c.args.space c.args.shown s at has true) r1.session.stands.dirty in
+    absurd (not_refused _ c.in-Ok-Err.field-0 c.in-Ok-Err.word c.in-Ok-Err.field-0-is done)
+
+pub returns-in-Ok-Err-clause-makes : goal.returns-in-Ok-Err-clause-makes
+returns-in-Ok-Err-clause-makes g c = makes_then c.shows_immutable.ensures.makes c.change_window.ensures.makes
+
+pub returns-in-Err-change_window-clause-sound : goal.returns-in-Err-change_window-clause-sound
+returns-in-Err-change_window-clause-sound g c = λ volume m s r at has.
+    let r1 = c.shows_immutable.ensures.runs volume m r in
+    let l = c.shows_immutable.new.core in
+    c.in-Err-change_window.ensures.sound volume m s r1 (may l volume m r1 c.args.space c.args.shown s at has) (handle_is l volume m r1 c.args.space c.args.shown s at has) (mode_fits l volume m r1 c.args.space c.args.shown s at has true)
+
+pub returns-in-Err-change_window-clause-makes : goal.returns-in-Err-change_window-clause-makes
+returns-in-Err-change_window-clause-makes g c = makes_then c.shows_immutable.ensures.makes c.change_window.ensures.makes

@@ -1,0 +1,99 @@
+use Rattle.std.proofs.Common.{◌≡◌, Some, ◌∙◌}
+use Rattle.flat_machine.specs.declared.space.Space.{Space}
+use Rattle.flat_machine.specs.Next.{without_window_of}
+use Rattle.space_tables.specs.declared.shown.Shown.{Shown}
+use Rattle.space_tables.specs.Shows.{window_of}
+use Rattle.swapper_kernel.specs.GoesLaws.{makes_then}
+use Rattle.space_calls.specs.Unmapping.{without_window}
+use Rattle.space_calls.proofs.FileLemmas.{found_refused, found_told}
+use Rattle.space_calls.proofs.RunLemmas.{reached_makes, settled_runs, size_kept}
+use Rattle.space_calls.proofs.TableAnswers.{not_refused, was_done}
+use Rattle.space_calls.proofs.TakeLemmas.{gone_frames, gone_loose, handle_is, machine_left, may}
+use Rattle.space_calls.proofs.unmapping.take_window.Goals as goal
+
+pub returns-in-Ok-Err-clause-taken : goal.returns-in-Ok-Err-clause-taken
+returns-in-Ok-Err-clause-taken g c = λ volume m r. (found_refused m.spaces c.args.space c.in-Ok-Err.field-0 (c.in-Ok-Err.ensures.answer volume m r) c.in-Ok-Err.word c.in-Ok-Err.field-0-is, tt)
+
+pub returns-in-Err-let_range_go-clause-sound : goal.returns-in-Err-let_range_go-clause-sound
+returns-in-Err-let_range_go-clause-sound g c = λ volume m r. c.in-Err-let_range_go.ensures.sound volume m (c.find_window.ensures.runs volume m r)
+
+pub returns-in-Err-let_range_go-clause-makes : goal.returns-in-Err-let_range_go-clause-makes
+returns-in-Err-let_range_go-clause-makes g c = makes_then c.find_window.ensures.makes c.let_range_go.ensures.makes
+
+pub returns-in-Ok-Err-change_window-clause-taken : goal.returns-in-Ok-Err-change_window-clause-taken
+returns-in-Ok-Err-change_window-clause-taken g c = λ volume m r.
+    let r1 = c.find_window.ensures.runs volume m r in
+    let w = (found_told m.spaces c.args.space c.in-Ok-Ok.field-0 (c.in-Ok-Ok.ensures.answer volume m r) c.in-Ok-Ok.found c.in-Ok-Ok.field-0-is).1 in
+    let s : Space = w.0 in
+    let l = c.let_range_go.new.core in
+    let r2 = c.let_range_go.ensures.runs volume m r1 in
+    let shown : Shown = c.in-Ok-Ok.found.0 in
+    let has : s.window ≡ Some (window_of shown) = w.2 in
+    let may_have = may l volume m r2 c.args.space shown s w.1 has in
+    let named = handle_is l volume m r2 c.args.space shown s w.1 has in
+    let gone = c.in-Ok.ensures.rest volume m r1 in
+    let done = c.in-Ok-Err-change_window.ensures.done volume m s (without_window_of s m.unforced) r2 may_have named tt (machine_left l volume m r2 c.args.space shown s w.1 has)
+    (gone_frames l volume m r2 c.args.space shown s w.1 has c.in-Ok-Ok.found.1 c.in-Ok-Ok.found.2 w.3 w.4 gone) (gone_loose l volume m r2 c.args.space shown s w.1 has c.in-Ok-Ok.found.1 c.in-Ok-Ok.found.2 w.3 w.4 gone) in
+    absurd (not_refused _ c.in-Ok-Err-change_window.field-0 c.in-Ok-Err-change_window.word c.in-Ok-Err-change_window.field-0-is done)
+
+pub returns-in-Ok-Err-change_window-clause-refused : goal.returns-in-Ok-Err-change_window-clause-refused
+returns-in-Ok-Err-change_window-clause-refused g c = λ volume m r.
+    let r1 = c.find_window.ensures.runs volume m r in
+    let w = (found_told m.spaces c.args.space c.in-Ok-Ok.field-0 (c.in-Ok-Ok.ensures.answer volume m r) c.in-Ok-Ok.found c.in-Ok-Ok.field-0-is).1 in
+    let s : Space = w.0 in
+    let l = c.let_range_go.new.core in
+    let r2 = c.let_range_go.ensures.runs volume m r1 in
+    let shown : Shown = c.in-Ok-Ok.found.0 in
+    let has : s.window ≡ Some (window_of shown) = w.2 in
+    let may_have = may l volume m r2 c.args.space shown s w.1 has in
+    let named = handle_is l volume m r2 c.args.space shown s w.1 has in
+    let gone = c.in-Ok.ensures.rest volume m r1 in
+    let done = c.in-Ok-Err-change_window.ensures.done volume m s (without_window_of s m.unforced) r2 may_have named tt (machine_left l volume m r2 c.args.space shown s w.1 has)
+    (gone_frames l volume m r2 c.args.space shown s w.1 has c.in-Ok-Ok.found.1 c.in-Ok-Ok.found.2 w.3 w.4 gone) (gone_loose l volume m r2 c.args.space shown s w.1 has c.in-Ok-Ok.found.1 c.in-Ok-Ok.found.2 w.3 w.4 gone) in
+    absurd (not_refused _ c.in-Ok-Err-change_window.field-0 c.in-Ok-Err-change_window.word c.in-Ok-Err-change_window.field-0-is done)
+
+pub returns-in-Ok-Err-change_window-clause-makes : goal.returns-in-Ok-Err-change_window-clause-makes
+returns-in-Ok-Err-change_window-clause-makes g c = makes_then (makes_then c.find_window.ensures.makes c.let_range_go.ensures.makes) c.change_window.ensures.makes
+
+pub returns-in-Err-change_window-clause-sound : goal.returns-in-Err-change_window-clause-sound
+returns-in-Err-change_window-clause-sound g c = λ volume m r.
+    let r1 = c.find_window.ensures.runs volume m r in
+    let w = (found_told m.spaces c.args.space c.in-Ok-Ok.field-0 (c.in-Ok-Ok.ensures.answer volume m r) c.in-Ok-Ok.found c.in-Ok-Ok.field-0-is).1 in
+    let s : Space = w.0 in
+    let l = c.let_range_go.new.core in
+    let r2 = c.let_range_go.ensures.runs volume m r1 in
+    let shown : Shown = c.in-Ok-Ok.found.0 in
+    let has : s.window ≡ Some (window_of shown) = w.2 in
+    let may_have = may l volume m r2 c.args.space shown s w.1 has in
+    let named = handle_is l volume m r2 c.args.space shown s w.1 has in
+    c.in-Err-change_window.ensures.sound volume m s r2 may_have named tt
+
+pub returns-in-Err-change_window-clause-makes : goal.returns-in-Err-change_window-clause-makes
+returns-in-Err-change_window-clause-makes g c = makes_then (makes_then c.find_window.ensures.makes c.let_range_go.ensures.makes) c.change_window.ensures.makes
+
+pub returns-in-Ok-settle-clause-taken : goal.returns-in-Ok-settle-clause-taken
+returns-in-Ok-settle-clause-taken g c = λ volume m r.
+    let r1 = c.find_window.ensures.runs volume m r in
+    let w = (found_told m.spaces c.args.space c.in-Ok-Ok.field-0 (c.in-Ok-Ok.ensures.answer volume m r) c.in-Ok-Ok.found c.in-Ok-Ok.field-0-is).1 in
+    let s : Space = w.0 in
+    let l = c.let_range_go.new.core in
+    let r2 = c.let_range_go.ensures.runs volume m r1 in
+    let shown : Shown = c.in-Ok-Ok.found.0 in
+    let has : s.window ≡ Some (window_of shown) = w.2 in
+    let may_have = may l volume m r2 c.args.space shown s w.1 has in
+    let named = handle_is l volume m r2 c.args.space shown s w.1 has in
+    let gone = c.in-Ok.ensures.rest volume m r1 in
+    let done = c.in-Ok-Ok-change_window.ensures.done volume m s (without_window_of s m.unforced) r2 may_have named tt (machine_left l volume m r2 c.args.space shown s w.1 has)
+    (gone_frames l volume m r2 c.args.space shown s w.1 has c.in-Ok-Ok.found.1 c.in-Ok-Ok.found.2 w.3 w.4 gone) (gone_loose l volume m r2 c.args.space shown s w.1 has c.in-Ok-Ok.found.1 c.in-Ok-Ok.found.2 w.3 w.4 gone) in
+    let old = c.args.core.now in
+    let h = c.change_window.new.core in
+    let size = size_kept old h (makes_then (makes_then c.find_window.ensures.makes c.let_range_go.ensures.makes) c.change_window.ensures.makes) (c.change_window.ensures.layout ∙ c.let_range_go.ensures.layout ∙ c.find_window.ensures.layout) c.requires.size in
+    let r3 = was_done _ c.in-Ok-Ok-change_window.field-0 c.in-Ok-Ok-change_window.field-0-is done in
+    let r4 = settled_runs h c.settle.new.core h.filer.swapper.accepted size volume (without_window c.args.space s m) r3 c.settle.ensures.reaches c.settle.ensures.frames c.settle.ensures.intervals c.settle.ensures.known in
+    ((found_told m.spaces c.args.space c.in-Ok-Ok.field-0 (c.in-Ok-Ok.ensures.answer volume m r) c.in-Ok-Ok.found c.in-Ok-Ok.field-0-is).0, (s, w.1, has, r4))
+
+pub returns-in-Ok-settle-clause-makes : goal.returns-in-Ok-settle-clause-makes
+returns-in-Ok-settle-clause-makes g c = makes_then (makes_then (makes_then c.find_window.ensures.makes c.let_range_go.ensures.makes) c.change_window.ensures.makes) (reached_makes c.settle.ensures.reaches)
+
+pub returns-in-Err-settle-clause-makes : goal.returns-in-Err-settle-clause-makes
+returns-in-Err-settle-clause-makes g c = makes_then (makes_then (makes_then c.find_window.ensures.makes c.let_range_go.ensures.makes) c.change_window.ensures.makes) (reached_makes c.settle.ensures.reaches)

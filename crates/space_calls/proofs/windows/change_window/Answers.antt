@@ -1,0 +1,13 @@
+use Rattle.space_calls.proofs.RunLemmas.{knows}
+use Rattle.space_calls.proofs.WindowLemmas.{window_changed}
+use Rattle.space_calls.proofs.windows.change_window.Goals as goal
+
+pub returns-in-Err-clause-sound : goal.returns-in-Err-clause-sound
+returns-in-Err-clause-sound g c = λ volume m x r may named fits. c.in-Err.ensures.sound _ _ m.spaces x (knows c.args.core.now c.args.core.now.filer.swapper.accepted c.requires.size volume m r) may named fits
+
+pub returns-clause-done : goal.returns-clause-done
+returns-clause-done g c = λ volume m x unforced r may named fits is frames loose.
+    let old = c.args.core.now in
+    window_changed old c.set_window.new.core c.frame_count-frames.new.core old.filer.swapper.accepted c.requires.size (g.met.D.Disk.in_form c.set_window.new.core.filer.swapper.under)
+    c.frame_count-frames.ensures.pages c.frame_count-frames.ensures.same c.set_window.ensures.retabled volume m r _ unforced is frames loose c.in-Ok.answer
+    (c.in-Ok.ensures.done _ _ m.spaces x (knows old old.filer.swapper.accepted c.requires.size volume m r) may named fits)

@@ -1,0 +1,92 @@
+use Rattle.swapper_kernel.specs.GoesLaws.{makes_then}
+use Rattle.space_calls.proofs.FileLemmas.{window_found, window_lost}
+use Rattle.space_calls.proofs.RunLemmas.{asked_makes, asked_runs, knows, size_kept}
+use Rattle.space_calls.proofs.TableAnswers.{shown_refused}
+use Rattle.space_calls.proofs.windows.find_window.Goals as goal
+
+pub returns-in-Ok-Err-clause-answer : goal.returns-in-Ok-Err-clause-answer
+returns-in-Ok-Err-clause-answer g c = λ volume m r.
+    let old = c.args.core.now in
+    let known = knows old old.filer.swapper.accepted c.requires.size volume m r in
+    (shown_refused m.spaces c.args.space c.in-Ok-Err.field-0 c.in-Ok-Err.word c.in-Ok-Err.field-0-is (c.in-Ok-Err.ensures.answer _ _ m.spaces known), tt)
+
+pub returns-in-Ok-Err-clause-runs : goal.returns-in-Ok-Err-clause-runs
+returns-in-Ok-Err-clause-runs g c = λ volume m r.
+    let old = c.args.core.now in
+    let r1 = asked_runs old old.filer.swapper.accepted c.requires.size c.shown.new.core volume m c.shown.ensures.asked r in
+    r1
+
+pub returns-in-Err-clause-runs : goal.returns-in-Err-clause-runs
+returns-in-Err-clause-runs g c = λ volume m r.
+    let old = c.args.core.now in
+    let r1 = asked_runs old old.filer.swapper.accepted c.requires.size c.shown.new.core volume m c.shown.ensures.asked r in
+    r1
+
+pub returns-in-Err-clause-sound : goal.returns-in-Err-clause-sound
+returns-in-Err-clause-sound g c = λ volume m r.
+    let old = c.args.core.now in
+    let known = knows old old.filer.swapper.accepted c.requires.size volume m r in
+    c.in-Err.ensures.sound _ _ m.spaces known
+
+pub returns-in-Ok-Ok-bounds-clause-answer : goal.returns-in-Ok-Ok-bounds-clause-answer
+returns-in-Ok-Ok-bounds-clause-answer g c = λ volume m r.
+    let old = c.args.core.now in
+    let r1 = asked_runs old old.filer.swapper.accepted c.requires.size c.shown.new.core volume m c.shown.ensures.asked r in
+    let seen = c.shown.new.core in
+    let size = size_kept old seen (asked_makes old seen c.shown.ensures.asked) c.shown.ensures.asked.reaches.layout c.requires.size in
+    let next = knows seen seen.filer.swapper.accepted size volume m r1 in
+    window_found m.spaces c.args.space c.in-Ok-Ok.field-0 c.in-Ok-Ok.shows c.in-Ok-Ok.field-0-is (c.in-Ok-Ok.ensures.answer _ _ m.spaces (knows old old.filer.swapper.accepted c.requires.size volume m r)) c.in-Ok-Ok-bounds.field-0 (c.in-Ok-Ok-bounds.ensures.answer _ _ m.spaces next) c.in-Ok-Ok-bounds.first c.in-Ok-Ok-bounds.pages c.in-Ok-Ok-bounds.field-0-is
+
+pub returns-in-Ok-Err-bounds-clause-answer : goal.returns-in-Ok-Err-bounds-clause-answer
+returns-in-Ok-Err-bounds-clause-answer g c = λ volume m r.
+    let old = c.args.core.now in
+    let r1 = asked_runs old old.filer.swapper.accepted c.requires.size c.shown.new.core volume m c.shown.ensures.asked r in
+    let seen = c.shown.new.core in
+    let size = size_kept old seen (asked_makes old seen c.shown.ensures.asked) c.shown.ensures.asked.reaches.layout c.requires.size in
+    let next = knows seen seen.filer.swapper.accepted size volume m r1 in
+    absurd (window_lost m.spaces c.args.space c.in-Ok-Ok.field-0 c.in-Ok-Ok.shows c.in-Ok-Ok.field-0-is (c.in-Ok-Ok.ensures.answer _ _ m.spaces (knows old old.filer.swapper.accepted c.requires.size volume m r)) c.in-Ok-Err-bounds.field-0 (c.in-Ok-Err-bounds.ensures.answer _ _ m.spaces next) c.in-Ok-Err-bounds.word c.in-Ok-Err-bounds.field-0-is)
+
+pub returns-in-Err-bounds-clause-sound : goal.returns-in-Err-bounds-clause-sound
+returns-in-Err-bounds-clause-sound g c = λ volume m r.
+    let old = c.args.core.now in
+    let r1 = asked_runs old old.filer.swapper.accepted c.requires.size c.shown.new.core volume m c.shown.ensures.asked r in
+    let seen = c.shown.new.core in
+    let size = size_kept old seen (asked_makes old seen c.shown.ensures.asked) c.shown.ensures.asked.reaches.layout c.requires.size in
+    let next = knows seen seen.filer.swapper.accepted size volume m r1 in
+    c.in-Err-bounds.ensures.sound _ _ m.spaces next
+
+pub returns-in-Ok-Ok-bounds-clause-runs : goal.returns-in-Ok-Ok-bounds-clause-runs
+returns-in-Ok-Ok-bounds-clause-runs g c = λ volume m r.
+    let old = c.args.core.now in
+    let r1 = asked_runs old old.filer.swapper.accepted c.requires.size c.shown.new.core volume m c.shown.ensures.asked r in
+    let seen = c.shown.new.core in
+    let size = size_kept old seen (asked_makes old seen c.shown.ensures.asked) c.shown.ensures.asked.reaches.layout c.requires.size in
+    let next = knows seen seen.filer.swapper.accepted size volume m r1 in
+    asked_runs seen seen.filer.swapper.accepted size c.bounds.new.core volume m c.bounds.ensures.asked r1
+
+pub returns-in-Ok-Ok-bounds-clause-makes : goal.returns-in-Ok-Ok-bounds-clause-makes
+returns-in-Ok-Ok-bounds-clause-makes g c = makes_then (asked_makes _ _ c.shown.ensures.asked) (asked_makes _ _ c.bounds.ensures.asked)
+
+pub returns-in-Ok-Err-bounds-clause-runs : goal.returns-in-Ok-Err-bounds-clause-runs
+returns-in-Ok-Err-bounds-clause-runs g c = λ volume m r.
+    let old = c.args.core.now in
+    let r1 = asked_runs old old.filer.swapper.accepted c.requires.size c.shown.new.core volume m c.shown.ensures.asked r in
+    let seen = c.shown.new.core in
+    let size = size_kept old seen (asked_makes old seen c.shown.ensures.asked) c.shown.ensures.asked.reaches.layout c.requires.size in
+    let next = knows seen seen.filer.swapper.accepted size volume m r1 in
+    asked_runs seen seen.filer.swapper.accepted size c.bounds.new.core volume m c.bounds.ensures.asked r1
+
+pub returns-in-Ok-Err-bounds-clause-makes : goal.returns-in-Ok-Err-bounds-clause-makes
+returns-in-Ok-Err-bounds-clause-makes g c = makes_then (asked_makes _ _ c.shown.ensures.asked) (asked_makes _ _ c.bounds.ensures.asked)
+
+pub returns-in-Err-bounds-clause-runs : goal.returns-in-Err-bounds-clause-runs
+returns-in-Err-bounds-clause-runs g c = λ volume m r.
+    let old = c.args.core.now in
+    let r1 = asked_runs old old.filer.swapper.accepted c.requires.size c.shown.new.core volume m c.shown.ensures.asked r in
+    let seen = c.shown.new.core in
+    let size = size_kept old seen (asked_makes old seen c.shown.ensures.asked) c.shown.ensures.asked.reaches.layout c.requires.size in
+    let next = knows seen seen.filer.swapper.accepted size volume m r1 in
+    asked_runs seen seen.filer.swapper.accepted size c.bounds.new.core volume m c.bounds.ensures.asked r1
+
+pub returns-in-Err-bounds-clause-makes : goal.returns-in-Err-bounds-clause-makes
+returns-in-Err-bounds-clause-makes g c = makes_then (asked_makes _ _ c.shown.ensures.asked) (asked_makes _ _ c.bounds.ensures.asked)

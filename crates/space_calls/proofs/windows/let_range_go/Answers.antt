@@ -1,0 +1,32 @@
+use Rattle.space_calls.proofs.RunLemmas.{knows, moved_reaches, moved_runs, moved_size, reached_runs}
+use Rattle.space_calls.proofs.windows.let_range_go.Goals as goal
+
+pub returns-clause-rest : goal.returns-clause-rest
+returns-clause-rest g c = λ volume m r.
+    let old = c.args.core.now in
+    let core = c.frame_count-frames.new.core in
+    let size = moved_size old core c.frame_count-frames.ensures.same c.requires.size in
+    let runs = moved_runs old core volume m c.frame_count-frames.ensures.same r in
+    let known = knows core core.filer.swapper.accepted size volume m runs in
+    c.let_go.ensures.gone _ _ m.spaces known
+
+pub returns-clause-runs : goal.returns-clause-runs
+returns-clause-runs g c = λ volume m r.
+    let old = c.args.core.now in
+    let core = c.frame_count-frames.new.core in
+    let size = moved_size old core c.frame_count-frames.ensures.same c.requires.size in
+    let runs = moved_runs old core volume m c.frame_count-frames.ensures.same r in
+    let known = knows core core.filer.swapper.accepted size volume m runs in
+    reached_runs core core.filer.swapper.accepted size c.let_go.new.self volume m runs c.let_go.ensures.reaches c.let_go.ensures.came c.let_go.ensures.intervals (c.let_go.ensures.same _ _ m.spaces known)
+
+pub returns-clause-sound : goal.returns-clause-sound
+returns-clause-sound g c = λ volume m r.
+    let old = c.args.core.now in
+    let core = c.frame_count-frames.new.core in
+    let size = moved_size old core c.frame_count-frames.ensures.same c.requires.size in
+    let runs = moved_runs old core volume m c.frame_count-frames.ensures.same r in
+    let known = knows core core.filer.swapper.accepted size volume m runs in
+    c.let_go.ensures.sound _ _ m.spaces known
+
+pub returns-clause-makes : goal.returns-clause-makes
+returns-clause-makes g c = moved_reaches c.args.core.now c.frame_count-frames.new.core c.let_go.new.self c.frame_count-frames.ensures.same c.let_go.ensures.reaches

@@ -1,0 +1,22 @@
+use Rattle.session_words.specs.Parts.{shapes_of}
+use Rattle.space_calls.proofs.FileLemmas.{immutable_told, missing_told}
+use Rattle.space_calls.proofs.RunLemmas.{books_of, looked_runs}
+use Rattle.space_calls.proofs.windows.shows_immutable.Goals as goal
+
+pub returns-in-Ok-Some-clause-answer : goal.returns-in-Ok-Some-clause-answer
+returns-in-Ok-Some-clause-answer g c = λ volume m r. immutable_told m c.args.id c.in-Ok-Some.field-0 c.in-Ok-Some.found c.in-Ok-Some.field-0-is (c.in-Ok-Some.ensures.told _ (shapes_of m.files) m.spaces (books_of r))
+
+pub returns-in-Ok-None-clause-answer : goal.returns-in-Ok-None-clause-answer
+returns-in-Ok-None-clause-answer g c = λ volume m r. missing_told m c.args.id c.in-Ok-None.field-0 c.in-Ok-None.field-0-is (c.in-Ok-None.ensures.told _ (shapes_of m.files) m.spaces (books_of r))
+
+pub returns-in-Err-clause-sound : goal.returns-in-Err-clause-sound
+returns-in-Err-clause-sound g c = λ volume m r. c.in-Err.ensures.told _ (shapes_of m.files) m.spaces (books_of r)
+
+pub returns-in-Ok-Some-clause-runs : goal.returns-in-Ok-Some-clause-runs
+returns-in-Ok-Some-clause-runs g c = λ volume m r. looked_runs r c.attributes_of.ensures.makes c.attributes_of.ensures.brings (c.attributes_of.ensures.same _ (shapes_of m.files) m.spaces (books_of r)) c.attributes_of.ensures.layout
+
+pub returns-in-Ok-None-clause-runs : goal.returns-in-Ok-None-clause-runs
+returns-in-Ok-None-clause-runs g c = λ volume m r. looked_runs r c.attributes_of.ensures.makes c.attributes_of.ensures.brings (c.attributes_of.ensures.same _ (shapes_of m.files) m.spaces (books_of r)) c.attributes_of.ensures.layout
+
+pub returns-in-Err-clause-runs : goal.returns-in-Err-clause-runs
+returns-in-Err-clause-runs g c = λ volume m r. looked_runs r c.attributes_of.ensures.makes c.attributes_of.ensures.brings (c.attributes_of.ensures.same _ (shapes_of m.files) m.spaces (books_of r)) c.attributes_of.ensures.layout

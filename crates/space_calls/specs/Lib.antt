@@ -1,0 +1,4 @@
+pub mod Naming
+pub mod Unmapping
+pub mod Mapping
+pub mod Ranges

@@ -1,0 +1,46 @@
+//! Pages of a space that are brought in before they are asked for.
+ghost use Rattle.std.specs.Prelude.{◌≡◌, ◌+◌, ◌/◌, ℕ, length, Some, Err, IfOk, IfErr, OnOk};
+ghost use Rattle.labelled_disk.specs.declared.evidence.Halt.TheVariants as halt;
+ghost use Rattle.labelled_disk.specs.Calls.{Rose};
+ghost use Rattle.flat_machine.specs.declared.call.Call.TheVariants as call;
+ghost use Rattle.flat_machine.specs.declared.space.Space.{Space};
+ghost use Rattle.flat_machine.specs.Machine.{Machine};
+ghost use Rattle.flat_machine.specs.Space.{space_at};
+ghost use Rattle.session_words.specs.Volume.{volume_page};
+ghost use Rattle.file_manager.specs.declared.volume.Volume.{Volume};
+ghost use Rattle.fault_core.specs.Activate.{AreBrought, IsActive};
+ghost use Rattle.fault_core.specs.Core.{kept};
+ghost use Rattle.running_words.specs.Bound.{CostsOther};
+ghost use Rattle.running_words.specs.Running.{Carried, Runs};
+ghost use Rattle.running_words.specs.Session.{WroteIn};
+ghost use Rattle.running_words.specs.Stages.{Passes};
+
+use fault_core::CoreOver;
+use flat_machine::Reply;
+use labelled_disk::{Disk, Halt};
+use std::alloc::Allocator;
+use table_calls::bounds;
+
+/// Brings in the swap units of the pages of a space, at most half of the frames.
+pub fn activate<D: Disk, A: Allocator>(core: &mut CoreOver<D, A>, space: u32) -> Result<Reply, Halt>
+    requires size { (D.state core.old.filer.swapper.under).sectors ≡ core.old.filer.swapper.layout.sectors }
+    ensures carried { (volume : Volume) (m : Machine) → Runs core.old volume m → IfOk result (Carried m (call.Activate space) core.new volume) }
+    ensures sound { (volume : Volume) (m : Machine) → Runs core.old volume m → IfErr result (λ e. e ≡ halt.Disk) }
+    ensures passes { (volume : Volume) (m : Machine) → Runs core.old volume m → Passes m (call.Activate space) (D.state core.old.filer.swapper.under) (D.state core.new.filer.swapper.under) }
+    ensures counted { result ≡ Err halt.Disk → Rose (D.state core.old.filer.swapper.under).faults (D.state core.new.filer.swapper.under).faults }
+    ensures wrote { WroteIn (volume_page) (D.state core.old.filer.swapper.under) core.old.filer.swapper.pool (D.state core.new.filer.swapper.under) core.new.filer.swapper.pool }
+    ensures layout { core.new.filer.swapper.layout ≡ core.old.filer.swapper.layout }
+    ensures cost { CostsOther (D.state core.old.filer.swapper.under) (D.state core.new.filer.swapper.under) }
+    ensures whole { (volume : Volume) (m : Machine) (s : Space) → Runs core.old volume m → space_at m.spaces space ≡ Some s → OnOk result (IsActive m.spaces (kept core.new) core.new.filer.swapper.pool s.first (s.first + s.pages)) }
+    ensures brought { (volume : Volume) (m : Machine) (s : Space) → Runs core.old volume m → space_at m.spaces space ≡ Some s → OnOk result ((units : ℕ) × AreBrought m.spaces (kept core.new) core.new.filer.swapper.pool s.first (s.first + s.pages) (length core.old.filer.swapper.pool / 2) units) }
+{
+    let (first, pages) = match bounds(core, space) {
+        Ok(Ok(run)) => run,
+        Ok(Err(word)) => return Ok(Reply::Refused(word)),
+        Err(halt) => return Err(halt),
+    };
+    match core.activate(first, pages) {
+        Ok(_units) => Ok(Reply::Done),
+        Err(halt) => Err(halt),
+    }
+}

@@ -1,0 +1,39 @@
+//! Whether no space is mapped, where that is cheap to tell.
+ghost use Rattle.std.specs.Prelude.{◌≡◌, ◌≤◌, ◌+◌, true, false, Err, IfOk, IfErr};
+ghost use Rattle.std.specs.Prelude.{[]};
+ghost use Rattle.std.specs.List.{list_any};
+ghost use Rattle.labelled_disk.specs.declared.evidence.Halt.TheVariants as halt;
+ghost use Rattle.labelled_disk.specs.Calls.{Rose};
+ghost use Rattle.flat_machine.specs.Machine.{Machine};
+ghost use Rattle.flat_machine.specs.Space.{is_mapped};
+ghost use Rattle.session_words.specs.Volume.{volume_page};
+ghost use Rattle.swapper_kernel.specs.Goes.{Makes};
+ghost use Rattle.file_manager.specs.declared.volume.Volume.{Volume};
+ghost use Rattle.running_words.specs.Running.{Runs};
+
+use fault_core::CoreOver;
+use labelled_disk::{Disk, Halt};
+use std::alloc::Allocator;
+
+// Whether the projection is one interval, which shows nothing. From the second time on that costs nothing, since the core
+// keeps the interval.
+pub(crate) fn shows_nothing<D: Disk, A: Allocator>(core: &mut CoreOver<D, A>) -> Result<bool, Halt>
+    requires size { (D.state core.old.filer.swapper.under).sectors ≡ core.old.filer.swapper.layout.sectors }
+    ensures answer { (volume : Volume) (m : Machine) → Runs core.old volume m → IfOk result (λ none. none ≡ true → list_any is_mapped m.spaces ≡ false) }
+    ensures runs { (volume : Volume) (m : Machine) → Runs core.old volume m → Runs core.new volume m }
+    ensures sound { (volume : Volume) (m : Machine) → Runs core.old volume m → IfErr result (λ e. e ≡ halt.Disk) }
+    ensures counted { result ≡ Err halt.Disk → Rose (D.state core.old.filer.swapper.under).faults (D.state core.new.filer.swapper.under).faults }
+    ensures makes { Makes volume_page [] (D.state core.old.filer.swapper.under) core.old.filer.swapper.pool (D.state core.new.filer.swapper.under) core.new.filer.swapper.pool }
+    ensures layout { core.new.filer.swapper.layout ≡ core.old.filer.swapper.layout }
+    ensures intervals { core.new.intervals ≡ core.old.intervals }
+    ensures cost { (D.state core.new.filer.swapper.under).transfers ≤ (D.state core.old.filer.swapper.under).transfers + 196 }
+{
+    if core.interval_count() != 1 {
+        return Ok(false);
+    }
+    match core.describe(0) {
+        Ok(Some(interval)) => Ok(interval.mode == 0),
+        Ok(None) => Ok(false),
+        Err(halt) => Err(halt),
+    }
+}

@@ -1,0 +1,143 @@
+//! Windows that spaces get.
+ghost use Rattle.std.specs.Prelude.{◌≡◌, ◌≤◌, ◌+◌, ℕ, true, length, List, Some, None, Ok, Err, IfOk, IfErr, OnOk};
+ghost use Rattle.labelled_disk.specs.declared.evidence.Halt.TheVariants as halt;
+ghost use Rattle.labelled_disk.specs.Calls.{Rose};
+ghost use Rattle.flat_machine.specs.declared.call.Call.TheVariants as call;
+ghost use Rattle.flat_machine.specs.declared.space.Space.{Space};
+ghost use Rattle.flat_machine.specs.Machine.{Machine};
+ghost use Rattle.flat_machine.specs.Refusal.{refusal};
+ghost use Rattle.session_words.specs.Volume.{volume_page};
+ghost use Rattle.file_manager.specs.declared.volume.Volume.{Volume};
+ghost use Rattle.running_words.specs.Bound.{CostsOther};
+ghost use Rattle.running_words.specs.Running.{Carried, Runs};
+ghost use Rattle.running_words.specs.Session.{WroteIn};
+ghost use Rattle.running_words.specs.Stages.{Passes};
+ghost use Rattle.std.specs.Prelude.{[], option_map};
+ghost use Rattle.flat_machine.specs.IsMachine.{IsMachine};
+ghost use Rattle.flat_machine.specs.Next.{set_window};
+ghost use Rattle.projection_laws.specs.Laws.{WindowFits};
+ghost use Rattle.projection_laws.specs.Spaces.{MayHaveWindow};
+ghost use Rattle.space_tables.specs.Shows.{window_of};
+ghost use Rattle.swapper_kernel.specs.Goes.{Makes};
+ghost use Rattle.flat_machine.specs.declared.call.Reply.TheVariants as answer;
+ghost use Rattle.table_calls.specs.Answers.{Tells};
+ghost use Rattle.space_calls.specs.Mapping.{IsInReach};
+
+use crate::framing::frame_count;
+use crate::naming::named_file;
+use fault_core::CoreOver;
+use file_manager::Attributes;
+use flat_machine::{Refusal, Reply};
+use labelled_disk::{Disk, FileId, Halt};
+use space_tables::Shown;
+use std::alloc::Allocator;
+use table_calls::{bounds, can_map, set_window};
+
+/// Gives a space that may have one a window, which no other space on its path has.
+pub fn give_window<D: Disk, A: Allocator>(
+    core: &mut CoreOver<D, A>,
+    space: u32,
+    shown: Shown,
+) -> Result<Reply, Halt>
+    requires size { (D.state core.old.filer.swapper.under).sectors ≡ core.old.filer.swapper.layout.sectors }
+    ensures given { (volume : Volume) (m : Machine) (x : Space) → Runs core.old volume m → MayHaveWindow m.spaces x → x.handle ≡ space → x.window ≡ None → WindowFits x.pages (window_of shown)
+        → IsMachine (record m { spaces = set_window space (Some (window_of shown)) m.spaces })
+        → IfOk result (λ reply. (reply ≡ answer.Done) × Runs core.new volume (record m { spaces = set_window space (Some (window_of shown)) m.spaces })) }
+    ensures sound { (volume : Volume) (m : Machine) (x : Space) → Runs core.old volume m → MayHaveWindow m.spaces x → x.handle ≡ space → x.window ≡ None → WindowFits x.pages (window_of shown) → IfErr result (λ e. e ≡ halt.Disk) }
+    ensures counted { result ≡ Err halt.Disk → Rose (D.state core.old.filer.swapper.under).faults (D.state core.new.filer.swapper.under).faults }
+    ensures makes { Makes volume_page [] (D.state core.old.filer.swapper.under) core.old.filer.swapper.pool (D.state core.new.filer.swapper.under) core.new.filer.swapper.pool }
+    ensures layout { core.new.filer.swapper.layout ≡ core.old.filer.swapper.layout }
+    ensures cost { (D.state core.new.filer.swapper.under).transfers ≤ (D.state core.old.filer.swapper.under).transfers + 57344 }
+{
+    let answer = match set_window(core, space, Some(shown)) {
+        Ok(answer) => answer,
+        Err(halt) => return Err(halt),
+    };
+    let _frames = frame_count(core);
+    match answer {
+        Ok(()) => Ok(Reply::Done),
+        Err(word) => Ok(Reply::Refused(word)),
+    }
+}
+
+// How many pages a file has: a number of 32 bits.
+fn page_count(found: Attributes) -> u32
+    ensures same { result ≡ found.pages }
+{
+    found.pages
+}
+
+// The tests of a call that shows a file in a space.
+fn may_map<D: Disk, A: Allocator>(
+    core: &mut CoreOver<D, A>,
+    space: u32,
+    id: FileId,
+    page: u32,
+    writable: bool,
+) -> Result<Result<(), Refusal>, Halt>
+    requires size { (D.state core.old.filer.swapper.under).sectors ≡ core.old.filer.swapper.layout.sectors }
+    ensures answer { (volume : Volume) (m : Machine) → Runs core.old volume m → IfOk result (Tells (refusal m (call.Map space id page writable)) (λ _. IsInReach m space page)) }
+    ensures runs { (volume : Volume) (m : Machine) → Runs core.old volume m → Runs core.new volume m }
+    ensures sound { (volume : Volume) (m : Machine) → Runs core.old volume m → IfErr result (λ e. e ≡ halt.Disk) }
+    ensures counted { result ≡ Err halt.Disk → Rose (D.state core.old.filer.swapper.under).faults (D.state core.new.filer.swapper.under).faults }
+    ensures makes { Makes volume_page [] (D.state core.old.filer.swapper.under) core.old.filer.swapper.pool (D.state core.new.filer.swapper.under) core.new.filer.swapper.pool }
+    ensures layout { core.new.filer.swapper.layout ≡ core.old.filer.swapper.layout }
+    ensures cost { (D.state core.new.filer.swapper.under).transfers ≤ (D.state core.old.filer.swapper.under).transfers + 28953 }
+{
+    match bounds(core, space) {
+        Ok(Ok(_)) => (),
+        Ok(Err(word)) => return Ok(Err(word)),
+        Err(halt) => return Err(halt),
+    }
+    if space == 0 {
+        return Ok(Err(Refusal::Root));
+    }
+    let found = match named_file(core, id) {
+        Ok(Some(found)) => found,
+        Ok(None) => return Ok(Err(Refusal::File)),
+        Err(halt) => return Err(halt),
+    };
+    let (_, pages) = match can_map(core, space) {
+        Ok(Ok(run)) => run,
+        Ok(Err(word)) => return Ok(Err(word)),
+        Err(halt) => return Err(halt),
+    };
+    if u64::from(page) + u64::from(pages) > u64::from(page_count(found)) {
+        return Ok(Err(Refusal::Window));
+    }
+    if writable && found.immutable {
+        return Ok(Err(Refusal::Immutable));
+    }
+    Ok(Ok(()))
+}
+
+/// Shows a file in a space, from this page of the file on.
+pub fn map<D: Disk, A: Allocator>(
+    core: &mut CoreOver<D, A>,
+    space: u32,
+    id: FileId,
+    page: u32,
+    writable: bool,
+) -> Result<Reply, Halt>
+    requires size { (D.state core.old.filer.swapper.under).sectors ≡ core.old.filer.swapper.layout.sectors }
+    ensures carried { (volume : Volume) (m : Machine) → Runs core.old volume m → IfOk result (Carried m (call.Map space id page writable) core.new volume) }
+    ensures sound { (volume : Volume) (m : Machine) → Runs core.old volume m → IfErr result (λ e. e ≡ halt.Disk) }
+    ensures passes { (volume : Volume) (m : Machine) → Runs core.old volume m → Passes m (call.Map space id page writable) (D.state core.old.filer.swapper.under) (D.state core.new.filer.swapper.under) }
+    ensures counted { result ≡ Err halt.Disk → Rose (D.state core.old.filer.swapper.under).faults (D.state core.new.filer.swapper.under).faults }
+    ensures wrote { WroteIn (volume_page) (D.state core.old.filer.swapper.under) core.old.filer.swapper.pool (D.state core.new.filer.swapper.under) core.new.filer.swapper.pool }
+    ensures layout { core.new.filer.swapper.layout ≡ core.old.filer.swapper.layout }
+    ensures cost { CostsOther (D.state core.old.filer.swapper.under) (D.state core.new.filer.swapper.under) }
+{
+    match may_map(core, space, id, page, writable) {
+        Ok(Ok(())) => (),
+        Ok(Err(word)) => return Ok(Reply::Refused(word)),
+        Err(halt) => return Err(halt),
+    }
+    let shown = Shown {
+        id,
+        page,
+        writable,
+        anonymous: false,
+    };
+    give_window(core, space, shown)
+}

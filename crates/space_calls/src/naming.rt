@@ -1,0 +1,93 @@
+//! Files that calls may name.
+ghost use Rattle.std.specs.Prelude.{◌≡◌, ◌≤◌, ◌+◌, ℕ, true, length, List, Some, None, Ok, Err, IfOk, IfErr, OnOk};
+ghost use Rattle.labelled_disk.specs.declared.evidence.Halt.TheVariants as halt;
+ghost use Rattle.labelled_disk.specs.Calls.{Rose};
+ghost use Rattle.flat_machine.specs.declared.call.Call.TheVariants as call;
+ghost use Rattle.flat_machine.specs.declared.space.Space.{Space};
+ghost use Rattle.flat_machine.specs.Machine.{Machine};
+ghost use Rattle.flat_machine.specs.Refusal.{refusal};
+ghost use Rattle.session_words.specs.Volume.{volume_page};
+ghost use Rattle.file_manager.specs.declared.volume.Volume.{Volume};
+ghost use Rattle.running_words.specs.Bound.{CostsOther};
+ghost use Rattle.running_words.specs.Running.{Carried, Runs};
+ghost use Rattle.running_words.specs.Session.{WroteIn};
+ghost use Rattle.running_words.specs.Stages.{Passes};
+ghost use Rattle.std.specs.Prelude.{[]};
+ghost use Rattle.flat_machine.specs.Machine.{nameable};
+ghost use Rattle.swapper_kernel.specs.Goes.{Makes};
+ghost use Rattle.space_tables.specs.Shows.{IsFirstWith, shows};
+ghost use Rattle.space_calls.specs.Naming.{IsNameable, IsSeen};
+
+use crate::bare::shows_nothing;
+use fault_core::CoreOver;
+use file_manager::{Attributes, attributes_of};
+use labelled_disk::{Disk, FileId, Halt};
+use space_tables::Shown;
+use std::alloc::Allocator;
+use table_calls::shows_file;
+
+/// The lowest handle whose space shows a file, and what it shows there; or only one that shows it writable.
+pub fn window_on<D: Disk, A: Allocator>(
+    core: &mut CoreOver<D, A>,
+    id: FileId,
+    writable_only: bool,
+) -> Result<Option<(u32, Shown)>, Halt>
+    requires size { (D.state core.old.filer.swapper.under).sectors ≡ core.old.filer.swapper.layout.sectors }
+    ensures answer { (volume : Volume) (m : Machine) → Runs core.old volume m → IfOk result (IsFirstWith (shows id writable_only) m.spaces) }
+    ensures runs { (volume : Volume) (m : Machine) → Runs core.old volume m → Runs core.new volume m }
+    ensures sound { (volume : Volume) (m : Machine) → Runs core.old volume m → IfErr result (λ e. e ≡ halt.Disk) }
+    ensures counted { result ≡ Err halt.Disk → Rose (D.state core.old.filer.swapper.under).faults (D.state core.new.filer.swapper.under).faults }
+    ensures makes { Makes volume_page [] (D.state core.old.filer.swapper.under) core.old.filer.swapper.pool (D.state core.new.filer.swapper.under) core.new.filer.swapper.pool }
+    ensures layout { core.new.filer.swapper.layout ≡ core.old.filer.swapper.layout }
+    ensures intervals { core.new.intervals ≡ core.old.intervals }
+    ensures cost { (D.state core.new.filer.swapper.under).transfers ≤ (D.state core.old.filer.swapper.under).transfers + 14532 }
+{
+    match shows_nothing(core) {
+        Ok(true) => return Ok(None),
+        Ok(false) => (),
+        Err(halt) => return Err(halt),
+    }
+    shows_file(core, id, writable_only)
+}
+
+// Whether no anonymous window shows the file: the calls on files then see it, if it is there.
+fn may_be_named<D: Disk, A: Allocator>(core: &mut CoreOver<D, A>, id: FileId) -> Result<bool, Halt>
+    requires size { (D.state core.old.filer.swapper.under).sectors ≡ core.old.filer.swapper.layout.sectors }
+    ensures answer { (volume : Volume) (m : Machine) → Runs core.old volume m → IfOk result (IsSeen m id) }
+    ensures runs { (volume : Volume) (m : Machine) → Runs core.old volume m → Runs core.new volume m }
+    ensures sound { (volume : Volume) (m : Machine) → Runs core.old volume m → IfErr result (λ e. e ≡ halt.Disk) }
+    ensures counted { result ≡ Err halt.Disk → Rose (D.state core.old.filer.swapper.under).faults (D.state core.new.filer.swapper.under).faults }
+    ensures makes { Makes volume_page [] (D.state core.old.filer.swapper.under) core.old.filer.swapper.pool (D.state core.new.filer.swapper.under) core.new.filer.swapper.pool }
+    ensures layout { core.new.filer.swapper.layout ≡ core.old.filer.swapper.layout }
+    ensures intervals { core.new.intervals ≡ core.old.intervals }
+    ensures cost { (D.state core.new.filer.swapper.under).transfers ≤ (D.state core.old.filer.swapper.under).transfers + 14532 }
+{
+    match window_on(core, id, false) {
+        Ok(Some((_, shown))) => Ok(!shown.anonymous),
+        Ok(None) => Ok(true),
+        Err(halt) => Err(halt),
+    }
+}
+
+/// Size, type and marks of the file that has this identifier and may be named: no anonymous window shows it.
+pub fn named_file<D: Disk, A: Allocator>(
+    core: &mut CoreOver<D, A>,
+    id: FileId,
+) -> Result<Option<Attributes>, Halt>
+    requires size { (D.state core.old.filer.swapper.under).sectors ≡ core.old.filer.swapper.layout.sectors }
+    ensures answer { (volume : Volume) (m : Machine) → Runs core.old volume m → IfOk result (IsNameable (nameable m id)) }
+    ensures runs { (volume : Volume) (m : Machine) → Runs core.old volume m → Runs core.new volume m }
+    ensures sound { (volume : Volume) (m : Machine) → Runs core.old volume m → IfErr result (λ e. e ≡ halt.Disk) }
+    ensures counted { result ≡ Err halt.Disk → Rose (D.state core.old.filer.swapper.under).faults (D.state core.new.filer.swapper.under).faults }
+    ensures makes { Makes volume_page [] (D.state core.old.filer.swapper.under) core.old.filer.swapper.pool (D.state core.new.filer.swapper.under) core.new.filer.swapper.pool }
+    ensures layout { core.new.filer.swapper.layout ≡ core.old.filer.swapper.layout }
+    ensures intervals { core.new.intervals ≡ core.old.intervals }
+    ensures cost { (D.state core.new.filer.swapper.under).transfers ≤ (D.state core.old.filer.swapper.under).transfers + 14561 }
+{
+    match may_be_named(core, id) {
+        Ok(true) => (),
+        Ok(false) => return Ok(None),
+        Err(halt) => return Err(halt),
+    }
+    attributes_of(&mut core.filer, id)
+}

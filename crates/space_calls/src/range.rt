@@ -1,0 +1,139 @@
+//! Ranges of pages whose frames are written out, or given up.
+ghost use Rattle.std.specs.Prelude.{◌≡◌, ◌≤◌, ◌+◌, ◌*◌, ℕ, true, length, List, Some, None, Ok, Err, IfOk, IfErr, OnOk};
+ghost use Rattle.labelled_disk.specs.declared.evidence.Halt.TheVariants as halt;
+ghost use Rattle.labelled_disk.specs.Calls.{Rose};
+ghost use Rattle.flat_machine.specs.declared.call.Call.TheVariants as call;
+ghost use Rattle.flat_machine.specs.declared.space.Space.{Space};
+ghost use Rattle.flat_machine.specs.Machine.{Machine};
+ghost use Rattle.flat_machine.specs.Refusal.{refusal};
+ghost use Rattle.session_words.specs.Volume.{volume_page};
+ghost use Rattle.file_manager.specs.declared.volume.Volume.{Volume};
+ghost use Rattle.running_words.specs.Bound.{CostsOther};
+ghost use Rattle.running_words.specs.Running.{Carried, Runs};
+ghost use Rattle.running_words.specs.Session.{WroteIn};
+ghost use Rattle.running_words.specs.Stages.{Passes};
+ghost use Rattle.flat_machine.specs.Space.{space_at};
+ghost use Rattle.fault_core.specs.Kill.{AreWritableSo, is_absent};
+ghost use Rattle.fault_core.specs.Range.{AreClean, AreGone};
+ghost use Rattle.fault_core.specs.Core.{state, Knows};
+ghost use Rattle.fault_core.specs.Reach.{ReachHalts};
+ghost use Rattle.flat_machine.specs.declared.call.Reply.TheVariants as reply;
+ghost use Rattle.space_tables.specs.Form.{BreaksSlot};
+ghost use Rattle.space_calls.specs.Ranges.{BreaksRange};
+ghost use Rattle.labelled_disk.specs.Sectors.{Sector};
+ghost use Rattle.file_map.specs.FileMap.{Triples};
+ghost use Rattle.projection_laws.specs.Tests.{no_space};
+ghost use Rattle.table_calls.specs.Answers.{Asked, TablesBreak, Tells};
+
+use crate::framing::frame_count;
+use crate::settle::settle;
+use fault_core::CoreOver;
+use flat_machine::{Refusal, Reply};
+use labelled_disk::{Disk, Halt};
+use std::alloc::Allocator;
+use table_calls::bounds;
+
+// The first page of a space, and how many pages it has.
+fn range_of<D: Disk, A: Allocator>(
+    core: &mut CoreOver<D, A>,
+    space: u32,
+) -> Result<Result<(u32, u32), Refusal>, Halt>
+    requires size { (D.state core.old.filer.swapper.under).sectors ≡ core.old.filer.swapper.layout.sectors }
+    ensures answer { (m : List Sector) (named : Triples) (ss : List Space) → Knows core.old m named ss → IfOk result (Tells (no_space ss space) (λ run. (s : Space) × (space_at ss space ≡ Some s) × (run ≡ (s.first, s.pages)))) }
+    ensures counted { result ≡ Err halt.Disk → Rose (D.state core.old.filer.swapper.under).faults (D.state core.new.filer.swapper.under).faults }
+    ensures sound { (m : List Sector) (named : Triples) (ss : List Space) → Knows core.old m named ss → IfErr result (λ e. e ≡ halt.Disk) }
+    ensures cause { IfErr result (ReachHalts (TablesBreak (state core.old) (λ b page. BreaksSlot b page space)) (state core.old) (state core.new)) }
+    ensures asked { Asked core.old core.new }
+    ensures frames { length core.old.filer.swapper.pool ≤ 4096 }
+    ensures cost { (D.state core.new.filer.swapper.under).transfers ≤ (D.state core.old.filer.swapper.under).transfers + 28 }
+{
+    let _frames = frame_count(core);
+    bounds(core, space)
+}
+
+/// Writes out what is dirty of the pages of a space, and gives their frames up.
+pub fn deactivate<D: Disk, A: Allocator>(
+    core: &mut CoreOver<D, A>,
+    space: u32,
+) -> Result<Reply, Halt>
+    requires size { (D.state core.old.filer.swapper.under).sectors ≡ core.old.filer.swapper.layout.sectors }
+    ensures carried { (volume : Volume) (m : Machine) → Runs core.old volume m → IfOk result (Carried m (call.Deactivate space) core.new volume) }
+    ensures sound { (volume : Volume) (m : Machine) → Runs core.old volume m → IfErr result (λ e. e ≡ halt.Disk) }
+    ensures passes { (volume : Volume) (m : Machine) → Runs core.old volume m → Passes m (call.Deactivate space) (D.state core.old.filer.swapper.under) (D.state core.new.filer.swapper.under) }
+    ensures counted { result ≡ Err halt.Disk → Rose (D.state core.old.filer.swapper.under).faults (D.state core.new.filer.swapper.under).faults }
+    ensures wrote { WroteIn (volume_page) (D.state core.old.filer.swapper.under) core.old.filer.swapper.pool (D.state core.new.filer.swapper.under) core.new.filer.swapper.pool }
+    ensures layout { core.new.filer.swapper.layout ≡ core.old.filer.swapper.layout }
+    ensures cost { CostsOther (D.state core.old.filer.swapper.under) (D.state core.new.filer.swapper.under) }
+    ensures gone { (volume : Volume) (m : Machine) (s : Space) → Runs core.old volume m → space_at m.spaces space ≡ Some s → OnOk result (AreGone m.spaces core.new.filer.swapper.pool s.first (s.first + s.pages)) }
+    ensures cause { IfErr result (ReachHalts (BreaksRange (state core.old) core.old.intervals space) (state core.old) (state core.new)) }
+{
+    let (first, pages) = match range_of(core, space) {
+        Ok(Ok(found)) => found,
+        Ok(Err(word)) => return Ok(Reply::Refused(word)),
+        Err(halt) => return Err(halt),
+    };
+    match core.let_go(first, pages) {
+        Ok(()) => (),
+        Err(halt) => return Err(halt),
+    }
+    Ok(Reply::Done)
+}
+
+/// Gives up the frames of the pages of a space that may be stored to, without a write.
+pub fn kill<D: Disk, A: Allocator>(core: &mut CoreOver<D, A>, space: u32) -> Result<Reply, Halt>
+    requires size { (D.state core.old.filer.swapper.under).sectors ≡ core.old.filer.swapper.layout.sectors }
+    ensures carried { (volume : Volume) (m : Machine) → Runs core.old volume m → IfOk result (Carried m (call.Kill space) core.new volume) }
+    ensures sound { (volume : Volume) (m : Machine) → Runs core.old volume m → IfErr result (λ e. e ≡ halt.Disk) }
+    ensures passes { (volume : Volume) (m : Machine) → Runs core.old volume m → Passes m (call.Kill space) (D.state core.old.filer.swapper.under) (D.state core.new.filer.swapper.under) }
+    ensures counted { result ≡ Err halt.Disk → Rose (D.state core.old.filer.swapper.under).faults (D.state core.new.filer.swapper.under).faults }
+    ensures wrote { WroteIn (volume_page) (D.state core.old.filer.swapper.under) core.old.filer.swapper.pool (D.state core.new.filer.swapper.under) core.new.filer.swapper.pool }
+    ensures layout { core.new.filer.swapper.layout ≡ core.old.filer.swapper.layout }
+    ensures cost { CostsOther (D.state core.old.filer.swapper.under) (D.state core.new.filer.swapper.under) }
+    ensures gone { (volume : Volume) (m : Machine) (s : Space) → Runs core.old volume m → space_at m.spaces space ≡ Some s → OnOk result (AreWritableSo (is_absent core.new.filer.swapper.pool) m.spaces s.first (s.first + s.pages)) }
+    ensures cause { IfErr result (ReachHalts (BreaksRange (state core.old) core.old.intervals space) (state core.old) (state core.new)) }
+    ensures short { (D.state core.new.filer.swapper.under).transfers ≤ (D.state core.old.filer.swapper.under).transfers + (28 + (core.old.intervals + 1) * 196) }
+{
+    let (first, pages) = match range_of(core, space) {
+        Ok(Ok(found)) => found,
+        Ok(Err(word)) => return Ok(Reply::Refused(word)),
+        Err(halt) => return Err(halt),
+    };
+    match core.kill(first, pages) {
+        Ok(()) => (),
+        Err(halt) => return Err(halt),
+    }
+    Ok(Reply::Done)
+}
+
+/// Makes the files hold what the pages of a space hold: what is dirty of them is written out, and all of it is on the medium.
+pub fn force_out<D: Disk, A: Allocator>(
+    core: &mut CoreOver<D, A>,
+    space: u32,
+) -> Result<Reply, Halt>
+    requires size { (D.state core.old.filer.swapper.under).sectors ≡ core.old.filer.swapper.layout.sectors }
+    ensures carried { (volume : Volume) (m : Machine) → Runs core.old volume m → IfOk result (Carried m (call.ForceOut space) core.new volume) }
+    ensures sound { (volume : Volume) (m : Machine) → Runs core.old volume m → IfErr result (λ e. e ≡ halt.Disk) }
+    ensures passes { (volume : Volume) (m : Machine) → Runs core.old volume m → Passes m (call.ForceOut space) (D.state core.old.filer.swapper.under) (D.state core.new.filer.swapper.under) }
+    ensures counted { result ≡ Err halt.Disk → Rose (D.state core.old.filer.swapper.under).faults (D.state core.new.filer.swapper.under).faults }
+    ensures wrote { WroteIn (volume_page) (D.state core.old.filer.swapper.under) core.old.filer.swapper.pool (D.state core.new.filer.swapper.under) core.new.filer.swapper.pool }
+    ensures layout { core.new.filer.swapper.layout ≡ core.old.filer.swapper.layout }
+    ensures cost { CostsOther (D.state core.old.filer.swapper.under) (D.state core.new.filer.swapper.under) }
+    ensures clean { (volume : Volume) (m : Machine) (s : Space) → Runs core.old volume m → space_at m.spaces space ≡ Some s → OnOk result (AreClean m.spaces core.new.filer.swapper.pool s.first (s.first + s.pages)) }
+    ensures synced { (volume : Volume) (m : Machine) → Runs core.old volume m → refusal m (call.ForceOut space) ≡ None → OnOk result ((D.state core.new.filer.swapper.under).synced ≡ true) }
+    ensures cause { IfErr result (ReachHalts (BreaksRange (state core.old) core.old.intervals space) (state core.old) (state core.new)) }
+    ensures settled { IfOk result (λ answer. answer ≡ reply.Done → (D.state core.new.filer.swapper.under).synced ≡ true) }
+{
+    let (first, pages) = match range_of(core, space) {
+        Ok(Ok(found)) => found,
+        Ok(Err(word)) => return Ok(Reply::Refused(word)),
+        Err(halt) => return Err(halt),
+    };
+    match core.force(first, pages) {
+        Ok(()) => (),
+        Err(halt) => return Err(halt),
+    }
+    match settle(core) {
+        Ok(()) => Ok(Reply::Done),
+        Err(halt) => Err(halt),
+    }
+}

@@ -1,0 +1,95 @@
+//! Bytes that are loaded and stored.
+ghost use Rattle.std.specs.Prelude.{◌≡◌, ◌≤◌, ◌+◌, ◌/◌, length, None, Err, IfOk, IfErr, IsOk, OnOk};
+ghost use Rattle.labelled_disk.specs.declared.evidence.Halt.TheVariants as halt;
+ghost use Rattle.labelled_disk.specs.Calls.{Rose};
+ghost use Rattle.flat_machine.specs.declared.call.Call.TheVariants as call;
+ghost use Rattle.flat_machine.specs.Machine.{Machine};
+ghost use Rattle.flat_machine.specs.Refusal.{refusal};
+ghost use Rattle.session_words.specs.Volume.{volume_page};
+ghost use Rattle.file_manager.specs.declared.volume.Volume.{Volume};
+ghost use Rattle.running_words.specs.Running.{Carried, Runs};
+ghost use Rattle.running_words.specs.Session.{WroteIn};
+ghost use Rattle.running_words.specs.Stages.{Passes};
+ghost use Rattle.fault_core.specs.Access.{BreaksFor, last_page};
+ghost use Rattle.fault_core.specs.Core.{kept, state};
+ghost use Rattle.fault_core.specs.Kept.{AreApart};
+ghost use Rattle.fault_core.specs.Reach.{ReachHalts};
+ghost use Rattle.fault_core.specs.Unit.{IsReady};
+ghost use Rattle.running_words.specs.Stages.{client_or_own};
+
+use fault_core::{Access, CoreOver};
+use flat_machine::{Piece, Refusal, Reply};
+use labelled_disk::{Disk, Halt};
+use std::alloc::Allocator;
+
+// At most 64 bytes, as a piece.
+fn piece_of(bytes: &[u8]) -> Piece
+    requires few { length bytes.now ≤ 64 }
+    ensures { result ≡ bytes.now }
+{
+    let mut piece = Piece::new();
+    for byte in bytes {
+        piece.append(*byte);
+    }
+    piece
+}
+
+/// Loads 1 to 64 bytes from an address on.
+pub fn load<D: Disk, A: Allocator>(
+    core: &mut CoreOver<D, A>,
+    address: u32,
+    count: u8,
+) -> Result<Reply, Halt>
+    requires size { (D.state core.old.filer.swapper.under).sectors ≡ core.old.filer.swapper.layout.sectors }
+    requires some { 1 ≤ count }
+    requires few { count ≤ 64 }
+    ensures carried { (volume : Volume) (m : Machine) → Runs core.old volume m → IfOk result (Carried m (call.Load address count) core.new volume) }
+    ensures sound { (volume : Volume) (m : Machine) → Runs core.old volume m → IfErr result (λ e. e ≡ halt.Disk) }
+    ensures passes { (volume : Volume) (m : Machine) → Runs core.old volume m → Passes m (call.Load address count) (D.state core.old.filer.swapper.under) (D.state core.new.filer.swapper.under) }
+    ensures counted { result ≡ Err halt.Disk → Rose (D.state core.old.filer.swapper.under).faults (D.state core.new.filer.swapper.under).faults }
+    ensures wrote { WroteIn (volume_page) (D.state core.old.filer.swapper.under) core.old.filer.swapper.pool (D.state core.new.filer.swapper.under) core.new.filer.swapper.pool }
+    ensures layout { core.new.filer.swapper.layout ≡ core.old.filer.swapper.layout }
+    ensures cost { (D.state core.new.filer.swapper.under).transfers ≤ (D.state core.old.filer.swapper.under).transfers + 1680 }
+    ensures ready { (volume : Volume) (m : Machine) → Runs core.old volume m → refusal m (call.Load address count) ≡ None → OnOk result (IsReady (kept core.new) core.new.filer.swapper.pool (last_page address count)) }
+    ensures cause { IfErr result (ReachHalts (BreaksFor (state core.old) core.old.intervals address count) (state core.old) (state core.new)) }
+    ensures idle { IsReady (kept core.old) core.old.filer.swapper.pool (address / 512) → IsReady (kept core.old) core.old.filer.swapper.pool (last_page address count) → AreApart (kept core.old)
+        → IsOk result × (core.new.filer ≡ core.old.filer) × (kept core.new ≡ kept core.old) }
+{
+    let mut room = [0; 64];
+    let bytes = &mut room[..usize::from(count)];
+    match core.load(address, bytes) {
+        Ok(Access::Done) => Ok(Reply::Bytes(piece_of(bytes))),
+        Ok(Access::NoMap(page)) => Ok(Reply::Refused(Refusal::NoMap(page))),
+        Ok(Access::ReadOnly(page)) => Ok(Reply::Refused(Refusal::ReadOnly(page))),
+        Err(halt) => Err(halt),
+    }
+}
+
+/// Stores 1 to 64 bytes from an address on. One that is refused changes nothing.
+pub fn store<D: Disk, A: Allocator>(
+    core: &mut CoreOver<D, A>,
+    address: u32,
+    bytes: &[u8],
+) -> Result<Reply, Halt>
+    requires size { (D.state core.old.filer.swapper.under).sectors ≡ core.old.filer.swapper.layout.sectors }
+    requires some { 1 ≤ length bytes.now }
+    requires few { length bytes.now ≤ 64 }
+    ensures carried { (volume : Volume) (m : Machine) → Runs core.old volume m → IfOk result (Carried m (call.Store address bytes.now) core.new volume) }
+    ensures sound { (volume : Volume) (m : Machine) → Runs core.old volume m → IfErr result (λ e. e ≡ halt.Disk) }
+    ensures passes { (volume : Volume) (m : Machine) → Runs core.old volume m → Passes m (call.Store address bytes.now) (D.state core.old.filer.swapper.under) (D.state core.new.filer.swapper.under) }
+    ensures counted { result ≡ Err halt.Disk → Rose (D.state core.old.filer.swapper.under).faults (D.state core.new.filer.swapper.under).faults }
+    ensures wrote { WroteIn (client_or_own) (D.state core.old.filer.swapper.under) core.old.filer.swapper.pool (D.state core.new.filer.swapper.under) core.new.filer.swapper.pool }
+    ensures layout { core.new.filer.swapper.layout ≡ core.old.filer.swapper.layout }
+    ensures cost { (D.state core.new.filer.swapper.under).transfers ≤ (D.state core.old.filer.swapper.under).transfers + 1680 }
+    ensures ready { (volume : Volume) (m : Machine) → Runs core.old volume m → refusal m (call.Store address bytes.now) ≡ None → OnOk result (IsReady (kept core.new) core.new.filer.swapper.pool (last_page address (length bytes.now))) }
+    ensures cause { IfErr result (ReachHalts (BreaksFor (state core.old) core.old.intervals address (length bytes.now)) (state core.old) (state core.new)) }
+    ensures idle { IsReady (kept core.old) core.old.filer.swapper.pool (address / 512) → IsReady (kept core.old) core.old.filer.swapper.pool (last_page address (length bytes.now)) → AreApart (kept core.old)
+        → IsOk result × (D.state core.new.filer.swapper.under ≡ D.state core.old.filer.swapper.under) × (kept core.new ≡ kept core.old) }
+{
+    match core.store(address, bytes) {
+        Ok(Access::Done) => Ok(Reply::Done),
+        Ok(Access::NoMap(page)) => Ok(Reply::Refused(Refusal::NoMap(page))),
+        Ok(Access::ReadOnly(page)) => Ok(Reply::Refused(Refusal::ReadOnly(page))),
+        Err(halt) => Err(halt),
+    }
+}

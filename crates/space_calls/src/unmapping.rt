@@ -1,0 +1,158 @@
+//! Windows that are taken away, or get another mode.
+ghost use Rattle.std.specs.Prelude.{◌≡◌, ◌≤◌, ◌+◌, ◌^◌, ℕ, true, length, List, Some, None, Ok, Err, IfOk, IfErr, OnOk};
+ghost use Rattle.labelled_disk.specs.declared.evidence.Halt.TheVariants as halt;
+ghost use Rattle.labelled_disk.specs.Calls.{Rose};
+ghost use Rattle.flat_machine.specs.declared.call.Call.TheVariants as call;
+ghost use Rattle.flat_machine.specs.declared.space.Space.{Space};
+ghost use Rattle.flat_machine.specs.Machine.{Machine};
+ghost use Rattle.flat_machine.specs.Refusal.{refusal};
+ghost use Rattle.session_words.specs.Volume.{volume_page};
+ghost use Rattle.file_manager.specs.declared.volume.Volume.{Volume};
+ghost use Rattle.running_words.specs.Bound.{CostsOther};
+ghost use Rattle.running_words.specs.Running.{Carried, Runs};
+ghost use Rattle.running_words.specs.Session.{WroteIn};
+ghost use Rattle.running_words.specs.Stages.{Passes};
+ghost use Rattle.std.specs.Prelude.{[], false};
+ghost use Rattle.flat_machine.specs.Refusal.{first_of};
+ghost use Rattle.flat_machine.specs.Space.{space_at};
+ghost use Rattle.space_tables.specs.Shows.{window_of};
+ghost use Rattle.projection_laws.specs.Tests.{window_row};
+ghost use Rattle.swapper_kernel.specs.Goes.{Makes};
+ghost use Rattle.table_calls.specs.Answers.{Tells};
+ghost use Rattle.space_calls.specs.Unmapping.{IsGivenUp, IsRefused, IsTaken};
+
+use crate::settle::settle;
+use crate::windows::{change_window, find_window, force_range, let_range_go, shows_immutable};
+use fault_core::CoreOver;
+use flat_machine::{Refusal, Reply};
+use labelled_disk::{Disk, Halt};
+use space_tables::Shown;
+use std::alloc::Allocator;
+
+/// Takes the window of a space away, and gives what it showed. What was stored through it is on the medium. The file stays.
+pub fn take_window<D: Disk, A: Allocator>(
+    core: &mut CoreOver<D, A>,
+    space: u32,
+) -> Result<Result<Shown, Refusal>, Halt>
+    requires size { (D.state core.old.filer.swapper.under).sectors ≡ core.old.filer.swapper.layout.sectors }
+    ensures taken { (volume : Volume) (m : Machine) → Runs core.old volume m → IfOk result (Tells (first_of (window_row m.spaces space)) (IsTaken m space (λ n. Runs core.new volume n))) }
+    ensures refused { (volume : Volume) (m : Machine) → Runs core.old volume m → IfOk result (IsRefused (Runs core.new volume m)) }
+    ensures sound { (volume : Volume) (m : Machine) → Runs core.old volume m → IfErr result (λ e. e ≡ halt.Disk) }
+    ensures counted { result ≡ Err halt.Disk → Rose (D.state core.old.filer.swapper.under).faults (D.state core.new.filer.swapper.under).faults }
+    ensures makes { Makes volume_page [] (D.state core.old.filer.swapper.under) core.old.filer.swapper.pool (D.state core.new.filer.swapper.under) core.new.filer.swapper.pool }
+    ensures synced { IfOk result (IsGivenUp ((D.state core.new.filer.swapper.under).synced ≡ true)) }
+    ensures layout { core.new.filer.swapper.layout ≡ core.old.filer.swapper.layout }
+    ensures cost { (D.state core.new.filer.swapper.under).transfers ≤ (D.state core.old.filer.swapper.under).transfers + 2 ^ 23 }
+{
+    let (shown, first, pages) = match find_window(core, space) {
+        Ok(Ok(found)) => found,
+        Ok(Err(word)) => return Ok(Err(word)),
+        Err(halt) => return Err(halt),
+    };
+    match let_range_go(core, first, pages) {
+        Ok(()) => (),
+        Err(halt) => return Err(halt),
+    }
+    match change_window(core, space, None) {
+        Ok(Ok(())) => (),
+        Ok(Err(word)) => return Ok(Err(word)),
+        Err(halt) => return Err(halt),
+    }
+    match settle(core) {
+        Ok(()) => Ok(Ok(shown)),
+        Err(halt) => Err(halt),
+    }
+}
+
+// Lets stores through the window of a space, which shows this, unless its file is immutable.
+fn protect_writable<D: Disk, A: Allocator>(
+    core: &mut CoreOver<D, A>,
+    space: u32,
+    shown: Shown,
+) -> Result<Reply, Halt>
+    requires size { (D.state core.old.filer.swapper.under).sectors ≡ core.old.filer.swapper.layout.sectors }
+    ensures carried { (volume : Volume) (m : Machine) (s : Space) → Runs core.old volume m → space_at m.spaces space ≡ Some s → s.window ≡ Some (window_of shown) → IfOk result (Carried m (call.Protect space true) core.new volume) }
+    ensures sound { (volume : Volume) (m : Machine) (s : Space) → Runs core.old volume m → space_at m.spaces space ≡ Some s → s.window ≡ Some (window_of shown) → IfErr result (λ e. e ≡ halt.Disk) }
+    ensures counted { result ≡ Err halt.Disk → Rose (D.state core.old.filer.swapper.under).faults (D.state core.new.filer.swapper.under).faults }
+    ensures makes { Makes volume_page [] (D.state core.old.filer.swapper.under) core.old.filer.swapper.pool (D.state core.new.filer.swapper.under) core.new.filer.swapper.pool }
+    ensures layout { core.new.filer.swapper.layout ≡ core.old.filer.swapper.layout }
+    ensures cost { (D.state core.new.filer.swapper.under).transfers ≤ (D.state core.old.filer.swapper.under).transfers + 57373 }
+{
+    match shows_immutable(core, shown.id) {
+        Ok(true) => return Ok(Reply::Refused(Refusal::Immutable)),
+        Ok(false) => (),
+        Err(halt) => return Err(halt),
+    }
+    let shown = Shown {
+        writable: true,
+        ..shown
+    };
+    match change_window(core, space, Some(shown)) {
+        Ok(Ok(())) => Ok(Reply::Done),
+        Ok(Err(word)) => Ok(Reply::Refused(word)),
+        Err(halt) => Err(halt),
+    }
+}
+
+// Lets no store through the window of a space, which shows this in these pages. What was stored is on the medium.
+fn protect_read_only<D: Disk, A: Allocator>(
+    core: &mut CoreOver<D, A>,
+    space: u32,
+    shown: Shown,
+    first: u32,
+    pages: u32,
+) -> Result<Reply, Halt>
+    requires size { (D.state core.old.filer.swapper.under).sectors ≡ core.old.filer.swapper.layout.sectors }
+    ensures carried { (volume : Volume) (m : Machine) (s : Space) → Runs core.old volume m → space_at m.spaces space ≡ Some s → s.window ≡ Some (window_of shown) → first ≡ s.first → pages ≡ s.pages → IfOk result (Carried m (call.Protect space false) core.new volume) }
+    ensures sound { (volume : Volume) (m : Machine) (s : Space) → Runs core.old volume m → space_at m.spaces space ≡ Some s → s.window ≡ Some (window_of shown) → first ≡ s.first → pages ≡ s.pages → IfErr result (λ e. e ≡ halt.Disk) }
+    ensures synced { (volume : Volume) (m : Machine) (s : Space) → Runs core.old volume m → space_at m.spaces space ≡ Some s → s.window ≡ Some (window_of shown) → first ≡ s.first → pages ≡ s.pages → OnOk result ((D.state core.new.filer.swapper.under).synced ≡ true) }
+    ensures counted { result ≡ Err halt.Disk → Rose (D.state core.old.filer.swapper.under).faults (D.state core.new.filer.swapper.under).faults }
+    ensures makes { Makes volume_page [] (D.state core.old.filer.swapper.under) core.old.filer.swapper.pool (D.state core.new.filer.swapper.under) core.new.filer.swapper.pool }
+    ensures layout { core.new.filer.swapper.layout ≡ core.old.filer.swapper.layout }
+    ensures cost { (D.state core.new.filer.swapper.under).transfers ≤ (D.state core.old.filer.swapper.under).transfers + 4452352 }
+{
+    match force_range(core, first, pages) {
+        Ok(()) => (),
+        Err(halt) => return Err(halt),
+    }
+    let shown = Shown {
+        writable: false,
+        ..shown
+    };
+    match change_window(core, space, Some(shown)) {
+        Ok(Ok(())) => (),
+        Ok(Err(word)) => return Ok(Reply::Refused(word)),
+        Err(halt) => return Err(halt),
+    }
+    match settle(core) {
+        Ok(()) => Ok(Reply::Done),
+        Err(halt) => Err(halt),
+    }
+}
+
+/// Makes the window of a space writable or read-only. What was stored through one that gets read-only is on the medium.
+pub fn protect<D: Disk, A: Allocator>(
+    core: &mut CoreOver<D, A>,
+    space: u32,
+    writable: bool,
+) -> Result<Reply, Halt>
+    requires size { (D.state core.old.filer.swapper.under).sectors ≡ core.old.filer.swapper.layout.sectors }
+    ensures carried { (volume : Volume) (m : Machine) → Runs core.old volume m → IfOk result (Carried m (call.Protect space writable) core.new volume) }
+    ensures sound { (volume : Volume) (m : Machine) → Runs core.old volume m → IfErr result (λ e. e ≡ halt.Disk) }
+    ensures passes { (volume : Volume) (m : Machine) → Runs core.old volume m → Passes m (call.Protect space writable) (D.state core.old.filer.swapper.under) (D.state core.new.filer.swapper.under) }
+    ensures counted { result ≡ Err halt.Disk → Rose (D.state core.old.filer.swapper.under).faults (D.state core.new.filer.swapper.under).faults }
+    ensures wrote { WroteIn (volume_page) (D.state core.old.filer.swapper.under) core.old.filer.swapper.pool (D.state core.new.filer.swapper.under) core.new.filer.swapper.pool }
+    ensures layout { core.new.filer.swapper.layout ≡ core.old.filer.swapper.layout }
+    ensures cost { CostsOther (D.state core.old.filer.swapper.under) (D.state core.new.filer.swapper.under) }
+    ensures synced { (volume : Volume) (m : Machine) → Runs core.old volume m → writable ≡ false → refusal m (call.Protect space writable) ≡ None → OnOk result ((D.state core.new.filer.swapper.under).synced ≡ true) }
+{
+    let (shown, first, pages) = match find_window(core, space) {
+        Ok(Ok(found)) => found,
+        Ok(Err(word)) => return Ok(Reply::Refused(word)),
+        Err(halt) => return Err(halt),
+    };
+    if writable {
+        return protect_writable(core, space, shown);
+    }
+    protect_read_only(core, space, shown, first, pages)
+}

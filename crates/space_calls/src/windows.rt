@@ -1,0 +1,143 @@
+//! The window of a space, the frames of what it shows, and its file.
+ghost use Rattle.std.specs.Prelude.{◌≡◌, ◌≤◌, ◌+◌, [], List, Option, Err, IfOk, IfErr, IfSome, OnOk, option_map};
+ghost use Rattle.labelled_disk.specs.declared.evidence.Halt.TheVariants as halt;
+ghost use Rattle.labelled_disk.specs.Calls.{Rose};
+ghost use Rattle.flat_machine.specs.declared.space.Space.{Space};
+ghost use Rattle.flat_machine.specs.Machine.{Machine};
+ghost use Rattle.swapper_kernel.specs.Goes.{Makes};
+ghost use Rattle.session_words.specs.Volume.{volume_page};
+ghost use Rattle.file_manager.specs.declared.volume.Volume.{Volume};
+ghost use Rattle.running_words.specs.Running.{Runs};
+ghost use Rattle.std.specs.Bool.{then_some};
+ghost use Rattle.flat_machine.specs.declared.call.Refusal.TheVariants as why;
+ghost use Rattle.flat_machine.specs.declared.space.FilePage.{FilePage};
+ghost use Rattle.flat_machine.specs.IsMachine.{IsMachine};
+ghost use Rattle.flat_machine.specs.Next.{set_window as with_window};
+ghost use Rattle.flat_machine.specs.Refusal.{first_of, is_immutable};
+ghost use Rattle.projection_laws.specs.Laws.{WindowFits};
+ghost use Rattle.projection_laws.specs.Spaces.{MayHaveWindow};
+ghost use Rattle.projection_laws.specs.Tests.{window_row};
+ghost use Rattle.space_tables.specs.Shows.{window_of};
+ghost use Rattle.session_words.specs.FrameLaws.{HasFrames};
+ghost use Rattle.session_words.specs.Parts.{DirtyAreLoose};
+ghost use Rattle.fault_core.specs.Range.{AreClean, AreGone};
+ghost use Rattle.table_calls.specs.Answers.{IsDone, Tells};
+ghost use Rattle.space_calls.specs.Unmapping.{IsWindowIn};
+
+use crate::framing::frame_count;
+use fault_core::CoreOver;
+use file_manager::attributes_of;
+use flat_machine::Refusal;
+use labelled_disk::{Disk, FileId, Halt};
+use space_tables::Shown;
+use std::alloc::Allocator;
+use table_calls::{bounds, set_window, shown};
+
+// What a space itself shows, its first page, and how many pages it has.
+pub(crate) fn find_window<D: Disk, A: Allocator>(
+    core: &mut CoreOver<D, A>,
+    space: u32,
+) -> Result<Result<(Shown, u32, u32), Refusal>, Halt>
+    requires size { (D.state core.old.filer.swapper.under).sectors ≡ core.old.filer.swapper.layout.sectors }
+    ensures answer { (volume : Volume) (m : Machine) → Runs core.old volume m → IfOk result (Tells (first_of (window_row m.spaces space)) (IsWindowIn m.spaces space)) }
+    ensures runs { (volume : Volume) (m : Machine) → Runs core.old volume m → Runs core.new volume m }
+    ensures sound { (volume : Volume) (m : Machine) → Runs core.old volume m → IfErr result (λ e. e ≡ halt.Disk) }
+    ensures counted { result ≡ Err halt.Disk → Rose (D.state core.old.filer.swapper.under).faults (D.state core.new.filer.swapper.under).faults }
+    ensures makes { Makes volume_page [] (D.state core.old.filer.swapper.under) core.old.filer.swapper.pool (D.state core.new.filer.swapper.under) core.new.filer.swapper.pool }
+    ensures layout { core.new.filer.swapper.layout ≡ core.old.filer.swapper.layout }
+    ensures cost { (D.state core.new.filer.swapper.under).transfers ≤ (D.state core.old.filer.swapper.under).transfers + 56 }
+{
+    let shows = match shown(core, space) {
+        Ok(Ok(shows)) => shows,
+        Ok(Err(word)) => return Ok(Err(word)),
+        Err(halt) => return Err(halt),
+    };
+    match bounds(core, space) {
+        Ok(Ok((first, pages))) => Ok(Ok((shows, first, pages))),
+        Ok(Err(word)) => Ok(Err(word)),
+        Err(halt) => Err(halt),
+    }
+}
+
+// Gives up the frames of what windows show in a range of pages of the root. What is dirty is written out first.
+pub(crate) fn let_range_go<D: Disk, A: Allocator>(
+    core: &mut CoreOver<D, A>,
+    first: u32,
+    pages: u32,
+) -> Result<(), Halt>
+    requires size { (D.state core.old.filer.swapper.under).sectors ≡ core.old.filer.swapper.layout.sectors }
+    ensures rest { (volume : Volume) (m : Machine) → Runs core.old volume m → OnOk result (AreGone m.spaces core.new.filer.swapper.pool first (first + pages)) }
+    ensures runs { (volume : Volume) (m : Machine) → Runs core.old volume m → Runs core.new volume m }
+    ensures sound { (volume : Volume) (m : Machine) → Runs core.old volume m → IfErr result (λ e. e ≡ halt.Disk) }
+    ensures counted { result ≡ Err halt.Disk → Rose (D.state core.old.filer.swapper.under).faults (D.state core.new.filer.swapper.under).faults }
+    ensures makes { Makes volume_page [] (D.state core.old.filer.swapper.under) core.old.filer.swapper.pool (D.state core.new.filer.swapper.under) core.new.filer.swapper.pool }
+    ensures layout { core.new.filer.swapper.layout ≡ core.old.filer.swapper.layout }
+    ensures cost { (D.state core.new.filer.swapper.under).transfers ≤ (D.state core.old.filer.swapper.under).transfers + 4395008 }
+{
+    let _frames = frame_count(core);
+    core.let_go(first, pages)
+}
+
+// Writes out what is dirty of what windows show in a range of pages of the root.
+pub(crate) fn force_range<D: Disk, A: Allocator>(
+    core: &mut CoreOver<D, A>,
+    first: u32,
+    pages: u32,
+) -> Result<(), Halt>
+    requires size { (D.state core.old.filer.swapper.under).sectors ≡ core.old.filer.swapper.layout.sectors }
+    ensures rest { (volume : Volume) (m : Machine) → Runs core.old volume m → OnOk result (AreClean m.spaces core.new.filer.swapper.pool first (first + pages)) }
+    ensures runs { (volume : Volume) (m : Machine) → Runs core.old volume m → Runs core.new volume m }
+    ensures sound { (volume : Volume) (m : Machine) → Runs core.old volume m → IfErr result (λ e. e ≡ halt.Disk) }
+    ensures counted { result ≡ Err halt.Disk → Rose (D.state core.old.filer.swapper.under).faults (D.state core.new.filer.swapper.under).faults }
+    ensures makes { Makes volume_page [] (D.state core.old.filer.swapper.under) core.old.filer.swapper.pool (D.state core.new.filer.swapper.under) core.new.filer.swapper.pool }
+    ensures layout { core.new.filer.swapper.layout ≡ core.old.filer.swapper.layout }
+    ensures cost { (D.state core.new.filer.swapper.under).transfers ≤ (D.state core.old.filer.swapper.under).transfers + 4395008 }
+{
+    let _frames = frame_count(core);
+    core.force(first, pages)
+}
+
+// Gives a space another window, or none, where the frames are those of what is shown then, and each dirty one is of an unforced page.
+pub(crate) fn change_window<D: Disk, A: Allocator>(
+    core: &mut CoreOver<D, A>,
+    space: u32,
+    shown: Option<Shown>,
+) -> Result<Result<(), Refusal>, Halt>
+    requires size { (D.state core.old.filer.swapper.under).sectors ≡ core.old.filer.swapper.layout.sectors }
+    ensures done { (volume : Volume) (m : Machine) (x : Space) (unforced : List FilePage) → Runs core.old volume m → MayHaveWindow m.spaces x → x.handle ≡ space → IfSome shown (λ w. WindowFits x.pages (window_of w))
+        → IsMachine (record m { spaces = with_window space (option_map window_of shown) m.spaces; unforced = unforced }) → HasFrames core.old.filer.swapper.pool (with_window space (option_map window_of shown) m.spaces) → DirtyAreLoose core.old.filer.swapper.pool unforced
+        → IfOk result (IsDone (Runs core.new volume (record m { spaces = with_window space (option_map window_of shown) m.spaces; unforced = unforced }))) }
+    ensures sound { (volume : Volume) (m : Machine) (x : Space) → Runs core.old volume m → MayHaveWindow m.spaces x → x.handle ≡ space → IfSome shown (λ w. WindowFits x.pages (window_of w)) → IfErr result (λ e. e ≡ halt.Disk) }
+    ensures counted { result ≡ Err halt.Disk → Rose (D.state core.old.filer.swapper.under).faults (D.state core.new.filer.swapper.under).faults }
+    ensures makes { Makes volume_page [] (D.state core.old.filer.swapper.under) core.old.filer.swapper.pool (D.state core.new.filer.swapper.under) core.new.filer.swapper.pool }
+    ensures layout { core.new.filer.swapper.layout ≡ core.old.filer.swapper.layout }
+    ensures cost { (D.state core.new.filer.swapper.under).transfers ≤ (D.state core.old.filer.swapper.under).transfers + 57344 }
+{
+    let answer = match set_window(core, space, shown) {
+        Ok(answer) => answer,
+        Err(halt) => return Err(halt),
+    };
+    let _frames = frame_count(core);
+    Ok(answer)
+}
+
+// Whether a file is immutable.
+pub(crate) fn shows_immutable<D: Disk, A: Allocator>(
+    core: &mut CoreOver<D, A>,
+    id: FileId,
+) -> Result<bool, Halt>
+    requires size { (D.state core.old.filer.swapper.under).sectors ≡ core.old.filer.swapper.layout.sectors }
+    ensures answer { (volume : Volume) (m : Machine) → Runs core.old volume m → IfOk result (λ is. is_immutable m id ≡ then_some is why.Immutable) }
+    ensures runs { (volume : Volume) (m : Machine) → Runs core.old volume m → Runs core.new volume m }
+    ensures sound { (volume : Volume) (m : Machine) → Runs core.old volume m → IfErr result (λ e. e ≡ halt.Disk) }
+    ensures counted { result ≡ Err halt.Disk → Rose (D.state core.old.filer.swapper.under).faults (D.state core.new.filer.swapper.under).faults }
+    ensures makes { Makes volume_page [] (D.state core.old.filer.swapper.under) core.old.filer.swapper.pool (D.state core.new.filer.swapper.under) core.new.filer.swapper.pool }
+    ensures layout { core.new.filer.swapper.layout ≡ core.old.filer.swapper.layout }
+    ensures cost { (D.state core.new.filer.swapper.under).transfers ≤ (D.state core.old.filer.swapper.under).transfers + 29 }
+{
+    match attributes_of(&mut core.filer, id) {
+        Ok(Some(found)) => Ok(found.immutable),
+        Ok(None) => Ok(false),
+        Err(halt) => Err(halt),
+    }
+}
