@@ -16,9 +16,9 @@ commands  format   makes an empty volume of the whole disk; what was there is
                    4294967295, by default 1
           run      opens the volume, reads calls from standard input, a line
                    each, and writes a reply to each; files are made, sized,
-                   marked, deleted and asked for, and a call on spaces is
-                   answered 'error later'; option --frames n, 24 to 4096, by
-                   default 64: how many pages are kept in memory
+                   marked, deleted and asked for, and mapped to spaces, where
+                   bytes are loaded and stored; option --frames n, 24 to 4096,
+                   by default 64: how many pages are kept in memory
           scavenge restores the volume from its labels, and writes a line for
                    each lost sector and the counts
 exit      0 done, 2 usage, 3 disk fault, 4 stream fault, 5 volume refused,

@@ -16,12 +16,8 @@ use Rattle.flat_machine.specs.Allows.{next_file, plain_reply}
 use Rattle.session_words.specs.Parts.{shapes_of, shape_of}
 use Rattle.file_manager.specs.Answer.{IsNextFile}
 
--- with no space but the root, each file may be named
-pub all_nameable : (m : Machine) → m.spaces ≡ root ∷ [] → (id : ℕ) → nameable m id ≡ file_at m.files id
-all_nameable m alone id = rw alone refl
-
 -- a file that is there has a shape
-has_shape : (files : List File) (id : ℕ) (f : File) → file_at files id ≡ Some f → shapes_of files id ≢ None
+pub has_shape : (files : List File) (id : ℕ) (f : File) → file_at files id ≡ Some f → shapes_of files id ≢ None
 has_shape files id f is no_shape = none-some (shape_of f) (sym no_shape ∙ ap (option_map shape_of) is)
 
 -- the first file above, in rising order
@@ -64,7 +60,7 @@ module _ (all : List File) (id : ℕ) where
     apart : (j : ℕ) (g : File) → file_at fs j ≡ Some g → f.id ≡ j → ⊥
     apart j g is e = none-some g (sym (at_low fs f.id j rising.0 (omega (arith, e))) ∙ is)
 
-  first_above : (fs : List File) → AreRising fs → ((j : ℕ) (f : File) → file_at fs j ≡ Some f → is_some (file_at all f.id) ≡ true)
+  pub first_above : (fs : List File) → AreRising fs → ((j : ℕ) (f : File) → file_at fs j ≡ Some f → is_some (file_at all f.id) ≡ true)
       → (found : Option ℕ) → IsNextFile (shapes_of fs) id found → option_map (λ (f : File). f.id) (find test fs) ≡ found
   first_above [] rising there None next = refl
   first_above [] rising there (Some n) next = absurd (next.1 refl)
@@ -76,20 +72,6 @@ module _ (all : List File) (id : ℕ) where
       either (inl above) rest = head f fs rising (passes f (there f.id f (at_head f fs)) above) ∙ least f fs rising found next above
       either (inr low) rest = tail f fs rising (fails f low) ∙ rest low
 
--- the reply to `next`
-pub next_replied : (m : Machine) → AreRising m.files → m.spaces ≡ root ∷ [] → (id : ℕ) (found : Option ℕ) → IsNextFile (shapes_of m.files) id found
-    → option_map_or reply.File found reply.Nothing ≡ plain_reply m (call.Next id)
-next_replied m rising alone id found next =
-    ap (λ (o : Option ℕ). option_map_or reply.File o reply.Nothing)
-    (sym (same ∙ first_above m.files id m.files rising (λ j f is. subst (λ (k : ℕ). is_some (file_at m.files k) ≡ true) (sym (at_id m.files j f is)) (ap is_some is)) found next))
-  where
-    same : next_file m id ≡ option_map (λ (f : File). f.id) (find (test m.files id) m.files)
-    same = ap (λ (p : File → Bool). option_map (λ (f : File). f.id) (find p m.files)) (λ i f. nat_lt id f.id && is_some (all_nameable m alone f.id i))
-
 -- the machine's room is the volume's
 pub volume_replied : (m : Machine) (capacity used_now : ℕ) → capacity ≡ m.capacity → used_now ≡ used m → reply.Volume capacity (capacity - used_now) ≡ plain_reply m call.Volume
 volume_replied m capacity used_now one two = λ i. reply.Volume (one i) (one i - two i)
-
--- the same of an answer that is known to be this one
-pub next_replied_as : (m : Machine) → AreRising m.files → m.spaces ≡ root ∷ [] → (id : ℕ) (found o : Option ℕ) → found ≡ o → IsNextFile (shapes_of m.files) id found → option_map_or reply.File o reply.Nothing ≡ plain_reply m (call.Next id)
-next_replied_as m rising alone id found o is next = subst (λ (p : Option ℕ). option_map_or reply.File p reply.Nothing ≡ plain_reply m (call.Next id)) is (next_replied m rising alone id found next)

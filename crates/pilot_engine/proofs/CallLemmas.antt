@@ -26,6 +26,7 @@ use Rattle.swapper_kernel.specs.GoesLaws.{makes_then}
 use Rattle.filer_kernel.specs.declared.cached.CachedRuns.{CachedRuns}
 use Rattle.session_words.specs.FrameLaws.{is_shown}
 use Rattle.session_words.specs.Parts.{TablesMeaning, Shape, Shapes, shape_of, shapes_of}
+use Rattle.session_words.specs.StandsFor.{StandsFor}
 use Rattle.session_words.specs.Volume.{volume_page}
 use Rattle.session_words.proofs.FoundLemmas.{above_reserved}
 use Rattle.session_words.proofs.SettledLemmas.{shape_at, machine_shapes}
@@ -38,15 +39,14 @@ use Rattle.file_manager.specs.Book.{Books, BringsOwn}
 use Rattle.file_manager.specs.Broken.{MarksFirst}
 use Rattle.file_manager.specs.Deleting.{DeletedBy, DeletesFirst, MakesOneFree}
 use Rattle.file_manager.specs.Freeing.{MakesSomeFree}
-use Rattle.pilot_engine.specs.Session.{IsSession, Carries, Wrote}
-use Rattle.pilot_engine.specs.Stages.{Passes}
-use Rattle.pilot_engine.proofs.AskLemmas.{all_nameable}
+use Rattle.running_words.specs.Session.{AreInForm, Carries, IsSession, Wrote}
+use Rattle.running_words.specs.Stages.{Passes}
 use Rattle.pilot_engine.proofs.CarryLemmas.{refuses, stays_refused, permanent_carried, immutable_carried, delete_carried}
-use Rattle.pilot_engine.proofs.FlagLemmas.{freeing_open}
-use Rattle.pilot_engine.proofs.PassLemmas.{AreInForm, permanent_passes, immutable_passes, delete_passes}
-use Rattle.pilot_engine.proofs.RefusalLemmas.{attributes_there, permanent_there, immutable_there, delete_there}
-use Rattle.pilot_engine.proofs.SessionLemmas.{asked_at}
-use Rattle.pilot_engine.proofs.StageLemmas.{no_step}
+use Rattle.running_words.proofs.FlagLemmas.{freeing_open}
+use Rattle.running_words.proofs.PassLemmas.{permanent_passes, immutable_passes, delete_passes}
+use Rattle.pilot_engine.proofs.SeenLemmas.{pages_past}
+use Rattle.running_words.proofs.SessionLemmas.{asked_at}
+use Rattle.running_words.proofs.StageLemmas.{no_step}
 
 -- no window shows a page where there is no space but the root
 pub none_shown : (spaces : List Space) → spaces ≡ root ∷ [] → (id page : ℕ) → is_shown spaces id page ≡ false
@@ -62,6 +62,12 @@ none_told m id told = either (file_at m.files id) refl
     either : (o : Option File) → file_at m.files id ≡ o → o ≡ None
     either None is = refl
     either (Some f) is = absurd (none-some (shape_of f) (sym told ∙ ap (option_map shape_of) is))
+
+-- no window shows the page of a leader
+pub leader_hidden : (spaces_of : TablesMeaning) (disk : DiskState) (slots : Slots) (m : Machine) → StandsFor spaces_of disk slots m → (id : ℕ) → is_shown m.spaces id leader_page ≡ false
+leader_hidden spaces_of disk slots m stands id =
+    pages_past m stands.is.by.machine id leader_page
+    (λ f is. let less = (machine_shapes m stands.is.by.machine (length stands.memory) (slice_get stands.memory 0) stands.is.by.root).short id (shape_of f) (ap (option_map shape_of) is) in omega (arith, less))
 
 -- the book with the layout said otherwise
 pub books_at : (disk : DiskState) (slots : Slots) (layout now : Layout) (runs : CachedRuns) (shapes : Shapes) (spaces : List Space) (x : List Sector) → Books disk slots layout runs shapes spaces x → now ≡ layout → Books disk slots now runs shapes spaces x
@@ -81,17 +87,6 @@ module _ (spaces_of : TablesMeaning) (old mid : DiskState) (before between : Slo
   -- the call is refused after it
   pub refused_after : (c : Call) (word : Refusal) → refusal m c ≡ Some word → Carries spaces_of m c (reply.Refused word) mid between now kept volume
   refused_after c word is = record { allowed = refuses m c word is; stands = subst (λ (n : Machine). IsSession spaces_of mid between now kept volume n) (stays_refused m c word is) looked }
-
-  -- or has an answer
-  pub attributes_carried : (id : ℕ) (a : Attributes) → IsAttributesOf (shapes_of m.files id) (Some a)
-      → Carries spaces_of m (call.Attributes id) (reply.Attributes a.pages a.kind a.permanent a.immutable) mid between now kept volume
-  attributes_carried id a told =
-      let f = file_told m id a told in
-      let free = attributes_there m s.alone id f.0 f.1 in
-      record {
-        allowed = rw (free, all_nameable m s.alone id, f.1) (λ i. reply.Attributes (sym f.2 i).size (sym f.2 i).kind (sym f.2 i).permanent (sym f.2 i).immutable);
-        stands = subst (λ (n : Machine). IsSession spaces_of mid between now kept volume n) (let e : m ≡ _ = rw free refl in e) looked;
-      }
 
   -- what no file is told of
   pub missing_after : (id : ℕ) → IsAttributesOf (shapes_of m.files id) None → (c : Call) → (file_at m.files id ≡ None → refusal m c ≡ Some why.File) → Carries spaces_of m c (reply.Refused why.File) mid between now kept volume
@@ -115,57 +110,57 @@ module _ (spaces_of : TablesMeaning) (old mid : DiskState) (before between : Slo
       client : 16 ≤ t.0.id
       client = let high = above_reserved id of_file in omega (arith, leader_id, high)
 
-      permanent_stops : (form : AreInForm old) → Makes volume_page (LabelOnly leader (permanent_label t.0) ∷ []) mid between new after → Passes m (call.MakePermanent id) old new
-      permanent_stops form more =
-          permanent_passes spaces_of old new before after m s.stands form id leader file.0 t file.1 of_file leader_id client there named (permanent_there m s.alone id file.0 file.1) (makes_then makes more)
+      permanent_stops : refusal m (call.MakePermanent id) ≡ None → (form : AreInForm old) → Makes volume_page (LabelOnly leader (permanent_label t.0) ∷ []) mid between new after → Passes m (call.MakePermanent id) old new
+      permanent_stops free form more =
+          permanent_passes spaces_of old new before after m s.stands form id leader file.0 t file.1 of_file leader_id client there named free (makes_then makes more)
 
-      immutable_stops : (form : AreInForm old) → Makes volume_page (LabelOnly leader (immutable_label t.0) ∷ []) mid between new after → Passes m (call.MakeImmutable id) old new
-      immutable_stops form more =
-          immutable_passes spaces_of old new before after m s.stands form id leader file.0 t file.1 of_file leader_id client there named (immutable_there m s.alone id file.0 file.1) (makes_then makes more)
+      immutable_stops : refusal m (call.MakeImmutable id) ≡ None → (form : AreInForm old) → Makes volume_page (LabelOnly leader (immutable_label t.0) ∷ []) mid between new after → Passes m (call.MakeImmutable id) old new
+      immutable_stops free form more =
+          immutable_passes spaces_of old new before after m s.stands form id leader file.0 t file.1 of_file leader_id client there named free (makes_then makes more)
 
-    pub permanent_done : IsMarked id permanent_label s.stands.memory mid between now new after later → Carries spaces_of m (call.MakePermanent id) reply.Done new after now later next_volume
-    permanent_done marked =
+    pub permanent_done : refusal m (call.MakePermanent id) ≡ None → IsMarked id permanent_label s.stands.memory mid between now new after later → Carries spaces_of m (call.MakePermanent id) reply.Done new after now later next_volume
+    permanent_done free marked =
         permanent_carried spaces_of mid new between after now kept later volume next_volume m looked (ap (λ (v : Volume). v.root.serial) same_volume) (ap (λ (v : Volume). v.root.counter) same_volume) (ap (λ (v : Volume). v.used) same_volume)
-        id _ (permanent_there m s.alone id file.0 file.1) marked.leads
+        id _ free marked.leads
 
-    pub permanent_passed : AreInForm old → IsMarked id permanent_label s.stands.memory mid between now new after later → Passes m (call.MakePermanent id) old new
-    permanent_passed form marked = permanent_stops s.stands.memory refl marked.leader marked.s marked.here marked.named form marked.leads.goes.makes
+    pub permanent_passed : refusal m (call.MakePermanent id) ≡ None → AreInForm old → IsMarked id permanent_label s.stands.memory mid between now new after later → Passes m (call.MakePermanent id) old new
+    permanent_passed free form marked = permanent_stops s.stands.memory refl marked.leader marked.s marked.here marked.named free form marked.leads.goes.makes
 
-    pub permanent_broken : AreInForm old → MarksFirst id permanent_label s.stands.memory mid between new after → Passes m (call.MakePermanent id) old new
-    permanent_broken form (inl none) = no_step spaces_of old new before after m (call.MakePermanent id) s.stands (makes_then makes none) form
-    permanent_broken form (inr some) = permanent_stops s.stands.memory refl some.leader some.s some.here some.named form some.makes
+    pub permanent_broken : refusal m (call.MakePermanent id) ≡ None → AreInForm old → MarksFirst id permanent_label s.stands.memory mid between new after → Passes m (call.MakePermanent id) old new
+    permanent_broken free form (inl none) = no_step spaces_of old new before after m (call.MakePermanent id) s.stands (makes_then makes none) form
+    permanent_broken free form (inr some) = permanent_stops s.stands.memory refl some.leader some.s some.here some.named free form some.makes
 
-    pub immutable_done : IsMarked id immutable_label s.stands.memory mid between now new after later → Carries spaces_of m (call.MakeImmutable id) reply.Done new after now later next_volume
-    immutable_done marked =
+    pub immutable_done : refusal m (call.MakeImmutable id) ≡ None → IsMarked id immutable_label s.stands.memory mid between now new after later → Carries spaces_of m (call.MakeImmutable id) reply.Done new after now later next_volume
+    immutable_done free marked =
         immutable_carried spaces_of mid new between after now kept later volume next_volume m looked (ap (λ (v : Volume). v.root.serial) same_volume) (ap (λ (v : Volume). v.root.counter) same_volume) (ap (λ (v : Volume). v.used) same_volume)
-        id _ (immutable_there m s.alone id file.0 file.1) marked.leads
+        id _ free marked.leads
 
-    pub immutable_passed : AreInForm old → IsMarked id immutable_label s.stands.memory mid between now new after later → Passes m (call.MakeImmutable id) old new
-    immutable_passed form marked = immutable_stops s.stands.memory refl marked.leader marked.s marked.here marked.named form marked.leads.goes.makes
+    pub immutable_passed : refusal m (call.MakeImmutable id) ≡ None → AreInForm old → IsMarked id immutable_label s.stands.memory mid between now new after later → Passes m (call.MakeImmutable id) old new
+    immutable_passed free form marked = immutable_stops s.stands.memory refl marked.leader marked.s marked.here marked.named free form marked.leads.goes.makes
 
-    pub immutable_broken : AreInForm old → MarksFirst id immutable_label s.stands.memory mid between new after → Passes m (call.MakeImmutable id) old new
-    immutable_broken form (inl none) = no_step spaces_of old new before after m (call.MakeImmutable id) s.stands (makes_then makes none) form
-    immutable_broken form (inr some) = immutable_stops s.stands.memory refl some.leader some.s some.here some.named form some.makes
+    pub immutable_broken : refusal m (call.MakeImmutable id) ≡ None → AreInForm old → MarksFirst id immutable_label s.stands.memory mid between new after → Passes m (call.MakeImmutable id) old new
+    immutable_broken free form (inl none) = no_step spaces_of old new before after m (call.MakeImmutable id) s.stands (makes_then makes none) form
+    immutable_broken free form (inr some) = immutable_stops s.stands.memory refl some.leader some.s some.here some.named free form some.makes
 
   -- a file that is gone
   module _ (new : DiskState) (after : Slots) (later : CachedRuns) (next_volume : Volume) (id : ℕ) (a : Attributes) (told : IsAttributesOf (shapes_of m.files id) (Some a)) where
-    pub delete_done : next_volume.root.serial ≡ volume.root.serial → next_volume.root.counter ≡ volume.root.counter → next_volume.used ≡ volume.used - (a.pages + 1)
+    pub delete_done : refusal m (call.Delete id) ≡ None → next_volume.root.serial ≡ volume.root.serial → next_volume.root.counter ≡ volume.root.counter → next_volume.used ≡ volume.used - (a.pages + 1)
         → DeletedBy id a.pages s.stands.memory mid between now new after later → Carries spaces_of m (call.Delete id) reply.Done new after now later next_volume
-    delete_done serial counter less deleted =
+    delete_done free serial counter less deleted =
         let f = file_told m id a told in
         let long : size f.0 ≡ a.pages = ap (λ (g : Shape). g.size) f.2 in
-        delete_carried spaces_of mid new between after now kept later volume next_volume m looked serial counter id f.0 f.1 _ (delete_there m s.alone id f.0 f.1) (omega (arith, less, long)) deleted.leads
+        delete_carried spaces_of mid new between after now kept later volume next_volume m looked serial counter id f.0 f.1 _ free (omega (arith, less, long)) deleted.leads
 
-    pub delete_passed : AreInForm old → DeletedBy id a.pages s.stands.memory mid between now new after later → Passes m (call.Delete id) old new
-    delete_passed form deleted =
+    pub delete_passed : refusal m (call.Delete id) ≡ None → AreInForm old → DeletedBy id a.pages s.stands.memory mid between now new after later → Passes m (call.Delete id) old new
+    delete_passed free form deleted =
         let f = file_told m id a told in
-        delete_passes spaces_of old new before after m s.stands form id deleted.leader f.0 deleted.sectors f.1 (delete_there m s.alone id f.0 f.1) deleted.stops (makes_then makes deleted.leads.goes.makes)
+        delete_passes spaces_of old new before after m s.stands form id deleted.leader f.0 deleted.sectors f.1 free deleted.stops (makes_then makes deleted.leads.goes.makes)
 
-    pub delete_broken : AreInForm old → DeletesFirst id s.stands.memory mid between new after → Passes m (call.Delete id) old new
-    delete_broken form (inl none) = no_step spaces_of old new before after m (call.Delete id) s.stands (makes_then makes none) form
-    delete_broken form (inr some) =
+    pub delete_broken : refusal m (call.Delete id) ≡ None → AreInForm old → DeletesFirst id s.stands.memory mid between new after → Passes m (call.Delete id) old new
+    delete_broken free form (inl none) = no_step spaces_of old new before after m (call.Delete id) s.stands (makes_then makes none) form
+    delete_broken free form (inr some) =
         let f = file_told m id a told in
-        delete_passes spaces_of old new before after m s.stands form id some.leader f.0 some.sectors f.1 (delete_there m s.alone id f.0 f.1) some.stops (makes_then makes some.makes)
+        delete_passes spaces_of old new before after m s.stands form id some.leader f.0 some.sectors f.1 free some.stops (makes_then makes some.makes)
 
 -- after a look at the file, no label or one with a mark more was written
 pub mark_wrote : (mark : Mark) {a b d : DiskState} {s t u : Slots} → Makes volume_page [] a s b t → WritesMark mark b t d u → Wrote a s d u

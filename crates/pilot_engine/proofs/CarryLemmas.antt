@@ -28,10 +28,10 @@ use Rattle.session_words.proofs.MarkLemmas.{mark_laws}
 use Rattle.session_words.proofs.SizeLemmas.{size_laws}
 use Rattle.file_manager.specs.declared.volume.Volume.{Volume}
 use Rattle.file_manager.specs.Book.{Leads}
-use Rattle.pilot_engine.specs.Session.{IsSession, Carries}
+use Rattle.running_words.specs.Session.{IsSession, Carries}
 use Rattle.pilot_engine.proofs.LeadLemmas.{led, marks_long, frees_long, grows_long}
 use Rattle.pilot_engine.proofs.RoomLemmas.{used_without, used_resized, used_marked}
-use Rattle.pilot_engine.proofs.SessionLemmas.{known_brought}
+use Rattle.running_words.proofs.SessionLemmas.{known_brought}
 
 -- a reply to a call that is not refused
 pub answers : (m : Machine) (c : Call) (r : Reply) → refusal m c ≡ None → Answers m c r → Allows m c r
@@ -62,7 +62,7 @@ module _ (spaces_of : TablesMeaning) (old new : DiskState) (before after : Slots
           carried (call.MakePermanent id) reply.Done free refl
           (led (Marks id permanent_label) run spaces_of old new before after layout runs later volume now m (change m (call.MakePermanent id)) s leads (marks_long id permanent_label)
           (subst (λ (n : Machine). StandsFor spaces_of new after n) (unrefused m (call.MakePermanent id) free) stands) (serial ∙ s.same_serial) (counter ∙ s.same_counter)
-          (same_used ∙ s.same_used ∙ sym (used_marked m id (λ f. record f { permanent = true }) (λ x. refl))) s.alone)
+          (same_used ∙ s.same_used ∙ sym (used_marked m id (λ f. record f { permanent = true }) (λ x. refl))))
 
       pub immutable_carried : refusal m (call.MakeImmutable id) ≡ None → Leads (Marks id immutable_label) run old before layout new after later → Carries spaces_of m (call.MakeImmutable id) reply.Done new after layout later now
       immutable_carried free leads =
@@ -70,7 +70,7 @@ module _ (spaces_of : TablesMeaning) (old new : DiskState) (before after : Slots
           carried (call.MakeImmutable id) reply.Done free refl
           (led (Marks id immutable_label) run spaces_of old new before after layout runs later volume now m (change m (call.MakeImmutable id)) s leads (marks_long id immutable_label)
           (subst (λ (n : Machine). StandsFor spaces_of new after n) (unrefused m (call.MakeImmutable id) free) stands) (serial ∙ s.same_serial) (counter ∙ s.same_counter)
-          (same_used ∙ s.same_used ∙ sym (used_marked m id (λ f. record f { immutable = true }) (λ x. refl))) s.alone)
+          (same_used ∙ s.same_used ∙ sym (used_marked m id (λ f. record f { immutable = true }) (λ x. refl))))
 
     module _ (id : ℕ) (f : File) (found : file_at m.files id ≡ Some f) (run : List DiskWrite) where
       pub delete_carried : refusal m (call.Delete id) ≡ None → now.used ≡ volume.used - (size f + 1) → Leads (Frees (all_pages id)) run old before layout new after later → Carries spaces_of m (call.Delete id) reply.Done new after layout later now
@@ -80,7 +80,7 @@ module _ (spaces_of : TablesMeaning) (old new : DiskState) (before after : Slots
           carried (call.Delete id) reply.Done free refl
           (led (Frees (all_pages id)) run spaces_of old new before after layout runs later volume now m (change m (call.Delete id)) s leads (frees_long (all_pages id))
           (subst (λ (n : Machine). StandsFor spaces_of new after n) (unrefused m (call.Delete id) free) stands) (serial ∙ s.same_serial) (counter ∙ s.same_counter)
-          (omega (arith, less, s.same_used, room)) s.alone)
+          (omega (arith, less, s.same_used, room)))
 
       pub grow_carried : (pages : ℕ) (is : List ℕ) → refusal m (call.SetSize id pages) ≡ None → size f + length is ≡ pages → now.used ≡ volume.used + (pages - size f) → Leads (Grows id f.kind (size f) is) run old before layout new after later
           → Carries spaces_of m (call.SetSize id pages) reply.Done new after layout later now
@@ -90,7 +90,7 @@ module _ (spaces_of : TablesMeaning) (old new : DiskState) (before after : Slots
           carried (call.SetSize id pages) reply.Done free refl
           (led (Grows id f.kind (size f) is) run spaces_of old new before after layout runs later volume now m (change m (call.SetSize id pages)) s leads (grows_long id f.kind (size f) is)
           (subst (λ (n : Machine). StandsFor spaces_of new after n) (unrefused m (call.SetSize id pages) free) stands) (serial ∙ s.same_serial) (counter ∙ s.same_counter)
-          (omega (arith, more, s.same_used, room, long)) s.alone)
+          (omega (arith, more, s.same_used, room, long)))
 
       pub shrink_carried : (pages : ℕ) → refusal m (call.SetSize id pages) ≡ None → pages ≤ size f → now.used ≡ volume.used - (size f - pages) → Leads (Frees (cut_pages id pages)) run old before layout new after later
           → Carries spaces_of m (call.SetSize id pages) reply.Done new after layout later now
@@ -101,4 +101,4 @@ module _ (spaces_of : TablesMeaning) (old new : DiskState) (before after : Slots
           carried (call.SetSize id pages) reply.Done free refl
           (led (Frees (cut_pages id pages)) run spaces_of old new before after layout runs later volume now m (change m (call.SetSize id pages)) s leads (frees_long (cut_pages id pages))
           (subst (λ (n : Machine). StandsFor spaces_of new after n) (unrefused m (call.SetSize id pages) free) stands) (serial ∙ s.same_serial) (counter ∙ s.same_counter)
-          (omega (arith, less, s.same_used, room, few, whole)) s.alone)
+          (omega (arith, less, s.same_used, room, few, whole)))

@@ -12,13 +12,13 @@ use Rattle.flat_machine.specs.Machine.{Machine, IsFileId, used}
 use Rattle.filer_kernel.specs.declared.cached.CachedRuns.{CachedRuns}
 use Rattle.session_words.specs.Parts.{TablesMeaning}
 use Rattle.file_manager.specs.declared.volume.Volume.{Volume}
-use Rattle.pilot_engine.specs.Bound.{room_above, visit_cost}
+use Rattle.running_words.specs.Bound.{room_above, visit_cost}
 use Rattle.pilot_engine.specs.Closing.{IsOpenStop, Shed, Throughout, up_to_next}
-use Rattle.pilot_engine.specs.Session.{IsOpen, IsSession, Wrote}
+use Rattle.running_words.specs.Session.{IsOpen, IsAlone, Wrote}
 use Rattle.swapper_kernel.specs.GoesLaws.{makes_nothing}
 use Rattle.session_words.specs.Volume.{volume_page}
 use Rattle.pilot_engine.proofs.EndCosts.{room_all}
-use Rattle.pilot_engine.proofs.PassLemmas.{AreInForm}
+use Rattle.running_words.specs.Session.{AreInForm}
 use Rattle.pilot_engine.proofs.StopLemmas.{stops_quiet, stop_less, throughout_less, throughout_then}
 use Rattle.pilot_engine.proofs.ShedLemmas.{shed_nothing, shed_then}
 use Rattle.pilot_engine.proofs.WroteLemmas.{wrote_nothing, wrote_then}
@@ -29,21 +29,21 @@ pub record ClearedUpTo (cursor : ℕ) (d0 : DiskState) (s0 : Slots) (l0 : Layout
   pub opened : IsOpen layout volume
   pub same_layout : layout ≡ l0
   pub wrote : Wrote d0 s0 d s
-  pub told : (spaces_of : TablesMeaning) (m : Machine) → IsSession spaces_of d0 s0 l0 r0 v0 m → Shed spaces_of (λ id. id ≤ cursor) m d s layout runs volume
-  pub stops : (spaces_of : TablesMeaning) (m : Machine) → IsSession spaces_of d0 s0 l0 r0 v0 m → Throughout (IsOpenStop m) d0 d
-  pub paid : (spaces_of : TablesMeaning) (m : Machine) (session : IsSession spaces_of d0 s0 l0 r0 v0 m) → d.transfers + visit_cost * room_above cursor (told spaces_of m session).left.files ≤ d0.transfers + visit_cost * used m
+  pub told : (spaces_of : TablesMeaning) (m : Machine) → IsAlone spaces_of d0 s0 l0 r0 v0 m → Shed spaces_of (λ id. id ≤ cursor) m d s layout runs volume
+  pub stops : (spaces_of : TablesMeaning) (m : Machine) → IsAlone spaces_of d0 s0 l0 r0 v0 m → Throughout (IsOpenStop m) d0 d
+  pub paid : (spaces_of : TablesMeaning) (m : Machine) (session : IsAlone spaces_of d0 s0 l0 r0 v0 m) → d.transfers + visit_cost * room_above cursor (told spaces_of m session).left.files ≤ d0.transfers + visit_cost * used m
 
 -- no file yet
 pub cleared_none : (d0 : DiskState) (s0 : Slots) (l0 : Layout) (r0 : CachedRuns) (v0 : Volume) → d0.sectors ≡ l0.sectors → IsOpen l0 v0 → AreInForm d0 → ClearedUpTo 15 d0 s0 l0 r0 v0 d0 s0 l0 r0 v0
 cleared_none d0 s0 l0 r0 v0 size opened form = record {
-  stops = λ spaces_of m s. stops_quiet spaces_of d0 d0 s0 s0 m s.stands form (makes_nothing volume_page d0 s0);
+  stops = λ spaces_of m s. stops_quiet spaces_of d0 d0 s0 s0 m s.session.stands form (makes_nothing volume_page d0 s0);
   above = omega arith;
   size = size;
   opened = opened;
   same_layout = refl;
   wrote = wrote_nothing d0 s0;
   told = λ spaces_of m s. shed_nothing spaces_of d0 s0 l0 r0 v0 m (λ id. id ≤ 15) s (λ id f low found.
-      let high = (each_at (λ w. IsFileId m.serial m.counter w.id) m.files s.stands.is.by.machine.ids_given id f found).above_reserved in
+      let high = (each_at (λ w. IsFileId m.serial m.counter w.id) m.files s.session.stands.is.by.machine.ids_given id f found).above_reserved in
       let same = at_id m.files id f found in
       absurd (omega (arith, low, high, same)));
   paid = λ spaces_of m session. let all = room_all 15 m.files in omega (arith, all);
@@ -52,16 +52,16 @@ cleared_none d0 s0 l0 r0 v0 size opened form = record {
 module _ (cursor : ℕ) (d0 : DiskState) (s0 : Slots) (l0 : Layout) (r0 : CachedRuns) (v0 : Volume) (d : DiskState) (s : Slots) (layout : Layout) (runs : CachedRuns) (volume : Volume) (up : ClearedUpTo cursor d0 s0 l0 r0 v0 d s layout runs volume)
     (d2 : DiskState) (s2 : Slots) (l2 : Layout) (r2 : CachedRuns) (v2 : Volume) where
   -- each moment until then
-  pub cleared_stops : ((spaces_of : TablesMeaning) (m : Machine) → IsSession spaces_of d s layout runs volume m → Throughout (IsOpenStop m) d d2) → (spaces_of : TablesMeaning) (m : Machine) → IsSession spaces_of d0 s0 l0 r0 v0 m
+  pub cleared_stops : ((spaces_of : TablesMeaning) (m : Machine) → IsAlone spaces_of d s layout runs volume m → Throughout (IsOpenStop m) d d2) → (spaces_of : TablesMeaning) (m : Machine) → IsAlone spaces_of d0 s0 l0 r0 v0 m
       → Throughout (IsOpenStop m) d0 d2
   cleared_stops quiet spaces_of m session =
       let h = up.told spaces_of m session in
       throughout_then (IsOpenStop m) (up.stops spaces_of m session) (throughout_less (IsOpenStop h.left) (IsOpenStop m) (stop_less m h.left h.sheds) (quiet spaces_of h.left h.stands))
 
   -- a file more
-  pub cleared_more : (next : Option ℕ) (id : ℕ) → next ≡ Some id → ((spaces_of : TablesMeaning) (m : Machine) → IsSession spaces_of d s layout runs volume m → Shed spaces_of (up_to_next cursor next) m d2 s2 l2 r2 v2)
-      → ((spaces_of : TablesMeaning) (m : Machine) → IsSession spaces_of d s layout runs volume m → Throughout (IsOpenStop m) d d2) → IfSome next (λ j. cursor < j) → Wrote d s d2 s2 → IsOpen l2 v2 → l2 ≡ layout
-      → ((spaces_of : TablesMeaning) (m : Machine) → IsSession spaces_of d s layout runs volume m → IfSome next (λ j. d2.transfers + visit_cost * room_above j m.files ≤ d.transfers + visit_cost * room_above cursor m.files))
+  pub cleared_more : (next : Option ℕ) (id : ℕ) → next ≡ Some id → ((spaces_of : TablesMeaning) (m : Machine) → IsAlone spaces_of d s layout runs volume m → Shed spaces_of (up_to_next cursor next) m d2 s2 l2 r2 v2)
+      → ((spaces_of : TablesMeaning) (m : Machine) → IsAlone spaces_of d s layout runs volume m → Throughout (IsOpenStop m) d d2) → IfSome next (λ j. cursor < j) → Wrote d s d2 s2 → IsOpen l2 v2 → l2 ≡ layout
+      → ((spaces_of : TablesMeaning) (m : Machine) → IsAlone spaces_of d s layout runs volume m → IfSome next (λ j. d2.transfers + visit_cost * room_above j m.files ≤ d.transfers + visit_cost * room_above cursor m.files))
       → ClearedUpTo id d0 s0 l0 r0 v0 d2 s2 l2 r2 v2
   cleared_more next id is shed quiet rises wrote opened same visit = record {
     stops = cleared_stops quiet;
@@ -84,8 +84,8 @@ module _ (cursor : ℕ) (d0 : DiskState) (s0 : Slots) (l0 : Layout) (r0 : Cached
   }
 
   -- all of them
-  pub cleared_all : (next : Option ℕ) → next ≡ None → ((spaces_of : TablesMeaning) (m : Machine) → IsSession spaces_of d s layout runs volume m → Shed spaces_of (up_to_next cursor next) m d2 s2 l2 r2 v2)
-      → (spaces_of : TablesMeaning) (m : Machine) → IsSession spaces_of d0 s0 l0 r0 v0 m → Shed spaces_of (λ id. Unit {0}) m d2 s2 l2 r2 v2
+  pub cleared_all : (next : Option ℕ) → next ≡ None → ((spaces_of : TablesMeaning) (m : Machine) → IsAlone spaces_of d s layout runs volume m → Shed spaces_of (up_to_next cursor next) m d2 s2 l2 r2 v2)
+      → (spaces_of : TablesMeaning) (m : Machine) → IsAlone spaces_of d0 s0 l0 r0 v0 m → Shed spaces_of (λ id. Unit {0}) m d2 s2 l2 r2 v2
   cleared_all next is shed spaces_of m session =
       let h = up.told spaces_of m session in
       shed_then spaces_of (λ j. j ≤ cursor) (up_to_next cursor None) (λ j. Unit {0}) m d s layout runs volume d2 s2 l2 r2 v2 h (subst (λ (o : Option ℕ). Shed spaces_of (up_to_next cursor o) h.left d2 s2 l2 r2 v2) is (shed spaces_of h.left h.stands))
@@ -93,11 +93,11 @@ module _ (cursor : ℕ) (d0 : DiskState) (s0 : Slots) (l0 : Layout) (r0 : Cached
 
 module _ (cursor : ℕ) (d0 : DiskState) (s0 : Slots) (l0 : Layout) (r0 : CachedRuns) (v0 : Volume) (d : DiskState) (s : Slots) (layout : Layout) (runs : CachedRuns) (volume : Volume) (up : ClearedUpTo cursor d0 s0 l0 r0 v0 d s layout runs volume) where
   -- a halt
-  pub cleared_sound : (e : Halt) → ((spaces_of : TablesMeaning) (m : Machine) → IsSession spaces_of d s layout runs volume m → e ≡ halt.Disk) → (spaces_of : TablesMeaning) (m : Machine) → IsSession spaces_of d0 s0 l0 r0 v0 m → e ≡ halt.Disk
+  pub cleared_sound : (e : Halt) → ((spaces_of : TablesMeaning) (m : Machine) → IsAlone spaces_of d s layout runs volume m → e ≡ halt.Disk) → (spaces_of : TablesMeaning) (m : Machine) → IsAlone spaces_of d0 s0 l0 r0 v0 m → e ≡ halt.Disk
   cleared_sound e sound spaces_of m session = let h = up.told spaces_of m session in sound spaces_of h.left h.stands
 
   -- what is spent once a call more was paid
-  pub cleared_paid : (last : ℕ) → ((spaces_of : TablesMeaning) (m : Machine) → IsSession spaces_of d s layout runs volume m → last ≤ d.transfers + (36 + visit_cost * room_above cursor m.files)) → (spaces_of : TablesMeaning) (m : Machine) → IsSession spaces_of d0 s0 l0 r0 v0 m
+  pub cleared_paid : (last : ℕ) → ((spaces_of : TablesMeaning) (m : Machine) → IsAlone spaces_of d s layout runs volume m → last ≤ d.transfers + (36 + visit_cost * room_above cursor m.files)) → (spaces_of : TablesMeaning) (m : Machine) → IsAlone spaces_of d0 s0 l0 r0 v0 m
       → last ≤ d0.transfers + (36 + visit_cost * used m)
   cleared_paid last spent spaces_of m session =
       let h = up.told spaces_of m session in

@@ -35,11 +35,11 @@ use Rattle.session_words.proofs.SettledLemmas.{machine_shapes}
 use Rattle.file_manager.specs.declared.volume.Volume.{Volume}
 use Rattle.file_manager.specs.Creating.{CreatedAs, next_id, counted}
 use Rattle.file_manager.specs.Making.{MayCreate}
-use Rattle.pilot_engine.specs.Session.{IsSession, Carries}
-use Rattle.pilot_engine.proofs.CallLemmas.{none_shown}
+use Rattle.running_words.specs.Session.{IsSession, Carries}
 use Rattle.pilot_engine.proofs.CarryLemmas.{answers, refuses, stays_refused}
 use Rattle.pilot_engine.proofs.LeadLemmas.{led, same_count, grown_long}
-use Rattle.pilot_engine.proofs.SessionLemmas.{session_books, known_brought}
+use Rattle.running_words.proofs.SessionLemmas.{session_books, known_brought}
+use Rattle.pilot_engine.proofs.SeenLemmas.{missing_pages, nobody}
 use Rattle.pilot_engine.proofs.SpaceLeft.{room}
 
 creates_long : (serial counter left id kind leader : ℕ) (is : List ℕ) (x y : List Sector) → Creates serial counter left id kind leader is x y → length y ≡ length x
@@ -61,7 +61,7 @@ module _ (spaces_of : TablesMeaning) (old : DiskState) (before : Slots) (layout 
       let left = room spaces_of old before layout runs volume m is s in
       record {
         books = session_books spaces_of old before layout runs volume m s;
-        hidden = none_shown m.spaces s.alone 0;
+        hidden = λ page. missing_pages m s.stands.is.by.machine 0 page (nobody m s.stands.is.by.machine);
         are = machine_shapes m s.stands.is.by.machine (length s.stands.memory) (slice_get s.stands.memory 0) s.stands.is.by.root;
         none = ap (shapes_of m.files) same_id ∙ ap (λ (o : Option File). option_map shape_of o) none;
         enough = omega (arith, fits, left, s.same_used);
@@ -99,7 +99,7 @@ module _ (spaces_of : TablesMeaning) (old : DiskState) (before : Slots) (layout 
           (creates_long volume.root.serial (volume.root.counter + 1) (capacity layout.sectors) (next_id volume.root) kind made.leader made.sectors)
           (subst (λ (n : Machine). StandsFor spaces_of new after n) (unrefused m (call.Create pages kind) free) stands)
           (ap (λ (v : Volume). v.root.serial) changed ∙ s.same_serial) (ap (λ (v : Volume). v.root.counter) changed ∙ ap (λ (n : ℕ). n + 1) s.same_counter)
-          (let now_used : now.used ≡ volume.used + pages + 1 = ap (λ (v : Volume). v.used) changed in omega (arith, now_used, used_more, s.same_used)) s.alone);
+          (let now_used : now.used ≡ volume.used + pages + 1 = ap (λ (v : Volume). v.used) changed in omega (arith, now_used, used_more, s.same_used)));
     }
 
 -- a call that is refused at once

@@ -44,11 +44,11 @@ use Rattle.file_manager.specs.Creating.{CreatedAs, next_id, counted}
 use Rattle.file_manager.proofs.CreateBroken.{created_unused}
 use Rattle.file_manager.proofs.GrowBroken.{unused_first}
 use Rattle.file_manager.proofs.RootForm.{counted_valid}
-use Rattle.pilot_engine.specs.Session.{AreOpen, IsSession}
-use Rattle.pilot_engine.specs.Stages.{Passes}
-use Rattle.pilot_engine.proofs.FlagLemmas.{creation_open, flag_at, flag_open, root_open, take_open}
-use Rattle.pilot_engine.proofs.PassLemmas.{AreInForm, growth_long}
-use Rattle.pilot_engine.proofs.StageLemmas.{begun, same_labels}
+use Rattle.running_words.specs.Session.{AreInForm, AreOpen, IsSession}
+use Rattle.running_words.specs.Stages.{Passes}
+use Rattle.running_words.proofs.FlagLemmas.{creation_open, flag_at, flag_open, root_open, take_open}
+use Rattle.running_words.proofs.PassLemmas.{growth_long}
+use Rattle.running_words.proofs.StageLemmas.{begun, same_labels}
 
 -- ---- The first of some writes.
 

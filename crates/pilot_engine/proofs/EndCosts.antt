@@ -18,7 +18,7 @@ use Rattle.session_words.specs.Parts.{Shape, shape_of, shapes_of}
 use Rattle.file_manager.specs.Answer.{IsNextFile}
 use Rattle.file_manager.specs.declared.attributes.Attributes.{Attributes}
 use Rattle.file_manager.specs.Attributes.{IsAttributesOf}
-use Rattle.pilot_engine.specs.Bound.{delete_cost, visit_cost, room_above, emptying_bound, other_bound}
+use Rattle.running_words.specs.Bound.{delete_cost, visit_cost, room_above, emptying_bound, other_bound}
 use Rattle.pilot_engine.proofs.BoundLemmas.{linear, small}
 use Rattle.pilot_engine.proofs.CallLemmas.{file_told}
 
@@ -128,12 +128,22 @@ module _ (layout : Layout) (is : IsLayout layout) where
       let paid : t2 ≤ t1 + (96 * (16 + 4 * layout.vam) + 2 * (1 + 51 * most_records layout.sectors)) = subst (λ (l : Layout). t2 ≤ t1 + (96 * (16 + 4 * l.vam) + 2 * (1 + 51 * most_records l.sectors))) same later in
       omega (arith, few, fits, bits, records, first, paid)
 
-  -- with both maps, and the root
-  pub closed_bounded : (t0 t1 t2 : ℕ) → t1 ≤ t0 + emptying_bound layout.sectors → t2 ≤ t1 + 8193 → t2 ≤ t0 + other_bound layout.sectors
-  closed_bounded t0 t1 t2 first later =
-      let all : emptying_bound layout.sectors + 8193 ≤ 16384 * layout.sectors + 2 ^ 30 = omega arith in
-      let most = linear layout.sectors (emptying_bound layout.sectors + 8193) (small layout is).least all in
-      omega (arith, first, later, most)
+  -- with the frames that are given up, both maps, and the root
+  pub closed_bounded : (now : Layout) → now ≡ layout → (t0 t1 t2 t3 : ℕ) → t1 ≤ t0 + 1024 * (196 + 4096) → t2 ≤ t1 + emptying_bound now.sectors → t3 ≤ t2 + 8193 → t3 ≤ t0 + other_bound layout.sectors
+  closed_bounded now same t0 t1 t2 t3 gone first later =
+      let all : 1024 * (196 + 4096) + emptying_bound layout.sectors + 8193 ≤ 16384 * layout.sectors + 2 ^ 30 = omega arith in
+      let most = linear layout.sectors (1024 * (196 + 4096) + emptying_bound layout.sectors + 8193) (small layout is).least all in
+      let emptied : t2 ≤ t1 + emptying_bound layout.sectors = subst (λ (l : Layout). t2 ≤ t1 + emptying_bound l.sectors) same first in
+      omega (arith, gone, emptied, later, most)
+
+-- the frames of what windows show are given up
+pub gone_cost : (count slots t0 t1 : ℕ) → count ≤ 1023 → t1 ≤ t0 + (count + 1) * (196 + slots) → t1 ≤ t0 + 1024 * (196 + slots)
+gone_cost count slots t0 t1 few paid =
+    let all : (count + 1) * (196 + slots) ≤ 1024 * (196 + slots) = mul-le-mul (let r : count + 1 ≤ 1024 = omega (arith, few) in r) (let r : 196 + slots ≤ 196 + slots = omega arith in r) in
+    omega (arith, paid, all)
+
+pub few_gone : (slots t0 t1 : ℕ) → slots ≤ 4096 → t1 ≤ t0 + 1024 * (196 + slots) → t1 ≤ t0 + 1024 * (196 + 4096)
+few_gone slots t0 t1 few paid = omega (arith, few, paid)
 
 pub few_written : (id first pages count : ℕ) (seen slots : Slots) (t0 t1 : ℕ) → seen ≡ slots → count ≡ length seen → count ≤ 4096 → t1 ≤ t0 + dirty_count id first pages slots → t1 ≤ t0 + 4096
 few_written id first pages count seen slots t0 t1 same long most paid =

@@ -51,10 +51,10 @@ use Rattle.session_words.proofs.SoundLemmas.{sound_laws}
 use Rattle.file_manager.specs.declared.volume.Volume.{Volume}
 use Rattle.file_manager.specs.Tables.{EndedBy, of_tables}
 use Rattle.pilot_engine.specs.Closing.{AreWritten, HasShut, IsEmptied, IsOpenStop, IsReady, IsShut, IsStop, Shed, TellsShut, closed_root}
-use Rattle.pilot_engine.proofs.SessionLemmas.{known_brought}
+use Rattle.running_words.proofs.SessionLemmas.{known_brought}
 
 -- no window shows a page where there is no space but the root
-none_shown : (spaces : List Space) → spaces ≡ root ∷ [] → (id page : ℕ) → is_shown spaces id page ≡ false
+pub none_shown : (spaces : List Space) → spaces ≡ root ∷ [] → (id page : ℕ) → is_shown spaces id page ≡ false
 none_shown spaces alone id page = rw alone refl
 
 -- no label of the space tables is left
@@ -70,12 +70,12 @@ no_table x y freed k l here three = was (slice_get (labels_of x) k) (sym (ap (λ
     was (Some old) is = of old (old.id == 3) refl (same_Some (free_where of_tables old) l is)
 
 module _ (spaces_of : TablesMeaning) (old new : DiskState) (before after : Slots) (layout : Layout) (runs later : CachedRuns) (volume : Volume) (m : Machine) (h : Shed spaces_of (λ id. Unit {0}) m old before layout runs volume)
-    (ended : EndedBy h.stands.stands.memory old before layout new after later) where
+    (ended : EndedBy h.stands.session.stands.memory old before layout new after later) where
   abbrev x : List Sector
-  x = h.stands.stands.memory
+  x = h.stands.session.stands.memory
 
   after_tables : (y : List Sector) × Stands new after y × Frees of_tables x y
-  after_tables = ended.leads.goes.memory x h.stands.stands.stands
+  after_tables = ended.leads.goes.memory x h.stands.session.stands.stands
 
   -- with no temporary file left, a close frees the tables alone
   closing_alike : (id page : ℕ) → of_tables id page ≡ is_closing h.left.files id page
@@ -93,7 +93,7 @@ module _ (spaces_of : TablesMeaning) (old new : DiskState) (before after : Slots
   closed : IsClosed m after_tables.0
   closed =
       let y = after_tables.0 in
-      let c = closed_law spaces_of x y h.left h.stands.stands.is (subst (λ (gone : ℕ → ℕ → Bool). Frees gone x y) (λ i id page. closing_alike id page i) after_tables.2) in
+      let c = closed_law spaces_of x y h.left h.stands.session.stands.is (subst (λ (gone : ℕ → ℕ → Bool). Frees gone x y) (λ i id page. closing_alike id page i) after_tables.2) in
       record {
         can_open = c.can_open;
         root = subst (λ (w : Machine). HasRoot (length y) (slice_get y 0) w.serial w.counter w.capacity) h.sheds.rest c.root;
@@ -103,7 +103,7 @@ module _ (spaces_of : TablesMeaning) (old new : DiskState) (before after : Slots
   maps_have_frames : (i : ℕ) (f : Frame) → Has after i f → (f.home.id ≡ 1) ⊎ (f.home.id ≡ 2)
   maps_have_frames i f has =
       let y = after_tables in
-      let frames : HasFrames after h.left.spaces = frames_brought before after h.left.spaces (known_brought spaces_of h.left before after ended.leads.brings) h.stands.stands.frames in
+      let frames : HasFrames after h.left.spaces = frames_brought before after h.left.spaces (known_brought spaces_of h.left before after ended.leads.brings) h.stands.session.stands.frames in
       let home = y.1.merged.frames i f has in
       let three : f.home.id ≢ 3 = λ q. no_table x y.0 y.2.labels f.home.sector home.label (label_here y.0 f.home.sector (home.label, f.bytes) home.keeps) (names_id home.label (wanted_at f.home) home.named ∙ q) in
       elim (frames.known f.home.id f.home.page (record { slot = i; frame = f; has = has; same_id = refl; same_page = refl })) [
@@ -120,8 +120,8 @@ module _ (spaces_of : TablesMeaning) (old new : DiskState) (before after : Slots
     stands = after_tables.1;
     closed = closed;
     maps_alone = maps_have_frames;
-    same_serial = ap (λ (w : Root). w.serial) same ∙ h.stands.same_serial ∙ ap (λ (w : Machine). w.serial) h.sheds.rest;
-    same_counter = ap (λ (w : Root). w.counter) same ∙ h.stands.same_counter ∙ ap (λ (w : Machine). w.counter) h.sheds.rest;
+    same_serial = ap (λ (w : Root). w.serial) same ∙ h.stands.session.same_serial ∙ ap (λ (w : Machine). w.serial) h.sheds.rest;
+    same_counter = ap (λ (w : Root). w.counter) same ∙ h.stands.session.same_counter ∙ ap (λ (w : Machine). w.counter) h.sheds.rest;
   }
 
 -- once both maps are written, the disk has all

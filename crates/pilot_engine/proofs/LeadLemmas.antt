@@ -9,7 +9,6 @@ use Rattle.labelled_disk.specs.Sectors.{Sector}
 use Rattle.labelled_disk.specs.State.{DiskState}
 use Rattle.frame_pool.specs.Frames.{Slots}
 use Rattle.flat_machine.specs.Machine.{Machine, used}
-use Rattle.flat_machine.specs.Space.{root}
 use Rattle.swapper_kernel.specs.Goes.{Change}
 use Rattle.swapper_kernel.specs.Stands.{labels_of}
 use Rattle.filer_kernel.specs.declared.cached.CachedRuns.{CachedRuns}
@@ -21,8 +20,8 @@ use Rattle.session_words.specs.Parts.{TablesMeaning}
 use Rattle.session_words.specs.StandsFor.{StandsFor}
 use Rattle.file_manager.specs.declared.volume.Volume.{Volume}
 use Rattle.file_manager.specs.Book.{Leads}
-use Rattle.pilot_engine.specs.Session.{IsSession}
-use Rattle.pilot_engine.proofs.SessionLemmas.{one_memory}
+use Rattle.running_words.specs.Session.{IsSession}
+use Rattle.running_words.proofs.SessionLemmas.{one_memory}
 
 -- as many labels, as many sectors
 pub same_count : (x y : List Sector) → length (labels_of y) ≡ length (labels_of x) → length y ≡ length x
@@ -44,8 +43,8 @@ grows_long id kind page is x y h = same_count x y (ap length h.grown.labels ∙ 
 module _ (P : Change) (run : List DiskWrite) (spaces_of : TablesMeaning) (old new : DiskState) (before after : Slots) (layout : Layout) (runs later : CachedRuns) (volume next_volume : Volume) (m n : Machine)
     (s : IsSession spaces_of old before layout runs volume m) (leads : Leads P run old before layout new after later) (long : (x y : List Sector) → P x y → length y ≡ length x) where
   -- a call that led to disk and frames that stand for another machine
-  pub led : StandsFor spaces_of new after n → next_volume.root.serial ≡ n.serial → next_volume.root.counter ≡ n.counter → next_volume.used ≡ used n → n.spaces ≡ root ∷ [] → IsSession spaces_of new after layout later next_volume n
-  led stands serial counter room alone =
+  pub led : StandsFor spaces_of new after n → next_volume.root.serial ≡ n.serial → next_volume.root.counter ≡ n.counter → next_volume.used ≡ used n → IsSession spaces_of new after layout later next_volume n
+  led stands serial counter room =
       let x = s.stands.memory in
       let y = leads.goes.memory x s.stands.stands in
       record {
@@ -54,5 +53,4 @@ module _ (P : Change) (run : List DiskWrite) (spaces_of : TablesMeaning) (old ne
         same_serial = serial;
         same_counter = counter;
         same_used = room;
-        alone = alone;
       }

@@ -2,6 +2,7 @@
 use Rattle.std.proofs.Common.{◌≡◌, inl, inr, ℕ, ◌+◌, ◌-◌, ◌<◌, ◌≤◌, min, Bool, true, false, List, [], length, take, Option, Some, None, refl, sym, ◌∙◌, ap, subst, arith}
 use Rattle.std.specs.Prelude.{slice_get, option_map, nat_le, ◌&&◌}
 use Rattle.std.proofs.Math.Nat.{min-eq_left}
+use Rattle.std.proofs.lemmas.Option.{none-some}
 use Rattle.std.proofs.lemmas.Bool.{and_parts, and_from, leb-true, le-leb, cases_lt, true≢false}
 use Rattle.labelled_disk.specs.declared.disk.DiskWrite.{DiskWrite}
 use Rattle.labelled_disk.specs.declared.layout.Layout.{Layout}
@@ -17,8 +18,8 @@ use Rattle.flat_machine.specs.declared.call.Reply.TheVariants as reply
 use Rattle.flat_machine.specs.declared.call.Refusal.{Refusal}
 use Rattle.flat_machine.specs.declared.call.Refusal.TheVariants as why
 use Rattle.flat_machine.specs.declared.space.Space.{Space}
-use Rattle.flat_machine.specs.Machine.{Machine, used}
-use Rattle.flat_machine.specs.Refusal.{refusal}
+use Rattle.flat_machine.specs.Machine.{Machine, used, is_anonymous}
+use Rattle.flat_machine.specs.Refusal.{refusal, file_mapped}
 use Rattle.swapper_kernel.specs.Goes.{Makes}
 use Rattle.swapper_kernel.specs.GoesLaws.{makes_then}
 use Rattle.swapper_kernel.specs.Homes.{IsLayout}
@@ -40,17 +41,19 @@ use Rattle.file_manager.specs.Resizing.{Resizes, ResizesSome}
 use Rattle.file_manager.specs.Shrinking.{MayShrink, ShrunkBy, ShrunkSome}
 use Rattle.file_manager.proofs.DownLemmas.{take_few}
 use Rattle.file_manager.proofs.GrowBroken.{free_are_unused}
-use Rattle.pilot_engine.specs.Session.{IsSession, Carries, Wrote}
-use Rattle.pilot_engine.specs.Stages.{Passes}
-use Rattle.pilot_engine.proofs.CallLemmas.{none_shown, file_told, books_at, looked, refused_after}
+use Rattle.running_words.specs.Session.{AreInForm, Carries, IsSession, Wrote}
+use Rattle.running_words.specs.Stages.{Passes}
+use Rattle.pilot_engine.proofs.CallLemmas.{file_told, books_at, looked, refused_after}
 use Rattle.pilot_engine.proofs.CarryLemmas.{grow_carried, shrink_carried}
-use Rattle.pilot_engine.proofs.FlagLemmas.{freeing_open, growth_open, take_open}
+use Rattle.running_words.proofs.FlagLemmas.{freeing_open, growth_open, take_open}
 use Rattle.pilot_engine.proofs.GrowthLemmas.{take_growth, take_unused}
-use Rattle.pilot_engine.proofs.PassLemmas.{AreInForm, grow_passes, shrink_passes}
-use Rattle.pilot_engine.proofs.RefusalLemmas.{size_immutable, size_full, size_there}
+use Rattle.running_words.proofs.PassLemmas.{grow_passes, shrink_passes}
+use Rattle.pilot_engine.proofs.RefusalLemmas.{size_immutable, size_cut, size_full, size_free}
 use Rattle.pilot_engine.proofs.RoomLemmas.{used_without}
-use Rattle.pilot_engine.proofs.SessionLemmas.{room_is}
+use Rattle.running_words.proofs.SessionLemmas.{room_is}
+use Rattle.pilot_engine.proofs.SeenLemmas.{missing_pages, nobody, unseen_pages}
 use Rattle.pilot_engine.proofs.SpaceLeft.{room}
+use Rattle.pilot_engine.specs.Seen.{IsSeenBy}
 
 -- Two bounds at once.
 
@@ -67,6 +70,13 @@ and_beyond a b most within none = elim (cases_lt most b) [
 pub within_room : (layout : Layout) (volume : Volume) → volume.layout ≡ layout → (found pages : ℕ) (fitting : Bool) → fitting ≡ (nat_le pages volume.layout.capacity && nat_le (volume.used + pages - found) volume.layout.capacity) → fitting ≡ true
     → pages ≤ layout.capacity
 within_room layout volume same found pages fitting tested under = subst (λ (l : Layout). pages ≤ l.capacity) same (and_within pages (volume.used + pages - found) volume.layout.capacity (sym tested ∙ under)).0
+
+-- a space that keeps a file from being cut
+pub cut_held : (found pages : ℕ) (answer seen : Option ℕ) (handle : ℕ) → (pages < found → answer ≡ seen) → (found ≤ pages → answer ≡ None) → answer ≡ Some handle → (pages < found) × (seen ≡ Some handle)
+cut_held found pages answer seen handle cut grown is = elim (cases_lt pages found) [
+  | inl fewer ↦ (fewer, sym (cut fewer) ∙ is)
+  | inr more ↦ absurd (none-some handle (sym (grown more) ∙ is))
+]
 
 -- Over any contents.
 
@@ -119,7 +129,7 @@ module _ (spaces_of : TablesMeaning) (old : DiskState) (before : Slots) (layout 
         omega (arith, most, room, same)
 
     module _ (mid : DiskState) (between : Slots) (now : Layout) (kept : CachedRuns) (makes : Makes volume_page [] old before mid between) (brings : BringsOwn before between)
-        (books : Books mid between layout kept (shapes_of m.files) m.spaces s.stands.memory) (same : now ≡ layout) (mutable : f.immutable ≡ false) (fits : used m + pages - size f ≤ m.capacity) where
+        (books : Books mid between layout kept (shapes_of m.files) m.spaces s.stands.memory) (same : now ≡ layout) (named : is_anonymous m.spaces id ≡ false) (unseen : pages < size f → file_mapped m id (λ w. true) ≡ None) (mutable : f.immutable ≡ false) (fits : used m + pages - size f ≤ m.capacity) where
       books_now : Books mid between now kept (shapes_of m.files) m.spaces s.stands.memory
       books_now = books_at mid between layout now kept (shapes_of m.files) m.spaces s.stands.memory books same
 
@@ -138,7 +148,7 @@ module _ (spaces_of : TablesMeaning) (old : DiskState) (before : Slots) (layout 
       may_grow : size f ≤ pages → Grows
       may_grow more = record {
         books = books_now;
-        hidden = none_shown m.spaces s.alone 0;
+        hidden = λ page. missing_pages m s.stands.is.by.machine 0 page (nobody m s.stands.is.by.machine);
         are = are;
         found = shape_found;
         enough =
@@ -149,7 +159,7 @@ module _ (spaces_of : TablesMeaning) (old : DiskState) (before : Slots) (layout 
       }
 
       may_shrink : pages < size f → Shrinks
-      may_shrink fewer = record { books = books_now; found = shape_found; fewer = fewer; hidden = none_shown m.spaces s.alone id }
+      may_shrink fewer = record { books = books_now; found = shape_found; fewer = fewer; hidden = unseen_pages m id (unseen fewer) }
 
       -- the file grows, or it shrinks
       pub either_way : (P : Type 0) → (Grows → size f ≤ pages → P) → (Shrinks → pages < size f → P) → P
@@ -159,7 +169,7 @@ module _ (spaces_of : TablesMeaning) (old : DiskState) (before : Slots) (layout 
       ]
 
       free : refusal m (call.SetSize id pages) ≡ None
-      free = size_there m s.alone id f found pages mutable fits
+      free = size_free m id f found named pages mutable unseen fits
 
       session : IsSession spaces_of mid between now kept volume m
       session = looked spaces_of old mid before between layout now runs kept volume m s makes brings books same
@@ -211,7 +221,7 @@ module _ (spaces_of : TablesMeaning) (old : DiskState) (before : Slots) (layout 
 -- ---- In the words of what was told of the file, and of the call that gives it its size.
 module _ (spaces_of : TablesMeaning) (old : DiskState) (before : Slots) (layout : Layout) (runs : CachedRuns) (volume : Volume) (m : Machine) (s : IsSession spaces_of old before layout runs volume m)
     (mid : DiskState) (between : Slots) (now : Layout) (kept : CachedRuns) (makes : Makes volume_page [] old before mid between) (brings : BringsOwn before between)
-    (books : Books mid between layout kept (shapes_of m.files) m.spaces s.stands.memory) (same : now ≡ layout) (id pages : ℕ) (a : Attributes) (told : IsAttributesOf (shapes_of m.files id) (Some a)) where
+    (books : Books mid between layout kept (shapes_of m.files) m.spaces s.stands.memory) (same : now ≡ layout) (id pages : ℕ) (seen : Option ℕ) (by : IsSeenBy m id seen) (a : Attributes) (told : IsAttributesOf (shapes_of m.files id) (Some a)) where
   file : (f : File) × (file_at m.files id ≡ Some f) × (shape_of f ≡ shape_told a)
   file = file_told m id a told
 
@@ -219,75 +229,86 @@ module _ (spaces_of : TablesMeaning) (old : DiskState) (before : Slots) (layout 
   refused word is = refused_after spaces_of old mid before between layout now runs kept volume m s makes brings books same (call.SetSize id pages) word is
 
   pub immutable_refused : a.immutable ≡ true → Carries spaces_of m (call.SetSize id pages) (reply.Refused why.Immutable) mid between now kept volume
-  immutable_refused marked = refused why.Immutable (size_immutable m s.alone id file.0 file.1 pages (ap (λ (w : Shape). w.immutable) file.2 ∙ marked))
+  immutable_refused marked = refused why.Immutable (size_immutable m id file.0 file.1 by.named pages (ap (λ (w : Shape). w.immutable) file.2 ∙ marked))
 
-  module _ (is : IsLayout layout) (same_layout : volume.layout ≡ layout) (mutable : a.immutable ≡ false) where
+  module _ (mutable : a.immutable ≡ false) where
     is_mutable : file.0.immutable ≡ false
     is_mutable = ap (λ (w : Shape). w.immutable) file.2 ∙ mutable
 
-    of_size : (b : Bool) → (nat_le pages volume.layout.capacity && nat_le (volume.used + pages - a.pages) volume.layout.capacity) ≡ b
-        → (nat_le pages volume.layout.capacity && nat_le (volume.used + pages - size file.0) volume.layout.capacity) ≡ b
-    of_size b is_so = ap (λ (w : Shape). nat_le pages volume.layout.capacity && nat_le (volume.used + pages - w.size) volume.layout.capacity) file.2 ∙ is_so
+    long : size file.0 ≡ a.pages
+    long = ap (λ (w : Shape). w.size) file.2
 
-    pub full_refused : (fitting : Bool) → fitting ≡ (nat_le pages volume.layout.capacity && nat_le (volume.used + pages - a.pages) volume.layout.capacity) → fitting ≡ false
-        → Carries spaces_of m (call.SetSize id pages) (reply.Refused why.Full) mid between now kept volume
-    full_refused fitting tested over =
-        refused why.Full (size_full m s.alone id file.0 file.1 pages is_mutable
-        (size_too_long spaces_of old before layout runs volume m s is same_layout id pages file.0 file.1 (of_size false (sym tested ∙ over))))
+    pub cut_refused : pages < a.pages → (handle : ℕ) → seen ≡ Some handle → Carries spaces_of m (call.SetSize id pages) (reply.Refused (why.FileMapped handle)) mid between now kept volume
+    cut_refused fewer handle is =
+        refused (why.FileMapped handle) (size_cut m id file.0 file.1 by.named pages is_mutable (omega (arith, fewer, long)) (why.FileMapped handle) (by.mapped ∙ ap (option_map why.FileMapped) is))
 
-    module _ (fitting : Bool) (tested : fitting ≡ (nat_le pages volume.layout.capacity && nat_le (volume.used + pages - a.pages) volume.layout.capacity)) (under : fitting ≡ true) where
-      fits : used m + pages - size file.0 ≤ m.capacity
-      fits = size_has_room spaces_of old before layout runs volume m s is same_layout id pages file.0 file.1 (of_size true (sym tested ∙ under))
+    module _ (is : IsLayout layout) (same_layout : volume.layout ≡ layout) (uncut : pages < a.pages → seen ≡ None) where
+      unseen : pages < size file.0 → file_mapped m id (λ w. true) ≡ None
+      unseen fewer = by.mapped ∙ ap (option_map why.FileMapped) (uncut (omega (arith, fewer, long)))
 
-      -- what the call says of a file that may grow, and of one that may shrink
-      abbrev pub OfGrowing : (List Sector → Shape → Type 0) → Type 0
-      OfGrowing P = (x : List Sector) (shapes : Shapes) (spaces : List Space) (g : Shape) → MayGrow mid between now kept shapes spaces id g pages x → g.size ≤ pages → P x g
+      of_size : (b : Bool) → (nat_le pages volume.layout.capacity && nat_le (volume.used + pages - a.pages) volume.layout.capacity) ≡ b
+          → (nat_le pages volume.layout.capacity && nat_le (volume.used + pages - size file.0) volume.layout.capacity) ≡ b
+      of_size b is_so = ap (λ (w : Shape). nat_le pages volume.layout.capacity && nat_le (volume.used + pages - w.size) volume.layout.capacity) file.2 ∙ is_so
 
-      abbrev pub OfShrinking : (List Sector → Shape → Type 0) → Type 0
-      OfShrinking P = (x : List Sector) (shapes : Shapes) (spaces : List Space) (g : Shape) → MayShrink mid between now kept shapes spaces id g pages x → P x g
+      pub full_refused : (fitting : Bool) → fitting ≡ (nat_le pages volume.layout.capacity && nat_le (volume.used + pages - a.pages) volume.layout.capacity) → fitting ≡ false
+          → Carries spaces_of m (call.SetSize id pages) (reply.Refused why.Full) mid between now kept volume
+      full_refused fitting tested over =
+          refused why.Full (size_full m id file.0 file.1 by.named pages is_mutable unseen
+          (size_too_long spaces_of old before layout runs volume m s is same_layout id pages file.0 file.1 (of_size false (sym tested ∙ over))))
 
-      either : (P : Type 0) → (MayGrow mid between now kept (shapes_of m.files) m.spaces id (shape_of file.0) pages s.stands.memory → size file.0 ≤ pages → P)
-          → (MayShrink mid between now kept (shapes_of m.files) m.spaces id (shape_of file.0) pages s.stands.memory → pages < size file.0 → P) → P
-      either P grows shrinks = either_way spaces_of old before layout runs volume m s is same_layout id pages file.0 file.1 mid between now kept makes brings books same is_mutable fits P grows shrinks
+      module _ (fitting : Bool) (tested : fitting ≡ (nat_le pages volume.layout.capacity && nat_le (volume.used + pages - a.pages) volume.layout.capacity)) (under : fitting ≡ true) where
+        fits : used m + pages - size file.0 ≤ m.capacity
+        fits = size_has_room spaces_of old before layout runs volume m s is same_layout id pages file.0 file.1 (of_size true (sym tested ∙ under))
 
-      pub size_sound : (P : Type 0) → OfGrowing (λ x g. P) → OfShrinking (λ x g. P) → P
-      size_sound P grown shrunk =
-          either P (λ may more. grown s.stands.memory (shapes_of m.files) m.spaces (shape_of file.0) may more) (λ may fewer. shrunk s.stands.memory (shapes_of m.files) m.spaces (shape_of file.0) may)
+        -- what the call says of a file that may grow, and of one that may shrink
+        abbrev pub OfGrowing : (List Sector → Shape → Type 0) → Type 0
+        OfGrowing P = (x : List Sector) (shapes : Shapes) (spaces : List Space) (g : Shape) → MayGrow mid between now kept shapes spaces id g pages x → g.size ≤ pages → P x g
 
-      module _ (new : DiskState) (after : Slots) (later : CachedRuns) where
-        pub size_done : (next_volume : Volume) → next_volume.root ≡ volume.root
-            → OfGrowing (λ x g. GrownBy id g.kind g.size (pages - g.size) mid between now new after later) → OfGrowing (λ x g. next_volume ≡ record volume { used = min (volume.used + (pages - g.size)) volume.layout.capacity })
-            → OfShrinking (λ x g. ShrunkBy id pages g.size x mid between now new after later) → OfShrinking (λ x g. next_volume ≡ record volume { used = volume.used - (g.size - pages) })
-            → Carries spaces_of m (call.SetSize id pages) reply.Done new after now later next_volume
-        size_done next_volume root grown used_grown shrunk used_shrunk =
-            let serial = ap (λ (r : Root). r.serial) root in
-            let counter = ap (λ (r : Root). r.counter) root in
-            either (Carries spaces_of m (call.SetSize id pages) reply.Done new after now later next_volume)
-            (λ may more.
-            grow_done spaces_of old before layout runs volume m s is same_layout id pages file.0 file.1 mid between now kept makes brings books same is_mutable fits new after later next_volume serial counter more
-            (used_grown s.stands.memory (shapes_of m.files) m.spaces (shape_of file.0) may more) (grown s.stands.memory (shapes_of m.files) m.spaces (shape_of file.0) may more))
-            (λ may fewer.
-            shrink_done spaces_of old before layout runs volume m s is same_layout id pages file.0 file.1 mid between now kept makes brings books same is_mutable fits new after later next_volume serial counter fewer
-            (used_shrunk s.stands.memory (shapes_of m.files) m.spaces (shape_of file.0) may) (shrunk s.stands.memory (shapes_of m.files) m.spaces (shape_of file.0) may))
+        abbrev pub OfShrinking : (List Sector → Shape → Type 0) → Type 0
+        OfShrinking P = (x : List Sector) (shapes : Shapes) (spaces : List Space) (g : Shape) → MayShrink mid between now kept shapes spaces id g pages x → P x g
 
-        pub size_passed : AreInForm old → OfGrowing (λ x g. GrownBy id g.kind g.size (pages - g.size) mid between now new after later) → OfShrinking (λ x g. ShrunkBy id pages g.size x mid between now new after later)
-            → Passes m (call.SetSize id pages) old new
-        size_passed form grown shrunk =
-            either (Passes m (call.SetSize id pages) old new)
-            (λ may more.
-            grow_passed spaces_of old before layout runs volume m s is same_layout id pages file.0 file.1 mid between now kept makes brings books same is_mutable fits new after later form more
-            (grown s.stands.memory (shapes_of m.files) m.spaces (shape_of file.0) may more))
-            (λ may fewer.
-            shrink_passed spaces_of old before layout runs volume m s is same_layout id pages file.0 file.1 mid between now kept makes brings books same is_mutable fits new after later form fewer
-            (shrunk s.stands.memory (shapes_of m.files) m.spaces (shape_of file.0) may))
+        either : (P : Type 0) → (MayGrow mid between now kept (shapes_of m.files) m.spaces id (shape_of file.0) pages s.stands.memory → size file.0 ≤ pages → P)
+            → (MayShrink mid between now kept (shapes_of m.files) m.spaces id (shape_of file.0) pages s.stands.memory → pages < size file.0 → P) → P
+        either P grows shrinks = either_way spaces_of old before layout runs volume m s is same_layout id pages file.0 file.1 mid between now kept makes brings books same by.named unseen is_mutable fits P grows shrinks
 
-        pub size_broken : AreInForm old → OfGrowing (λ x g. GrewSome id g.kind g.size (pages - g.size) x mid between new after) → OfShrinking (λ x g. ShrunkSome id pages g.size x mid between new after)
-            → Passes m (call.SetSize id pages) old new
-        size_broken form grown shrunk =
-            either (Passes m (call.SetSize id pages) old new)
-            (λ may more.
-            grow_broken spaces_of old before layout runs volume m s is same_layout id pages file.0 file.1 mid between now kept makes brings books same is_mutable fits new after later form more
-            (grown s.stands.memory (shapes_of m.files) m.spaces (shape_of file.0) may more))
-            (λ may fewer.
-            shrink_broken spaces_of old before layout runs volume m s is same_layout id pages file.0 file.1 mid between now kept makes brings books same is_mutable fits new after later form fewer
-            (shrunk s.stands.memory (shapes_of m.files) m.spaces (shape_of file.0) may))
+        pub size_sound : (P : Type 0) → OfGrowing (λ x g. P) → OfShrinking (λ x g. P) → P
+        size_sound P grown shrunk =
+            either P (λ may more. grown s.stands.memory (shapes_of m.files) m.spaces (shape_of file.0) may more) (λ may fewer. shrunk s.stands.memory (shapes_of m.files) m.spaces (shape_of file.0) may)
+
+        module _ (new : DiskState) (after : Slots) (later : CachedRuns) where
+          pub size_done : (next_volume : Volume) → next_volume.root ≡ volume.root
+              → OfGrowing (λ x g. GrownBy id g.kind g.size (pages - g.size) mid between now new after later) → OfGrowing (λ x g. next_volume ≡ record volume { used = min (volume.used + (pages - g.size)) volume.layout.capacity })
+              → OfShrinking (λ x g. ShrunkBy id pages g.size x mid between now new after later) → OfShrinking (λ x g. next_volume ≡ record volume { used = volume.used - (g.size - pages) })
+              → Carries spaces_of m (call.SetSize id pages) reply.Done new after now later next_volume
+          size_done next_volume root grown used_grown shrunk used_shrunk =
+              let serial = ap (λ (r : Root). r.serial) root in
+              let counter = ap (λ (r : Root). r.counter) root in
+              either (Carries spaces_of m (call.SetSize id pages) reply.Done new after now later next_volume)
+              (λ may more.
+              grow_done spaces_of old before layout runs volume m s is same_layout id pages file.0 file.1 mid between now kept makes brings books same by.named unseen is_mutable fits new after later next_volume serial counter more
+              (used_grown s.stands.memory (shapes_of m.files) m.spaces (shape_of file.0) may more) (grown s.stands.memory (shapes_of m.files) m.spaces (shape_of file.0) may more))
+              (λ may fewer.
+              shrink_done spaces_of old before layout runs volume m s is same_layout id pages file.0 file.1 mid between now kept makes brings books same by.named unseen is_mutable fits new after later next_volume serial counter fewer
+              (used_shrunk s.stands.memory (shapes_of m.files) m.spaces (shape_of file.0) may) (shrunk s.stands.memory (shapes_of m.files) m.spaces (shape_of file.0) may))
+
+          pub size_passed : AreInForm old → OfGrowing (λ x g. GrownBy id g.kind g.size (pages - g.size) mid between now new after later) → OfShrinking (λ x g. ShrunkBy id pages g.size x mid between now new after later)
+              → Passes m (call.SetSize id pages) old new
+          size_passed form grown shrunk =
+              either (Passes m (call.SetSize id pages) old new)
+              (λ may more.
+              grow_passed spaces_of old before layout runs volume m s is same_layout id pages file.0 file.1 mid between now kept makes brings books same by.named unseen is_mutable fits new after later form more
+              (grown s.stands.memory (shapes_of m.files) m.spaces (shape_of file.0) may more))
+              (λ may fewer.
+              shrink_passed spaces_of old before layout runs volume m s is same_layout id pages file.0 file.1 mid between now kept makes brings books same by.named unseen is_mutable fits new after later form fewer
+              (shrunk s.stands.memory (shapes_of m.files) m.spaces (shape_of file.0) may))
+
+          pub size_broken : AreInForm old → OfGrowing (λ x g. GrewSome id g.kind g.size (pages - g.size) x mid between new after) → OfShrinking (λ x g. ShrunkSome id pages g.size x mid between new after)
+              → Passes m (call.SetSize id pages) old new
+          size_broken form grown shrunk =
+              either (Passes m (call.SetSize id pages) old new)
+              (λ may more.
+              grow_broken spaces_of old before layout runs volume m s is same_layout id pages file.0 file.1 mid between now kept makes brings books same by.named unseen is_mutable fits new after later form more
+              (grown s.stands.memory (shapes_of m.files) m.spaces (shape_of file.0) may more))
+              (λ may fewer.
+              shrink_broken spaces_of old before layout runs volume m s is same_layout id pages file.0 file.1 mid between now kept makes brings books same by.named unseen is_mutable fits new after later form fewer
+              (shrunk s.stands.memory (shapes_of m.files) m.spaces (shape_of file.0) may))

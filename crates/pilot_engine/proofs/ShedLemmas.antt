@@ -1,10 +1,10 @@
 -- Temporary files go, one after the other.
-use Rattle.std.proofs.Common.{◌≡◌, ◌≢◌, ◌⊎◌, inl, inr, ℕ, ◌+◌, ◌-◌, ◌≤◌, Bool, true, false, List, [], Some, None, refl, sym, ◌∙◌, ap, subst, arith}
+use Rattle.std.proofs.Common.{◌≡◌, ◌≢◌, ◌⊎◌, inl, inr, ℕ, ◌+◌, ◌-◌, ◌≤◌, Bool, true, false, List, [], ◌∷◌, Some, None, refl, sym, ◌∙◌, ap, subst, arith}
 use Rattle.std.specs.Prelude.{option_map, ◌==◌, if◌then◌else◌}
 use Rattle.std.proofs.lemmas.Option.{same_Some, none-some}
 use Rattle.std.proofs.lemmas.Bool.{eq-eqb, eqb-true, cases_lt}
 use Rattle.labelled_disk.specs.declared.layout.Layout.{Layout}
-use Rattle.labelled_disk.specs.File.{File, file_at}
+use Rattle.labelled_disk.specs.File.{File, file_at, size}
 use Rattle.labelled_disk.specs.Rising.{AreRising}
 use Rattle.labelled_disk.specs.State.{DiskState}
 use Rattle.labelled_disk.proofs.RisingLemmas.{same_by_look_up}
@@ -16,6 +16,7 @@ use Rattle.flat_machine.specs.declared.call.Reply.TheVariants as reply
 use Rattle.flat_machine.specs.IsMachine.{IsMachine}
 use Rattle.flat_machine.specs.Machine.{Machine}
 use Rattle.flat_machine.specs.Next.{next, without_file}
+use Rattle.flat_machine.specs.Space.{root}
 use Rattle.flat_machine.specs.Refusal.{refusal}
 use Rattle.flat_machine.proofs.NextLemmas.{next_keeps_machine}
 use Rattle.flat_machine.proofs.StoreLemmas.{unrefused}
@@ -31,10 +32,12 @@ use Rattle.file_manager.specs.Attributes.{IsAttributesOf}
 use Rattle.file_manager.specs.Book.{Books, BringsOwn}
 use Rattle.file_manager.specs.Deleting.{DeletedBy}
 use Rattle.pilot_engine.specs.Closing.{Shed, Sheds, permanents, up_to_next}
-use Rattle.pilot_engine.specs.Session.{IsSession}
-use Rattle.pilot_engine.proofs.CallLemmas.{books_at, carries_at, delete_done, file_told, looked, none_told}
+use Rattle.running_words.specs.Session.{IsAlone, IsSession}
+use Rattle.running_words.proofs.SessionLemmas.{asked_at}
+use Rattle.pilot_engine.proofs.AloneLemmas.{delete_alone}
+use Rattle.pilot_engine.proofs.CallLemmas.{books_at, carries_at, file_told, looked, none_told}
+use Rattle.pilot_engine.proofs.CarryLemmas.{delete_carried}
 use Rattle.pilot_engine.proofs.EndCosts.{room_without}
-use Rattle.pilot_engine.proofs.RefusalLemmas.{delete_there}
 
 -- without a temporary file the permanent ones are the same
 pub without_permanents : (fs : List File) (id : ℕ) (f : File) → AreRising fs → AreRising (without_file id fs) → file_at fs id ≡ Some f → f.permanent ≡ false → permanents (without_file id fs) ≡ permanents fs
@@ -80,18 +83,18 @@ sheds_one m id f rise rises found temporary = record {
 
 module _ (spaces_of : TablesMeaning) (disk : DiskState) (slots : Slots) (layout : Layout) (runs : CachedRuns) (volume : Volume) (m : Machine) where
   -- nothing goes, since nothing that is temporary is among these
-  abbrev pub shed_nothing : (gone : ℕ → Type 0) → IsSession spaces_of disk slots layout runs volume m → ((id : ℕ) (f : File) → gone id → file_at m.files id ≡ Some f → f.permanent ≡ true) → Shed spaces_of gone m disk slots layout runs volume
+  abbrev pub shed_nothing : (gone : ℕ → Type 0) → IsAlone spaces_of disk slots layout runs volume m → ((id : ℕ) (f : File) → gone id → file_at m.files id ≡ Some f → f.permanent ≡ true) → Shed spaces_of gone m disk slots layout runs volume
   shed_nothing gone s permanent = record { left = m; stands = s; sheds = sheds_itself m; permanent = permanent }
 
   -- a file goes
-  pub shed_file : (id : ℕ) (f : File) → IsMachine m → file_at m.files id ≡ Some f → f.permanent ≡ false → refusal m (call.Delete id) ≡ None → IsSession spaces_of disk slots layout runs volume (next m (call.Delete id))
+  pub shed_file : (id : ℕ) (f : File) → IsMachine m → m.spaces ≡ root ∷ [] → file_at m.files id ≡ Some f → f.permanent ≡ false → refusal m (call.Delete id) ≡ None → IsSession spaces_of disk slots layout runs volume (next m (call.Delete id))
       → Shed spaces_of (λ other. other ≡ id) m disk slots layout runs volume
-  shed_file id f machine found temporary free s =
+  shed_file id f machine alone found temporary free s =
       let becomes : next m (call.Delete id) ≡ record m { files = without_file id m.files } = unrefused m (call.Delete id) free in
       let now : IsSession spaces_of disk slots layout runs volume (record m { files = without_file id m.files }) = subst (λ (n : Machine). IsSession spaces_of disk slots layout runs volume n) becomes s in
       record {
         left = record m { files = without_file id m.files };
-        stands = now;
+        stands = record { session = now; alone = alone };
         sheds = sheds_one m id f machine.ids_rise now.stands.is.by.machine.ids_rise found temporary;
         permanent = λ j g same is. absurd (without_itself m.files id g (subst (λ (k : ℕ). file_at (without_file id m.files) k ≡ Some g) same is));
       }
@@ -112,14 +115,23 @@ module _ (spaces_of : TablesMeaning) (disk : DiskState) (slots : Slots) (layout 
       there j f found none = none-some (shape_of f) (sym none ∙ ap (option_map shape_of) found)
 
   -- there is none
-  pub shed_last : (cursor : ℕ) → IsNextFile (shapes_of m.files) cursor None → IsSession spaces_of disk slots layout runs volume m → Shed spaces_of (up_to_next cursor None) m disk slots layout runs volume
+  pub shed_last : (cursor : ℕ) → IsNextFile (shapes_of m.files) cursor None → IsAlone spaces_of disk slots layout runs volume m → Shed spaces_of (up_to_next cursor None) m disk slots layout runs volume
   shed_last cursor is s = shed_nothing (up_to_next cursor None) s (λ j f above found. absurd (none-some (shape_of f) (sym (is j above) ∙ ap (option_map shape_of) found)))
 
+-- pages came and went
+pub asked_alone : (spaces_of : TablesMeaning) (old new : DiskState) (before after : Slots) (layout : Layout) (runs later : CachedRuns) (volume : Volume) (m : Machine) (s : IsAlone spaces_of old before layout runs volume m) → Makes volume_page [] old before new after
+    → BringsOwn before after → Books new after layout later (shapes_of m.files) m.spaces s.session.stands.memory → (now : Layout) → now ≡ layout → IsAlone spaces_of new after now later volume m
+asked_alone spaces_of old new before after layout runs later volume m s makes brings books now same = record {
+  session = asked_at spaces_of old new before after layout runs later volume m s.session makes brings books now same;
+  alone = s.alone;
+}
+
 -- A look at a file, and its deletion.
-module _ (spaces_of : TablesMeaning) (old mid : DiskState) (before between : Slots) (layout now : Layout) (runs kept : CachedRuns) (volume : Volume) (m : Machine) (s : IsSession spaces_of old before layout runs volume m)
-    (makes : Makes volume_page [] old before mid between) (brings : BringsOwn before between) (books : Books mid between layout kept (shapes_of m.files) m.spaces s.stands.memory) (same : now ≡ layout) (id : ℕ) where
-  looked_at : IsSession spaces_of mid between now kept volume m
-  looked_at = looked spaces_of old mid before between layout now runs kept volume m s makes brings books same
+module _ (spaces_of : TablesMeaning) (old mid : DiskState) (before between : Slots) (layout now : Layout) (runs kept : CachedRuns) (volume : Volume) (m : Machine) (s : IsAlone spaces_of old before layout runs volume m)
+    (makes : Makes volume_page [] old before mid between) (brings : BringsOwn before between) (books : Books mid between layout kept (shapes_of m.files) m.spaces s.session.stands.memory) (same : now ≡ layout) (id : ℕ) where
+  -- it was looked at
+  pub looked_at : IsAlone spaces_of mid between now kept volume m
+  looked_at = record { session = looked spaces_of old mid before between layout now runs kept volume m s.session makes brings books same; alone = s.alone }
 
   -- there is no such file
   pub shed_missing : IsAttributesOf (shapes_of m.files id) None → Shed spaces_of (λ other. other ≡ id) m mid between now kept volume
@@ -140,16 +152,18 @@ module _ (spaces_of : TablesMeaning) (old mid : DiskState) (before between : Slo
         (λ j f is found. mark_of f (subst (λ (k : ℕ). file_at m.files k ≡ Some f) is found) ∙ permanent)
 
     -- the book for its deletion
-    pub books_now : Books mid between now kept (shapes_of m.files) m.spaces s.stands.memory
-    books_now = books_at mid between layout now kept (shapes_of m.files) m.spaces s.stands.memory books same
+    pub books_now : Books mid between now kept (shapes_of m.files) m.spaces s.session.stands.memory
+    books_now = books_at mid between layout now kept (shapes_of m.files) m.spaces s.session.stands.memory books same
 
     -- it is deleted
     pub shed_deleted : (new : DiskState) (after : Slots) (last : Layout) (later : CachedRuns) (next_volume : Volume) → a.permanent ≡ false → next_volume ≡ record volume { used = next_volume.used }
-        → next_volume.used ≡ volume.used - (a.pages + 1) → last ≡ now → DeletedBy id a.pages s.stands.memory mid between now new after later → Shed spaces_of (λ other. other ≡ id) m new after last later next_volume
+        → next_volume.used ≡ volume.used - (a.pages + 1) → last ≡ now → DeletedBy id a.pages s.session.stands.memory mid between now new after later → Shed spaces_of (λ other. other ≡ id) m new after last later next_volume
     shed_deleted new after last later next_volume temporary rest less at deleted =
         let f = file_told m id a told in
-        let carries = delete_done spaces_of old mid before between layout now runs kept volume m s makes brings books same new after later next_volume id a told (ap (λ (v : Volume). v.root.serial) rest) (ap (λ (v : Volume). v.root.counter) rest) less deleted in
-        shed_file spaces_of new after last later next_volume m id f.0 s.stands.is.by.machine f.1 (mark_of f.0 f.1 ∙ temporary) (delete_there m s.alone id f.0 f.1)
+        let long : size f.0 ≡ a.pages = ap (λ (w : Shape). w.size) f.2 in
+        let free = delete_alone m s.alone id f.0 f.1 in
+        let carries = delete_carried spaces_of mid new between after now kept later volume next_volume m looked_at.session (ap (λ (v : Volume). v.root.serial) rest) (ap (λ (v : Volume). v.root.counter) rest) id f.0 f.1 _ free (omega (arith, less, long)) deleted.leads in
+        shed_file spaces_of new after last later next_volume m id f.0 s.session.stands.is.by.machine s.alone f.1 (mark_of f.0 f.1 ∙ temporary) free
         (carries_at spaces_of m (call.Delete id) reply.Done new after now last later next_volume carries at).stands
 
 -- what went is gone

@@ -34,7 +34,7 @@ use Rattle.label_laws.proofs.CountLemmas.{files_count, pages_counted, rooms}
 use Rattle.file_manager.specs.declared.volume.Volume.{Volume}
 use Rattle.file_manager.specs.Making.{free_count}
 use Rattle.file_manager.proofs.RunStages.{all_counted, there_is}
-use Rattle.pilot_engine.specs.Session.{IsSession}
+use Rattle.running_words.specs.Session.{IsSession}
 use Rattle.pilot_engine.proofs.RangeCounts.{same_counted, none_counted, split_counted, one_more, placed}
 use Rattle.pilot_engine.proofs.StartCount.{room_beside}
 

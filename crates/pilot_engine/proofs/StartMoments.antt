@@ -33,9 +33,9 @@ use Rattle.volume_root.specs.declared.root.Root.{Root}
 use Rattle.volume_root.specs.RootPage.{IsValidRoot, root_write, root_label, root_bytes}
 use Rattle.volume_root.proofs.WrittenLemmas.{is_root, serial_read, counter_read}
 use Rattle.pilot_engine.specs.Opening.{in_use, IsBare, StartsSome, KeepsFiles}
-use Rattle.pilot_engine.specs.Session.{AreOpen}
+use Rattle.running_words.specs.Session.{AreOpen}
 use Rattle.pilot_engine.proofs.GrowthLemmas.{take_growth}
-use Rattle.pilot_engine.proofs.FlagLemmas.{growth_open, open_writes, opened_by, root_open, take_open}
+use Rattle.running_words.proofs.FlagLemmas.{growth_open, open_writes, opened_by, root_open, take_open}
 
 -- a data sector of a disk with the same labels
 data_alike : (d e : List Sector) → labels_of e ≡ labels_of d → (i : ℕ) (s : Sector) → HasData d i s → (t : Sector) × HasData e i t × (t.0 ≡ s.0)

@@ -57,7 +57,7 @@ use Rattle.file_manager.proofs.RunStages.{marks_shown, bits_shown, mark_is, in_b
 use Rattle.file_manager.proofs.UpLemmas.{count_same}
 use Rattle.file_manager.proofs.TablesMade.{no_shape}
 use Rattle.pilot_engine.specs.Opening.{root_alone, in_use, IsBare}
-use Rattle.pilot_engine.specs.Session.{IsSession}
+use Rattle.running_words.specs.Session.{IsSession}
 use Rattle.pilot_engine.proofs.StartCount.{room_for_tables, used_by_files}
 
 -- where no frame is, the memory is what the disk tells
@@ -226,5 +226,4 @@ module _ (d : List Sector) (sectors : AreSectors d) (sound : Sound d) (layout : 
             same_serial = ap (λ (r : Root). r.serial) numbers;
             same_counter = ap (λ (r : Root). r.counter) numbers;
             same_used = used_by_files layout is_layout d opened can_open cleared opened_long free volume.used counted is_used;
-            alone = refl;
           })

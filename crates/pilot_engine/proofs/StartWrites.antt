@@ -1,5 +1,5 @@
 -- What a start has written, exit by exit.
-use Rattle.std.proofs.Common.{◌≡◌, ◌⊎◌, inl, inr, ℕ, zero, suc, ◌<◌, ◌^◌, false, ◌++◌, List, [], ◌∷◌, length, Some, refl, sym, ◌∙◌, ap, subst, arith}
+use Rattle.std.proofs.Common.{◌≡◌, ◌⊎◌, inl, inr, ℕ, zero, suc, ◌<◌, ◌^◌, false, ◌++◌, List, [], ◌∷◌, length, Some, refl, sym, ◌∙◌, ap, append-nil, subst, arith}
 use Rattle.std.specs.Prelude.{option_map, slice_get}
 use Rattle.std.proofs.lemmas.Option.{same_Some}
 use Rattle.labelled_disk.specs.declared.disk.DiskWrite.{DiskWrite}
@@ -28,7 +28,7 @@ use Rattle.volume_root.specs.RootPage.{IsValidRoot, root_in, root_write}
 use Rattle.file_manager.specs.Making.{MakesAll, MakesSome}
 use Rattle.file_manager.proofs.RunLeads.{map_makes, take_all}
 use Rattle.pilot_engine.specs.Opening.{in_use, IsBare, StartsSome, WroteFirst, KeepsFiles}
-use Rattle.pilot_engine.proofs.FlagLemmas.{labels_alone}
+use Rattle.running_words.proofs.FlagLemmas.{labels_alone}
 use Rattle.pilot_engine.proofs.StartMoments.{files_kept}
 
 module _ (root : Root) (a : DiskState) (s : Slots) (bare : IsBare s) where
@@ -105,12 +105,14 @@ module _ (root : Root) (a : DiskState) (s : Slots) (bare : IsBare s) where
       pub tables_some : {d : DiskState} {u : Slots} → MakesSome 3 0 0 96 c t d u → StartsSome root a s d u
       tables_some some = record { sectors = some.sectors; few = some.few; count = suc some.count; makes = then_more (makes_then (map_makes beside) some.makes); first = inr (_, refl) }
 
-      pub tables_all : {d : DiskState} {u : Slots} → MakesAll 3 0 0 96 c t d u → StartsSome root a s d u
-      tables_all {d} {u} all = record {
+      -- all of them were made, and then bytes of theirs were written
+      pub tables_all : {d e : DiskState} {u v : Slots} → MakesAll 3 0 0 96 c t d u → Makes volume_page [] d u e v → StartsSome root a s e v
+      tables_all {e = e} {v = v} all bytes = record {
         sectors = all.sectors;
         few = let long = all.long in omega (arith, long);
         count = suc (length (growth 3 0 0 all.sectors));
-        makes = then_more (makes_then (map_makes beside) (subst (λ (ws : List DiskWrite). Makes volume_page ws c t d u) (sym (take_all (growth 3 0 0 all.sectors))) all.makes));
+        makes = then_more (makes_then (map_makes beside)
+            (subst (λ (ws : List DiskWrite). Makes volume_page ws c t e v) (append-nil (growth 3 0 0 all.sectors) ∙ sym (take_all (growth 3 0 0 all.sectors))) (makes_then all.makes bytes)));
         first = inr (_, refl);
       }
 

@@ -42,10 +42,10 @@ use Rattle.file_manager.specs.Attributes.{IsAttributesOf}
 use Rattle.file_manager.specs.Deleting.{AreOfDeleted, DeletesFirst}
 use Rattle.pilot_engine.specs.Closing.{IsOpenStop, IsStop, Sheds, Throughout}
 use Rattle.pilot_engine.proofs.CallLemmas.{file_told}
-use Rattle.pilot_engine.proofs.RefusalLemmas.{delete_there}
+use Rattle.pilot_engine.proofs.AloneLemmas.{delete_alone}
 use Rattle.pilot_engine.proofs.ShedLemmas.{sheds_deleted}
-use Rattle.pilot_engine.proofs.PassLemmas.{AreInForm}
-use Rattle.pilot_engine.proofs.StageLemmas.{begun, same_labels}
+use Rattle.running_words.specs.Session.{AreInForm}
+use Rattle.running_words.proofs.StageLemmas.{begun, same_labels}
 
 -- Writes in a row.
 
@@ -190,4 +190,4 @@ module _ (spaces_of : TablesMeaning) (old new : DiskState) (before after : Slots
   stops_deleted mid between id a alone told temporary look (inr some) =
       let f = file_told m id a told in
       let mark : f.0.permanent ≡ false = ap (λ (w : Shape). w.permanent) f.2 ∙ temporary in
-      stops_deleting id some.leader f.0 some.sectors f.1 (sheds_deleted m id f.0 stands.is.by.machine (delete_there m alone id f.0 f.1) f.1 mark) some.stops (makes_then look some.makes)
+      stops_deleting id some.leader f.0 some.sectors f.1 (sheds_deleted m id f.0 stands.is.by.machine (delete_alone m alone id f.0 f.1) f.1 mark) some.stops (makes_then look some.makes)

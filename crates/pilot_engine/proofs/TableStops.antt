@@ -26,6 +26,7 @@ use Rattle.label_laws.proofs.StayLemmas.{stay_laws}
 use Rattle.volume_root.specs.declared.root.Root.{Root}
 use Rattle.volume_root.specs.RootPage.{IsValidRoot, root_write}
 use Rattle.frame_pool.specs.Frames.{Slots}
+use Rattle.flat_machine.specs.IsMachine.{IsMachine}
 use Rattle.flat_machine.specs.Machine.{Machine}
 use Rattle.flat_machine.specs.Settled.{Agrees, settled}
 use Rattle.swapper_kernel.specs.DiffersLaws.{names_id}
@@ -40,9 +41,10 @@ use Rattle.session_words.proofs.SettledLemmas.{settled_is_told}
 use Rattle.file_manager.specs.Tables.{AreTablePages}
 use Rattle.pilot_engine.specs.Closing.{IsEmptied, IsOpenStop, IsReady, IsStop, Throughout, closed_root}
 use Rattle.pilot_engine.proofs.EndLemmas.{shut_stop}
-use Rattle.pilot_engine.proofs.PassLemmas.{AreInForm}
-use Rattle.pilot_engine.proofs.StageLemmas.{begun, same_labels}
-use Rattle.pilot_engine.proofs.StopLemmas.{flag_stays, freeing_none, open_is_stop, stops_by}
+use Rattle.running_words.specs.Session.{AreInForm}
+use Rattle.running_words.proofs.StageLemmas.{begun, same_labels}
+use Rattle.pilot_engine.proofs.AloneLemmas.{forgotten, stop_more}
+use Rattle.pilot_engine.proofs.StopLemmas.{flag_stays, freeing_none, open_is_stop, stops_by, throughout_less, throughout_then}
 
 -- No file needs a page of the space tables.
 
@@ -163,3 +165,7 @@ stops_root m r old new ready valid start (inr wrote) = record {
     one d zero is same = is
     one d (suc zero) is same = subst (λ (e : List Sector). IsStop m (moment e (root_write (closed_root r) ∷ []) 1)) same after
     one d (suc (suc k)) is same = subst (λ (e : List Sector). IsStop m (moment e (root_write (closed_root r) ∷ []) 1)) same after
+
+-- the frames of what windows show were given up, and then the volume was closed
+pub stops_closed : (m : Machine) → IsMachine m → {a b c : DiskState} → Throughout (IsOpenStop m) a b → Throughout (IsStop (forgotten m)) b c → Throughout (IsStop m) a c
+stops_closed m is first later = throughout_then (IsStop m) (throughout_less (IsOpenStop m) (IsStop m) (open_is_stop m) first) (throughout_less (IsStop (forgotten m)) (IsStop m) (λ d. stop_more d m is) later)

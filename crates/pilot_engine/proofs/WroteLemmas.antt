@@ -14,8 +14,8 @@ use Rattle.volume_root.specs.RootPage.{root_write}
 use Rattle.session_words.specs.Volume.{volume_page}
 use Rattle.file_manager.specs.Creating.{NewMade, NewSome, counted, next_id}
 use Rattle.pilot_engine.specs.Closing.{WroteAny, WroteOn}
-use Rattle.pilot_engine.specs.Session.{AreOpen, Wrote}
-use Rattle.pilot_engine.proofs.FlagLemmas.{append_open, creation_open, root_open, take_open}
+use Rattle.running_words.specs.Session.{AreOpen, Wrote}
+use Rattle.running_words.proofs.FlagLemmas.{append_open, creation_open, root_open, take_open}
 
 -- the root and the sectors of a new file
 file_open : (root : Root) (kind leader : ℕ) (is : List ℕ) → AreOpen (root_write (counted root) ∷ creation (next_id root) kind leader is)

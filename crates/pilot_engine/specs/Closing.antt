@@ -25,8 +25,8 @@ use Rattle.session_words.specs.Parts.{TablesMeaning}
 use Rattle.session_words.specs.StandsFor.{TellsSettled}
 use Rattle.session_words.specs.Volume.{volume_page}
 use Rattle.file_manager.specs.declared.volume.Volume.{Volume}
-use Rattle.pilot_engine.specs.Bound.{room_above}
-use Rattle.pilot_engine.specs.Session.{IsSession}
+use Rattle.running_words.specs.Bound.{room_above}
+use Rattle.running_words.specs.Session.{IsAlone}
 
 -- Each moment of the writes.
 
@@ -63,7 +63,7 @@ pub record Sheds (m n : Machine) : Type 0 where
 -- these identifiers are all gone.
 pub record Shed (spaces_of : TablesMeaning) (gone : ℕ → Type 0) (m : Machine) (disk : DiskState) (slots : Slots) (layout : Layout) (runs : CachedRuns) (volume : Volume) : Type 0 where
   pub left : Machine
-  pub stands : IsSession spaces_of disk slots layout runs volume left
+  pub stands : IsAlone spaces_of disk slots layout runs volume left
   pub sheds : Sheds m left
   pub permanent : (id : ℕ) (f : File) → gone id → file_at left.files id ≡ Some f → f.permanent ≡ true
 

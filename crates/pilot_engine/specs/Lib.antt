@@ -1,6 +1,7 @@
 pub mod Opening
 pub mod Room
-pub mod Session
-pub mod Stages
 pub mod Closing
-pub mod Bound
+pub mod Seen
+pub mod Order
+pub mod Stepping
+pub mod Advised

@@ -19,10 +19,12 @@ use Rattle.session_words.specs.Volume.{volume_page}
 use Rattle.volume_root.specs.declared.root.Root.{Root}
 use Rattle.volume_root.specs.Flag.{IsRefused}
 use Rattle.volume_root.specs.RootPage.{root_write}
+use Rattle.running_words.specs.Session.{BeginWith}
 use Rattle.pilot_engine.specs.declared.fault.StartFault.{StartFault}
 use Rattle.pilot_engine.specs.declared.fault.StartFault.TheVariants.{Root as NoRoot, NoMemory, Halt as Halted}
 
--- while there is no call on spaces, the space tables mean the root alone
+-- whatever their pages hold, the space tables mean the root alone: so it is before they are begun, and once an end has
+-- forgotten the spaces
 abbrev pub root_alone : TablesMeaning
 root_alone pages = Some (root ∷ [])
 
@@ -33,10 +35,6 @@ in_use root = record root { clean = false }
 -- no frame is there
 abbrev pub IsBare : Slots → Type 0
 IsBare slots = (i : ℕ) (f : Frame) → Has slots i f → ⊥
-
--- the first of some writes, if there is one, is this
-abbrev pub BeginWith : DiskWrite → List DiskWrite → Type 0
-BeginWith w writes = (writes ≡ []) ⊎ ((rest : List DiskWrite) × (writes ≡ w ∷ rest))
 
 -- The first of the writes of a start were made: the root of a volume in use, before all others, and labels of the space
 -- tables. Page bytes were written where pages of the volume's own have them.
@@ -67,7 +65,7 @@ pub record KeepsFiles (d : List Sector) (old new : DiskState) : Type 0 where
 
 -- so many transfers at most
 abbrev pub CostsStart : DiskState → DiskState → Type 0
-CostsStart old new = new.transfers ≤ old.transfers + (2 + 2 * vam old.sectors + 96 * (8 * vam old.sectors + 100))
+CostsStart old new = new.transfers ≤ old.transfers + (14394 + 2 * vam old.sectors + 96 * (8 * vam old.sectors + 100))
 
 -- the disk failed
 abbrev pub IsDiskFault : StartFault → Type 0

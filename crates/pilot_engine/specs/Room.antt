@@ -9,7 +9,7 @@ use Rattle.filer_kernel.specs.declared.cached.CachedRuns.{CachedRuns}
 use Rattle.session_words.specs.Parts.{TablesMeaning}
 use Rattle.file_manager.specs.declared.volume.Volume.{Volume}
 use Rattle.file_manager.specs.Making.{free_count}
-use Rattle.pilot_engine.specs.Session.{IsSession}
+use Rattle.running_words.specs.Session.{IsSession}
 
 -- what the machine's files have and what the memory's allocation map has as free are together what files may have
 abbrev pub SessionsHaveRoom : TablesMeaning → Type 0

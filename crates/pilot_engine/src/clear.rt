@@ -5,8 +5,8 @@ ghost use Rattle.labelled_disk.specs.Calls.{Rose};
 ghost use Rattle.labelled_disk.specs.File.{File, file_at, room_of};
 ghost use Rattle.flat_machine.specs.Machine.{Machine, used};
 ghost use Rattle.session_words.specs.Parts.{TablesMeaning};
-ghost use Rattle.pilot_engine.specs.Bound.{delete_cost, visit_cost, room_above};
-ghost use Rattle.pilot_engine.specs.Session.{IsOpen, IsSession, Wrote};
+ghost use Rattle.running_words.specs.Bound.{delete_cost, visit_cost, room_above};
+ghost use Rattle.running_words.specs.Session.{IsOpen, IsAlone, Wrote};
 ghost use Rattle.pilot_engine.specs.Closing.{IsOpenStop, Shed, Throughout, up_to_next};
 
 use crate::SessionOver;
@@ -20,23 +20,23 @@ const LAST_RESERVED: FileId = 15;
 impl<D: Disk, A: Allocator> SessionOver<D, A> {
     // Deletes a file, unless it is permanent.
     fn delete_unless_permanent(&mut self, id: FileId) -> Result<(), Halt>
-        requires size { (D.state self.old.filer.swapper.under).sectors ≡ self.old.filer.swapper.layout.sectors }
-        requires opened { IsOpen self.old.filer.swapper.layout self.old.volume }
+        requires size { (D.state self.old.core.filer.swapper.under).sectors ≡ self.old.core.filer.swapper.layout.sectors }
+        requires opened { IsOpen self.old.core.filer.swapper.layout self.old.volume }
         requires client { 16 ≤ id }
-        ensures shed { (spaces_of : TablesMeaning) (m : Machine) → IsSession spaces_of (D.state self.old.filer.swapper.under) self.old.filer.swapper.pool self.old.filer.swapper.layout self.old.filer.runs self.old.volume m
-            → OnOk result (Shed spaces_of (λ other. other ≡ id) m (D.state self.new.filer.swapper.under) self.new.filer.swapper.pool self.new.filer.swapper.layout self.new.filer.runs self.new.volume) }
-        ensures sound { (spaces_of : TablesMeaning) (m : Machine) → IsSession spaces_of (D.state self.old.filer.swapper.under) self.old.filer.swapper.pool self.old.filer.swapper.layout self.old.filer.runs self.old.volume m
+        ensures shed { (spaces_of : TablesMeaning) (m : Machine) → IsAlone spaces_of (D.state self.old.core.filer.swapper.under) self.old.core.filer.swapper.pool self.old.core.filer.swapper.layout self.old.core.filer.runs self.old.volume m
+            → OnOk result (Shed spaces_of (λ other. other ≡ id) m (D.state self.new.core.filer.swapper.under) self.new.core.filer.swapper.pool self.new.core.filer.swapper.layout self.new.core.filer.runs self.new.volume) }
+        ensures sound { (spaces_of : TablesMeaning) (m : Machine) → IsAlone spaces_of (D.state self.old.core.filer.swapper.under) self.old.core.filer.swapper.pool self.old.core.filer.swapper.layout self.old.core.filer.runs self.old.volume m
             → IfErr result (λ e. e ≡ halt.Disk) }
-        ensures stops { (spaces_of : TablesMeaning) (m : Machine) → IsSession spaces_of (D.state self.old.filer.swapper.under) self.old.filer.swapper.pool self.old.filer.swapper.layout self.old.filer.runs self.old.volume m
-            → Throughout (IsOpenStop m) (D.state self.old.filer.swapper.under) (D.state self.new.filer.swapper.under) }
-        ensures counted { result ≡ Err halt.Disk → Rose (D.state self.old.filer.swapper.under).faults (D.state self.new.filer.swapper.under).faults }
-        ensures wrote { Wrote (D.state self.old.filer.swapper.under) self.old.filer.swapper.pool (D.state self.new.filer.swapper.under) self.new.filer.swapper.pool }
-        ensures open_still { IsOpen self.new.filer.swapper.layout self.new.volume }
-        ensures layout { self.new.filer.swapper.layout ≡ self.old.filer.swapper.layout }
-        ensures cost { (spaces_of : TablesMeaning) (m : Machine) (f : File) → IsSession spaces_of (D.state self.old.filer.swapper.under) self.old.filer.swapper.pool self.old.filer.swapper.layout self.old.filer.runs self.old.volume m
-            → file_at m.files id ≡ Some f → (D.state self.new.filer.swapper.under).transfers ≤ (D.state self.old.filer.swapper.under).transfers + delete_cost * room_of f }
+        ensures stops { (spaces_of : TablesMeaning) (m : Machine) → IsAlone spaces_of (D.state self.old.core.filer.swapper.under) self.old.core.filer.swapper.pool self.old.core.filer.swapper.layout self.old.core.filer.runs self.old.volume m
+            → Throughout (IsOpenStop m) (D.state self.old.core.filer.swapper.under) (D.state self.new.core.filer.swapper.under) }
+        ensures counted { result ≡ Err halt.Disk → Rose (D.state self.old.core.filer.swapper.under).faults (D.state self.new.core.filer.swapper.under).faults }
+        ensures wrote { Wrote (D.state self.old.core.filer.swapper.under) self.old.core.filer.swapper.pool (D.state self.new.core.filer.swapper.under) self.new.core.filer.swapper.pool }
+        ensures open_still { IsOpen self.new.core.filer.swapper.layout self.new.volume }
+        ensures layout { self.new.core.filer.swapper.layout ≡ self.old.core.filer.swapper.layout }
+        ensures cost { (spaces_of : TablesMeaning) (m : Machine) (f : File) → IsAlone spaces_of (D.state self.old.core.filer.swapper.under) self.old.core.filer.swapper.pool self.old.core.filer.swapper.layout self.old.core.filer.runs self.old.volume m
+            → file_at m.files id ≡ Some f → (D.state self.new.core.filer.swapper.under).transfers ≤ (D.state self.old.core.filer.swapper.under).transfers + delete_cost * room_of f }
     {
-        let found = match attributes_of(&mut self.filer, id) {
+        let found = match attributes_of(&mut self.core.filer, id) {
             Ok(Some(found)) => found,
             Ok(None) => return Ok(()),
             Err(halt) => return Err(halt),
@@ -44,7 +44,7 @@ impl<D: Disk, A: Allocator> SessionOver<D, A> {
         if found.permanent {
             return Ok(());
         }
-        match delete(&mut self.filer, &mut self.volume, id) {
+        match delete(&mut self.core.filer, &mut self.volume, id) {
             Ok(()) => Ok(()),
             Err(halt) => Err(halt),
         }
@@ -52,26 +52,26 @@ impl<D: Disk, A: Allocator> SessionOver<D, A> {
 
     // Looks at the next file above this one, which it deletes unless it is permanent.
     fn delete_next(&mut self, cursor: FileId) -> Result<Option<FileId>, Halt>
-        requires size { (D.state self.old.filer.swapper.under).sectors ≡ self.old.filer.swapper.layout.sectors }
-        requires opened { IsOpen self.old.filer.swapper.layout self.old.volume }
+        requires size { (D.state self.old.core.filer.swapper.under).sectors ≡ self.old.core.filer.swapper.layout.sectors }
+        requires opened { IsOpen self.old.core.filer.swapper.layout self.old.volume }
         requires client { 15 ≤ cursor }
-        ensures shed { (spaces_of : TablesMeaning) (m : Machine) → IsSession spaces_of (D.state self.old.filer.swapper.under) self.old.filer.swapper.pool self.old.filer.swapper.layout self.old.filer.runs self.old.volume m
-            → IfOk result (λ next. Shed spaces_of (up_to_next cursor next) m (D.state self.new.filer.swapper.under) self.new.filer.swapper.pool self.new.filer.swapper.layout self.new.filer.runs self.new.volume) }
+        ensures shed { (spaces_of : TablesMeaning) (m : Machine) → IsAlone spaces_of (D.state self.old.core.filer.swapper.under) self.old.core.filer.swapper.pool self.old.core.filer.swapper.layout self.old.core.filer.runs self.old.volume m
+            → IfOk result (λ next. Shed spaces_of (up_to_next cursor next) m (D.state self.new.core.filer.swapper.under) self.new.core.filer.swapper.pool self.new.core.filer.swapper.layout self.new.core.filer.runs self.new.volume) }
         ensures above { IfOk result (λ next. IfSome next (λ id. cursor < id)) }
-        ensures sound { (spaces_of : TablesMeaning) (m : Machine) → IsSession spaces_of (D.state self.old.filer.swapper.under) self.old.filer.swapper.pool self.old.filer.swapper.layout self.old.filer.runs self.old.volume m
+        ensures sound { (spaces_of : TablesMeaning) (m : Machine) → IsAlone spaces_of (D.state self.old.core.filer.swapper.under) self.old.core.filer.swapper.pool self.old.core.filer.swapper.layout self.old.core.filer.runs self.old.volume m
             → IfErr result (λ e. e ≡ halt.Disk) }
-        ensures stops { (spaces_of : TablesMeaning) (m : Machine) → IsSession spaces_of (D.state self.old.filer.swapper.under) self.old.filer.swapper.pool self.old.filer.swapper.layout self.old.filer.runs self.old.volume m
-            → Throughout (IsOpenStop m) (D.state self.old.filer.swapper.under) (D.state self.new.filer.swapper.under) }
-        ensures counted { result ≡ Err halt.Disk → Rose (D.state self.old.filer.swapper.under).faults (D.state self.new.filer.swapper.under).faults }
-        ensures wrote { Wrote (D.state self.old.filer.swapper.under) self.old.filer.swapper.pool (D.state self.new.filer.swapper.under) self.new.filer.swapper.pool }
-        ensures open_still { IsOpen self.new.filer.swapper.layout self.new.volume }
-        ensures layout { self.new.filer.swapper.layout ≡ self.old.filer.swapper.layout }
-        ensures cost { (spaces_of : TablesMeaning) (m : Machine) → IsSession spaces_of (D.state self.old.filer.swapper.under) self.old.filer.swapper.pool self.old.filer.swapper.layout self.old.filer.runs self.old.volume m
-            → (D.state self.new.filer.swapper.under).transfers ≤ (D.state self.old.filer.swapper.under).transfers + (36 + visit_cost * room_above cursor m.files) }
-        ensures paid { (spaces_of : TablesMeaning) (m : Machine) → IsSession spaces_of (D.state self.old.filer.swapper.under) self.old.filer.swapper.pool self.old.filer.swapper.layout self.old.filer.runs self.old.volume m
-            → IfOk result (λ next. IfSome next (λ id. (D.state self.new.filer.swapper.under).transfers + visit_cost * room_above id m.files ≤ (D.state self.old.filer.swapper.under).transfers + visit_cost * room_above cursor m.files)) }
+        ensures stops { (spaces_of : TablesMeaning) (m : Machine) → IsAlone spaces_of (D.state self.old.core.filer.swapper.under) self.old.core.filer.swapper.pool self.old.core.filer.swapper.layout self.old.core.filer.runs self.old.volume m
+            → Throughout (IsOpenStop m) (D.state self.old.core.filer.swapper.under) (D.state self.new.core.filer.swapper.under) }
+        ensures counted { result ≡ Err halt.Disk → Rose (D.state self.old.core.filer.swapper.under).faults (D.state self.new.core.filer.swapper.under).faults }
+        ensures wrote { Wrote (D.state self.old.core.filer.swapper.under) self.old.core.filer.swapper.pool (D.state self.new.core.filer.swapper.under) self.new.core.filer.swapper.pool }
+        ensures open_still { IsOpen self.new.core.filer.swapper.layout self.new.volume }
+        ensures layout { self.new.core.filer.swapper.layout ≡ self.old.core.filer.swapper.layout }
+        ensures cost { (spaces_of : TablesMeaning) (m : Machine) → IsAlone spaces_of (D.state self.old.core.filer.swapper.under) self.old.core.filer.swapper.pool self.old.core.filer.swapper.layout self.old.core.filer.runs self.old.volume m
+            → (D.state self.new.core.filer.swapper.under).transfers ≤ (D.state self.old.core.filer.swapper.under).transfers + (36 + visit_cost * room_above cursor m.files) }
+        ensures paid { (spaces_of : TablesMeaning) (m : Machine) → IsAlone spaces_of (D.state self.old.core.filer.swapper.under) self.old.core.filer.swapper.pool self.old.core.filer.swapper.layout self.old.core.filer.runs self.old.volume m
+            → IfOk result (λ next. IfSome next (λ id. (D.state self.new.core.filer.swapper.under).transfers + visit_cost * room_above id m.files ≤ (D.state self.old.core.filer.swapper.under).transfers + visit_cost * room_above cursor m.files)) }
     {
-        let id = match next(&mut self.filer, cursor) {
+        let id = match next(&mut self.core.filer, cursor) {
             Ok(Some(id)) => id,
             Ok(None) => return Ok(None),
             Err(halt) => return Err(halt),
@@ -84,20 +84,20 @@ impl<D: Disk, A: Allocator> SessionOver<D, A> {
 
     // Deletes the temporary files.
     pub(crate) fn delete_temporary(&mut self) -> Result<(), Halt>
-        requires size { (D.state self.old.filer.swapper.under).sectors ≡ self.old.filer.swapper.layout.sectors }
-        requires opened { IsOpen self.old.filer.swapper.layout self.old.volume }
-        ensures shed { (spaces_of : TablesMeaning) (m : Machine) → IsSession spaces_of (D.state self.old.filer.swapper.under) self.old.filer.swapper.pool self.old.filer.swapper.layout self.old.filer.runs self.old.volume m
-            → OnOk result (Shed spaces_of (λ id. Unit {0}) m (D.state self.new.filer.swapper.under) self.new.filer.swapper.pool self.new.filer.swapper.layout self.new.filer.runs self.new.volume) }
-        ensures sound { (spaces_of : TablesMeaning) (m : Machine) → IsSession spaces_of (D.state self.old.filer.swapper.under) self.old.filer.swapper.pool self.old.filer.swapper.layout self.old.filer.runs self.old.volume m
+        requires size { (D.state self.old.core.filer.swapper.under).sectors ≡ self.old.core.filer.swapper.layout.sectors }
+        requires opened { IsOpen self.old.core.filer.swapper.layout self.old.volume }
+        ensures shed { (spaces_of : TablesMeaning) (m : Machine) → IsAlone spaces_of (D.state self.old.core.filer.swapper.under) self.old.core.filer.swapper.pool self.old.core.filer.swapper.layout self.old.core.filer.runs self.old.volume m
+            → OnOk result (Shed spaces_of (λ id. Unit {0}) m (D.state self.new.core.filer.swapper.under) self.new.core.filer.swapper.pool self.new.core.filer.swapper.layout self.new.core.filer.runs self.new.volume) }
+        ensures sound { (spaces_of : TablesMeaning) (m : Machine) → IsAlone spaces_of (D.state self.old.core.filer.swapper.under) self.old.core.filer.swapper.pool self.old.core.filer.swapper.layout self.old.core.filer.runs self.old.volume m
             → IfErr result (λ e. e ≡ halt.Disk) }
-        ensures stops { (spaces_of : TablesMeaning) (m : Machine) → IsSession spaces_of (D.state self.old.filer.swapper.under) self.old.filer.swapper.pool self.old.filer.swapper.layout self.old.filer.runs self.old.volume m
-            → Throughout (IsOpenStop m) (D.state self.old.filer.swapper.under) (D.state self.new.filer.swapper.under) }
-        ensures counted { result ≡ Err halt.Disk → Rose (D.state self.old.filer.swapper.under).faults (D.state self.new.filer.swapper.under).faults }
-        ensures wrote { Wrote (D.state self.old.filer.swapper.under) self.old.filer.swapper.pool (D.state self.new.filer.swapper.under) self.new.filer.swapper.pool }
-        ensures open_still { IsOpen self.new.filer.swapper.layout self.new.volume }
-        ensures layout { self.new.filer.swapper.layout ≡ self.old.filer.swapper.layout }
-        ensures cost { (spaces_of : TablesMeaning) (m : Machine) → IsSession spaces_of (D.state self.old.filer.swapper.under) self.old.filer.swapper.pool self.old.filer.swapper.layout self.old.filer.runs self.old.volume m
-            → (D.state self.new.filer.swapper.under).transfers ≤ (D.state self.old.filer.swapper.under).transfers + (36 + visit_cost * used m) }
+        ensures stops { (spaces_of : TablesMeaning) (m : Machine) → IsAlone spaces_of (D.state self.old.core.filer.swapper.under) self.old.core.filer.swapper.pool self.old.core.filer.swapper.layout self.old.core.filer.runs self.old.volume m
+            → Throughout (IsOpenStop m) (D.state self.old.core.filer.swapper.under) (D.state self.new.core.filer.swapper.under) }
+        ensures counted { result ≡ Err halt.Disk → Rose (D.state self.old.core.filer.swapper.under).faults (D.state self.new.core.filer.swapper.under).faults }
+        ensures wrote { Wrote (D.state self.old.core.filer.swapper.under) self.old.core.filer.swapper.pool (D.state self.new.core.filer.swapper.under) self.new.core.filer.swapper.pool }
+        ensures open_still { IsOpen self.new.core.filer.swapper.layout self.new.volume }
+        ensures layout { self.new.core.filer.swapper.layout ≡ self.old.core.filer.swapper.layout }
+        ensures cost { (spaces_of : TablesMeaning) (m : Machine) → IsAlone spaces_of (D.state self.old.core.filer.swapper.under) self.old.core.filer.swapper.pool self.old.core.filer.swapper.layout self.old.core.filer.runs self.old.volume m
+            → (D.state self.new.core.filer.swapper.under).transfers ≤ (D.state self.old.core.filer.swapper.under).transfers + (36 + visit_cost * used m) }
     {
         let mut cursor = LAST_RESERVED;
         'files: loop {

@@ -6,9 +6,10 @@ ghost use Rattle.flat_machine.specs.declared.call.Call.TheVariants as call;
 ghost use Rattle.file_map.specs.FileMap.{most_records};
 ghost use Rattle.flat_machine.specs.Machine.{Machine};
 ghost use Rattle.session_words.specs.Parts.{TablesMeaning};
-ghost use Rattle.pilot_engine.specs.Bound.{CostsOther};
-ghost use Rattle.pilot_engine.specs.Session.{IsOpen, IsSession, Carries, Wrote};
-ghost use Rattle.pilot_engine.specs.Stages.{Passes};
+ghost use Rattle.fault_core.specs.Core.{kept};
+ghost use Rattle.running_words.specs.Session.{IsOpen, IsSession, Carries, Wrote};
+ghost use Rattle.running_words.specs.Stages.{Passes};
+ghost use Rattle.pilot_engine.specs.Seen.{CostsInside};
 
 use crate::SessionOver;
 use flat_machine::{Refusal, Reply};
@@ -18,21 +19,23 @@ use std::alloc::Allocator;
 impl<D: Disk, A: Allocator> SessionOver<D, A> {
     // Makes a temporary file of so many zero pages.
     pub(crate) fn create(&mut self, pages: u32, kind: u16) -> Result<Reply, Halt>
-        requires size { (D.state self.old.filer.swapper.under).sectors ≡ self.old.filer.swapper.layout.sectors }
-        requires opened { IsOpen self.old.filer.swapper.layout self.old.volume }
-        ensures carried { (spaces_of : TablesMeaning) (m : Machine) → IsSession spaces_of (D.state self.old.filer.swapper.under) self.old.filer.swapper.pool self.old.filer.swapper.layout self.old.filer.runs self.old.volume m
-            → IfOk result (λ reply. Carries spaces_of m (call.Create pages kind) reply (D.state self.new.filer.swapper.under) self.new.filer.swapper.pool self.new.filer.swapper.layout self.new.filer.runs self.new.volume) }
-        ensures sound { (spaces_of : TablesMeaning) (m : Machine) → IsSession spaces_of (D.state self.old.filer.swapper.under) self.old.filer.swapper.pool self.old.filer.swapper.layout self.old.filer.runs self.old.volume m
+        requires size { (D.state self.old.core.filer.swapper.under).sectors ≡ self.old.core.filer.swapper.layout.sectors }
+        requires opened { IsOpen self.old.core.filer.swapper.layout self.old.volume }
+        ensures carried { (spaces_of : TablesMeaning) (m : Machine) → IsSession spaces_of (D.state self.old.core.filer.swapper.under) self.old.core.filer.swapper.pool self.old.core.filer.swapper.layout self.old.core.filer.runs self.old.volume m
+            → IfOk result (λ reply. Carries spaces_of m (call.Create pages kind) reply (D.state self.new.core.filer.swapper.under) self.new.core.filer.swapper.pool self.new.core.filer.swapper.layout self.new.core.filer.runs self.new.volume) }
+        ensures sound { (spaces_of : TablesMeaning) (m : Machine) → IsSession spaces_of (D.state self.old.core.filer.swapper.under) self.old.core.filer.swapper.pool self.old.core.filer.swapper.layout self.old.core.filer.runs self.old.volume m
             → IfErr result (λ e. e ≡ halt.Disk) }
-        ensures passes { (spaces_of : TablesMeaning) (m : Machine) → IsSession spaces_of (D.state self.old.filer.swapper.under) self.old.filer.swapper.pool self.old.filer.swapper.layout self.old.filer.runs self.old.volume m
-            → Passes m (call.Create pages kind) (D.state self.old.filer.swapper.under) (D.state self.new.filer.swapper.under) }
-        ensures counted { result ≡ Err halt.Disk → Rose (D.state self.old.filer.swapper.under).faults (D.state self.new.filer.swapper.under).faults }
-        ensures wrote { Wrote (D.state self.old.filer.swapper.under) self.old.filer.swapper.pool (D.state self.new.filer.swapper.under) self.new.filer.swapper.pool }
-        ensures open_still { IsOpen self.new.filer.swapper.layout self.new.volume }
-        ensures layout { self.new.filer.swapper.layout ≡ self.old.filer.swapper.layout }
+        ensures passes { (spaces_of : TablesMeaning) (m : Machine) → IsSession spaces_of (D.state self.old.core.filer.swapper.under) self.old.core.filer.swapper.pool self.old.core.filer.swapper.layout self.old.core.filer.runs self.old.volume m
+            → Passes m (call.Create pages kind) (D.state self.old.core.filer.swapper.under) (D.state self.new.core.filer.swapper.under) }
+        ensures counted { result ≡ Err halt.Disk → Rose (D.state self.old.core.filer.swapper.under).faults (D.state self.new.core.filer.swapper.under).faults }
+        ensures wrote { Wrote (D.state self.old.core.filer.swapper.under) self.old.core.filer.swapper.pool (D.state self.new.core.filer.swapper.under) self.new.core.filer.swapper.pool }
+        ensures open_still { IsOpen self.new.core.filer.swapper.layout self.new.volume }
+        ensures layout { self.new.core.filer.swapper.layout ≡ self.old.core.filer.swapper.layout }
         ensures running { self.new.running ≡ self.old.running }
-        ensures cost { (D.state self.new.filer.swapper.under).transfers ≤ (D.state self.old.filer.swapper.under).transfers + (1 + 2 * (1 + 51 * most_records self.old.filer.swapper.layout.sectors) + (pages + 1) * (8 * self.old.filer.swapper.layout.vam + 100)) }
-        ensures bounded { CostsOther (D.state self.old.filer.swapper.under) (D.state self.new.filer.swapper.under) }
+        ensures kept { kept self.new.core ≡ kept self.old.core }
+        ensures intervals { self.new.core.intervals ≡ self.old.core.intervals }
+        ensures cost { (D.state self.new.core.filer.swapper.under).transfers ≤ (D.state self.old.core.filer.swapper.under).transfers + (1 + 2 * (1 + 51 * most_records self.old.core.filer.swapper.layout.sectors) + (pages + 1) * (8 * self.old.core.filer.swapper.layout.vam + 100)) }
+        ensures bounded { CostsInside (D.state self.old.core.filer.swapper.under) (D.state self.new.core.filer.swapper.under) }
     {
         let free = self.volume.layout.capacity - self.volume.used;
         if pages >= free {
@@ -41,7 +44,7 @@ impl<D: Disk, A: Allocator> SessionOver<D, A> {
         if self.volume.root.counter == u32::MAX {
             return Ok(Reply::Refused(Refusal::Ids));
         }
-        match file_manager::create(&mut self.filer, &mut self.volume, pages, kind) {
+        match file_manager::create(&mut self.core.filer, &mut self.volume, pages, kind) {
             Ok(id) => Ok(Reply::File(id)),
             Err(halt) => Err(halt),
         }

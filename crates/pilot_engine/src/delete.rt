@@ -1,49 +1,85 @@
 //! Files that are deleted.
-ghost use Rattle.std.specs.Prelude.{◌≡◌, ◌+◌, ◌*◌, ◌^◌, ◌≤◌, IfOk, IfErr, Err};
+ghost use Rattle.std.specs.Prelude.{◌≡◌, ◌+◌, ◌*◌, ◌^◌, ◌≤◌, true, IfOk, IfErr, Err, None};
 ghost use Rattle.labelled_disk.specs.Calls.{Rose};
 ghost use Rattle.labelled_disk.specs.declared.evidence.Halt.TheVariants as halt;
 ghost use Rattle.flat_machine.specs.declared.call.Call.TheVariants as call;
 ghost use Rattle.file_map.specs.FileMap.{most_records};
 ghost use Rattle.flat_machine.specs.Machine.{Machine};
 ghost use Rattle.session_words.specs.Parts.{TablesMeaning};
-ghost use Rattle.pilot_engine.specs.Bound.{CostsOther};
-ghost use Rattle.pilot_engine.specs.Session.{IsOpen, IsSession, Carries, Wrote};
-ghost use Rattle.pilot_engine.specs.Stages.{Passes};
+ghost use Rattle.running_words.specs.Bound.{CostsOther};
+ghost use Rattle.running_words.specs.Session.{IsOpen, IsSession, Carries, Wrote};
+ghost use Rattle.running_words.specs.Stages.{Passes};
+ghost use Rattle.flat_machine.specs.Refusal.{file_mapped};
+ghost use Rattle.fault_core.specs.Core.{kept};
+ghost use Rattle.running_words.specs.Running.{Carried, Runs};
+ghost use Rattle.pilot_engine.specs.Seen.{CostsInside};
 
 use crate::SessionOver;
+use crate::sight::Sight;
 use file_manager::attributes_of;
 use flat_machine::{Refusal, Reply};
 use labelled_disk::{Disk, FileId, Halt};
 use std::alloc::Allocator;
 
 impl<D: Disk, A: Allocator> SessionOver<D, A> {
-    // Removes a file.
-    pub(crate) fn delete(&mut self, id: FileId) -> Result<Reply, Halt>
-        requires size { (D.state self.old.filer.swapper.under).sectors ≡ self.old.filer.swapper.layout.sectors }
-        requires opened { IsOpen self.old.filer.swapper.layout self.old.volume }
-        ensures carried { (spaces_of : TablesMeaning) (m : Machine) → IsSession spaces_of (D.state self.old.filer.swapper.under) self.old.filer.swapper.pool self.old.filer.swapper.layout self.old.filer.runs self.old.volume m
-            → IfOk result (λ reply. Carries spaces_of m (call.Delete id) reply (D.state self.new.filer.swapper.under) self.new.filer.swapper.pool self.new.filer.swapper.layout self.new.filer.runs self.new.volume) }
-        ensures sound { (spaces_of : TablesMeaning) (m : Machine) → IsSession spaces_of (D.state self.old.filer.swapper.under) self.old.filer.swapper.pool self.old.filer.swapper.layout self.old.filer.runs self.old.volume m
+    // Removes a file that no window shows.
+    pub(crate) fn delete_unseen(&mut self, id: FileId) -> Result<Reply, Halt>
+        requires size { (D.state self.old.core.filer.swapper.under).sectors ≡ self.old.core.filer.swapper.layout.sectors }
+        requires opened { IsOpen self.old.core.filer.swapper.layout self.old.volume }
+        ensures carried { (spaces_of : TablesMeaning) (m : Machine) → IsSession spaces_of (D.state self.old.core.filer.swapper.under) self.old.core.filer.swapper.pool self.old.core.filer.swapper.layout self.old.core.filer.runs self.old.volume m
+            → file_mapped m id (λ w. true) ≡ None
+            → IfOk result (λ reply. Carries spaces_of m (call.Delete id) reply (D.state self.new.core.filer.swapper.under) self.new.core.filer.swapper.pool self.new.core.filer.swapper.layout self.new.core.filer.runs self.new.volume) }
+        ensures sound { (spaces_of : TablesMeaning) (m : Machine) → IsSession spaces_of (D.state self.old.core.filer.swapper.under) self.old.core.filer.swapper.pool self.old.core.filer.swapper.layout self.old.core.filer.runs self.old.volume m
+            → file_mapped m id (λ w. true) ≡ None
             → IfErr result (λ e. e ≡ halt.Disk) }
-        ensures passes { (spaces_of : TablesMeaning) (m : Machine) → IsSession spaces_of (D.state self.old.filer.swapper.under) self.old.filer.swapper.pool self.old.filer.swapper.layout self.old.filer.runs self.old.volume m
-            → Passes m (call.Delete id) (D.state self.old.filer.swapper.under) (D.state self.new.filer.swapper.under) }
-        ensures counted { result ≡ Err halt.Disk → Rose (D.state self.old.filer.swapper.under).faults (D.state self.new.filer.swapper.under).faults }
-        ensures wrote { Wrote (D.state self.old.filer.swapper.under) self.old.filer.swapper.pool (D.state self.new.filer.swapper.under) self.new.filer.swapper.pool }
-        ensures open_still { IsOpen self.new.filer.swapper.layout self.new.volume }
-        ensures layout { self.new.filer.swapper.layout ≡ self.old.filer.swapper.layout }
+        ensures passes { (spaces_of : TablesMeaning) (m : Machine) → IsSession spaces_of (D.state self.old.core.filer.swapper.under) self.old.core.filer.swapper.pool self.old.core.filer.swapper.layout self.old.core.filer.runs self.old.volume m
+            → file_mapped m id (λ w. true) ≡ None
+            → Passes m (call.Delete id) (D.state self.old.core.filer.swapper.under) (D.state self.new.core.filer.swapper.under) }
+        ensures counted { result ≡ Err halt.Disk → Rose (D.state self.old.core.filer.swapper.under).faults (D.state self.new.core.filer.swapper.under).faults }
+        ensures wrote { Wrote (D.state self.old.core.filer.swapper.under) self.old.core.filer.swapper.pool (D.state self.new.core.filer.swapper.under) self.new.core.filer.swapper.pool }
+        ensures open_still { IsOpen self.new.core.filer.swapper.layout self.new.volume }
+        ensures layout { self.new.core.filer.swapper.layout ≡ self.old.core.filer.swapper.layout }
         ensures running { self.new.running ≡ self.old.running }
-        ensures cost { (D.state self.new.filer.swapper.under).transfers ≤ (D.state self.old.filer.swapper.under).transfers + (43 + 2 ^ 32 * (16 + 4 * self.old.filer.swapper.layout.vam) + 2 * (1 + 51 * most_records self.old.filer.swapper.layout.sectors)) }
-        ensures bounded { (spaces_of : TablesMeaning) (m : Machine) → IsSession spaces_of (D.state self.old.filer.swapper.under) self.old.filer.swapper.pool self.old.filer.swapper.layout self.old.filer.runs self.old.volume m
-            → CostsOther (D.state self.old.filer.swapper.under) (D.state self.new.filer.swapper.under) }
+        ensures kept { kept self.new.core ≡ kept self.old.core }
+        ensures intervals { self.new.core.intervals ≡ self.old.core.intervals }
+        ensures cost { (D.state self.new.core.filer.swapper.under).transfers ≤ (D.state self.old.core.filer.swapper.under).transfers + (43 + 2 ^ 32 * (16 + 4 * self.old.core.filer.swapper.layout.vam) + 2 * (1 + 51 * most_records self.old.core.filer.swapper.layout.sectors)) }
+        ensures bounded { (spaces_of : TablesMeaning) (m : Machine) → IsSession spaces_of (D.state self.old.core.filer.swapper.under) self.old.core.filer.swapper.pool self.old.core.filer.swapper.layout self.old.core.filer.runs self.old.volume m
+            → CostsInside (D.state self.old.core.filer.swapper.under) (D.state self.new.core.filer.swapper.under) }
     {
-        match attributes_of(&mut self.filer, id) {
+        match attributes_of(&mut self.core.filer, id) {
             Ok(Some(_)) => (),
             Ok(None) => return Ok(Reply::Refused(Refusal::File)),
             Err(halt) => return Err(halt),
         }
-        match file_manager::delete(&mut self.filer, &mut self.volume, id) {
+        match file_manager::delete(&mut self.core.filer, &mut self.volume, id) {
             Ok(()) => Ok(Reply::Done),
             Err(halt) => Err(halt),
         }
+    }
+
+    // Removes a file, unless a window shows it.
+    pub(crate) fn delete(&mut self, id: FileId) -> Result<Reply, Halt>
+        requires size { (D.state self.old.core.filer.swapper.under).sectors ≡ self.old.core.filer.swapper.layout.sectors }
+        requires opened { IsOpen self.old.core.filer.swapper.layout self.old.volume }
+        ensures carried { (m : Machine) → Runs self.old.core self.old.volume m → IfOk result (Carried m (call.Delete id) self.new.core self.new.volume) }
+        ensures sound { (m : Machine) → Runs self.old.core self.old.volume m → IfErr result (λ e. e ≡ halt.Disk) }
+        ensures passes { (m : Machine) → Runs self.old.core self.old.volume m → Passes m (call.Delete id) (D.state self.old.core.filer.swapper.under) (D.state self.new.core.filer.swapper.under) }
+        ensures counted { result ≡ Err halt.Disk → Rose (D.state self.old.core.filer.swapper.under).faults (D.state self.new.core.filer.swapper.under).faults }
+        ensures wrote { Wrote (D.state self.old.core.filer.swapper.under) self.old.core.filer.swapper.pool (D.state self.new.core.filer.swapper.under) self.new.core.filer.swapper.pool }
+        ensures open_still { IsOpen self.new.core.filer.swapper.layout self.new.volume }
+        ensures layout { self.new.core.filer.swapper.layout ≡ self.old.core.filer.swapper.layout }
+        ensures running { self.new.running ≡ self.old.running }
+        ensures cost { (m : Machine) → Runs self.old.core self.old.volume m → CostsOther (D.state self.old.core.filer.swapper.under) (D.state self.new.core.filer.swapper.under) }
+    {
+        let seen = match self.sight(id) {
+            Ok(Sight::Hidden) => return Ok(Reply::Refused(Refusal::File)),
+            Ok(Sight::By(seen)) => seen,
+            Err(halt) => return Err(halt),
+        };
+        match seen {
+            Some(handle) => return Ok(Reply::Refused(Refusal::FileMapped(handle))),
+            None => (),
+        }
+        self.delete_unseen(id)
     }
 }

@@ -1,24 +1,31 @@
 //! The end of a session: its temporary files and the pages of the space tables go, and the volume is closed.
-ghost use Rattle.std.specs.Prelude.{◌≡◌, ℕ, ◌+◌, ◌^◌, ◌<◌, ◌≤◌, true, List, IfErr, OnOk, OnErr, Err, Some};
+ghost use Rattle.std.specs.Prelude.{◌≡◌, ℕ, ◌+◌, ◌*◌, ◌^◌, ◌<◌, ◌≤◌, true, List, [], ◌∷◌, length, IfErr, OnOk, OnErr, Err, Some};
 ghost use Rattle.labelled_disk.specs.declared.evidence.Halt.TheVariants as halt;
 ghost use Rattle.labelled_disk.specs.Calls.{Rose, TellsSame};
 ghost use Rattle.labelled_disk.specs.Sectors.{Sector};
 ghost use Rattle.flat_machine.specs.Machine.{Machine};
+ghost use Rattle.flat_machine.specs.Space.{root};
 ghost use Rattle.swapper_kernel.specs.Goes.{IsDirty, Swaps};
 ghost use Rattle.swapper_kernel.specs.Maps.{id_of};
 ghost use Rattle.swapper_kernel.specs.Stands.{Stands};
 ghost use Rattle.session_words.specs.Parts.{TablesMeaning};
-ghost use Rattle.pilot_engine.specs.Bound.{CostsOther, emptying_bound};
-ghost use Rattle.pilot_engine.specs.Session.{IsOpen, IsSession, Wrote};
+ghost use Rattle.running_words.specs.Bound.{CostsOther, emptying_bound};
+ghost use Rattle.running_words.specs.Running.{Runs};
+ghost use Rattle.running_words.specs.Session.{IsOpen, IsAlone, Wrote};
 ghost use Rattle.pilot_engine.specs.Closing.{AreWritten, HasShut, IsEmptied, IsOpenStop, IsReady, IsStop, TellsShut, Throughout, WroteAny, WroteOn, closed_root};
+ghost use Rattle.pilot_engine.specs.Opening.{root_alone};
 
 use crate::SessionOver;
+use crate::frames::look_at_frames;
 use file_manager::free_tables;
 use force_calls::force;
 use labelled_disk::{Disk, Halt};
 use std::alloc::Allocator;
 use swapper_kernel::Manager;
 use volume_root::{Root, write_root};
+
+// The pages of the root.
+const ROOT_PAGES: u32 = 8126464;
 
 // The root of a volume, once it is closed.
 fn closed(root: Root) -> Root
@@ -43,28 +50,71 @@ fn closed(root: Root) -> Root
 }
 
 impl<D: Disk, A: Allocator> SessionOver<D, A> {
+    // Gives up the frames of all pages that windows show. What is dirty is written out first.
+    fn let_root_go(&mut self) -> Result<(), Halt>
+        requires size { (D.state self.old.core.filer.swapper.under).sectors ≡ self.old.core.filer.swapper.layout.sectors }
+        requires opened { IsOpen self.old.core.filer.swapper.layout self.old.volume }
+        ensures alone { (m : Machine) → Runs self.old.core self.old.volume m
+            → OnOk result (IsAlone root_alone (D.state self.new.core.filer.swapper.under) self.new.core.filer.swapper.pool self.new.core.filer.swapper.layout self.new.core.filer.runs self.new.volume (record m { spaces = root ∷ []; unforced = [] })) }
+        ensures sound { (m : Machine) → Runs self.old.core self.old.volume m → IfErr result (λ e. e ≡ halt.Disk) }
+        ensures stops { (m : Machine) → Runs self.old.core self.old.volume m → Throughout (IsOpenStop m) (D.state self.old.core.filer.swapper.under) (D.state self.new.core.filer.swapper.under) }
+        ensures counted { result ≡ Err halt.Disk → Rose (D.state self.old.core.filer.swapper.under).faults (D.state self.new.core.filer.swapper.under).faults }
+        ensures wrote { Wrote (D.state self.old.core.filer.swapper.under) self.old.core.filer.swapper.pool (D.state self.new.core.filer.swapper.under) self.new.core.filer.swapper.pool }
+        ensures layout { self.new.core.filer.swapper.layout ≡ self.old.core.filer.swapper.layout }
+        ensures open_still { IsOpen self.new.core.filer.swapper.layout self.new.volume }
+        ensures volume { self.new.volume ≡ self.old.volume }
+        ensures cost { (D.state self.new.core.filer.swapper.under).transfers ≤ (D.state self.old.core.filer.swapper.under).transfers + 1024 * (196 + length self.old.core.filer.swapper.pool) }
+    {
+        match self.core.let_go(0, ROOT_PAGES) {
+            Ok(()) => Ok(()),
+            Err(halt) => Err(halt),
+        }
+    }
+
+    // The same, of at most 4,096 frames.
+    fn let_all_go(&mut self) -> Result<(), Halt>
+        requires size { (D.state self.old.core.filer.swapper.under).sectors ≡ self.old.core.filer.swapper.layout.sectors }
+        requires opened { IsOpen self.old.core.filer.swapper.layout self.old.volume }
+        ensures alone { (m : Machine) → Runs self.old.core self.old.volume m
+            → OnOk result (IsAlone root_alone (D.state self.new.core.filer.swapper.under) self.new.core.filer.swapper.pool self.new.core.filer.swapper.layout self.new.core.filer.runs self.new.volume (record m { spaces = root ∷ []; unforced = [] })) }
+        ensures sound { (m : Machine) → Runs self.old.core self.old.volume m → IfErr result (λ e. e ≡ halt.Disk) }
+        ensures stops { (m : Machine) → Runs self.old.core self.old.volume m → Throughout (IsOpenStop m) (D.state self.old.core.filer.swapper.under) (D.state self.new.core.filer.swapper.under) }
+        ensures counted { result ≡ Err halt.Disk → Rose (D.state self.old.core.filer.swapper.under).faults (D.state self.new.core.filer.swapper.under).faults }
+        ensures wrote { Wrote (D.state self.old.core.filer.swapper.under) self.old.core.filer.swapper.pool (D.state self.new.core.filer.swapper.under) self.new.core.filer.swapper.pool }
+        ensures layout { self.new.core.filer.swapper.layout ≡ self.old.core.filer.swapper.layout }
+        ensures open_still { IsOpen self.new.core.filer.swapper.layout self.new.volume }
+        ensures volume { self.new.volume ≡ self.old.volume }
+        ensures cost { (D.state self.new.core.filer.swapper.under).transfers ≤ (D.state self.old.core.filer.swapper.under).transfers + 1024 * (196 + 4096) }
+    {
+        look_at_frames(&mut self.core.filer);
+        match self.let_root_go() {
+            Ok(()) => Ok(()),
+            Err(halt) => Err(halt),
+        }
+    }
+
     // Deletes the temporary files, and frees the pages of the space tables.
     fn empty(&mut self) -> Result<(), Halt>
-        requires size { (D.state self.old.filer.swapper.under).sectors ≡ self.old.filer.swapper.layout.sectors }
-        requires opened { IsOpen self.old.filer.swapper.layout self.old.volume }
-        ensures emptied { (spaces_of : TablesMeaning) (m : Machine) → IsSession spaces_of (D.state self.old.filer.swapper.under) self.old.filer.swapper.pool self.old.filer.swapper.layout self.old.filer.runs self.old.volume m
-            → OnOk result (IsEmptied m self.new.volume.root (D.state self.new.filer.swapper.under) self.new.filer.swapper.pool) }
-        ensures sound { (spaces_of : TablesMeaning) (m : Machine) → IsSession spaces_of (D.state self.old.filer.swapper.under) self.old.filer.swapper.pool self.old.filer.swapper.layout self.old.filer.runs self.old.volume m
+        requires size { (D.state self.old.core.filer.swapper.under).sectors ≡ self.old.core.filer.swapper.layout.sectors }
+        requires opened { IsOpen self.old.core.filer.swapper.layout self.old.volume }
+        ensures emptied { (spaces_of : TablesMeaning) (m : Machine) → IsAlone spaces_of (D.state self.old.core.filer.swapper.under) self.old.core.filer.swapper.pool self.old.core.filer.swapper.layout self.old.core.filer.runs self.old.volume m
+            → OnOk result (IsEmptied m self.new.volume.root (D.state self.new.core.filer.swapper.under) self.new.core.filer.swapper.pool) }
+        ensures sound { (spaces_of : TablesMeaning) (m : Machine) → IsAlone spaces_of (D.state self.old.core.filer.swapper.under) self.old.core.filer.swapper.pool self.old.core.filer.swapper.layout self.old.core.filer.runs self.old.volume m
             → IfErr result (λ e. e ≡ halt.Disk) }
-        ensures stops { (spaces_of : TablesMeaning) (m : Machine) → IsSession spaces_of (D.state self.old.filer.swapper.under) self.old.filer.swapper.pool self.old.filer.swapper.layout self.old.filer.runs self.old.volume m
-            → Throughout (IsOpenStop m) (D.state self.old.filer.swapper.under) (D.state self.new.filer.swapper.under) }
-        ensures counted { result ≡ Err halt.Disk → Rose (D.state self.old.filer.swapper.under).faults (D.state self.new.filer.swapper.under).faults }
-        ensures wrote { Wrote (D.state self.old.filer.swapper.under) self.old.filer.swapper.pool (D.state self.new.filer.swapper.under) self.new.filer.swapper.pool }
-        ensures open_still { IsOpen self.new.filer.swapper.layout self.new.volume }
-        ensures layout { self.new.filer.swapper.layout ≡ self.old.filer.swapper.layout }
-        ensures cost { (spaces_of : TablesMeaning) (m : Machine) → IsSession spaces_of (D.state self.old.filer.swapper.under) self.old.filer.swapper.pool self.old.filer.swapper.layout self.old.filer.runs self.old.volume m
-            → (D.state self.new.filer.swapper.under).transfers ≤ (D.state self.old.filer.swapper.under).transfers + emptying_bound self.old.filer.swapper.layout.sectors }
+        ensures stops { (spaces_of : TablesMeaning) (m : Machine) → IsAlone spaces_of (D.state self.old.core.filer.swapper.under) self.old.core.filer.swapper.pool self.old.core.filer.swapper.layout self.old.core.filer.runs self.old.volume m
+            → Throughout (IsOpenStop m) (D.state self.old.core.filer.swapper.under) (D.state self.new.core.filer.swapper.under) }
+        ensures counted { result ≡ Err halt.Disk → Rose (D.state self.old.core.filer.swapper.under).faults (D.state self.new.core.filer.swapper.under).faults }
+        ensures wrote { Wrote (D.state self.old.core.filer.swapper.under) self.old.core.filer.swapper.pool (D.state self.new.core.filer.swapper.under) self.new.core.filer.swapper.pool }
+        ensures open_still { IsOpen self.new.core.filer.swapper.layout self.new.volume }
+        ensures layout { self.new.core.filer.swapper.layout ≡ self.old.core.filer.swapper.layout }
+        ensures cost { (spaces_of : TablesMeaning) (m : Machine) → IsAlone spaces_of (D.state self.old.core.filer.swapper.under) self.old.core.filer.swapper.pool self.old.core.filer.swapper.layout self.old.core.filer.runs self.old.volume m
+            → (D.state self.new.core.filer.swapper.under).transfers ≤ (D.state self.old.core.filer.swapper.under).transfers + emptying_bound self.old.core.filer.swapper.layout.sectors }
     {
         match self.delete_temporary() {
             Ok(()) => (),
             Err(halt) => return Err(halt),
         }
-        match free_tables(&mut self.filer) {
+        match free_tables(&mut self.core.filer) {
             Ok(()) => Ok(()),
             Err(halt) => Err(halt),
         }
@@ -72,16 +122,16 @@ impl<D: Disk, A: Allocator> SessionOver<D, A> {
 
     // Writes out the dirty pages of a map.
     fn write_map(&mut self, which: Manager) -> Result<(), Halt>
-        requires size { (D.state self.old.filer.swapper.under).sectors ≡ self.old.filer.swapper.layout.sectors }
-        ensures clean { OnOk result ((page : ℕ) → IsDirty self.new.filer.swapper.pool (id_of which) page → ⊥) }
-        ensures sound { (x : List Sector) → Stands (D.state self.old.filer.swapper.under) self.old.filer.swapper.pool x → IfErr result (λ e. e ≡ halt.Disk) }
-        ensures counted { result ≡ Err halt.Disk → Rose (D.state self.old.filer.swapper.under).faults (D.state self.new.filer.swapper.under).faults }
-        ensures swaps { Swaps (D.state self.old.filer.swapper.under) self.old.filer.swapper.pool (D.state self.new.filer.swapper.under) self.new.filer.swapper.pool }
-        ensures layout { self.new.filer.swapper.layout ≡ self.old.filer.swapper.layout }
+        requires size { (D.state self.old.core.filer.swapper.under).sectors ≡ self.old.core.filer.swapper.layout.sectors }
+        ensures clean { OnOk result ((page : ℕ) → IsDirty self.new.core.filer.swapper.pool (id_of which) page → ⊥) }
+        ensures sound { (x : List Sector) → Stands (D.state self.old.core.filer.swapper.under) self.old.core.filer.swapper.pool x → IfErr result (λ e. e ≡ halt.Disk) }
+        ensures counted { result ≡ Err halt.Disk → Rose (D.state self.old.core.filer.swapper.under).faults (D.state self.new.core.filer.swapper.under).faults }
+        ensures swaps { Swaps (D.state self.old.core.filer.swapper.under) self.old.core.filer.swapper.pool (D.state self.new.core.filer.swapper.under) self.new.core.filer.swapper.pool }
+        ensures layout { self.new.core.filer.swapper.layout ≡ self.old.core.filer.swapper.layout }
         ensures volume { self.new.volume ≡ self.old.volume }
-        ensures cost { (D.state self.new.filer.swapper.under).transfers ≤ (D.state self.old.filer.swapper.under).transfers + 4096 }
+        ensures cost { (D.state self.new.core.filer.swapper.under).transfers ≤ (D.state self.old.core.filer.swapper.under).transfers + 4096 }
     {
-        let swapper = self.filer.swapper_over();
+        let swapper = self.core.filer.swapper_over();
         let layout = swapper.layout();
         let _slots = swapper.frames().frames();
         match force(swapper, which.id(), 0, which.pages(&layout)) {
@@ -92,14 +142,14 @@ impl<D: Disk, A: Allocator> SessionOver<D, A> {
 
     // Writes out the dirty pages of both maps.
     fn write_maps(&mut self) -> Result<(), Halt>
-        requires size { (D.state self.old.filer.swapper.under).sectors ≡ self.old.filer.swapper.layout.sectors }
-        ensures clean { OnOk result (AreWritten self.new.filer.swapper.pool) }
-        ensures sound { (x : List Sector) → Stands (D.state self.old.filer.swapper.under) self.old.filer.swapper.pool x → IfErr result (λ e. e ≡ halt.Disk) }
-        ensures counted { result ≡ Err halt.Disk → Rose (D.state self.old.filer.swapper.under).faults (D.state self.new.filer.swapper.under).faults }
-        ensures swaps { Swaps (D.state self.old.filer.swapper.under) self.old.filer.swapper.pool (D.state self.new.filer.swapper.under) self.new.filer.swapper.pool }
-        ensures layout { self.new.filer.swapper.layout ≡ self.old.filer.swapper.layout }
+        requires size { (D.state self.old.core.filer.swapper.under).sectors ≡ self.old.core.filer.swapper.layout.sectors }
+        ensures clean { OnOk result (AreWritten self.new.core.filer.swapper.pool) }
+        ensures sound { (x : List Sector) → Stands (D.state self.old.core.filer.swapper.under) self.old.core.filer.swapper.pool x → IfErr result (λ e. e ≡ halt.Disk) }
+        ensures counted { result ≡ Err halt.Disk → Rose (D.state self.old.core.filer.swapper.under).faults (D.state self.new.core.filer.swapper.under).faults }
+        ensures swaps { Swaps (D.state self.old.core.filer.swapper.under) self.old.core.filer.swapper.pool (D.state self.new.core.filer.swapper.under) self.new.core.filer.swapper.pool }
+        ensures layout { self.new.core.filer.swapper.layout ≡ self.old.core.filer.swapper.layout }
         ensures volume { self.new.volume ≡ self.old.volume }
-        ensures cost { (D.state self.new.filer.swapper.under).transfers ≤ (D.state self.old.filer.swapper.under).transfers + 8192 }
+        ensures cost { (D.state self.new.core.filer.swapper.under).transfers ≤ (D.state self.old.core.filer.swapper.under).transfers + 8192 }
     {
         match self.write_map(Manager::AllocationMap) {
             Ok(()) => (),
@@ -113,18 +163,18 @@ impl<D: Disk, A: Allocator> SessionOver<D, A> {
 
     // Writes the root of the closed volume.
     fn write_clean(&mut self) -> Result<(), Halt>
-        requires size { (D.state self.old.filer.swapper.under).sectors ≡ self.old.filer.swapper.layout.sectors }
-        requires opened { IsOpen self.old.filer.swapper.layout self.old.volume }
-        ensures made { (m : Machine) → IsReady m self.old.volume.root (D.state self.old.filer.swapper.under) → OnOk result (TellsShut m (D.state self.new.filer.swapper.under)) }
+        requires size { (D.state self.old.core.filer.swapper.under).sectors ≡ self.old.core.filer.swapper.layout.sectors }
+        requires opened { IsOpen self.old.core.filer.swapper.layout self.old.volume }
+        ensures made { (m : Machine) → IsReady m self.old.volume.root (D.state self.old.core.filer.swapper.under) → OnOk result (TellsShut m (D.state self.new.core.filer.swapper.under)) }
         ensures fault { IfErr result (λ e. e ≡ halt.Disk) }
-        ensures counted { OnErr result (Rose (D.state self.old.filer.swapper.under).faults (D.state self.new.filer.swapper.under).faults) }
-        ensures stops { (m : Machine) → IsReady m self.old.volume.root (D.state self.old.filer.swapper.under) → ((d : List Sector) → (D.state self.old.filer.swapper.under).contents ≡ Some d → IsOpenStop m d)
-            → Throughout (IsStop m) (D.state self.old.filer.swapper.under) (D.state self.new.filer.swapper.under) }
-        ensures wrote { WroteAny (D.state self.old.filer.swapper.under) self.old.filer.swapper.pool (D.state self.new.filer.swapper.under) self.new.filer.swapper.pool }
-        ensures cost { (D.state self.new.filer.swapper.under).transfers ≤ (D.state self.old.filer.swapper.under).transfers + 1 }
+        ensures counted { OnErr result (Rose (D.state self.old.core.filer.swapper.under).faults (D.state self.new.core.filer.swapper.under).faults) }
+        ensures stops { (m : Machine) → IsReady m self.old.volume.root (D.state self.old.core.filer.swapper.under) → ((d : List Sector) → (D.state self.old.core.filer.swapper.under).contents ≡ Some d → IsOpenStop m d)
+            → Throughout (IsStop m) (D.state self.old.core.filer.swapper.under) (D.state self.new.core.filer.swapper.under) }
+        ensures wrote { WroteAny (D.state self.old.core.filer.swapper.under) self.old.core.filer.swapper.pool (D.state self.new.core.filer.swapper.under) self.new.core.filer.swapper.pool }
+        ensures cost { (D.state self.new.core.filer.swapper.under).transfers ≤ (D.state self.old.core.filer.swapper.under).transfers + 1 }
     {
         let root = closed(self.volume.root);
-        let disk = self.filer.disk_over();
+        let disk = self.core.filer.disk_over();
         match write_root(disk, &root) {
             Ok(()) => Ok(()),
             Err(_) => Err(Halt::Disk),
@@ -133,14 +183,14 @@ impl<D: Disk, A: Allocator> SessionOver<D, A> {
 
     // Waits until all that was written is on the medium.
     fn settle(&mut self) -> Result<(), Halt>
-        ensures synced { OnOk result ((D.state self.new.filer.swapper.under).synced ≡ true) }
-        ensures same { TellsSame (D.state self.old.filer.swapper.under) (D.state self.new.filer.swapper.under) }
+        ensures synced { OnOk result ((D.state self.new.core.filer.swapper.under).synced ≡ true) }
+        ensures same { TellsSame (D.state self.old.core.filer.swapper.under) (D.state self.new.core.filer.swapper.under) }
         ensures fault { IfErr result (λ e. e ≡ halt.Disk) }
-        ensures counted { OnErr result (Rose (D.state self.old.filer.swapper.under).faults (D.state self.new.filer.swapper.under).faults) }
-        ensures wrote { Wrote (D.state self.old.filer.swapper.under) self.old.filer.swapper.pool (D.state self.new.filer.swapper.under) self.new.filer.swapper.pool }
-        ensures cost { (D.state self.new.filer.swapper.under).transfers ≤ (D.state self.old.filer.swapper.under).transfers }
+        ensures counted { OnErr result (Rose (D.state self.old.core.filer.swapper.under).faults (D.state self.new.core.filer.swapper.under).faults) }
+        ensures wrote { Wrote (D.state self.old.core.filer.swapper.under) self.old.core.filer.swapper.pool (D.state self.new.core.filer.swapper.under) self.new.core.filer.swapper.pool }
+        ensures cost { (D.state self.new.core.filer.swapper.under).transfers ≤ (D.state self.old.core.filer.swapper.under).transfers }
     {
-        let disk = self.filer.disk_over();
+        let disk = self.core.filer.disk_over();
         match disk.settle() {
             Ok(()) => Ok(()),
             Err(_) => Err(Halt::Disk),
@@ -149,20 +199,24 @@ impl<D: Disk, A: Allocator> SessionOver<D, A> {
 
     // Closes the volume.
     fn close(&mut self) -> Result<(), Halt>
-        requires size { (D.state self.old.filer.swapper.under).sectors ≡ self.old.filer.swapper.layout.sectors }
-        requires opened { IsOpen self.old.filer.swapper.layout self.old.volume }
-        ensures closed { (spaces_of : TablesMeaning) (m : Machine) → IsSession spaces_of (D.state self.old.filer.swapper.under) self.old.filer.swapper.pool self.old.filer.swapper.layout self.old.filer.runs self.old.volume m
-            → OnOk result (HasShut m (D.state self.new.filer.swapper.under)) }
-        ensures sound { (spaces_of : TablesMeaning) (m : Machine) → IsSession spaces_of (D.state self.old.filer.swapper.under) self.old.filer.swapper.pool self.old.filer.swapper.layout self.old.filer.runs self.old.volume m
+        requires size { (D.state self.old.core.filer.swapper.under).sectors ≡ self.old.core.filer.swapper.layout.sectors }
+        requires opened { IsOpen self.old.core.filer.swapper.layout self.old.volume }
+        ensures closed { (m : Machine) → Runs self.old.core self.old.volume m
+            → OnOk result (HasShut m (D.state self.new.core.filer.swapper.under)) }
+        ensures sound { (m : Machine) → Runs self.old.core self.old.volume m
             → IfErr result (λ e. e ≡ halt.Disk) }
-        ensures synced { OnOk result ((D.state self.new.filer.swapper.under).synced ≡ true) }
-        ensures stops { (spaces_of : TablesMeaning) (m : Machine) → IsSession spaces_of (D.state self.old.filer.swapper.under) self.old.filer.swapper.pool self.old.filer.swapper.layout self.old.filer.runs self.old.volume m
-            → Throughout (IsStop m) (D.state self.old.filer.swapper.under) (D.state self.new.filer.swapper.under) }
-        ensures counted { result ≡ Err halt.Disk → Rose (D.state self.old.filer.swapper.under).faults (D.state self.new.filer.swapper.under).faults }
-        ensures wrote { WroteAny (D.state self.old.filer.swapper.under) self.old.filer.swapper.pool (D.state self.new.filer.swapper.under) self.new.filer.swapper.pool }
-        ensures cost { (spaces_of : TablesMeaning) (m : Machine) → IsSession spaces_of (D.state self.old.filer.swapper.under) self.old.filer.swapper.pool self.old.filer.swapper.layout self.old.filer.runs self.old.volume m
-            → CostsOther (D.state self.old.filer.swapper.under) (D.state self.new.filer.swapper.under) }
+        ensures synced { OnOk result ((D.state self.new.core.filer.swapper.under).synced ≡ true) }
+        ensures stops { (m : Machine) → Runs self.old.core self.old.volume m
+            → Throughout (IsStop m) (D.state self.old.core.filer.swapper.under) (D.state self.new.core.filer.swapper.under) }
+        ensures counted { result ≡ Err halt.Disk → Rose (D.state self.old.core.filer.swapper.under).faults (D.state self.new.core.filer.swapper.under).faults }
+        ensures wrote { WroteAny (D.state self.old.core.filer.swapper.under) self.old.core.filer.swapper.pool (D.state self.new.core.filer.swapper.under) self.new.core.filer.swapper.pool }
+        ensures cost { (m : Machine) → Runs self.old.core self.old.volume m
+            → CostsOther (D.state self.old.core.filer.swapper.under) (D.state self.new.core.filer.swapper.under) }
     {
+        match self.let_all_go() {
+            Ok(()) => (),
+            Err(halt) => return Err(halt),
+        }
         match self.empty() {
             Ok(()) => (),
             Err(halt) => return Err(halt),
@@ -183,34 +237,34 @@ impl<D: Disk, A: Allocator> SessionOver<D, A> {
 
     /// The disk, as it stands: what is dirty in frames is lost, and the volume stays open.
     pub fn into_disk(self) -> D
-        ensures { result ≡ self.filer.swapper.under }
+        ensures { result ≡ self.core.filer.swapper.under }
     {
         let SessionOver {
-            filer,
+            core,
             volume: _,
             running: _,
         } = self;
-        filer.into_disk()
+        core.into_filer().into_disk()
     }
 
     /// Ends the session, and hands the disk back: the temporary files are deleted, the pages of the space tables are
     /// freed, both maps are written, then the root with its clean flag set, and all of it is on the medium. After a halt
     /// the volume is to be restored before it can be opened.
     pub fn finish(self) -> (Result<(), Halt>, D)
-        requires size { (D.state self.filer.swapper.under).sectors ≡ self.filer.swapper.layout.sectors }
-        requires opened { IsOpen self.filer.swapper.layout self.volume }
+        requires size { (D.state self.core.filer.swapper.under).sectors ≡ self.core.filer.swapper.layout.sectors }
+        requires opened { IsOpen self.core.filer.swapper.layout self.volume }
         requires running { self.running ≡ true }
-        ensures closed { (spaces_of : TablesMeaning) (m : Machine) → IsSession spaces_of (D.state self.filer.swapper.under) self.filer.swapper.pool self.filer.swapper.layout self.filer.runs self.volume m
+        ensures closed { (m : Machine) → Runs self.core self.volume m
             → OnOk result.0 (HasShut m (D.state result.1)) }
-        ensures sound { (spaces_of : TablesMeaning) (m : Machine) → IsSession spaces_of (D.state self.filer.swapper.under) self.filer.swapper.pool self.filer.swapper.layout self.filer.runs self.volume m
+        ensures sound { (m : Machine) → Runs self.core self.volume m
             → IfErr result.0 (λ e. e ≡ halt.Disk) }
         ensures synced { OnOk result.0 ((D.state result.1).synced ≡ true) }
-        ensures stops { (spaces_of : TablesMeaning) (m : Machine) → IsSession spaces_of (D.state self.filer.swapper.under) self.filer.swapper.pool self.filer.swapper.layout self.filer.runs self.volume m
-            → Throughout (IsStop m) (D.state self.filer.swapper.under) (D.state result.1) }
-        ensures counted { result.0 ≡ Err halt.Disk → Rose (D.state self.filer.swapper.under).faults (D.state result.1).faults }
-        ensures wrote { WroteOn self.filer.swapper.pool (D.state self.filer.swapper.under) (D.state result.1) }
-        ensures cost { (spaces_of : TablesMeaning) (m : Machine) → IsSession spaces_of (D.state self.filer.swapper.under) self.filer.swapper.pool self.filer.swapper.layout self.filer.runs self.volume m
-            → CostsOther (D.state self.filer.swapper.under) (D.state result.1) }
+        ensures stops { (m : Machine) → Runs self.core self.volume m
+            → Throughout (IsStop m) (D.state self.core.filer.swapper.under) (D.state result.1) }
+        ensures counted { result.0 ≡ Err halt.Disk → Rose (D.state self.core.filer.swapper.under).faults (D.state result.1).faults }
+        ensures wrote { WroteOn self.core.filer.swapper.pool (D.state self.core.filer.swapper.under) (D.state result.1) }
+        ensures cost { (m : Machine) → Runs self.core self.volume m
+            → CostsOther (D.state self.core.filer.swapper.under) (D.state result.1) }
     {
         let mut session = self;
         let closed = session.close();

@@ -1,16 +1,21 @@
 //! A session: the calls of a client on the files of a volume.
 #![tactic(auto)]
 
+mod anonymous;
 mod ask;
 mod clear;
 mod create;
 mod delete;
 mod fault;
 mod finish;
+mod frames;
 mod laws;
 mod marks;
+mod order;
 mod session;
 mod set_size;
+mod sight;
+mod spaces;
 mod start;
 mod step;
 

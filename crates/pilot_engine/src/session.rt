@@ -1,13 +1,13 @@
 //! What a session holds.
+use fault_core::CoreOver;
 use file_manager::Volume;
-use filer_kernel::FilerOver;
 use labelled_disk::Disk;
 use std::alloc::Allocator;
 
-/// A volume in use: its disk with frames over it, its root, and how much of it is used.
+/// A volume in use: its disk with frames over it and its spaces, its root, and how much of it is used.
 #[derive(Drop)]
 pub struct SessionOver<D: Disk, A: Allocator> {
-    pub(crate) filer: FilerOver<D, A>,
+    pub(crate) core: CoreOver<D, A>,
     pub(crate) volume: Volume,
     pub(crate) running: bool,
 }

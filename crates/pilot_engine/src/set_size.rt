@@ -1,5 +1,5 @@
 //! Files that get another size.
-ghost use Rattle.std.specs.Prelude.{◌≡◌, ◌+◌, ◌-◌, ◌*◌, ◌≤◌, ◌&&◌, nat_le, IfOk, IfErr, Err};
+ghost use Rattle.std.specs.Prelude.{◌≡◌, ◌+◌, ◌-◌, ◌*◌, ◌<◌, ◌≤◌, ◌&&◌, nat_le, IfOk, IfErr, Err, None};
 ghost use Rattle.labelled_disk.specs.Calls.{Rose};
 ghost use Rattle.labelled_disk.specs.Label.{is_file_id};
 ghost use Rattle.labelled_disk.specs.declared.evidence.Halt.TheVariants as halt;
@@ -7,11 +7,15 @@ ghost use Rattle.flat_machine.specs.declared.call.Call.TheVariants as call;
 ghost use Rattle.file_map.specs.FileMap.{most_records};
 ghost use Rattle.flat_machine.specs.Machine.{Machine};
 ghost use Rattle.session_words.specs.Parts.{TablesMeaning};
-ghost use Rattle.pilot_engine.specs.Bound.{CostsOther};
-ghost use Rattle.pilot_engine.specs.Session.{IsOpen, IsSession, Carries, Wrote};
-ghost use Rattle.pilot_engine.specs.Stages.{Passes};
+ghost use Rattle.running_words.specs.Bound.{CostsOther};
+ghost use Rattle.running_words.specs.Session.{IsOpen, IsSession, Carries, Wrote};
+ghost use Rattle.running_words.specs.Stages.{Passes};
+ghost use Rattle.fault_core.specs.Core.{kept};
+ghost use Rattle.running_words.specs.Running.{Carried, Runs};
+ghost use Rattle.pilot_engine.specs.Seen.{CostsInside, IsSeenBy};
 
 use crate::SessionOver;
+use crate::sight::Sight;
 use file_manager::{Volume, attributes_of};
 use flat_machine::{Refusal, Reply};
 use labelled_disk::{Disk, FileId, Halt};
@@ -33,30 +37,44 @@ fn has_room(volume: Volume, found: u32, pages: u32) -> bool
     pages <= capacity && pages.saturating_sub(found) <= capacity - volume.used
 }
 
+// The space that keeps a file of so many pages from getting so many, where one shows it.
+fn held(seen: Option<u32>, found: u32, pages: u32) -> Option<u32>
+    ensures cut { pages < found → result ≡ seen }
+    ensures grown { found ≤ pages → result ≡ None }
+{
+    if pages < found { seen } else { None }
+}
+
 impl<D: Disk, A: Allocator> SessionOver<D, A> {
-    // Gives a file so many pages: others of zeros behind those that it has, or the first of them alone.
-    pub(crate) fn set_size(&mut self, id: FileId, pages: u32) -> Result<Reply, Halt>
-        requires size { (D.state self.old.filer.swapper.under).sectors ≡ self.old.filer.swapper.layout.sectors }
-        requires opened { IsOpen self.old.filer.swapper.layout self.old.volume }
-        ensures carried { (spaces_of : TablesMeaning) (m : Machine) → IsSession spaces_of (D.state self.old.filer.swapper.under) self.old.filer.swapper.pool self.old.filer.swapper.layout self.old.filer.runs self.old.volume m
-            → IfOk result (λ reply. Carries spaces_of m (call.SetSize id pages) reply (D.state self.new.filer.swapper.under) self.new.filer.swapper.pool self.new.filer.swapper.layout self.new.filer.runs self.new.volume) }
-        ensures sound { (spaces_of : TablesMeaning) (m : Machine) → IsSession spaces_of (D.state self.old.filer.swapper.under) self.old.filer.swapper.pool self.old.filer.swapper.layout self.old.filer.runs self.old.volume m
+    // Gives a file that may be named so many pages: others of zeros behind those that it has, or the first of them alone. It is
+    // not cut where the window of a space shows it.
+    fn resize(&mut self, id: FileId, pages: u32, seen: Option<u32>) -> Result<Reply, Halt>
+        requires size { (D.state self.old.core.filer.swapper.under).sectors ≡ self.old.core.filer.swapper.layout.sectors }
+        requires opened { IsOpen self.old.core.filer.swapper.layout self.old.volume }
+        ensures carried { (spaces_of : TablesMeaning) (m : Machine) → IsSession spaces_of (D.state self.old.core.filer.swapper.under) self.old.core.filer.swapper.pool self.old.core.filer.swapper.layout self.old.core.filer.runs self.old.volume m
+            → IsSeenBy m id seen
+            → IfOk result (λ reply. Carries spaces_of m (call.SetSize id pages) reply (D.state self.new.core.filer.swapper.under) self.new.core.filer.swapper.pool self.new.core.filer.swapper.layout self.new.core.filer.runs self.new.volume) }
+        ensures sound { (spaces_of : TablesMeaning) (m : Machine) → IsSession spaces_of (D.state self.old.core.filer.swapper.under) self.old.core.filer.swapper.pool self.old.core.filer.swapper.layout self.old.core.filer.runs self.old.volume m
+            → IsSeenBy m id seen
             → IfErr result (λ e. e ≡ halt.Disk) }
-        ensures passes { (spaces_of : TablesMeaning) (m : Machine) → IsSession spaces_of (D.state self.old.filer.swapper.under) self.old.filer.swapper.pool self.old.filer.swapper.layout self.old.filer.runs self.old.volume m
-            → Passes m (call.SetSize id pages) (D.state self.old.filer.swapper.under) (D.state self.new.filer.swapper.under) }
-        ensures counted { result ≡ Err halt.Disk → Rose (D.state self.old.filer.swapper.under).faults (D.state self.new.filer.swapper.under).faults }
-        ensures wrote { Wrote (D.state self.old.filer.swapper.under) self.old.filer.swapper.pool (D.state self.new.filer.swapper.under) self.new.filer.swapper.pool }
-        ensures open_still { IsOpen self.new.filer.swapper.layout self.new.volume }
-        ensures layout { self.new.filer.swapper.layout ≡ self.old.filer.swapper.layout }
+        ensures passes { (spaces_of : TablesMeaning) (m : Machine) → IsSession spaces_of (D.state self.old.core.filer.swapper.under) self.old.core.filer.swapper.pool self.old.core.filer.swapper.layout self.old.core.filer.runs self.old.volume m
+            → IsSeenBy m id seen
+            → Passes m (call.SetSize id pages) (D.state self.old.core.filer.swapper.under) (D.state self.new.core.filer.swapper.under) }
+        ensures counted { result ≡ Err halt.Disk → Rose (D.state self.old.core.filer.swapper.under).faults (D.state self.new.core.filer.swapper.under).faults }
+        ensures wrote { Wrote (D.state self.old.core.filer.swapper.under) self.old.core.filer.swapper.pool (D.state self.new.core.filer.swapper.under) self.new.core.filer.swapper.pool }
+        ensures open_still { IsOpen self.new.core.filer.swapper.layout self.new.volume }
+        ensures layout { self.new.core.filer.swapper.layout ≡ self.old.core.filer.swapper.layout }
         ensures running { self.new.running ≡ self.old.running }
-        ensures cost { (D.state self.new.filer.swapper.under).transfers ≤ (D.state self.old.filer.swapper.under).transfers + (158 + 4294967295 * (8 * self.old.filer.swapper.layout.vam + 100) + 102 * most_records self.old.filer.swapper.layout.sectors) }
-        ensures bounded { (spaces_of : TablesMeaning) (m : Machine) → IsSession spaces_of (D.state self.old.filer.swapper.under) self.old.filer.swapper.pool self.old.filer.swapper.layout self.old.filer.runs self.old.volume m
-            → CostsOther (D.state self.old.filer.swapper.under) (D.state self.new.filer.swapper.under) }
+        ensures kept { kept self.new.core ≡ kept self.old.core }
+        ensures intervals { self.new.core.intervals ≡ self.old.core.intervals }
+        ensures cost { (D.state self.new.core.filer.swapper.under).transfers ≤ (D.state self.old.core.filer.swapper.under).transfers + (158 + 4294967295 * (8 * self.old.core.filer.swapper.layout.vam + 100) + 102 * most_records self.old.core.filer.swapper.layout.sectors) }
+        ensures bounded { (spaces_of : TablesMeaning) (m : Machine) → IsSession spaces_of (D.state self.old.core.filer.swapper.under) self.old.core.filer.swapper.pool self.old.core.filer.swapper.layout self.old.core.filer.runs self.old.volume m
+            → CostsInside (D.state self.old.core.filer.swapper.under) (D.state self.new.core.filer.swapper.under) }
     {
         if !may_be_file(id) {
             return Ok(Reply::Refused(Refusal::File));
         }
-        let found = match attributes_of(&mut self.filer, id) {
+        let found = match attributes_of(&mut self.core.filer, id) {
             Ok(Some(found)) => found,
             Ok(None) => return Ok(Reply::Refused(Refusal::File)),
             Err(halt) => return Err(halt),
@@ -64,11 +82,36 @@ impl<D: Disk, A: Allocator> SessionOver<D, A> {
         if found.immutable {
             return Ok(Reply::Refused(Refusal::Immutable));
         }
+        match held(seen, found.pages, pages) {
+            Some(handle) => return Ok(Reply::Refused(Refusal::FileMapped(handle))),
+            None => (),
+        }
         if !has_room(self.volume, found.pages, pages) {
             return Ok(Reply::Refused(Refusal::Full));
         }
-        match file_manager::set_size(&mut self.filer, &mut self.volume, id, pages) {
+        match file_manager::set_size(&mut self.core.filer, &mut self.volume, id, pages) {
             Ok(()) => Ok(Reply::Done),
+            Err(halt) => Err(halt),
+        }
+    }
+
+    // Gives a file so many pages, unless that cuts what a window shows.
+    pub(crate) fn set_size(&mut self, id: FileId, pages: u32) -> Result<Reply, Halt>
+        requires size { (D.state self.old.core.filer.swapper.under).sectors ≡ self.old.core.filer.swapper.layout.sectors }
+        requires opened { IsOpen self.old.core.filer.swapper.layout self.old.volume }
+        ensures carried { (m : Machine) → Runs self.old.core self.old.volume m → IfOk result (Carried m (call.SetSize id pages) self.new.core self.new.volume) }
+        ensures sound { (m : Machine) → Runs self.old.core self.old.volume m → IfErr result (λ e. e ≡ halt.Disk) }
+        ensures passes { (m : Machine) → Runs self.old.core self.old.volume m → Passes m (call.SetSize id pages) (D.state self.old.core.filer.swapper.under) (D.state self.new.core.filer.swapper.under) }
+        ensures counted { result ≡ Err halt.Disk → Rose (D.state self.old.core.filer.swapper.under).faults (D.state self.new.core.filer.swapper.under).faults }
+        ensures wrote { Wrote (D.state self.old.core.filer.swapper.under) self.old.core.filer.swapper.pool (D.state self.new.core.filer.swapper.under) self.new.core.filer.swapper.pool }
+        ensures open_still { IsOpen self.new.core.filer.swapper.layout self.new.volume }
+        ensures layout { self.new.core.filer.swapper.layout ≡ self.old.core.filer.swapper.layout }
+        ensures running { self.new.running ≡ self.old.running }
+        ensures cost { (m : Machine) → Runs self.old.core self.old.volume m → CostsOther (D.state self.old.core.filer.swapper.under) (D.state self.new.core.filer.swapper.under) }
+    {
+        match self.sight(id) {
+            Ok(Sight::Hidden) => Ok(Reply::Refused(Refusal::File)),
+            Ok(Sight::By(seen)) => self.resize(id, pages, seen),
             Err(halt) => Err(halt),
         }
     }

@@ -7,19 +7,24 @@ ghost use Rattle.labelled_disk.specs.Layout.{IsCount};
 ghost use Rattle.labelled_disk.specs.Moment.{written};
 ghost use Rattle.labelled_disk.specs.Root.{LabelsRight, root_page};
 ghost use Rattle.labelled_disk.specs.Sectors.{Sector};
+ghost use Rattle.fault_core.specs.View.{view_of};
 ghost use Rattle.filer_kernel.specs.Cached.{runs_of};
 ghost use Rattle.flat_machine.specs.Start.{start};
 ghost use Rattle.label_calls.specs.Labels.{MayHaveWritten};
-ghost use Rattle.swapper_kernel.specs.Goes.{Goes, no_page};
+ghost use Rattle.swapper_kernel.specs.Goes.{Goes, Makes, no_page};
+ghost use Rattle.session_words.specs.Volume.{volume_page};
 ghost use Rattle.volume_root.specs.Flag.{IsRefused};
 ghost use Rattle.volume_root.specs.RootPage.{IsValidRoot, root_in, root_write};
 ghost use Rattle.volume_root.specs.Sound.{Sound};
-ghost use Rattle.pilot_engine.specs.Bound.{CostsOther};
+ghost use Rattle.running_words.specs.Bound.{CostsOther};
 ghost use Rattle.pilot_engine.specs.declared.fault.StartFault.TheVariants as start_fault;
 ghost use Rattle.pilot_engine.specs.Opening.{root_alone, in_use, IsBare, StartsSome, WroteFirst, KeepsFiles, CostsStart, IsDiskFault, IsOutside, IsEarly, IsRightRefusal};
-ghost use Rattle.pilot_engine.specs.Session.{IsOpen, IsSession};
+ghost use Rattle.running_words.specs.Running.{IsRunning, Runs};
+ghost use Rattle.running_words.specs.Session.{IsOpen, IsSession};
 
+use crate::frames::look_at_frames;
 use crate::{SessionOver, StartFault};
+use fault_core::CoreOver;
 use file_manager::{Volume, make_tables};
 use filer_kernel::FilerOver;
 use labelled_disk::{Disk, Halt, Layout, RootFault};
@@ -71,8 +76,28 @@ fn write_over<D: Disk, A: Allocator>(filer: &mut FilerOver<D, A>, root: Root) ->
     }
 }
 
-// Puts a volume with this root into use: the root is written with the clean flag 0, and the pages of the space tables are
-// made. No frame is there yet.
+// Writes the tables of the root alone into the pages of the space tables, which were made.
+fn write_tables<D: Disk, A: Allocator>(filer: &mut FilerOver<D, A>) -> Result<(), Halt>
+    requires size { (D.state filer.old.swapper.under).sectors ≡ filer.old.swapper.layout.sectors }
+    ensures runs { (d : List Sector) (volume : Volume) → IsSession root_alone (D.state filer.old.swapper.under) filer.old.swapper.pool filer.old.swapper.layout filer.old.runs volume (start d)
+        → OnOk result (IsRunning (view_of filer.new) [] 1 volume (start d)) }
+    ensures sound { (d : List Sector) (volume : Volume) → IsSession root_alone (D.state filer.old.swapper.under) filer.old.swapper.pool filer.old.swapper.layout filer.old.runs volume (start d)
+        → IfErr result (λ e. e ≡ halt.Disk) }
+    ensures makes { Makes volume_page [] (D.state filer.old.swapper.under) filer.old.swapper.pool (D.state filer.new.swapper.under) filer.new.swapper.pool }
+    ensures counted { result ≡ Err halt.Disk → Rose (D.state filer.old.swapper.under).faults (D.state filer.new.swapper.under).faults }
+    ensures layout { filer.new.swapper.layout ≡ filer.old.swapper.layout }
+    ensures cost { (D.state filer.new.swapper.under).transfers ≤ (D.state filer.old.swapper.under).transfers + 14392 }
+{
+    match table_calls::begin(filer) {
+        Ok(()) => (),
+        Err(halt) => return Err(halt),
+    }
+    look_at_frames(filer);
+    Ok(())
+}
+
+// Puts a volume with this root into use: the root is written with the clean flag 0, the pages of the space tables are made,
+// and the tables of the root alone are written into them. No frame is there yet.
 fn begin<D: Disk, A: Allocator>(
     filer: &mut FilerOver<D, A>,
     layout: Layout,
@@ -84,7 +109,7 @@ fn begin<D: Disk, A: Allocator>(
     requires bare { IsBare filer.old.swapper.pool }
     requires no_runs { (n : ℕ) → runs_of n filer.old.runs ≡ [] }
     ensures begun { (d : List Sector) → (D.state filer.old.swapper.under).contents ≡ Some d → Sound d → root ≡ root_in (root_page d)
-        → IfOk result (λ volume. IsSession root_alone (D.state filer.new.swapper.under) filer.new.swapper.pool filer.new.swapper.layout filer.new.runs volume (start d)) }
+        → IfOk result (λ volume. IsRunning (view_of filer.new) [] 1 volume (start d)) }
     ensures sound { (d : List Sector) → (D.state filer.old.swapper.under).contents ≡ Some d → Sound d → root ≡ root_in (root_page d) → IfErr result (λ e. e ≡ halt.Disk) }
     ensures opened { IfOk result (IsOpen filer.new.swapper.layout) }
     ensures starts { StartsSome root (D.state filer.old.swapper.under) filer.old.swapper.pool (D.state filer.new.swapper.under) filer.new.swapper.pool }
@@ -92,7 +117,7 @@ fn begin<D: Disk, A: Allocator>(
     ensures serial { root.serial < 2 ^ 32 }
     ensures counter { root.counter < 2 ^ 32 }
     ensures layout { filer.new.swapper.layout ≡ filer.old.swapper.layout }
-    ensures cost { (D.state filer.new.swapper.under).transfers ≤ (D.state filer.old.swapper.under).transfers + (1 + 2 * filer.old.swapper.layout.vam + 96 * (8 * filer.old.swapper.layout.vam + 100)) }
+    ensures cost { (D.state filer.new.swapper.under).transfers ≤ (D.state filer.old.swapper.under).transfers + (14393 + 2 * filer.old.swapper.layout.vam + 96 * (8 * filer.old.swapper.layout.vam + 100)) }
 {
     let root = in_use(root);
     match write_over(filer, root) {
@@ -104,6 +129,10 @@ fn begin<D: Disk, A: Allocator>(
         Err(halt) => return Err(halt),
     };
     match make_tables(filer) {
+        Ok(()) => (),
+        Err(halt) => return Err(halt),
+    }
+    match write_tables(filer) {
         Ok(()) => (),
         Err(halt) => return Err(halt),
     }
@@ -160,11 +189,11 @@ impl<D: Disk, A: Allocator> SessionOver<D, A> {
         requires least { 24 ≤ frames }
         requires most { frames ≤ 4096 }
         ensures stands { (d : List Sector) → (D.state disk).contents ≡ Some d → Sound d
-            → IfOk result (λ s. IsSession root_alone (D.state s.filer.swapper.under) s.filer.swapper.pool s.filer.swapper.layout s.filer.runs s.volume (start d)) }
-        ensures size { IfOk result (λ s. (D.state s.filer.swapper.under).sectors ≡ s.filer.swapper.layout.sectors) }
-        ensures opened { IfOk result (λ s. IsOpen s.filer.swapper.layout s.volume) }
+            → IfOk result (λ s. Runs s.core s.volume (start d)) }
+        ensures size { IfOk result (λ s. (D.state s.core.filer.swapper.under).sectors ≡ s.core.filer.swapper.layout.sectors) }
+        ensures opened { IfOk result (λ s. IsOpen s.core.filer.swapper.layout s.volume) }
         ensures running { IfOk result (λ s. s.running ≡ true) }
-        ensures frames { IfOk result (λ s. length s.filer.swapper.pool ≡ frames) }
+        ensures frames { IfOk result (λ s. length s.core.filer.swapper.pool ≡ frames) }
 
         // No session starts.
         ensures count { ¬ IsCount (D.state disk).sectors → MatchResult result (λ s. ⊥) (λ e. e.0 ≡ start_fault.Root (fault.BadCount (D.state disk).sectors)) }
@@ -178,10 +207,10 @@ impl<D: Disk, A: Allocator> SessionOver<D, A> {
 
         // What was written, whether or not one starts.
         ensures moments { (d : List Sector) → (D.state disk).contents ≡ Some d → LabelsRight d
-            → MatchResult result (λ s. KeepsFiles d (D.state disk) (D.state s.filer.swapper.under)) (λ e. KeepsFiles d (D.state disk) (D.state e.1)) }
-        ensures wrote { MatchResult result (λ s. WroteFirst (D.state disk) (D.state s.filer.swapper.under)) (λ e. WroteFirst (D.state disk) (D.state e.1)) }
-        ensures cost { MatchResult result (λ s. CostsStart (D.state disk) (D.state s.filer.swapper.under)) (λ e. CostsStart (D.state disk) (D.state e.1)) }
-        ensures bounded { MatchResult result (λ s. CostsOther (D.state disk) (D.state s.filer.swapper.under)) (λ e. CostsOther (D.state disk) (D.state e.1)) }
+            → MatchResult result (λ s. KeepsFiles d (D.state disk) (D.state s.core.filer.swapper.under)) (λ e. KeepsFiles d (D.state disk) (D.state e.1)) }
+        ensures wrote { MatchResult result (λ s. WroteFirst (D.state disk) (D.state s.core.filer.swapper.under)) (λ e. WroteFirst (D.state disk) (D.state e.1)) }
+        ensures cost { MatchResult result (λ s. CostsStart (D.state disk) (D.state s.core.filer.swapper.under)) (λ e. CostsStart (D.state disk) (D.state e.1)) }
+        ensures bounded { MatchResult result (λ s. CostsOther (D.state disk) (D.state s.core.filer.swapper.under)) (λ e. CostsOther (D.state disk) (D.state e.1)) }
     {
         let (mut filer, layout, root) = match frames_over(alloc, disk, frames) {
             Ok(opened) => opened,
@@ -189,7 +218,7 @@ impl<D: Disk, A: Allocator> SessionOver<D, A> {
         };
         match begin(&mut filer, layout, root) {
             Ok(volume) => Ok(SessionOver {
-                filer,
+                core: CoreOver::over(filer, 1),
                 volume,
                 running: true,
             }),

@@ -1,17 +1,22 @@
 //! One call of a client.
-ghost use Rattle.std.specs.Prelude.{◌≡◌, true, false, IfOk, IfErr, OnOk, OnErr, Ok, Err};
+ghost use Rattle.std.specs.Prelude.{◌≡◌, ◌+◌, ◌≤◌, true, false, IfOk, IfErr, OnOk, OnErr, Err, None};
 ghost use Rattle.labelled_disk.specs.Calls.{Rose};
 ghost use Rattle.labelled_disk.specs.declared.evidence.Halt.TheVariants as halt;
-ghost use Rattle.flat_machine.specs.declared.call.Reply.TheVariants as reply;
-ghost use Rattle.flat_machine.specs.declared.call.Refusal.TheVariants as why;
+ghost use Rattle.flat_machine.specs.After.{ends_trace};
+ghost use Rattle.flat_machine.specs.Form.{IsInForm};
 ghost use Rattle.flat_machine.specs.Machine.{Machine};
-ghost use Rattle.session_words.specs.Parts.{TablesMeaning};
-ghost use Rattle.pilot_engine.specs.Bound.{CostsOther};
-ghost use Rattle.pilot_engine.specs.Session.{IsOpen, IsSession, Carries, Wrote};
-ghost use Rattle.pilot_engine.specs.Stages.{Passes, is_answered};
+ghost use Rattle.flat_machine.specs.References.{is_reference};
+ghost use Rattle.flat_machine.specs.Refusal.{refusal};
+ghost use Rattle.running_words.specs.Bound.{CostsOther};
+ghost use Rattle.running_words.specs.Running.{Carried, Runs};
+ghost use Rattle.running_words.specs.Session.{IsOpen, WroteIn};
+ghost use Rattle.running_words.specs.Stages.{Passes, may_dirty};
+ghost use Rattle.fault_core.specs.Core.{kept};
+ghost use Rattle.pilot_engine.specs.Advised.{IsAdvised};
+ghost use Rattle.pilot_engine.specs.Stepping.{waits};
 
 use crate::SessionOver;
-use flat_machine::{Call, Refusal, Reply};
+use flat_machine::{Call, Reply};
 use labelled_disk::{Disk, Halt};
 use std::alloc::Allocator;
 
@@ -23,27 +28,33 @@ impl<D: Disk, A: Allocator> SessionOver<D, A> {
         self.running
     }
 
-    /// Carries out a call on files; one on spaces is still to come, and is answered `later`. A call that is refused changes
-    /// nothing; one that halts stops the session, and nothing more is written.
+    /// Carries out a call that does not end the session. One that is refused changes nothing; one that halts stops the session,
+    /// and nothing more is written.
     pub fn step(&mut self, call: &Call) -> Result<Reply, Halt>
-        requires size { (D.state self.old.filer.swapper.under).sectors ≡ self.old.filer.swapper.layout.sectors }
-        requires opened { IsOpen self.old.filer.swapper.layout self.old.volume }
+        requires size { (D.state self.old.core.filer.swapper.under).sectors ≡ self.old.core.filer.swapper.layout.sectors }
+        requires opened { IsOpen self.old.core.filer.swapper.layout self.old.volume }
+        requires more { ends_trace call.now ≡ false }
+        requires in_form { IsInForm call.now }
         requires running { self.old.running ≡ true }
-        ensures carried { (spaces_of : TablesMeaning) (m : Machine) → is_answered call.now ≡ true → IsSession spaces_of (D.state self.old.filer.swapper.under) self.old.filer.swapper.pool self.old.filer.swapper.layout self.old.filer.runs self.old.volume m
-            → IfOk result (λ reply. Carries spaces_of m call.now reply (D.state self.new.filer.swapper.under) self.new.filer.swapper.pool self.new.filer.swapper.layout self.new.filer.runs self.new.volume) }
-        ensures sound { (spaces_of : TablesMeaning) (m : Machine) → IsSession spaces_of (D.state self.old.filer.swapper.under) self.old.filer.swapper.pool self.old.filer.swapper.layout self.old.filer.runs self.old.volume m
+        ensures carried { (m : Machine) → Runs self.old.core self.old.volume m
+            → IfOk result (Carried m call.now self.new.core self.new.volume) }
+        ensures sound { (m : Machine) → Runs self.old.core self.old.volume m
             → IfErr result (λ e. e ≡ halt.Disk) }
-        ensures passes { (spaces_of : TablesMeaning) (m : Machine) → is_answered call.now ≡ true → IsSession spaces_of (D.state self.old.filer.swapper.under) self.old.filer.swapper.pool self.old.filer.swapper.layout self.old.filer.runs self.old.volume m
-            → Passes m call.now (D.state self.old.filer.swapper.under) (D.state self.new.filer.swapper.under) }
-        ensures later { is_answered call.now ≡ false → (result ≡ Ok (reply.Refused why.Later)) × (self.new ≡ self.old) }
-        ensures counted { result ≡ Err halt.Disk → Rose (D.state self.old.filer.swapper.under).faults (D.state self.new.filer.swapper.under).faults }
-        ensures wrote { Wrote (D.state self.old.filer.swapper.under) self.old.filer.swapper.pool (D.state self.new.filer.swapper.under) self.new.filer.swapper.pool }
-        ensures open_still { IsOpen self.new.filer.swapper.layout self.new.volume }
-        ensures layout { self.new.filer.swapper.layout ≡ self.old.filer.swapper.layout }
+        ensures passes { (m : Machine) → Runs self.old.core self.old.volume m
+            → Passes m call.now (D.state self.old.core.filer.swapper.under) (D.state self.new.core.filer.swapper.under) }
+        ensures forced { (m : Machine) → waits call.now ≡ true → refusal m call.now ≡ None → Runs self.old.core self.old.volume m
+            → OnOk result ((D.state self.new.core.filer.swapper.under).synced ≡ true) }
+        ensures advised { (m : Machine) → refusal m call.now ≡ None → Runs self.old.core self.old.volume m
+            → OnOk result (IsAdvised m.spaces call.now (kept self.new.core) self.new.core.filer.swapper.pool) }
+        ensures counted { result ≡ Err halt.Disk → Rose (D.state self.old.core.filer.swapper.under).faults (D.state self.new.core.filer.swapper.under).faults }
+        ensures wrote { WroteIn (may_dirty call.now) (D.state self.old.core.filer.swapper.under) self.old.core.filer.swapper.pool (D.state self.new.core.filer.swapper.under) self.new.core.filer.swapper.pool }
+        ensures open_still { IsOpen self.new.core.filer.swapper.layout self.new.volume }
+        ensures layout { self.new.core.filer.swapper.layout ≡ self.old.core.filer.swapper.layout }
         ensures goes_on { OnOk result (self.new.running ≡ true) }
         ensures halted { OnErr result (self.new.running ≡ false) }
-        ensures cost { (spaces_of : TablesMeaning) (m : Machine) → IsSession spaces_of (D.state self.old.filer.swapper.under) self.old.filer.swapper.pool self.old.filer.swapper.layout self.old.filer.runs self.old.volume m
-            → CostsOther (D.state self.old.filer.swapper.under) (D.state self.new.filer.swapper.under) }
+        ensures cost { (m : Machine) → Runs self.old.core self.old.volume m
+            → CostsOther (D.state self.old.core.filer.swapper.under) (D.state self.new.core.filer.swapper.under) }
+        ensures reference { is_reference call.now ≡ true → (D.state self.new.core.filer.swapper.under).transfers ≤ (D.state self.old.core.filer.swapper.under).transfers + 1680 }
     {
         let answer = self.answer(call);
         if answer.is_err() {
@@ -53,22 +64,28 @@ impl<D: Disk, A: Allocator> SessionOver<D, A> {
     }
 
     fn answer(&mut self, call: &Call) -> Result<Reply, Halt>
-        requires size { (D.state self.old.filer.swapper.under).sectors ≡ self.old.filer.swapper.layout.sectors }
-        requires opened { IsOpen self.old.filer.swapper.layout self.old.volume }
-        ensures carried { (spaces_of : TablesMeaning) (m : Machine) → is_answered call.now ≡ true → IsSession spaces_of (D.state self.old.filer.swapper.under) self.old.filer.swapper.pool self.old.filer.swapper.layout self.old.filer.runs self.old.volume m
-            → IfOk result (λ reply. Carries spaces_of m call.now reply (D.state self.new.filer.swapper.under) self.new.filer.swapper.pool self.new.filer.swapper.layout self.new.filer.runs self.new.volume) }
-        ensures sound { (spaces_of : TablesMeaning) (m : Machine) → IsSession spaces_of (D.state self.old.filer.swapper.under) self.old.filer.swapper.pool self.old.filer.swapper.layout self.old.filer.runs self.old.volume m
+        requires size { (D.state self.old.core.filer.swapper.under).sectors ≡ self.old.core.filer.swapper.layout.sectors }
+        requires opened { IsOpen self.old.core.filer.swapper.layout self.old.volume }
+        requires more { ends_trace call.now ≡ false }
+        requires in_form { IsInForm call.now }
+        ensures carried { (m : Machine) → Runs self.old.core self.old.volume m
+            → IfOk result (Carried m call.now self.new.core self.new.volume) }
+        ensures sound { (m : Machine) → Runs self.old.core self.old.volume m
             → IfErr result (λ e. e ≡ halt.Disk) }
-        ensures passes { (spaces_of : TablesMeaning) (m : Machine) → is_answered call.now ≡ true → IsSession spaces_of (D.state self.old.filer.swapper.under) self.old.filer.swapper.pool self.old.filer.swapper.layout self.old.filer.runs self.old.volume m
-            → Passes m call.now (D.state self.old.filer.swapper.under) (D.state self.new.filer.swapper.under) }
-        ensures later { is_answered call.now ≡ false → (result ≡ Ok (reply.Refused why.Later)) × (self.new ≡ self.old) }
-        ensures counted { result ≡ Err halt.Disk → Rose (D.state self.old.filer.swapper.under).faults (D.state self.new.filer.swapper.under).faults }
-        ensures wrote { Wrote (D.state self.old.filer.swapper.under) self.old.filer.swapper.pool (D.state self.new.filer.swapper.under) self.new.filer.swapper.pool }
-        ensures open_still { IsOpen self.new.filer.swapper.layout self.new.volume }
-        ensures layout { self.new.filer.swapper.layout ≡ self.old.filer.swapper.layout }
+        ensures passes { (m : Machine) → Runs self.old.core self.old.volume m
+            → Passes m call.now (D.state self.old.core.filer.swapper.under) (D.state self.new.core.filer.swapper.under) }
+        ensures forced { (m : Machine) → waits call.now ≡ true → refusal m call.now ≡ None → Runs self.old.core self.old.volume m
+            → OnOk result ((D.state self.new.core.filer.swapper.under).synced ≡ true) }
+        ensures advised { (m : Machine) → refusal m call.now ≡ None → Runs self.old.core self.old.volume m
+            → OnOk result (IsAdvised m.spaces call.now (kept self.new.core) self.new.core.filer.swapper.pool) }
+        ensures counted { result ≡ Err halt.Disk → Rose (D.state self.old.core.filer.swapper.under).faults (D.state self.new.core.filer.swapper.under).faults }
+        ensures wrote { WroteIn (may_dirty call.now) (D.state self.old.core.filer.swapper.under) self.old.core.filer.swapper.pool (D.state self.new.core.filer.swapper.under) self.new.core.filer.swapper.pool }
+        ensures open_still { IsOpen self.new.core.filer.swapper.layout self.new.volume }
+        ensures layout { self.new.core.filer.swapper.layout ≡ self.old.core.filer.swapper.layout }
         ensures running { self.new.running ≡ self.old.running }
-        ensures cost { (spaces_of : TablesMeaning) (m : Machine) → IsSession spaces_of (D.state self.old.filer.swapper.under) self.old.filer.swapper.pool self.old.filer.swapper.layout self.old.filer.runs self.old.volume m
-            → CostsOther (D.state self.old.filer.swapper.under) (D.state self.new.filer.swapper.under) }
+        ensures cost { (m : Machine) → Runs self.old.core self.old.volume m
+            → CostsOther (D.state self.old.core.filer.swapper.under) (D.state self.new.core.filer.swapper.under) }
+        ensures reference { is_reference call.now ≡ true → (D.state self.new.core.filer.swapper.under).transfers ≤ (D.state self.old.core.filer.swapper.under).transfers + 1680 }
     {
         match call {
             Call::Create { pages, kind } => self.create(*pages, *kind),
@@ -79,7 +96,7 @@ impl<D: Disk, A: Allocator> SessionOver<D, A> {
             Call::MakeImmutable { id } => self.make_immutable(*id),
             Call::Next { id } => self.next(*id),
             Call::Volume => self.volume(),
-            _ => Ok(Reply::Refused(Refusal::Later)),
+            _ => self.answer_on_spaces(call),
         }
     }
 }

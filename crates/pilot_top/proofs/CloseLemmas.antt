@@ -13,7 +13,9 @@ use Rattle.filer_kernel.specs.declared.cached.CachedRuns.{CachedRuns}
 use Rattle.file_manager.specs.declared.volume.Volume.{Volume}
 use Rattle.flat_machine.specs.Machine.{Machine}
 use Rattle.pilot_engine.specs.Closing.{IsStop, Throughout}
-use Rattle.pilot_top.specs.Built.{StandsFor}
+use Rattle.swap_units.specs.declared.interval.Interval.{Interval}
+use Rattle.fault_core.specs.View.{View}
+use Rattle.running_words.specs.Running.{IsRunning}
 use Rattle.pilot_top.specs.Last.{last_line, Puts}
 use Rattle.pilot_top.specs.Stopping.{status_of, cause_of}
 use Rattle.pilot_top.specs.declared.last.Cause.TheVariants as cause
@@ -22,11 +24,11 @@ use Rattle.pilot_top.specs.declared.status.Status.TheVariants as status
 use Rattle.pilot_top.proofs.StagedLemmas.{AreInForm, stands_told}
 
 -- a session is left as it stands
-pub rest_stops : (m : Machine) (disk : DiskState) (slots : Slots) (layout : Layout) (runs : CachedRuns) (volume : Volume) → StandsFor disk slots layout runs volume m → AreInForm disk → Throughout (IsStop m) disk disk
-rest_stops m disk slots layout runs volume is form = record {
+pub rest_stops : (m : Machine) {v : View} {kept : List Interval} {count : ℕ} {volume : Volume} → IsRunning v kept count volume m → AreInForm v.disk → Throughout (IsStop m) v.disk v.disk
+rest_stops m is form = record {
   writes = [];
   appended = appended_none (record { contents = refl; writes = refl });
-  each = λ d k told. subst (IsStop m) (sym (still d k)) (let at = stands_told m disk slots layout runs volume is form d told in record { told = at.told; honest = at.honest });
+  each = λ d k told. subst (IsStop m) (sym (still d k)) (let at = stands_told m is form d told in record { told = at.told; honest = at.honest });
 }
   where
     still : (d : List Sector) (k : ℕ) → moment d [] k ≡ d

@@ -1,13 +1,13 @@
 -- What the lines of a run cost.
-use Rattle.std.proofs.Common.{◌≡◌, ℕ, ◌+◌, ◌*◌, ◌≤◌, false, List, [], ◌∷◌, ◌++◌, Some, None, refl, sym, subst, arith}
+use Rattle.std.proofs.Common.{◌≡◌, ℕ, ◌+◌, ◌≤◌, true, List, [], ◌∷◌, ◌++◌, Some, None, refl, sym, subst, arith}
 use Rattle.std.specs.Prelude.{sum_by}
 use Rattle.std.proofs.lemmas.List.Sums.{sum_by_push, sum_by-append}
 use Rattle.labelled_disk.specs.State.{DiskState}
 use Rattle.flat_machine.specs.After.{TraceLine}
 use Rattle.flat_machine.specs.declared.call.Call.{Call}
 use Rattle.flat_machine.specs.declared.call.Call.TheVariants as call
-use Rattle.pilot_engine.specs.Bound.{CostsOther, other_bound}
-use Rattle.pilot_engine.specs.Stages.{is_answered}
+use Rattle.flat_machine.specs.References.{is_reference}
+use Rattle.running_words.specs.Bound.{CostsOther, other_bound}
 use Rattle.pilot_top.specs.Headline.{CostsLine, CostsLines, line_bound, run_bound}
 
 -- One line.
@@ -19,11 +19,11 @@ spent_none a b n same = subst (λ (d : DiskState). d.transfers ≤ a.transfers +
 pub nothing_spent : (a : DiskState) → CostsOther a a
 nothing_spent a = spent_none a a (other_bound a.sectors) refl
 
--- a call, where one that is not answered costs nothing
-pub call_costs : (c : Call) (a b : DiskState) → (is_answered c ≡ false → b ≡ a) → CostsOther a b → CostsLine (Some c) a b
-call_costs (call.Load first count) a b later cost = spent_none a b 1680 (later refl)
-call_costs (call.Store first bytes) a b later cost = spent_none a b 1680 (later refl)
-call_costs c a b later cost = cost
+-- a call
+pub call_costs : (c : Call) (a b : DiskState) → (is_reference c ≡ true → b.transfers ≤ a.transfers + 1680) → CostsOther a b → CostsLine (Some c) a b
+call_costs (call.Load first count) a b few cost = few refl
+call_costs (call.Store first bytes) a b few cost = few refl
+call_costs c a b few cost = cost
 
 -- a bad line
 pub bad_costs : (a : DiskState) → CostsLine None a a

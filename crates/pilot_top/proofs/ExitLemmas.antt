@@ -1,5 +1,5 @@
 -- The ways out of a run, with what it wrote.
-use Rattle.std.proofs.Common.{◌≡◌, ◌≢◌, ◌⊎◌, inl, inr, ℕ, ◌<◌, true, false, List, [], ◌∷◌, ◌++◌, length, Option, Some, None, refl, sym, ap, ◌∙◌, subst, arith, append-nil, length-append}
+use Rattle.std.proofs.Common.{◌≡◌, ◌≢◌, ◌⊎◌, inl, inr, ℕ, ◌<◌, true, false, List, [], ◌∷◌, ◌++◌, length, Option, Some, None, refl, sym, ap, ◌∙◌, subst, arith, length-append}
 use Rattle.labelled_disk.specs.Sectors.{Sector}
 use Rattle.labelled_disk.specs.State.{DiskState}
 use Rattle.labelled_disk.specs.declared.evidence.Evidence.{Evidence}
@@ -9,16 +9,14 @@ use Rattle.flat_machine.specs.declared.call.Reply.{Reply}
 use Rattle.flat_machine.specs.After.{TraceLine, after}
 use Rattle.flat_machine.specs.IsMachine.{IsMachine}
 use Rattle.flat_machine.specs.Machine.{Machine}
-use Rattle.flat_machine.specs.Space.{root}
 use Rattle.trace_io.specs.Course.{HasRead}
 use Rattle.trace_io.specs.Lines.{TakesLine}
 use Rattle.trace_io.specs.Progress.{Progress}
 use Rattle.trace_io.specs.Reading.{is_last, reading, rest_of}
 use Rattle.trace_io.proofs.CourseLemmas.{HasRead-line}
 use Rattle.session_words.specs.StandsFor.{TellsSettled}
-use Rattle.pilot_engine.specs.Bound.{CostsOther}
+use Rattle.running_words.specs.Bound.{CostsOther}
 use Rattle.pilot_engine.specs.Closing.{HasShut, IsStop, Throughout}
-use Rattle.pilot_top.specs.Built.{is_built}
 use Rattle.pilot_top.specs.Ending.{closes, halts}
 use Rattle.pilot_top.specs.Headline.{HasFilesAt}
 use Rattle.pilot_top.specs.Moments.{Moments}
@@ -96,11 +94,11 @@ module _ (m : Machine) {x : List ℕ} {b t u : Option (List ℕ)} {p : Progress}
     line_spends {new = new} same made = spends_reading m read_more old new (more_costs turned same made m is)
 
     -- it has no reply
-    pub halt_files : {new : DiskState} → Made now line mid new → ((n : Machine) → now n → IsMachine n × (n.spaces ≡ root ∷ [])) → (i : ℕ) × HasFilesAt m (reading x) new (length lines) i
-    halt_files {new = new} made alone =
+    pub halt_files : {new : DiskState} → Made now line mid new → ((n : Machine) → now n → IsMachine n) → (i : ℕ) × HasFilesAt m (reading x) new (length lines) i
+    halt_files {new = new} made machine =
         let n = last_of m lines in
         let stands = turned.going.stands m is in
-        let some = line_files n line (alone n stands).0 (alone n stands).1 (made n stands).0 in
+        let some = line_files n line (machine n stands) (made n stands).0 in
         (some.0, files_of_begun m lines line read_more new some.0 some.1)
 
     -- it has this reply
@@ -130,7 +128,7 @@ module _ (m : Machine) {x : List ℕ} {b t u : Option (List ℕ)} {p : Progress}
 
     -- at the trace's end
     module _ (how : End) (c : Option (List ℕ)) (q : Progress) (ended : EndsTrace how b c p q) where
-      end_shut : how ≢ end.Halt → (how ≢ end.Halt → HasShut (last_of m lines) new) → HasShut (after is_built m (reading x) (length (reading x))) new
+      end_shut : how ≢ end.Halt → (how ≢ end.Halt → HasShut (last_of m lines) new) → HasShut (after m (reading x) (length (reading x))) new
       end_shut other shut = subst (λ (n : Machine). HasShut n new) (sym (End-after m x b t u p first now turned.going how c q ended)) (by how other (shut other))
         where
           by : (how : End) → how ≢ end.Halt → HasShut (last_of m lines) new → HasShut (ended_by (last_of m lines) how) new
@@ -138,8 +136,8 @@ module _ (m : Machine) {x : List ℕ} {b t u : Option (List ℕ)} {p : Progress}
           by end.Halt other shut = absurd (other refl)
           by end.Trace other shut = shut
 
-      pub end_closed : halts (reading x) ≡ false → (how ≢ end.Halt → HasShut (last_of m lines) new) → HasShut (after is_built m (reading x) (length (reading x))) new
+      pub end_closed : halts (reading x) ≡ false → (how ≢ end.Halt → HasShut (last_of m lines) new) → HasShut (after m (reading x) (length (reading x))) new
       end_closed going = end_shut (λ halted. let goes_on = sym (End-halts x b t u p first now turned.going how c q ended) ∙ going in absurd (cc (goes_on, halted)))
 
-      pub end_unheard : closes (reading x) ≡ true → (how ≢ end.Halt → HasShut (last_of m lines) new) → HasShut (after is_built m (reading x) (length (reading x))) new
+      pub end_unheard : closes (reading x) ≡ true → (how ≢ end.Halt → HasShut (last_of m lines) new) → HasShut (after m (reading x) (length (reading x))) new
       end_unheard closed = end_shut (λ halted. let closes = sym (End-closes x b t u p first now turned.going how c q ended) ∙ closed in absurd (cc (closes, halted)))

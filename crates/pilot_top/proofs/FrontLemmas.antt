@@ -16,7 +16,6 @@ use Rattle.trace_io.specs.declared.progress.Stop.TheVariants as stop
 use Rattle.trace_io.proofs.CourseLemmas.{HasRead-last, HasRead-end}
 use Rattle.session_words.specs.StandsFor.{TellsSettled}
 use Rattle.pilot_engine.specs.Closing.{HasShut}
-use Rattle.pilot_top.specs.Built.{is_built}
 use Rattle.pilot_top.specs.Headline.{HasFilesAt}
 use Rattle.pilot_top.specs.Turn.{EndsTrace}
 use Rattle.pilot_top.specs.declared.turn.End.{End}
@@ -47,18 +46,18 @@ ended_by m end.Halt = next m call.Halt
 ended_by m end.Trace = m
 
 module _ (m : Machine) (x : List ℕ) (b t u : Option (List ℕ)) (p : Progress) (first now : Machine → Type 0) (going : Going (Some x) b t u p first now) where
-  after_last : (line : TraceLine) → reading x ≡ going.lines ++ line ∷ [] → after is_built m (reading x) (length (reading x)) ≡ next_line is_built (last_of m going.lines) line
-  after_last line are = ap (λ (l : List TraceLine). after is_built m l (length l)) are ∙ after_then m going.lines (line ∷ [])
+  after_last : (line : TraceLine) → reading x ≡ going.lines ++ line ∷ [] → after m (reading x) (length (reading x)) ≡ next_line (last_of m going.lines) line
+  after_last line are = ap (λ (l : List TraceLine). after m l (length l)) are ∙ after_then m going.lines (line ∷ [])
 
-  pub End-after : (how : End) (c : Option (List ℕ)) (q : Progress) → EndsTrace how b c p q → after is_built m (reading x) (length (reading x)) ≡ ended_by (last_of m going.lines) how
+  pub End-after : (how : End) (c : Option (List ℕ)) (q : Progress) → EndsTrace how b c p q → after m (reading x) (length (reading x)) ≡ ended_by (last_of m going.lines) how
   End-after end.Close c q ended = after_last (Some call.Close) (let all = HasRead-last (Some x) b c p q going.lines (Some call.Close) going.read ended.0 ended.1 refl in all.items_are)
   End-after end.Halt c q ended = after_last (Some call.Halt) (let all = HasRead-last (Some x) b c p q going.lines (Some call.Halt) going.read ended.0 ended.1 refl in all.items_are)
   End-after end.Trace c q (inl ended) =
       let all = HasRead-end (Some x) b c p going.lines going.read ended.0 ended.1 ended.2 ended.3 in
-      ap (λ (l : List TraceLine). after is_built m l (length l)) all.items_are
+      ap (λ (l : List TraceLine). after m l (length l)) all.items_are
   End-after end.Trace c q (inr ended) =
       let all = rw ended.0 at going.read.goes_on in
-      ap (λ (l : List TraceLine). after is_built m l (length l)) all.0.items_are
+      ap (λ (l : List TraceLine). after m l (length l)) all.0.items_are
 
   -- what an end of the session leaves
   module _ (disk : DiskState) (stop : (e : List Sector) → disk.contents ≡ Some e → TellsSettled e (last_of m going.lines)) where

@@ -14,7 +14,7 @@ use Rattle.frame_pool.specs.Frames.{Slots}
 use Rattle.swapper_kernel.specs.Goes.{Pages, Wrote}
 use Rattle.pilot_engine.specs.Closing.{WroteOn}
 use Rattle.pilot_engine.specs.Opening.{WroteFirst}
-use Rattle.pilot_engine.specs.Session as session
+use Rattle.running_words.specs.Session.{WroteIn}
 use Rattle.pilot_top.specs.Moments.{Lawfully}
 use Rattle.pilot_top.proofs.AlongLemmas.{moment_later}
 
@@ -49,7 +49,7 @@ written_lawfully : {pages : Pages} {run : List DiskWrite} {old new : DiskState} 
 written_lawfully wrote = record { writes = wrote.writes; appended = wrote.appended; lawful = wrote.lawful }
 
 -- in a call
-pub called_lawfully : {old new : DiskState} {before after : Slots} → session.Wrote old before new after → Lawfully old new
+pub called_lawfully : {pages : Pages} {old new : DiskState} {before after : Slots} → WroteIn pages old before new after → Lawfully old new
 called_lawfully wrote = written_lawfully wrote.makes.wrote
 
 -- at its end

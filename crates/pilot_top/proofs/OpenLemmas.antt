@@ -2,18 +2,15 @@
 use Rattle.std.proofs.Common.{◌≡◌, ◌≢◌, ◌⊎◌, inl, inr, ℕ, true, false, List, Option, Some, refl, sym, ◌∙◌, subst}
 use Rattle.labelled_disk.specs.declared.evidence.Halt.{Halt}
 use Rattle.labelled_disk.specs.declared.evidence.Halt.TheVariants as halt
-use Rattle.labelled_disk.specs.declared.layout.Layout.{Layout}
-use Rattle.labelled_disk.specs.State.{DiskState}
-use Rattle.frame_pool.specs.Frames.{Slots}
-use Rattle.filer_kernel.specs.declared.cached.CachedRuns.{CachedRuns}
 use Rattle.file_manager.specs.declared.volume.Volume.{Volume}
 use Rattle.flat_machine.specs.After.{TraceLine}
 use Rattle.flat_machine.specs.Machine.{Machine}
 use Rattle.trace_io.specs.Progress.{Progress}
 use Rattle.trace_io.specs.Reading.{reading}
-use Rattle.pilot_engine.specs.Opening.{root_alone}
-use Rattle.pilot_engine.proofs.FlagLemmas.{flag_at}
-use Rattle.pilot_top.specs.Built.{StandsFor}
+use Rattle.running_words.proofs.FlagLemmas.{flag_at}
+use Rattle.swap_units.specs.declared.interval.Interval.{Interval}
+use Rattle.fault_core.specs.View.{View}
+use Rattle.running_words.specs.Running.{IsRunning, exactly}
 use Rattle.pilot_top.specs.Ending.{is_closed, is_halted}
 use Rattle.pilot_top.specs.Headline.{EndsEarly, IsLeftOpen}
 use Rattle.pilot_top.specs.Stopping.{status_of}
@@ -27,8 +24,8 @@ use Rattle.pilot_top.proofs.StagedLemmas.{AreInForm}
 use Rattle.pilot_top.proofs.TopLemmas.{Going}
 
 -- a session stands on its disk
-pub stands_open : (m : Machine) (disk : DiskState) (slots : Slots) (layout : Layout) (runs : CachedRuns) (volume : Volume) → StandsFor disk slots layout runs volume m → AreInForm disk → IsLeftOpen disk
-stands_open m disk slots layout runs volume is form e told = flag_at root_alone disk slots m is.stands e told (form e told)
+pub stands_open : (m : Machine) {v : View} {kept : List Interval} {count : ℕ} {volume : Volume} → IsRunning v kept count volume m → AreInForm v.disk → IsLeftOpen v.disk
+stands_open m {v = v} is form e told = flag_at (exactly is.pages m.spaces) v.disk v.slots m is.session.stands e told (form e told)
 
 -- a session that stopped has no early end
 pub halt_not_early : (why : Halt) (s : Status) (lines : List TraceLine) → s ≡ status_of why → EndsEarly s lines → ⊥

@@ -3,7 +3,7 @@ use Rattle.std.proofs.Common.{◌≡◌, inl, inr, ℕ, zero, suc, ◌+◌, ◌-
 use Rattle.std.specs.Prelude.{nat_lt, replicate, ◌==◌, is_none, if◌then◌else◌}
 use Rattle.std.specs.Option.{option_map_or}
 use Rattle.std.proofs.lemmas.Bool.{cases_lt}
-use Rattle.std.proofs.lemmas.Option.{same_Some, none-some}
+use Rattle.std.proofs.lemmas.Option.{none-some}
 use Rattle.std.proofs.lemmas.Bool.Decides.{nat_tests}
 use Rattle.labelled_disk.specs.File.{File, Page, size, file_at, zero_page}
 use Rattle.labelled_disk.specs.Runs.{lengthened, shortened}
@@ -12,19 +12,18 @@ use Rattle.labelled_disk.specs.State.{DiskState}
 use Rattle.flat_machine.specs.declared.call.Call.{Call}
 use Rattle.flat_machine.specs.declared.call.Call.TheVariants as call
 use Rattle.flat_machine.specs.declared.call.Refusal.{Refusal}
+use Rattle.flat_machine.specs.declared.call.Refusal.TheVariants as why
 use Rattle.flat_machine.specs.After.{TraceLine, after, next_line}
 use Rattle.flat_machine.specs.IsMachine.{IsMachine}
 use Rattle.flat_machine.specs.Machine.{Machine}
 use Rattle.flat_machine.specs.Next.{next, change, change_file, resized}
 use Rattle.flat_machine.specs.Refusal.{refusal}
-use Rattle.flat_machine.specs.Space.{root}
 use Rattle.flat_machine.proofs.StoreLemmas.{unrefused}
 use Rattle.session_words.specs.StandsFor.{TellsSettled}
 use Rattle.session_words.proofs.SizeLemmas.{changed_alike}
-use Rattle.pilot_engine.specs.Closing.{HasShut, IsStop, Throughout}
-use Rattle.pilot_engine.specs.Stages.{last_step, stage, towards}
-use Rattle.pilot_engine.proofs.RefusalLemmas.{size_missing}
-use Rattle.pilot_top.specs.Built.{is_built}
+use Rattle.pilot_engine.specs.Closing.{IsStop, Throughout}
+use Rattle.pilot_engine.proofs.RefusalLemmas.{no_file_missing, size_gone}
+use Rattle.running_words.specs.Stages.{last_step, stage, towards}
 use Rattle.pilot_top.specs.Headline.{HasFilesAt}
 use Rattle.pilot_top.specs.Moments.{IsBy, IsMoment, Moments, step_of, steps_of}
 use Rattle.pilot_top.proofs.AlongLemmas.{along_last, along_throughout, by_most}
@@ -50,12 +49,12 @@ some_files m lines {b = b} on = by b.contents refl
 pub files_before : (m : Machine) (lines more : List TraceLine) (disk : DiskState) (k i : ℕ) → IsBy k i (length lines) 0 → HasFilesAt m lines disk k i → HasFilesAt m (lines ++ more) disk k i
 files_before m lines more disk k i by has = (steps_before m lines more k i by has.0, λ e told. subst (TellsSettled e) (sym (staged_before m lines more k i by)) (has.1 e told))
 
-pub files_behind : (m : Machine) (lines more : List TraceLine) (disk : DiskState) (k i : ℕ) → HasFilesAt (after is_built m lines (length lines)) more disk k i → HasFilesAt m (lines ++ more) disk (length lines + k) i
+pub files_behind : (m : Machine) (lines more : List TraceLine) (disk : DiskState) (k i : ℕ) → HasFilesAt (after m lines (length lines)) more disk k i → HasFilesAt m (lines ++ more) disk (length lines + k) i
 files_behind m lines more disk k i has =
     (subst (λ (n : ℕ). i ≤ n) (sym (steps_behind m lines more k)) has.0, λ e told. subst (TellsSettled e) (sym (staged_behind m lines more k i)) (has.1 e told))
 
 -- behind all lines
-pub files_end : (m : Machine) (lines : List TraceLine) (disk : DiskState) → ((e : List Sector) → disk.contents ≡ Some e → TellsSettled e (after is_built m lines (length lines))) → HasFilesAt m lines disk (length lines) 0
+pub files_end : (m : Machine) (lines : List TraceLine) (disk : DiskState) → ((e : List Sector) → disk.contents ≡ Some e → TellsSettled e (after m lines (length lines))) → HasFilesAt m lines disk (length lines) 0
 files_end m lines disk has = (omega arith, λ e told. subst (TellsSettled e) (sym (staged_end m lines)) (has e told))
 
 -- where a session was ended
@@ -123,13 +122,13 @@ refused_same : (m : Machine) (c : Call) (why : Refusal) → refusal m c ≡ Some
 refused_same m c why e = ap (λ (o : Option Refusal). if is_none o then change m c else m) e
 
 -- the machine after a call is that after some steps of it
-pub whole_call : (m : Machine) (c : Call) → IsMachine m → m.spaces ≡ root ∷ [] → (i : ℕ) × (i ≤ last_step m c) × (stage m c i ≡ next m c)
-whole_call m (call.SetSize id pages) is alone = by (refusal m (call.SetSize id pages)) refl (file_at m.files id) refl
+pub whole_call : (m : Machine) (c : Call) → IsMachine m → (i : ℕ) × (i ≤ last_step m c) × (stage m c i ≡ next m c)
+whole_call m (call.SetSize id pages) is = by (refusal m (call.SetSize id pages)) refl (file_at m.files id) refl
   where
     by : (o : Option Refusal) → refusal m (call.SetSize id pages) ≡ o → (found : Option File) → file_at m.files id ≡ found
         → (i : ℕ) × (i ≤ last_step m (call.SetSize id pages)) × (stage m (call.SetSize id pages) i ≡ next m (call.SetSize id pages))
     by (Some why) e found is_found = (0, omega arith, sym (refused_same m (call.SetSize id pages) why e))
-    by None e None is_found = (0, omega arith, sym (refused_same m (call.SetSize id pages) _ (size_missing m alone id is_found pages)))
+    by None e None is_found = (0, omega arith, sym (refused_same m (call.SetSize id pages) _ (size_gone m id (no_file_missing m id is_found) pages)))
     by None e (Some f) is_found = (
       (pages - size f) + (size f - pages),
       (let steps : last_step m (call.SetSize id pages) ≡ (pages - size f) + (size f - pages) =
@@ -138,22 +137,18 @@ whole_call m (call.SetSize id pages) is alone = by (refusal m (call.SetSize id p
           omega (arith, steps)),
       sized m id pages f is e is_found _ refl ∙ sym (unrefused m (call.SetSize id pages) e),
     )
-whole_call m c is alone = (1, omega arith, refl)
+whole_call m c is = (1, omega arith, refl)
 
-pub whole_line : (m : Machine) (line : TraceLine) → IsMachine m → m.spaces ≡ root ∷ [] → (i : ℕ) × (i ≤ steps_of m (Some line)) × (step_of m (Some line) i ≡ next_line is_built m line)
-whole_line m None is alone = (0, omega arith, refl)
-whole_line m (Some c) is alone = by (is_built c) (whole_call m c is alone)
-  where
-    by : (b : Bool) → (i : ℕ) × (i ≤ last_step m c) × (stage m c i ≡ next m c) → (i : ℕ) × (i ≤ (if b then last_step m c else 0)) × ((if b then stage m c i else m) ≡ (if b then next m c else m))
-    by true whole = whole
-    by false whole = (0, omega arith, refl)
+pub whole_line : (m : Machine) (line : TraceLine) → IsMachine m → (i : ℕ) × (i ≤ steps_of m (Some line)) × (step_of m (Some line) i ≡ next_line m line)
+whole_line m None is = (0, omega arith, refl)
+whole_line m (Some c) is = whole_call m c is
 
 -- of the moments of one line, the last is at a place before the line's end
-pub line_files : (m : Machine) (line : TraceLine) {a b : DiskState} → IsMachine m → m.spaces ≡ root ∷ [] → Moments m (line ∷ []) a b → (i : ℕ) × HasFilesAt m (line ∷ []) b 0 i
-line_files m line {b = b} is alone on = let some = some_files m (line ∷ []) on in by some.0 some.1 some.2 some.3
+pub line_files : (m : Machine) (line : TraceLine) {a b : DiskState} → IsMachine m → Moments m (line ∷ []) a b → (i : ℕ) × HasFilesAt m (line ∷ []) b 0 i
+line_files m line {b = b} is on = let some = some_files m (line ∷ []) on in by some.0 some.1 some.2 some.3
   where
     by : (k i : ℕ) → IsBy k i 1 0 → HasFilesAt m (line ∷ []) b k i → (i : ℕ) × HasFilesAt m (line ∷ []) b 0 i
     by zero i before has = (i, has)
-    by (suc zero) i before has = let whole = whole_line m line is alone in (whole.0, (whole.1, λ e told. subst (TellsSettled e) (sym whole.2) (has.1 e told)))
+    by (suc zero) i before has = let whole = whole_line m line is in (whole.0, (whole.1, λ e told. subst (TellsSettled e) (sym whole.2) (has.1 e told)))
     by (suc (suc k)) i (inl less) has = absurd (omega (arith, less))
     by (suc (suc k)) i (inr same) has = absurd (let e = same.0 in omega (arith, e))

@@ -1,15 +1,13 @@
 -- What stands on the disk at each moment of the lines of a trace.
-use Rattle.std.proofs.Common.{◌≡◌, inl, inr, ℕ, zero, suc, ◌+◌, Bool, true, false, List, [], ◌∷◌, ◌++◌, length, Option, Some, None, refl, sym, ◌∙◌, ap, subst, arith}
-use Rattle.std.specs.Prelude.{◌≤◌, slice_get, if◌then◌else◌}
+use Rattle.std.proofs.Common.{◌≡◌, inl, inr, ℕ, zero, suc, ◌+◌, List, [], ◌∷◌, ◌++◌, length, Option, Some, None, refl, sym, ◌∙◌, ap, subst, arith}
+use Rattle.std.specs.Prelude.{◌≤◌, slice_get}
 use Rattle.std.proofs.lemmas.Option.{same_Some}
-use Rattle.labelled_disk.specs.declared.layout.Layout.{Layout}
 use Rattle.labelled_disk.specs.FilesOn.{files_on}
 use Rattle.labelled_disk.specs.File.{File}
 use Rattle.labelled_disk.specs.Moment.{moment}
 use Rattle.labelled_disk.specs.Sectors.{Sector, AreSectors}
 use Rattle.labelled_disk.specs.State.{DiskState}
-use Rattle.frame_pool.specs.Frames.{Slots}
-use Rattle.filer_kernel.specs.declared.cached.CachedRuns.{CachedRuns}
+use Rattle.swap_units.specs.declared.interval.Interval.{Interval}
 use Rattle.file_manager.specs.declared.volume.Volume.{Volume}
 use Rattle.flat_machine.specs.declared.call.Call.{Call}
 use Rattle.flat_machine.specs.After.{TraceLine, after, next_line}
@@ -22,9 +20,10 @@ use Rattle.session_words.specs.StandsFor.{TellsSettled}
 use Rattle.session_words.proofs.LooseLemmas.{stands_is_settled}
 use Rattle.session_words.proofs.SettledLemmas.{settled_is_told}
 use Rattle.pilot_engine.specs.Closing.{IsStop, Throughout}
-use Rattle.pilot_engine.specs.Opening.{root_alone, KeepsFiles}
-use Rattle.pilot_engine.specs.Stages.{Passes, last_step, stage}
-use Rattle.pilot_top.specs.Built.{is_built, StandsFor}
+use Rattle.pilot_engine.specs.Opening.{KeepsFiles}
+use Rattle.fault_core.specs.View.{View}
+use Rattle.running_words.specs.Running.{IsRunning, exactly}
+use Rattle.running_words.specs.Stages.{Passes}
 use Rattle.pilot_top.specs.Moments.{Along, IsBy, IsMoment, Moments, staged, step_of, steps_of}
 use Rattle.pilot_top.proofs.AlongLemmas.{by_equal, by_most, along_less, along_none, along_shifted, along_then, along_throughout, along_wider}
 
@@ -38,11 +37,7 @@ AreInForm disk = (d : List Sector) → disk.contents ≡ Some d → AreSectors d
 pub step_none : (m : Machine) (line : Option TraceLine) → step_of m line 0 ≡ m
 step_none m None = refl
 step_none m (Some None) = refl
-step_none m (Some (Some call)) = by (is_built call)
-  where
-    by : (b : Bool) → (if b then stage m call 0 else m) ≡ m
-    by true = refl
-    by false = refl
+step_none m (Some (Some call)) = refl
 
 -- later lines change nothing before them
 pub staged_before : (m : Machine) (lines more : List TraceLine) (j i : ℕ) → IsBy j i (length lines) 0 → staged m (lines ++ more) j i ≡ staged m lines j i
@@ -52,20 +47,20 @@ staged_before m [] more zero (suc i) (inr few) = absurd (let none = few.1 in ome
 staged_before m [] more (suc j) i (inl less) = absurd (omega (arith, less))
 staged_before m [] more (suc j) i (inr few) = absurd (let none = few.0 in omega (arith, none))
 staged_before m (line ∷ lines) more zero i by = refl
-staged_before m (line ∷ lines) more (suc j) i (inl less) = staged_before (next_line is_built m line) lines more j i (inl (omega (arith, less)))
-staged_before m (line ∷ lines) more (suc j) i (inr few) = staged_before (next_line is_built m line) lines more j i (inr (let same = few.0 in omega (arith, same), few.1))
+staged_before m (line ∷ lines) more (suc j) i (inl less) = staged_before (next_line m line) lines more j i (inl (omega (arith, less)))
+staged_before m (line ∷ lines) more (suc j) i (inr few) = staged_before (next_line m line) lines more j i (inr (let same = few.0 in omega (arith, same), few.1))
 
 -- and go on from the machine behind these
-pub staged_behind : (m : Machine) (lines more : List TraceLine) (j i : ℕ) → staged m (lines ++ more) (length lines + j) i ≡ staged (after is_built m lines (length lines)) more j i
+pub staged_behind : (m : Machine) (lines more : List TraceLine) (j i : ℕ) → staged m (lines ++ more) (length lines + j) i ≡ staged (after m lines (length lines)) more j i
 staged_behind m [] more j i = ap (λ (k : ℕ). staged m more k i) (let z : 0 + j ≡ j = omega arith in z)
 staged_behind m (line ∷ lines) more j i =
     ap (λ (k : ℕ). staged m (line ∷ (lines ++ more)) k i) (let z : suc (length lines) + j ≡ suc (length lines + j) = omega arith in z)
-    ∙ staged_behind (next_line is_built m line) lines more j i
+    ∙ staged_behind (next_line m line) lines more j i
 
 -- So many steps the line at a place has.
 
 abbrev pub steps_at : Machine → List TraceLine → ℕ → ℕ
-steps_at m lines j = steps_of (after is_built m lines j) (slice_get lines j)
+steps_at m lines j = steps_of (after m lines j) (slice_get lines j)
 
 -- later lines take none away
 pub steps_before : (m : Machine) (lines more : List TraceLine) (j i : ℕ) → IsBy j i (length lines) 0 → i ≤ steps_at m lines j → i ≤ steps_at m (lines ++ more) j
@@ -74,23 +69,23 @@ steps_before m [] more zero (suc i) by few = absurd (omega (arith, few))
 steps_before m [] more (suc j) i (inl less) few = absurd (omega (arith, less))
 steps_before m [] more (suc j) i (inr same) few = absurd (let none = same.0 in omega (arith, none))
 steps_before m (line ∷ lines) more zero i by few = few
-steps_before m (line ∷ lines) more (suc j) i (inl less) few = steps_before (next_line is_built m line) lines more j i (inl (omega (arith, less))) few
-steps_before m (line ∷ lines) more (suc j) i (inr same) few = steps_before (next_line is_built m line) lines more j i (inr (let e = same.0 in omega (arith, e), same.1)) few
+steps_before m (line ∷ lines) more (suc j) i (inl less) few = steps_before (next_line m line) lines more j i (inl (omega (arith, less))) few
+steps_before m (line ∷ lines) more (suc j) i (inr same) few = steps_before (next_line m line) lines more j i (inr (let e = same.0 in omega (arith, e), same.1)) few
 
 -- and have their own
-pub steps_behind : (m : Machine) (lines more : List TraceLine) (j : ℕ) → steps_at m (lines ++ more) (length lines + j) ≡ steps_at (after is_built m lines (length lines)) more j
+pub steps_behind : (m : Machine) (lines more : List TraceLine) (j : ℕ) → steps_at m (lines ++ more) (length lines + j) ≡ steps_at (after m lines (length lines)) more j
 steps_behind m [] more j = ap (λ (k : ℕ). steps_at m more k) (let z : 0 + j ≡ j = omega arith in z)
 steps_behind m (line ∷ lines) more j =
     ap (λ (k : ℕ). steps_at m (line ∷ (lines ++ more)) k) (let z : suc (length lines) + j ≡ suc (length lines + j) = omega arith in z)
-    ∙ steps_behind (next_line is_built m line) lines more j
+    ∙ steps_behind (next_line m line) lines more j
 
 -- the machine behind all lines
-pub staged_end : (m : Machine) (lines : List TraceLine) → staged m lines (length lines) 0 ≡ after is_built m lines (length lines)
-staged_end m lines = step_none (after is_built m lines (length lines)) (slice_get lines (length lines))
+pub staged_end : (m : Machine) (lines : List TraceLine) → staged m lines (length lines) 0 ≡ after m lines (length lines)
+staged_end m lines = step_none (after m lines (length lines)) (slice_get lines (length lines))
 
-pub after_then : (m : Machine) (lines more : List TraceLine) → after is_built m (lines ++ more) (length (lines ++ more)) ≡ after is_built (after is_built m lines (length lines)) more (length more)
+pub after_then : (m : Machine) (lines more : List TraceLine) → after m (lines ++ more) (length (lines ++ more)) ≡ after (after m lines (length lines)) more (length more)
 after_then m [] more = refl
-after_then m (line ∷ lines) more = after_then (next_line is_built m line) lines more
+after_then m (line ∷ lines) more = after_then (next_line m line) lines more
 
 -- Moments of lines in a row.
 
@@ -106,7 +101,7 @@ moment_before m lines more j i d by at = record {
   honest = at.honest;
 }
 
-moment_behind : (m : Machine) (lines more : List TraceLine) (j i : ℕ) (d : List Sector) → IsMoment (after is_built m lines (length lines)) more j i d → IsMoment m (lines ++ more) (length lines + j) i d
+moment_behind : (m : Machine) (lines more : List TraceLine) (j i : ℕ) (d : List Sector) → IsMoment (after m lines (length lines)) more j i d → IsMoment m (lines ++ more) (length lines + j) i d
 moment_behind m lines more j i d at = record {
   within = subst (λ (n : ℕ). i ≤ n) (sym (steps_behind m lines more j)) at.within;
   told = subst (TellsSettled d) (sym (staged_behind m lines more j i)) at.told;
@@ -123,12 +118,12 @@ moments_before m lines more on =
     (from_front m lines more on)
 
 -- and then more lines
-pub moments_then : (m : Machine) (lines more : List TraceLine) {a b c : DiskState} → Moments m lines a b → Moments (after is_built m lines (length lines)) more b c → Moments m (lines ++ more) a c
+pub moments_then : (m : Machine) (lines more : List TraceLine) {a b c : DiskState} → Moments m lines a b → Moments (after m lines (length lines)) more b c → Moments m (lines ++ more) a c
 moments_then m lines more on next =
     along_then (IsMoment m (lines ++ more)) 0 0 (length lines) 0 (length (lines ++ more)) 0 (from_front m lines more on)
     (along_wider (IsMoment m (lines ++ more)) (length lines + 0) 0 (length lines) 0 (length lines + length more) 0 (length (lines ++ more)) 0
     (by_equal (length lines) (length lines + 0) 0 (omega arith)) (by_equal (length lines + length more) (length (lines ++ more)) 0 (sym (longer lines more)))
-    (along_shifted (IsMoment (after is_built m lines (length lines)) more) (IsMoment m (lines ++ more)) (length lines) 0 0 (length more) 0
+    (along_shifted (IsMoment (after m lines (length lines)) more) (IsMoment m (lines ++ more)) (length lines) 0 0 (length more) 0
     (λ l g d after_first before_last at. moment_behind m lines more l g d at) next))
 
 -- The ways in.
@@ -151,8 +146,8 @@ from_start d {a} sound told keeps = along_throughout (IsMoment (start d) []) 0 0
     }
 
 -- a call is carried out, or stops among its steps
-pub from_step : (m : Machine) (call : Call) {a b : DiskState} → is_built call ≡ true → Passes m call a b → Moments m (Some call ∷ []) a b
-from_step m call built passes = record {
+pub from_step : (m : Machine) (call : Call) {a b : DiskState} → Passes m call a b → Moments m (Some call ∷ []) a b
+from_step m call passes = record {
   writes = passes.writes;
   appended = passes.appended;
   line = λ n. 0;
@@ -161,27 +156,21 @@ from_step m call built passes = record {
   first = λ n. inr (refl, omega arith);
   last = λ n. inl (omega arith);
   each = λ d n told. record {
-    within = subst (λ (b : Bool). passes.steps n ≤ (if b then last_step m call else 0)) (sym built) (passes.within n);
-    told = subst (TellsSettled (moment d passes.writes n)) (sym (step_is (passes.steps n) (is_built call) built)) (passes.tells d n told);
+    within = passes.within n;
+    told = passes.tells d n told;
     honest = λ set. absurd (let unset = passes.open_flag d n told in omega (arith, set, unset));
   };
 }
-  where
-    step_is : (i : ℕ) (b : Bool) → b ≡ true → (if b then stage m call i else m) ≡ stage m call i
-    step_is i true is = refl
-    step_is i false is = absurd (cc is)
 
 -- a session stands: its disk tells the settled files
-pub stands_told : (m : Machine) (disk : DiskState) (slots : Slots) (layout : Layout) (runs : CachedRuns) (volume : Volume) → StandsFor disk slots layout runs volume m → AreInForm disk → (d : List Sector) → disk.contents ≡ Some d
-    → IsMoment m [] 0 0 d
-stands_told m disk slots layout runs volume is form d told =
-    let here = stands_is_settled root_alone disk slots m d is.stands told (form d told) in
+pub stands_told : (m : Machine) {v : View} {kept : List Interval} {count : ℕ} {volume : Volume} → IsRunning v kept count volume m → AreInForm v.disk → (d : List Sector) → v.disk.contents ≡ Some d → IsMoment m [] 0 0 d
+stands_told m {v = v} is form d told =
+    let here = stands_is_settled (exactly is.pages m.spaces) v.disk v.slots m d is.session.stands told (form d told) in
     record { within = omega arith; told = settled_is_told d m here; honest = λ set. absurd (let unset = here.root.open_flag in omega (arith, set, unset)) }
 
 -- and nothing is written
-pub from_rest : (m : Machine) (lines : List TraceLine) (disk : DiskState) (slots : Slots) (layout : Layout) (runs : CachedRuns) (volume : Volume) → StandsFor disk slots layout runs volume m → AreInForm disk → Moments m lines disk disk
-from_rest m lines disk slots layout runs volume is form =
-    moments_before m [] lines (along_none (IsMoment m []) 0 0 (record { contents = refl; writes = refl }) (λ d told. stands_told m disk slots layout runs volume is form d told))
+pub from_rest : (m : Machine) (lines : List TraceLine) {v : View} {kept : List Interval} {count : ℕ} {volume : Volume} → IsRunning v kept count volume m → AreInForm v.disk → Moments m lines v.disk v.disk
+from_rest m lines is form = moments_before m [] lines (along_none (IsMoment m []) 0 0 (record { contents = refl; writes = refl }) (λ d told. stands_told m is form d told))
 
 -- a session is ended
 pub from_end : (m : Machine) {a b : DiskState} → Throughout (IsStop m) a b → Moments m [] a b

@@ -21,33 +21,32 @@ use Rattle.trace_io.specs.Reading.{is_last, reading, whole_reading, IsShort}
 use Rattle.trace_io.specs.Course.{AreLines, HasRead, HasReadAll}
 use Rattle.trace_io.specs.declared.progress.Stop.TheVariants as stop
 use Rattle.trace_io.proofs.CourseLemmas.{HasRead-none, HasRead-line, HasRead-last, HasRead-end, HasRead-part, HasRead-item, HasRead-long}
-use Rattle.pilot_top.specs.Built.{is_built, Answered}
 use Rattle.pilot_top.specs.Ending.{is_halt, halts}
 use Rattle.pilot_top.specs.Turn.{Answers}
 use Rattle.pilot_top.specs.Last.{last_line, Puts}
-use Rattle.pilot_top.specs.Headline.{HasWritten, Taken, Unheard, Answering, TellsDamage}
+use Rattle.pilot_top.specs.Headline.{Answered, HasWritten, Taken, Unheard, Answering, TellsDamage}
 use Rattle.pilot_top.specs.declared.last.Cause.TheVariants as cause
 use Rattle.pilot_top.specs.declared.status.Status.TheVariants as status
 use Rattle.pilot_top.proofs.StagedLemmas.{after_then}
 
 -- the machine after lines
 abbrev pub last_of : Machine → List TraceLine → Machine
-last_of m lines = after is_built m lines (length lines)
+last_of m lines = after m lines (length lines)
 
-allowed_push : (m : Machine) (lines : List TraceLine) (rs : List Reply) (line : TraceLine) (r : Reply) → length rs ≡ length lines → AllowsAll is_built m lines rs
-    → AllowsLine is_built (last_of m lines) line r → AllowsAll is_built m (lines ++ line ∷ []) (rs ++ r ∷ [])
+allowed_push : (m : Machine) (lines : List TraceLine) (rs : List Reply) (line : TraceLine) (r : Reply) → length rs ≡ length lines → AllowsAll m lines rs
+    → AllowsLine (last_of m lines) line r → AllowsAll m (lines ++ line ∷ []) (rs ++ r ∷ [])
 allowed_push m [] [] line r same all allowed = (allowed, tt)
 allowed_push m [] (s ∷ rs) line r same all allowed = absurd all
 allowed_push m (l ∷ lines) [] line r same all allowed = absurd (omega (arith, same))
-allowed_push m (l ∷ lines) (s ∷ rs) line r same all allowed = (all.0, allowed_push (next_line is_built m l) lines rs line r (omega (arith, same)) all.1 allowed)
+allowed_push m (l ∷ lines) (s ∷ rs) line r same all allowed = (all.0, allowed_push (next_line m l) lines rs line r (omega (arith, same)) all.1 allowed)
 
-allowed_more : (m : Machine) (lines more : List TraceLine) (rs : List Reply) → AllowsAll is_built m lines rs → AllowsAll is_built m (lines ++ more) rs
+allowed_more : (m : Machine) (lines more : List TraceLine) (rs : List Reply) → AllowsAll m lines rs → AllowsAll m (lines ++ more) rs
 allowed_more m lines more [] all = tt
 allowed_more m [] more (r ∷ rs) all = absurd all
-allowed_more m (l ∷ lines) more (r ∷ rs) all = (all.0, allowed_more (next_line is_built m l) lines more rs all.1)
+allowed_more m (l ∷ lines) more (r ∷ rs) all = (all.0, allowed_more (next_line m l) lines more rs all.1)
 
 -- one reply more
-answered_push : (m : Machine) (lines : List TraceLine) (out : List ℕ) (line : TraceLine) (r : Reply) → Answered m lines out → AllowsLine is_built (last_of m lines) line r
+answered_push : (m : Machine) (lines : List TraceLine) (out : List ℕ) (line : TraceLine) (r : Reply) → Answered m lines out → AllowsLine (last_of m lines) line r
     → Answered m (lines ++ line ∷ []) (out ++ text r)
 answered_push m lines out line r script allowed = record {
   replies = script.replies ++ r ∷ [];
@@ -57,7 +56,7 @@ answered_push m lines out line r script allowed = record {
 }
 
 -- replies to the first of more lines
-answered_more : (m : Machine) (lines more : List TraceLine) (out : List ℕ) → Answered m lines out → Transcript is_built m (lines ++ more) (length lines) out
+answered_more : (m : Machine) (lines more : List TraceLine) (out : List ℕ) → Answered m lines out → Transcript m (lines ++ more) (length lines) out
 answered_more m lines more out script = record {
   replies = script.replies;
   one_a_line = script.one_a_line;

@@ -10,7 +10,7 @@ use Rattle.trace_io.specs.Course.{HasRead}
 use Rattle.trace_io.specs.Lines.{TakesLine}
 use Rattle.trace_io.specs.Progress.{Progress}
 use Rattle.trace_io.specs.Reading.{is_last, reading}
-use Rattle.pilot_engine.specs.Bound.{CostsOther}
+use Rattle.running_words.specs.Bound.{CostsOther}
 use Rattle.pilot_engine.specs.Closing.{IsStop, Throughout}
 use Rattle.pilot_top.specs.Headline.{CostsLine, CostsLines, HasFilesAt}
 use Rattle.pilot_top.specs.Moments.{Lawfully, Moments}

@@ -1,5 +1,5 @@
 -- What stands on the disk at each moment of a run.
-use Rattle.std.specs.Prelude.{◌≡◌, ◌⊎◌, ℕ, ◌<◌, ◌≤◌, List, length, Some, Option, slice_get, if◌then◌else◌}
+use Rattle.std.specs.Prelude.{◌≡◌, ◌⊎◌, ℕ, ◌<◌, ◌≤◌, List, length, Some, Option, slice_get}
 use Rattle.labelled_disk.specs.declared.disk.DiskWrite.{DiskWrite}
 use Rattle.labelled_disk.specs.Moment.{moment}
 use Rattle.labelled_disk.specs.Root.{root_page, short_at}
@@ -11,22 +11,21 @@ use Rattle.flat_machine.specs.After.{TraceLine, after}
 use Rattle.flat_machine.specs.Machine.{Machine}
 use Rattle.volume_root.specs.Sound.{Sound}
 use Rattle.session_words.specs.StandsFor.{TellsSettled}
-use Rattle.pilot_engine.specs.Stages.{last_step, stage}
-use Rattle.pilot_top.specs.Built.{is_built}
+use Rattle.running_words.specs.Stages.{last_step, stage}
 
 -- the machine after so many steps of a line
 abbrev pub step_of : Machine → Option TraceLine → ℕ → Machine
-step_of m (Some (Some call)) i = if is_built call then stage m call i else m
+step_of m (Some (Some call)) i = stage m call i
 step_of m line i = m
 
 -- how many steps a line has at most
 abbrev pub steps_of : Machine → Option TraceLine → ℕ
-steps_of m (Some (Some call)) = if is_built call then last_step m call else 0
+steps_of m (Some (Some call)) = last_step m call
 steps_of m line = 0
 
 -- the machine after j lines and i steps of the next
 abbrev pub staged : Machine → List TraceLine → ℕ → ℕ → Machine
-staged m lines j i = step_of (after is_built m lines j) (slice_get lines j) i
+staged m lines j i = step_of (after m lines j) (slice_get lines j) i
 
 -- a place in a trace, so many lines and so many steps of the next, is not behind another
 abbrev pub IsBy : ℕ → ℕ → ℕ → ℕ → Type 0
@@ -47,7 +46,7 @@ pub record Along (P : ℕ → ℕ → List Sector → Type 0) (j i k h : ℕ) (o
 -- the place is one of the trace; the disk tells the settled files of the machine there, its labels are right, and with a set
 -- clean flag the volume is sound
 pub record IsMoment (m : Machine) (lines : List TraceLine) (j i : ℕ) (d : List Sector) : Type 0 where
-  pub within : i ≤ steps_of (after is_built m lines j) (slice_get lines j)
+  pub within : i ≤ steps_of (after m lines j) (slice_get lines j)
   pub told : TellsSettled d (staged m lines j i)
   pub honest : short_at (root_page d) 10 ≡ 1 → Sound d
 

@@ -5,10 +5,10 @@ ghost use Rattle.labelled_disk.specs.declared.evidence.Evidence.{Evidence};
 ghost use Rattle.labelled_disk.specs.Calls.{Rose};
 ghost use Rattle.flat_machine.specs.Machine.{Machine};
 ghost use Rattle.trace_io.specs.Stream.{IsFrontOf};
-ghost use Rattle.pilot_engine.specs.Bound.{CostsOther};
+ghost use Rattle.running_words.specs.Bound.{CostsOther};
 ghost use Rattle.pilot_engine.specs.Closing.{HasShut, IsStop, Throughout, WroteOn};
-ghost use Rattle.pilot_engine.specs.Session.{IsOpen};
-ghost use Rattle.pilot_top.specs.Built.{StandsFor};
+ghost use Rattle.running_words.specs.Session.{IsOpen};
+ghost use Rattle.running_words.specs.Running.{Runs};
 ghost use Rattle.pilot_top.specs.Ending.{end_text};
 ghost use Rattle.pilot_top.specs.Last.{last_line, Puts};
 
@@ -27,28 +27,28 @@ fn close<D: Disk, A: Allocator, K: Sink>(
     session: SessionOver<D, A>,
     sink: &mut K,
 ) -> (Option<Status>, D)
-    requires size { (D.state session.filer.swapper.under).sectors ≡ session.filer.swapper.layout.sectors }
-    requires opened { IsOpen session.filer.swapper.layout session.volume }
+    requires size { (D.state session.core.filer.swapper.under).sectors ≡ session.core.filer.swapper.layout.sectors }
+    requires opened { IsOpen session.core.filer.swapper.layout session.volume }
     requires running { session.running ≡ true }
-    ensures closed { (m : Machine) → StandsFor (D.state session.filer.swapper.under) session.filer.swapper.pool session.filer.swapper.layout session.filer.runs session.volume m
+    ensures closed { (m : Machine) → Runs session.core session.volume m
         → result.0 ≡ None → HasShut m (D.state result.1) }
-    ensures stops { (m : Machine) → StandsFor (D.state session.filer.swapper.under) session.filer.swapper.pool session.filer.swapper.layout session.filer.runs session.volume m
-        → Throughout (IsStop m) (D.state session.filer.swapper.under) (D.state result.1) }
-    ensures sound { (m : Machine) → StandsFor (D.state session.filer.swapper.under) session.filer.swapper.pool session.filer.swapper.layout session.filer.runs session.volume m
+    ensures stops { (m : Machine) → Runs session.core session.volume m
+        → Throughout (IsStop m) (D.state session.core.filer.swapper.under) (D.state result.1) }
+    ensures sound { (m : Machine) → Runs session.core session.volume m
         → result.0 ≢ Some Status.Damaged }
-    ensures cost { (m : Machine) → StandsFor (D.state session.filer.swapper.under) session.filer.swapper.pool session.filer.swapper.layout session.filer.runs session.volume m
-        → CostsOther (D.state session.filer.swapper.under) (D.state result.1) }
+    ensures cost { (m : Machine) → Runs session.core session.volume m
+        → CostsOther (D.state session.core.filer.swapper.under) (D.state result.1) }
     ensures quiet { result.0 ≡ None → sink.new ≡ sink.old }
     ensures disk_line { result.0 ≡ Some Status.DiskFault
         → Puts (Rose (K.faults sink.old) (K.faults sink.new)) (K.took sink.old) (K.took sink.new)
         (last_line Cause.DiskFault) }
     ensures disk_cause { result.0 ≡ Some Status.DiskFault
-        → Rose (D.state session.filer.swapper.under).faults (D.state result.1).faults }
+        → Rose (D.state session.core.filer.swapper.under).faults (D.state result.1).faults }
     ensures damage_line { result.0 ≡ Some Status.Damaged → (e : Evidence) × Puts (Rose (K.faults sink.old) (K.faults sink.new)) (K.took sink.old) (K.took sink.new)
         (last_line (Cause.Damaged e)) }
     ensures ends { (result.0 ≡ None) ⊎ (result.0 ≡ Some Status.DiskFault)
         ⊎ (result.0 ≡ Some Status.Damaged) }
-    ensures wrote { WroteOn session.filer.swapper.pool (D.state session.filer.swapper.under) (D.state result.1) }
+    ensures wrote { WroteOn session.core.filer.swapper.pool (D.state session.core.filer.swapper.under) (D.state result.1) }
     ensures later { K.faults sink.old ≤ K.faults sink.new }
 {
     let (closed, disk) = session.finish();
@@ -64,18 +64,18 @@ pub(crate) fn end_trace<D: Disk, A: Allocator, K: Sink>(
     end: End,
     sink: &mut K,
 ) -> (Status, D)
-    requires size { (D.state session.filer.swapper.under).sectors ≡ session.filer.swapper.layout.sectors }
-    requires opened { IsOpen session.filer.swapper.layout session.volume }
+    requires size { (D.state session.core.filer.swapper.under).sectors ≡ session.core.filer.swapper.layout.sectors }
+    requires opened { IsOpen session.core.filer.swapper.layout session.volume }
     requires running { session.running ≡ true }
-    ensures closed { (m : Machine) → StandsFor (D.state session.filer.swapper.under) session.filer.swapper.pool session.filer.swapper.layout session.filer.runs session.volume m
+    ensures closed { (m : Machine) → Runs session.core session.volume m
         → end ≢ End.Halt → (result.0 ≡ Status.Done) ⊎ (result.0 ≡ Status.StreamFault) → HasShut m (D.state result.1) }
-    ensures stops { (m : Machine) → StandsFor (D.state session.filer.swapper.under) session.filer.swapper.pool session.filer.swapper.layout session.filer.runs session.volume m
-        → Throughout (IsStop m) (D.state session.filer.swapper.under) (D.state result.1) }
-    ensures sound { (m : Machine) → StandsFor (D.state session.filer.swapper.under) session.filer.swapper.pool session.filer.swapper.layout session.filer.runs session.volume m
+    ensures stops { (m : Machine) → Runs session.core session.volume m
+        → Throughout (IsStop m) (D.state session.core.filer.swapper.under) (D.state result.1) }
+    ensures sound { (m : Machine) → Runs session.core session.volume m
         → result.0 ≢ Status.Damaged }
-    ensures halted { end ≡ End.Halt → result.1 ≡ session.filer.swapper.under }
-    ensures cost { (m : Machine) → StandsFor (D.state session.filer.swapper.under) session.filer.swapper.pool session.filer.swapper.layout session.filer.runs session.volume m
-        → CostsOther (D.state session.filer.swapper.under) (D.state result.1) }
+    ensures halted { end ≡ End.Halt → result.1 ≡ session.core.filer.swapper.under }
+    ensures cost { (m : Machine) → Runs session.core session.volume m
+        → CostsOther (D.state session.core.filer.swapper.under) (D.state result.1) }
     ensures done { result.0 ≡ Status.Done → Appends (K.took sink.old) (K.took sink.new) (end_text end) }
     ensures part { result.0 ≡ Status.StreamFault → (front : List ℕ) × IsFrontOf front (end_text end)
         × Appends (K.took sink.old) (K.took sink.new) front }
@@ -85,12 +85,12 @@ pub(crate) fn end_trace<D: Disk, A: Allocator, K: Sink>(
         → Puts (Rose (K.faults sink.old) (K.faults sink.new)) (K.took sink.old) (K.took sink.new)
         (last_line Cause.DiskFault) }
     ensures disk_cause { result.0 ≡ Status.DiskFault
-        → Rose (D.state session.filer.swapper.under).faults (D.state result.1).faults }
+        → Rose (D.state session.core.filer.swapper.under).faults (D.state result.1).faults }
     ensures damage_line { result.0 ≡ Status.Damaged → (e : Evidence) × Puts (Rose (K.faults sink.old) (K.faults sink.new)) (K.took sink.old) (K.took sink.new)
         (last_line (Cause.Damaged e)) }
     ensures ends { (result.0 ≡ Status.Done) ⊎ (result.0 ≡ Status.StreamFault)
         ⊎ (result.0 ≡ Status.DiskFault) ⊎ (result.0 ≡ Status.Damaged) }
-    ensures wrote { WroteOn session.filer.swapper.pool (D.state session.filer.swapper.under) (D.state result.1) }
+    ensures wrote { WroteOn session.core.filer.swapper.pool (D.state session.core.filer.swapper.under) (D.state result.1) }
     ensures later { K.faults sink.old ≤ K.faults sink.new }
 {
     if end == End::Halt {

@@ -11,10 +11,10 @@ ghost use Rattle.swapper_kernel.specs.Goes.{Went};
 ghost use Rattle.trace_io.specs.Reading.{IsShort, reading, rest_of};
 ghost use Rattle.volume_root.specs.Flag.{IsRefused};
 ghost use Rattle.volume_root.specs.Sound.{Sound};
-ghost use Rattle.pilot_engine.specs.Bound.{other_bound};
+ghost use Rattle.running_words.specs.Bound.{other_bound};
 ghost use Rattle.pilot_engine.specs.Closing.{HasShut};
-ghost use Rattle.pilot_engine.specs.Session.{IsOpen};
-ghost use Rattle.pilot_top.specs.Built.{is_built, StandsFor};
+ghost use Rattle.running_words.specs.Session.{IsOpen};
+ghost use Rattle.running_words.specs.Running.{Runs};
 ghost use Rattle.pilot_top.specs.Ending.{halts, closes};
 ghost use Rattle.pilot_top.specs.Headline.{Answering, EndsEarly, HasFilesAt, IsLeftOpen, Run, TellsDamage, at_end, line_bound, run_bound};
 ghost use Rattle.pilot_top.specs.Last.{last_line, Puts};
@@ -39,37 +39,37 @@ fn answer_lines<D: Disk, A: Allocator, S: Source, K: Sink>(
     source: &mut S,
     sink: &mut K,
 ) -> (Status, D)
-    requires size { (D.state session.filer.swapper.under).sectors ≡ session.filer.swapper.layout.sectors }
-    requires opened { IsOpen session.filer.swapper.layout session.volume }
+    requires size { (D.state session.core.filer.swapper.under).sectors ≡ session.core.filer.swapper.layout.sectors }
+    requires opened { IsOpen session.core.filer.swapper.layout session.volume }
     requires running { session.running ≡ true }
-    ensures answering { (m : Machine) (b t : List ℕ) → StandsFor (D.state session.filer.swapper.under) session.filer.swapper.pool session.filer.swapper.layout session.filer.runs session.volume m
+    ensures answering { (m : Machine) (b t : List ℕ) → Runs session.core session.volume m
         → S.left source.old ≡ Some b → K.took sink.old ≡ Some t
         → Answering result.0 m b (S.left source.new) t (K.took sink.new)
         (Rose (K.faults sink.old) (K.faults sink.new)) (HasFilesAt m (reading b) (D.state result.1)) }
-    ensures moments { (m : Machine) (b : List ℕ) → StandsFor (D.state session.filer.swapper.under) session.filer.swapper.pool session.filer.swapper.layout session.filer.runs session.volume m
-        → S.left source.old ≡ Some b → Moments m (reading b) (D.state session.filer.swapper.under) (D.state result.1) }
-    ensures closed { (m : Machine) (b : List ℕ) → StandsFor (D.state session.filer.swapper.under) session.filer.swapper.pool session.filer.swapper.layout session.filer.runs session.volume m
+    ensures moments { (m : Machine) (b : List ℕ) → Runs session.core session.volume m
+        → S.left source.old ≡ Some b → Moments m (reading b) (D.state session.core.filer.swapper.under) (D.state result.1) }
+    ensures closed { (m : Machine) (b : List ℕ) → Runs session.core session.volume m
         → S.left source.old ≡ Some b → result.0 ≡ Status.Done → halts (reading b) ≡ false
-        → HasShut (after is_built m (reading b) (length (reading b))) (D.state result.1) }
-    ensures closed_unheard { (m : Machine) (b : List ℕ) → StandsFor (D.state session.filer.swapper.under) session.filer.swapper.pool session.filer.swapper.layout session.filer.runs session.volume m
+        → HasShut (after m (reading b) (length (reading b))) (D.state result.1) }
+    ensures closed_unheard { (m : Machine) (b : List ℕ) → Runs session.core session.volume m
         → S.left source.old ≡ Some b → result.0 ≡ Status.StreamFault → ¬ Rose (S.faults source.old) (S.faults source.new)
         → S.left source.new ≡ Some (rest_of b) → closes (reading b) ≡ true
-        → HasShut (after is_built m (reading b) (length (reading b))) (D.state result.1) }
-    ensures some_moments { (m : Machine) → StandsFor (D.state session.filer.swapper.under) session.filer.swapper.pool session.filer.swapper.layout session.filer.runs session.volume m
-        → (lines : List TraceLine) × Moments m lines (D.state session.filer.swapper.under) (D.state result.1) }
-    ensures stays_open { (m : Machine) (b : List ℕ) → StandsFor (D.state session.filer.swapper.under) session.filer.swapper.pool session.filer.swapper.layout session.filer.runs session.volume m
+        → HasShut (after m (reading b) (length (reading b))) (D.state result.1) }
+    ensures some_moments { (m : Machine) → Runs session.core session.volume m
+        → (lines : List TraceLine) × Moments m lines (D.state session.core.filer.swapper.under) (D.state result.1) }
+    ensures stays_open { (m : Machine) (b : List ℕ) → Runs session.core session.volume m
         → S.left source.old ≡ Some b → EndsEarly result.0 (reading b) → IsLeftOpen (D.state result.1) }
-    ensures transfers { (m : Machine) (b : List ℕ) → StandsFor (D.state session.filer.swapper.under) session.filer.swapper.pool session.filer.swapper.layout session.filer.runs session.volume m
+    ensures transfers { (m : Machine) (b : List ℕ) → Runs session.core session.volume m
         → S.left source.old ≡ Some b
-        → (D.state result.1).transfers ≤ (D.state session.filer.swapper.under).transfers + (other_bound (D.state session.filer.swapper.under).sectors + sum_by (line_bound (D.state session.filer.swapper.under).sectors) (reading b)) }
-    ensures sound { (m : Machine) → StandsFor (D.state session.filer.swapper.under) session.filer.swapper.pool session.filer.swapper.layout session.filer.runs session.volume m
+        → (D.state result.1).transfers ≤ (D.state session.core.filer.swapper.under).transfers + (other_bound (D.state session.core.filer.swapper.under).sectors + sum_by (line_bound (D.state session.core.filer.swapper.under).sectors) (reading b)) }
+    ensures sound { (m : Machine) → Runs session.core session.volume m
         → result.0 ≢ Status.Damaged }
     ensures damage { (t : List ℕ) → K.took sink.old ≡ Some t → result.0 ≡ Status.Damaged
         → TellsDamage t (K.took sink.new) (Rose (K.faults sink.old) (K.faults sink.new)) }
-    ensures lawful { Lawfully (D.state session.filer.swapper.under) (D.state result.1) }
-    ensures same_disk { Went (D.state session.filer.swapper.under) (D.state result.1) }
+    ensures lawful { Lawfully (D.state session.core.filer.swapper.under) (D.state result.1) }
+    ensures same_disk { Went (D.state session.core.filer.swapper.under) (D.state result.1) }
     ensures disk_cause { result.0 ≡ Status.DiskFault
-        → Rose (D.state session.filer.swapper.under).faults (D.state result.1).faults }
+        → Rose (D.state session.core.filer.swapper.under).faults (D.state result.1).faults }
     ensures stream_cause { result.0 ≡ Status.StreamFault
         → Rose (S.faults source.old) (S.faults source.new)
         ⊎ Rose (K.faults sink.old) (K.faults sink.new) }

@@ -3,8 +3,9 @@ ghost use Rattle.std.specs.Prelude.{◌≡◌, ◌⊎◌, ◌≤◌, [], ◌∷�
 ghost use Rattle.labelled_disk.specs.declared.evidence.Halt.TheVariants as halt;
 ghost use Rattle.labelled_disk.specs.Calls.{Rose};
 ghost use Rattle.flat_machine.specs.Machine.{Machine};
-ghost use Rattle.pilot_engine.specs.Session.{IsOpen, Wrote};
-ghost use Rattle.pilot_top.specs.Built.{StandsFor};
+ghost use Rattle.running_words.specs.Session.{IsOpen, WroteIn};
+ghost use Rattle.running_words.specs.Stages.{client_or_own};
+ghost use Rattle.running_words.specs.Running.{Runs};
 ghost use Rattle.pilot_top.specs.Headline.{CostsLine};
 ghost use Rattle.pilot_top.specs.Moments.{Moments};
 ghost use Rattle.pilot_top.specs.Turn.{EndsAt, IsGoing, IsIdle, Turns};
@@ -56,23 +57,23 @@ pub(crate) fn take_turn<D: Disk, A: Allocator, S: Source>(
     source: &mut S,
 ) -> Turn
     requires stopped { (lines.old.stopped ≡ None) ⊎ (lines.old.stopped ≡ Some Stop.End) }
-    requires size { (D.state session.old.filer.swapper.under).sectors ≡ session.old.filer.swapper.layout.sectors }
-    requires opened { IsOpen session.old.filer.swapper.layout session.old.volume }
+    requires size { (D.state session.old.core.filer.swapper.under).sectors ≡ session.old.core.filer.swapper.layout.sectors }
+    requires opened { IsOpen session.old.core.filer.swapper.layout session.old.volume }
     requires running { session.old.running ≡ true }
     ensures turns { Turns result (S.left source.old) (S.left source.new) lines.old lines.new
-        (StandsFor (D.state session.old.filer.swapper.under) session.old.filer.swapper.pool session.old.filer.swapper.layout session.old.filer.runs session.old.volume)
-        (StandsFor (D.state session.new.filer.swapper.under) session.new.filer.swapper.pool session.new.filer.swapper.layout session.new.filer.runs session.new.volume)
-        (λ m line. Moments m (line ∷ []) (D.state session.old.filer.swapper.under) (D.state session.new.filer.swapper.under)
-        × CostsLine line (D.state session.old.filer.swapper.under) (D.state session.new.filer.swapper.under)) }
+        (Runs session.old.core session.old.volume)
+        (Runs session.new.core session.new.volume)
+        (λ m line. Moments m (line ∷ []) (D.state session.old.core.filer.swapper.under) (D.state session.new.core.filer.swapper.under)
+        × CostsLine line (D.state session.old.core.filer.swapper.under) (D.state session.new.core.filer.swapper.under)) }
     ensures bound { lines.new.taken ≤ lines.new.limit }
     ensures idle { IsIdle result → session.new ≡ session.old }
     ensures going { IsGoing result → session.new.running ≡ true }
-    ensures sound { (m : Machine) (why : Halt) → StandsFor (D.state session.old.filer.swapper.under) session.old.filer.swapper.pool session.old.filer.swapper.layout session.old.filer.runs session.old.volume m
+    ensures sound { (m : Machine) (why : Halt) → Runs session.old.core session.old.volume m
         → result ≡ Turn.Halts why → why ≡ halt.Disk }
-    ensures counted { result ≡ Turn.Halts halt.Disk → Rose (D.state session.old.filer.swapper.under).faults (D.state session.new.filer.swapper.under).faults }
-    ensures wrote { Wrote (D.state session.old.filer.swapper.under) session.old.filer.swapper.pool (D.state session.new.filer.swapper.under) session.new.filer.swapper.pool }
-    ensures open_still { IsOpen session.new.filer.swapper.layout session.new.volume }
-    ensures layout { session.new.filer.swapper.layout ≡ session.old.filer.swapper.layout }
+    ensures counted { result ≡ Turn.Halts halt.Disk → Rose (D.state session.old.core.filer.swapper.under).faults (D.state session.new.core.filer.swapper.under).faults }
+    ensures wrote { WroteIn client_or_own (D.state session.old.core.filer.swapper.under) session.old.core.filer.swapper.pool (D.state session.new.core.filer.swapper.under) session.new.core.filer.swapper.pool }
+    ensures open_still { IsOpen session.new.core.filer.swapper.layout session.new.volume }
+    ensures layout { session.new.core.filer.swapper.layout ≡ session.old.core.filer.swapper.layout }
     ensures source_later { S.faults source.old ≤ S.faults source.new }
     ensures source_cause { result ≡ Turn.ReadFault → Rose (S.faults source.old) (S.faults source.new) }
 {

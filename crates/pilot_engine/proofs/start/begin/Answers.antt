@@ -1,7 +1,8 @@
-use Rattle.std.proofs.Common.{◌≡◌, [], ◌∷◌, ◌∙◌}
+use Rattle.std.proofs.Common.{◌≡◌, ◌-◌, min, [], ◌∷◌, refl, ◌∙◌}
 use Rattle.labelled_disk.specs.FilesOn.{files_on}
 use Rattle.flat_machine.specs.Space.{root}
 use Rattle.session_words.specs.Parts.{shapes_of}
+use Rattle.file_manager.specs.declared.volume.Volume.{Volume}
 use Rattle.swapper_kernel.proofs.PlacedLemmas.{parts}
 use Rattle.pilot_engine.proofs.StartStands.{bare_stands, opened, opened_stands, marks, bits, map_named, free_are, may_begin, session_begun}
 use Rattle.pilot_engine.proofs.StartWrites.{root_some, count_some, tables_some, tables_all}
@@ -77,9 +78,41 @@ returns-clause-begun g c = λ d told sound same.
     let may = may_begin d sectors sound layout is long c.args.root same slots c.requires.bare kept none d1 form made _ _ _ beside still in
     let begun = (rw (lay, runs) at c.in-Ok-make_tables.ensures.made) x (shapes_of (files_on d)) (root ∷ []) may in
     let free = (rw (c.in-Ok.ensures.frames, c.in-Ok.ensures.layout) at c.in-Ok-free_count.ensures.count) x (marks d sectors sound layout is long c.args.root same slots c.requires.bare kept none d1 form made) now (bits d sectors sound layout is long c.args.root same slots c.requires.bare kept none d1 form made) in
-    session_begun d sectors sound layout is long c.args.root same slots c.requires.bare kept none d1 form made _ _ _ beside still _ _ _ begun (record { layout = c.args.layout; root = c.in_use-root.result; used = c.used_of.result }) c.make_tables.new.filer.swapper.layout (c.in-Ok-make_tables.ensures.layout ∙ lay) c.in_use-root.ensures.root
-    c.in-Ok-free_count.free (free_are d sectors sound layout is long c.args.root same slots c.requires.bare kept none d1 form made c.in-Ok-free_count.free free) (rw c.requires.same_layout at c.used_of.ensures)
+    let volume : Volume = record { layout = c.args.layout; root = c.in_use-root.result; used = c.used_of.result } in
+    let session = session_begun d sectors sound layout is long c.args.root same slots c.requires.bare kept none d1 form made _ _ _ beside still _ _ _ begun volume c.make_tables.new.filer.swapper.layout (c.in-Ok-make_tables.ensures.layout ∙ lay) c.in_use-root.ensures.root
+    c.in-Ok-free_count.free (free_are d sectors sound layout is long c.args.root same slots c.requires.bare kept none d1 form made c.in-Ok-free_count.free free) (rw c.requires.same_layout at c.used_of.ensures) in
+    c.in-Ok-write_tables.ensures.runs d volume session
+
+pub returns-in-Err-write_tables-clause-sound : goal.returns-in-Err-write_tables-clause-sound
+returns-in-Err-write_tables-clause-sound g c = λ d told sound same.
+    let layout = c.args.filer.now.swapper.layout in
+    let is = c.args.filer.now.swapper.accepted in
+    let slots = c.args.filer.now.swapper.pool in
+    let kept = c.args.filer.now.runs in
+    let none = c.requires.no_runs layout.sectors in
+    let sectors = g.met.D.Disk.in_form c.args.filer.now.swapper.under d told in
+    let long = g.met.D.Disk.whole c.args.filer.now.swapper.under d told ∙ c.requires.size in
+    let made = (rw c.in_use-root.ensures.root at c.in-Ok.ensures.made).memory d (bare_stands (g.D.Disk.state c.args.filer.now.swapper.under) slots d c.requires.bare told) in
+    let d1 = g.D.Disk.state c.write_over.new.filer.swapper.under in
+    let form = g.met.D.Disk.in_form c.write_over.new.filer.swapper.under in
+    let x = opened d sectors sound layout is long c.args.root same slots c.requires.bare kept none d1 form made in
+    let now = opened_stands d sectors sound layout is long c.args.root same slots c.requires.bare kept none d1 form made in
+    let beside = rw (c.in-Ok.ensures.frames, c.in-Ok.ensures.layout) at c.in-Ok-free_count.ensures.kept in
+    let still = (rw (c.in-Ok.ensures.frames, c.in-Ok.ensures.layout) at c.in-Ok-free_count.ensures.same) x (marks d sectors sound layout is long c.args.root same slots c.requires.bare kept none d1 form made) now (bits d sectors sound layout is long c.args.root same slots c.requires.bare kept none d1 form made) in
+    let lay : c.free_count.new.self.swapper.layout ≡ layout = c.in-Ok-free_count.ensures.kept.layout ∙ c.in-Ok.ensures.layout in
+    let runs : c.free_count.new.self.runs ≡ kept = c.in-Ok-free_count.ensures.runs ∙ c.in-Ok.ensures.runs in
+    let may = may_begin d sectors sound layout is long c.args.root same slots c.requires.bare kept none d1 form made _ _ _ beside still in
+    let begun = (rw (lay, runs) at c.in-Ok-make_tables.ensures.made) x (shapes_of (files_on d)) (root ∷ []) may in
+    let free = (rw (c.in-Ok.ensures.frames, c.in-Ok.ensures.layout) at c.in-Ok-free_count.ensures.count) x (marks d sectors sound layout is long c.args.root same slots c.requires.bare kept none d1 form made) now (bits d sectors sound layout is long c.args.root same slots c.requires.bare kept none d1 form made) in
+    let volume : Volume = record { layout = c.args.layout; root = c.in_use-root.result; used = min ((layout.sectors - layout.first) - c.in-Ok-free_count.free) layout.capacity } in
+    let session = session_begun d sectors sound layout is long c.args.root same slots c.requires.bare kept none d1 form made _ _ _ beside still _ _ _ begun volume c.make_tables.new.filer.swapper.layout (c.in-Ok-make_tables.ensures.layout ∙ lay) c.in_use-root.ensures.root
+    c.in-Ok-free_count.free (free_are d sectors sound layout is long c.args.root same slots c.requires.bare kept none d1 form made c.in-Ok-free_count.free free) refl in
+    c.in-Err-write_tables.ensures.sound d volume session
 
 pub returns-clause-starts : goal.returns-clause-starts
 returns-clause-starts g c =
-    tables_all c.args.root _ _ c.requires.bare (rw c.in_use-root.ensures.root at c.in-Ok.ensures.made).makes (rw (c.in-Ok.ensures.frames, c.in-Ok.ensures.layout) at c.in-Ok-free_count.ensures.kept) c.in-Ok-make_tables.ensures.makes
+    tables_all c.args.root _ _ c.requires.bare (rw c.in_use-root.ensures.root at c.in-Ok.ensures.made).makes (rw (c.in-Ok.ensures.frames, c.in-Ok.ensures.layout) at c.in-Ok-free_count.ensures.kept) c.in-Ok-make_tables.ensures.makes c.write_tables.ensures.makes
+
+pub returns-in-Err-write_tables-clause-starts : goal.returns-in-Err-write_tables-clause-starts
+returns-in-Err-write_tables-clause-starts g c =
+    tables_all c.args.root _ _ c.requires.bare (rw c.in_use-root.ensures.root at c.in-Ok.ensures.made).makes (rw (c.in-Ok.ensures.frames, c.in-Ok.ensures.layout) at c.in-Ok-free_count.ensures.kept) c.in-Ok-make_tables.ensures.makes c.write_tables.ensures.makes

@@ -1,28 +1,27 @@
 use Rattle.std.proofs.Common.{◌≡◌, subst, OnOk, IfErr}
 use Rattle.labelled_disk.specs.declared.evidence.Halt.TheVariants as halt
 use Rattle.pilot_engine.specs.Closing.{HasShut}
-use Rattle.pilot_engine.specs.Opening.{root_alone}
 use Rattle.pilot_top.proofs.CloseLemmas.{not_damaged, damage_told}
 use Rattle.pilot_top.proofs.closing.close.Goals as goal
 
 pub returns-in-Ok-clause-closed : goal.returns-in-Ok-clause-closed
-returns-in-Ok-clause-closed g c m is none = subst (λ r. OnOk r (HasShut m (g.D.Disk.state c.finish-closed.result.1))) c.in-Ok.is (c.finish-closed.ensures.closed root_alone m is)
+returns-in-Ok-clause-closed g c m is none = subst (λ r. OnOk r (HasShut m (g.D.Disk.state c.finish-closed.result.1))) c.in-Ok.is (c.finish-closed.ensures.closed m is)
 
 pub returns-in-Ok-clause-stops : goal.returns-in-Ok-clause-stops
-returns-in-Ok-clause-stops g c m is = c.finish-closed.ensures.stops root_alone m is
+returns-in-Ok-clause-stops g c m is = c.finish-closed.ensures.stops m is
 
 pub returns-in-Err-clause-stops : goal.returns-in-Err-clause-stops
-returns-in-Err-clause-stops g c m is = c.finish-closed.ensures.stops root_alone m is
+returns-in-Err-clause-stops g c m is = c.finish-closed.ensures.stops m is
 
 pub returns-in-Err-clause-sound : goal.returns-in-Err-clause-sound
 returns-in-Err-clause-sound g c m is damaged =
-    not_damaged c.in-Err.halt c.stop.result (subst (λ r. IfErr r (λ e. e ≡ halt.Disk)) c.in-Err.is (c.finish-closed.ensures.sound root_alone m is)) c.stop.ensures.status damaged
+    not_damaged c.in-Err.halt c.stop.result (subst (λ r. IfErr r (λ e. e ≡ halt.Disk)) c.in-Err.is (c.finish-closed.ensures.sound m is)) c.stop.ensures.status damaged
 
 pub returns-in-Err-clause-damage_line : goal.returns-in-Err-clause-damage_line
 returns-in-Err-clause-damage_line g c damaged = damage_told c.in-Err.halt c.stop.result _ _ _ c.stop.ensures.status damaged c.stop.ensures.line
 
 pub returns-in-Ok-clause-cost : goal.returns-in-Ok-clause-cost
-returns-in-Ok-clause-cost g c m is = c.finish-closed.ensures.cost root_alone m is
+returns-in-Ok-clause-cost g c m is = c.finish-closed.ensures.cost m is
 
 pub returns-in-Err-clause-cost : goal.returns-in-Err-clause-cost
-returns-in-Err-clause-cost g c m is = c.finish-closed.ensures.cost root_alone m is
+returns-in-Err-clause-cost g c m is = c.finish-closed.ensures.cost m is

@@ -9,7 +9,7 @@ use Rattle.swapper_kernel.specs.GoesLaws.{went_itself, went_then}
 use Rattle.trace_io.specs.Reading.{reading}
 use Rattle.session_words.specs.StandsFor.{TellsSettled}
 use Rattle.pilot_engine.specs.declared.session.SessionOver.{SessionOver}
-use Rattle.pilot_top.specs.Built.{StandsFor}
+use Rattle.running_words.specs.Running.{Runs}
 use Rattle.pilot_top.specs.Headline.{HasFilesAt, IsLeftOpen}
 use Rattle.pilot_top.specs.Last.{last_line, Puts}
 use Rattle.pilot_top.specs.Stopping.{status_of, cause_of}
@@ -33,17 +33,17 @@ abbrev Sessions : given.Over → Type 0
 Sessions g = SessionOver g.row.D.Denot g.row.A.Denot g.D.Disk
 
 abbrev disk_of : (g : given.Over) → Sessions g → DiskState
-disk_of g s = g.D.Disk.state s.filer.swapper.under
+disk_of g s = g.D.Disk.state s.core.filer.swapper.under
 
 abbrev stands_of : (g : given.Over) → Sessions g → Machine → Type 0
-stands_of g s m = StandsFor (g.D.Disk.state s.filer.swapper.under) s.filer.swapper.pool s.filer.swapper.layout s.filer.runs s.volume m
+stands_of g s m = Runs s.core s.volume m
 
 tells : (g : given.Over) (s : Sessions g) (m : Machine) → stands_of g s m → (e : List Sector) → (disk_of g s).contents ≡ Some e → TellsSettled e m
 tells g s m stands e told =
-    (stands_told m (disk_of g s) s.filer.swapper.pool s.filer.swapper.layout s.filer.runs s.volume stands (λ d is. g.met.D.Disk.in_form s.filer.swapper.under d is) e told).told
+    (stands_told m stands (λ d is. g.met.D.Disk.in_form s.core.filer.swapper.under d is) e told).told
 
 stays : (g : given.Over) (s : Sessions g) (m : Machine) → stands_of g s m → IsLeftOpen (disk_of g s)
-stays g s m stands = stands_open m (disk_of g s) s.filer.swapper.pool s.filer.swapper.layout s.filer.runs s.volume stands (λ d is. g.met.D.Disk.in_form s.filer.swapper.under d is)
+stays g s m stands = stands_open m stands (λ d is. g.met.D.Disk.in_form s.core.filer.swapper.under d is)
 
 pub turns-init : goal.turns-init
 turns-init g c =
@@ -51,9 +51,9 @@ turns-init g c =
     let stopped = ap (λ p. p.stopped) made in
     record {
       turned = Turned-start _ _ c.with_limit-lines.result _ _ (ap (λ p. p.taken) made) stopped
-          (λ m is. from_rest m [] _ c.args.session.filer.swapper.pool c.args.session.filer.swapper.layout c.args.session.filer.runs c.args.session.volume is (λ d told. g.met.D.Disk.in_form c.args.session.filer.swapper.under d told))
+          (λ m is. from_rest m [] is (λ d told. g.met.D.Disk.in_form c.args.session.core.filer.swapper.under d told))
           (lawfully_none (record { contents = refl; writes = refl }));
-      same_disk = went_itself (g.D.Disk.state c.args.session.filer.swapper.under);
+      same_disk = went_itself (g.D.Disk.state c.args.session.core.filer.swapper.under);
       goes_on = inl stopped;
       limit = ap (λ p. p.limit) made;
       bound = rw made (omega arith);
@@ -185,7 +185,7 @@ returns-in-Halts-clause-answering g c m b t stands source sink =
     let is : c.stop.result ≡ status.DiskFault = c.stop.ensures.status ∙ ap status_of why in
     let line : Puts (Rose (g.K.Sink.faults c.turns.sink) (g.K.Sink.faults c.stop.new.sink)) (g.K.Sink.took c.turns.sink) (g.K.Sink.took c.stop.new.sink) (last_line cause.DiskFault) =
     subst (λ (h : Halt). Puts (Rose (g.K.Sink.faults c.turns.sink) (g.K.Sink.faults c.stop.new.sink)) (g.K.Sink.took c.turns.sink) (g.K.Sink.took c.stop.new.sink) (last_line (cause_of h))) why c.stop.ensures.line in
-    let has = halt_files m turned stands turn.0 turn.2 turn.3 turn.4 (λ n stands. (stands.stands.is.by.machine, stands.alone)) in
+    let has = halt_files m turned stands turn.0 turn.2 turn.3 turn.4 (λ n stands. stands.session.stands.is.by.machine) in
     rw is
     (Run-disk m b t _ _ c.turns.lines _ _ turned.going stands _ (HasFilesAt m (reading b) (g.D.Disk.state c.into_disk-in-Halts.result)) (g.S.Source.left c.take_turn.new.source) _ turn.0
     (Puts-later _ _ _ _ _ (rose_later _ _ _ i.sink) line) has.0 (rw c.into_disk-in-Halts.ensures has.1))

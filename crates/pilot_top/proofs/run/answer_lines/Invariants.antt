@@ -1,8 +1,8 @@
 use Rattle.std.proofs.Common.{◌≡◌, ◌⊎◌, ◌-◌, ◌^◌, ◌≤◌, true, Some, None}
 use Rattle.trace_io.specs.declared.progress.Stop.TheVariants as stop
 use Rattle.swapper_kernel.specs.Goes.{Went}
-use Rattle.pilot_engine.specs.Session.{IsOpen}
-use Rattle.pilot_top.specs.Built.{StandsFor}
+use Rattle.running_words.specs.Session.{IsOpen}
+use Rattle.running_words.specs.Running.{Runs}
 use Rattle.pilot_top.proofs.TurnedLemmas.{Turned}
 use Rattle.pilot_top.proofs.run.answer_lines.Given as goal
 
@@ -10,15 +10,15 @@ use Rattle.pilot_top.proofs.run.answer_lines.Given as goal
 abbrev pub invariant-turns : goal.invariant-turns
 invariant-turns g l = record {
   turned : Turned (g.S.Source.left l.fn.source) (g.S.Source.left l.source) (g.K.Sink.took l.fn.sink) (g.K.Sink.took l.sink) l.lines
-      (StandsFor (g.D.Disk.state l.fn.session.filer.swapper.under) l.fn.session.filer.swapper.pool l.fn.session.filer.swapper.layout l.fn.session.filer.runs l.fn.session.volume)
-      (StandsFor (g.D.Disk.state l.session.filer.swapper.under) l.session.filer.swapper.pool l.session.filer.swapper.layout l.session.filer.runs l.session.volume)
-      (g.D.Disk.state l.fn.session.filer.swapper.under) (g.D.Disk.state l.session.filer.swapper.under);
-  same_disk : Went (g.D.Disk.state l.fn.session.filer.swapper.under) (g.D.Disk.state l.session.filer.swapper.under);
+      (Runs l.fn.session.core l.fn.session.volume)
+      (Runs l.session.core l.session.volume)
+      (g.D.Disk.state l.fn.session.core.filer.swapper.under) (g.D.Disk.state l.session.core.filer.swapper.under);
+  same_disk : Went (g.D.Disk.state l.fn.session.core.filer.swapper.under) (g.D.Disk.state l.session.core.filer.swapper.under);
   goes_on : (l.lines.stopped ≡ None) ⊎ (l.lines.stopped ≡ Some stop.End);
   limit : l.lines.limit ≡ 2 ^ 32;
   bound : l.lines.taken ≤ l.lines.limit;
-  size : (g.D.Disk.state l.session.filer.swapper.under).sectors ≡ l.session.filer.swapper.layout.sectors;
-  opened : IsOpen l.session.filer.swapper.layout l.session.volume;
+  size : (g.D.Disk.state l.session.core.filer.swapper.under).sectors ≡ l.session.core.filer.swapper.layout.sectors;
+  opened : IsOpen l.session.core.filer.swapper.layout l.session.volume;
   running : l.session.running ≡ true;
   source : g.S.Source.faults l.fn.source ≤ g.S.Source.faults l.source;
   sink : g.K.Sink.faults l.fn.sink ≤ g.K.Sink.faults l.sink;

@@ -24,7 +24,7 @@ returns-in-Ok-clause-some_moments g c d told sound =
 
 pub returns-in-Ok-clause-transfers : goal.returns-in-Ok-clause-transfers
 returns-in-Ok-clause-transfers g c d b told sound source =
-    run_spends (reading b) (g.D.Disk.state c.args.disk) (g.D.Disk.state c.in-Ok.session.filer.swapper.under) (g.D.Disk.state c.answer_lines.result.1) c.in-Ok.ensures.wrote.went.sectors c.in-Ok.ensures.bounded (c.answer_lines.ensures.transfers (start d) b (c.in-Ok.ensures.stands d told sound) source)
+    run_spends (reading b) (g.D.Disk.state c.args.disk) (g.D.Disk.state c.in-Ok.session.core.filer.swapper.under) (g.D.Disk.state c.answer_lines.result.1) c.in-Ok.ensures.wrote.went.sectors c.in-Ok.ensures.bounded (c.answer_lines.ensures.transfers (start d) b (c.in-Ok.ensures.stands d told sound) source)
 
 pub returns-in-Ok-clause-closed : goal.returns-in-Ok-clause-closed
 returns-in-Ok-clause-closed g c d b told sound source done going = c.answer_lines.ensures.closed (start d) b (c.in-Ok.ensures.stands d told sound) source done going

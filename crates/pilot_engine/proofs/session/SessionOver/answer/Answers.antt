@@ -1,114 +1,190 @@
-use Rattle.std.proofs.Common.{[], refl, sym, ap, ◌∙◌, arith}
+use Rattle.std.proofs.Common.{refl, sym, ap, ◌∙◌, arith}
 use Rattle.std.proofs.lemmas.Bool.{true≢false}
-use Rattle.session_words.specs.Volume.{volume_page}
-use Rattle.swapper_kernel.specs.Goes.{Same}
-use Rattle.swapper_kernel.specs.GoesLaws.{goes_itself}
-use Rattle.pilot_engine.specs.Stages.{is_answered}
-use Rattle.pilot_engine.proofs.BoundLemmas.{constant, on_layout}
-use Rattle.pilot_engine.proofs.StepLemmas.{unanswered}
+use Rattle.flat_machine.specs.References.{is_reference}
+use Rattle.pilot_engine.specs.Stepping.{waits}
+use Rattle.pilot_engine.proofs.BoundLemmas.{asked_inside, spent_inside}
+use Rattle.pilot_engine.proofs.LiftLemmas.{carried_out}
+use Rattle.pilot_engine.proofs.StepLemmas.{nothing_told, on_spaces}
+use Rattle.flat_machine.specs.declared.call.Call.TheVariants as call
 use Rattle.pilot_engine.proofs.session.SessionOver.answer.Goals as goal
 
 pub returns-in-Create-clause-carried : goal.returns-in-Create-clause-carried
-returns-in-Create-clause-carried g c = λ spaces_of m told s. rw c.in-Create.is (c.create.ensures.carried spaces_of m s)
+returns-in-Create-clause-carried g c = λ m r.
+    rw c.in-Create.is
+    (carried_out c.args.self.now.core c.create.new.self.core c.args.self.now.volume c.create.new.self.volume m (call.Create c.in-Create.pages c.in-Create.kind) c.create.ensures.kept c.create.ensures.intervals refl r c.create.result (λ spaces_of s. c.create.ensures.carried spaces_of m s))
 
 pub returns-in-Create-clause-passes : goal.returns-in-Create-clause-passes
-returns-in-Create-clause-passes g c = λ spaces_of m told s. rw c.in-Create.is (c.create.ensures.passes spaces_of m s)
+returns-in-Create-clause-passes g c = λ m r. rw c.in-Create.is (c.create.ensures.passes _ m r.session)
 
-pub returns-in-Delete-clause-carried : goal.returns-in-Delete-clause-carried
-returns-in-Delete-clause-carried g c = λ spaces_of m told s. rw c.in-Delete.is (c.delete.ensures.carried spaces_of m s)
+pub returns-in-Create-clause-sound : goal.returns-in-Create-clause-sound
+returns-in-Create-clause-sound g c = λ m r. c.create.ensures.sound _ m r.session
 
-pub returns-in-Delete-clause-passes : goal.returns-in-Delete-clause-passes
-returns-in-Delete-clause-passes g c = λ spaces_of m told s. rw c.in-Delete.is (c.delete.ensures.passes spaces_of m s)
-
-pub returns-in-Attributes-clause-carried : goal.returns-in-Attributes-clause-carried
-returns-in-Attributes-clause-carried g c = λ spaces_of m told s. rw c.in-Attributes.is (c.attributes.ensures.carried spaces_of m s)
-
-pub returns-in-Attributes-clause-passes : goal.returns-in-Attributes-clause-passes
-returns-in-Attributes-clause-passes g c = λ spaces_of m told s. rw c.in-Attributes.is (c.attributes.ensures.passes spaces_of m s)
-
-pub returns-in-SetSize-clause-carried : goal.returns-in-SetSize-clause-carried
-returns-in-SetSize-clause-carried g c = λ spaces_of m told s. rw c.in-SetSize.is (c.set_size.ensures.carried spaces_of m s)
-
-pub returns-in-SetSize-clause-passes : goal.returns-in-SetSize-clause-passes
-returns-in-SetSize-clause-passes g c = λ spaces_of m told s. rw c.in-SetSize.is (c.set_size.ensures.passes spaces_of m s)
-
-pub returns-in-MakePermanent-clause-carried : goal.returns-in-MakePermanent-clause-carried
-returns-in-MakePermanent-clause-carried g c = λ spaces_of m told s. rw c.in-MakePermanent.is (c.make_permanent.ensures.carried spaces_of m s)
-
-pub returns-in-MakePermanent-clause-passes : goal.returns-in-MakePermanent-clause-passes
-returns-in-MakePermanent-clause-passes g c = λ spaces_of m told s. rw c.in-MakePermanent.is (c.make_permanent.ensures.passes spaces_of m s)
-
-pub returns-in-MakeImmutable-clause-carried : goal.returns-in-MakeImmutable-clause-carried
-returns-in-MakeImmutable-clause-carried g c = λ spaces_of m told s. rw c.in-MakeImmutable.is (c.make_immutable.ensures.carried spaces_of m s)
-
-pub returns-in-MakeImmutable-clause-passes : goal.returns-in-MakeImmutable-clause-passes
-returns-in-MakeImmutable-clause-passes g c = λ spaces_of m told s. rw c.in-MakeImmutable.is (c.make_immutable.ensures.passes spaces_of m s)
-
-pub returns-in-Next-clause-carried : goal.returns-in-Next-clause-carried
-returns-in-Next-clause-carried g c = λ spaces_of m told s. rw c.in-Next.is (c.next.ensures.carried spaces_of m s)
-
-pub returns-in-Next-clause-passes : goal.returns-in-Next-clause-passes
-returns-in-Next-clause-passes g c = λ spaces_of m told s. rw c.in-Next.is (c.next.ensures.passes spaces_of m s)
-
-pub returns-in-Volume-clause-carried : goal.returns-in-Volume-clause-carried
-returns-in-Volume-clause-carried g c = λ spaces_of m told s. rw c.in-Volume.is (c.volume.ensures.carried spaces_of m s)
-
-pub returns-in-Volume-clause-passes : goal.returns-in-Volume-clause-passes
-returns-in-Volume-clause-passes g c = λ spaces_of m told s. rw c.in-Volume.is (c.volume.ensures.passes spaces_of m s)
-
-pub returns-in_default-clause-carried : goal.returns-in_default-clause-carried
-returns-in_default-clause-carried g c = λ spaces_of m told s. absurd (unanswered c.args.call.now told c.in_default.not-Create c.in_default.not-Delete c.in_default.not-Attributes c.in_default.not-SetSize c.in_default.not-MakePermanent c.in_default.not-MakeImmutable c.in_default.not-Next c.in_default.not-Volume)
-
-pub returns-in_default-clause-passes : goal.returns-in_default-clause-passes
-returns-in_default-clause-passes g c = λ spaces_of m told s. absurd (unanswered c.args.call.now told c.in_default.not-Create c.in_default.not-Delete c.in_default.not-Attributes c.in_default.not-SetSize c.in_default.not-MakePermanent c.in_default.not-MakeImmutable c.in_default.not-Next c.in_default.not-Volume)
-
-pub returns-in_default-clause-wrote : goal.returns-in_default-clause-wrote
-returns-in_default-clause-wrote g c = record { labels = []; makes = (goes_itself Same volume_page (g.D.Disk.state c.args.self.now.filer.swapper.under) c.args.self.now.filer.swapper.pool (λ x. refl)).makes; opens = tt }
+pub returns-in-Create-clause-wrote : goal.returns-in-Create-clause-wrote
+returns-in-Create-clause-wrote g c = rw c.in-Create.is c.create.ensures.wrote
 
 pub returns-in-Create-clause-cost : goal.returns-in-Create-clause-cost
-returns-in-Create-clause-cost g c = λ spaces_of m s. c.create.ensures.bounded
+returns-in-Create-clause-cost g c = λ m r. spent_inside (g.D.Disk.state c.args.self.now.core.filer.swapper.under) (g.D.Disk.state c.create.new.self.core.filer.swapper.under) c.create.ensures.bounded
+
+pub returns-in-Create-clause-reference : goal.returns-in-Create-clause-reference
+returns-in-Create-clause-reference g c = λ told. absurd (true≢false (sym told ∙ ap is_reference c.in-Create.is))
+
+pub returns-in-Create-clause-forced : goal.returns-in-Create-clause-forced
+returns-in-Create-clause-forced g c = λ m told free r. absurd (true≢false (sym told ∙ ap waits c.in-Create.is))
+
+pub returns-in-Create-clause-advised : goal.returns-in-Create-clause-advised
+returns-in-Create-clause-advised g c = λ m free r. rw c.in-Create.is (nothing_told c.create.result)
+
+pub returns-in-Delete-clause-carried : goal.returns-in-Delete-clause-carried
+returns-in-Delete-clause-carried g c = λ m r. rw c.in-Delete.is (c.delete.ensures.carried m r)
+
+pub returns-in-Delete-clause-passes : goal.returns-in-Delete-clause-passes
+returns-in-Delete-clause-passes g c = λ m r. rw c.in-Delete.is (c.delete.ensures.passes m r)
+
+pub returns-in-Delete-clause-wrote : goal.returns-in-Delete-clause-wrote
+returns-in-Delete-clause-wrote g c = rw c.in-Delete.is c.delete.ensures.wrote
 
 pub returns-in-Delete-clause-cost : goal.returns-in-Delete-clause-cost
-returns-in-Delete-clause-cost g c = λ spaces_of m s. c.delete.ensures.bounded spaces_of m s
+returns-in-Delete-clause-cost g c = λ m r. c.delete.ensures.cost m r
+
+pub returns-in-Delete-clause-reference : goal.returns-in-Delete-clause-reference
+returns-in-Delete-clause-reference g c = λ told. absurd (true≢false (sym told ∙ ap is_reference c.in-Delete.is))
+
+pub returns-in-Delete-clause-forced : goal.returns-in-Delete-clause-forced
+returns-in-Delete-clause-forced g c = λ m told free r. absurd (true≢false (sym told ∙ ap waits c.in-Delete.is))
+
+pub returns-in-Delete-clause-advised : goal.returns-in-Delete-clause-advised
+returns-in-Delete-clause-advised g c = λ m free r. rw c.in-Delete.is (nothing_told c.delete.result)
+
+pub returns-in-Attributes-clause-carried : goal.returns-in-Attributes-clause-carried
+returns-in-Attributes-clause-carried g c = λ m r. rw c.in-Attributes.is (c.attributes.ensures.carried m r)
+
+pub returns-in-Attributes-clause-passes : goal.returns-in-Attributes-clause-passes
+returns-in-Attributes-clause-passes g c = λ m r. rw c.in-Attributes.is (c.attributes.ensures.passes m r)
+
+pub returns-in-Attributes-clause-wrote : goal.returns-in-Attributes-clause-wrote
+returns-in-Attributes-clause-wrote g c = rw c.in-Attributes.is c.attributes.ensures.wrote
 
 pub returns-in-Attributes-clause-cost : goal.returns-in-Attributes-clause-cost
-returns-in-Attributes-clause-cost g c = λ spaces_of m s. on_layout c.args.self.now.filer.swapper.layout (g.D.Disk.state c.args.self.now.filer.swapper.under) (g.D.Disk.state c.attributes.new.self.filer.swapper.under) c.requires.size (constant _ _ _ 29 (omega arith) c.attributes.ensures.cost)
+returns-in-Attributes-clause-cost g c = λ m r. c.attributes.ensures.cost m r
+
+pub returns-in-Attributes-clause-reference : goal.returns-in-Attributes-clause-reference
+returns-in-Attributes-clause-reference g c = λ told. absurd (true≢false (sym told ∙ ap is_reference c.in-Attributes.is))
+
+pub returns-in-Attributes-clause-forced : goal.returns-in-Attributes-clause-forced
+returns-in-Attributes-clause-forced g c = λ m told free r. absurd (true≢false (sym told ∙ ap waits c.in-Attributes.is))
+
+pub returns-in-Attributes-clause-advised : goal.returns-in-Attributes-clause-advised
+returns-in-Attributes-clause-advised g c = λ m free r. rw c.in-Attributes.is (nothing_told c.attributes.result)
+
+pub returns-in-SetSize-clause-carried : goal.returns-in-SetSize-clause-carried
+returns-in-SetSize-clause-carried g c = λ m r. rw c.in-SetSize.is (c.set_size.ensures.carried m r)
+
+pub returns-in-SetSize-clause-passes : goal.returns-in-SetSize-clause-passes
+returns-in-SetSize-clause-passes g c = λ m r. rw c.in-SetSize.is (c.set_size.ensures.passes m r)
+
+pub returns-in-SetSize-clause-wrote : goal.returns-in-SetSize-clause-wrote
+returns-in-SetSize-clause-wrote g c = rw c.in-SetSize.is c.set_size.ensures.wrote
 
 pub returns-in-SetSize-clause-cost : goal.returns-in-SetSize-clause-cost
-returns-in-SetSize-clause-cost g c = λ spaces_of m s. c.set_size.ensures.bounded spaces_of m s
+returns-in-SetSize-clause-cost g c = λ m r. c.set_size.ensures.cost m r
+
+pub returns-in-SetSize-clause-reference : goal.returns-in-SetSize-clause-reference
+returns-in-SetSize-clause-reference g c = λ told. absurd (true≢false (sym told ∙ ap is_reference c.in-SetSize.is))
+
+pub returns-in-SetSize-clause-forced : goal.returns-in-SetSize-clause-forced
+returns-in-SetSize-clause-forced g c = λ m told free r. absurd (true≢false (sym told ∙ ap waits c.in-SetSize.is))
+
+pub returns-in-SetSize-clause-advised : goal.returns-in-SetSize-clause-advised
+returns-in-SetSize-clause-advised g c = λ m free r. rw c.in-SetSize.is (nothing_told c.set_size.result)
+
+pub returns-in-MakePermanent-clause-carried : goal.returns-in-MakePermanent-clause-carried
+returns-in-MakePermanent-clause-carried g c = λ m r. rw c.in-MakePermanent.is (c.make_permanent.ensures.carried m r)
+
+pub returns-in-MakePermanent-clause-passes : goal.returns-in-MakePermanent-clause-passes
+returns-in-MakePermanent-clause-passes g c = λ m r. rw c.in-MakePermanent.is (c.make_permanent.ensures.passes m r)
+
+pub returns-in-MakePermanent-clause-wrote : goal.returns-in-MakePermanent-clause-wrote
+returns-in-MakePermanent-clause-wrote g c = rw c.in-MakePermanent.is c.make_permanent.ensures.wrote
 
 pub returns-in-MakePermanent-clause-cost : goal.returns-in-MakePermanent-clause-cost
-returns-in-MakePermanent-clause-cost g c = λ spaces_of m s. on_layout c.args.self.now.filer.swapper.layout (g.D.Disk.state c.args.self.now.filer.swapper.under) (g.D.Disk.state c.make_permanent.new.self.filer.swapper.under) c.requires.size (constant _ _ _ 45 (omega arith) c.make_permanent.ensures.cost)
+returns-in-MakePermanent-clause-cost g c = λ m r. c.make_permanent.ensures.cost m r
+
+pub returns-in-MakePermanent-clause-reference : goal.returns-in-MakePermanent-clause-reference
+returns-in-MakePermanent-clause-reference g c = λ told. absurd (true≢false (sym told ∙ ap is_reference c.in-MakePermanent.is))
+
+pub returns-in-MakePermanent-clause-forced : goal.returns-in-MakePermanent-clause-forced
+returns-in-MakePermanent-clause-forced g c = λ m told free r. absurd (true≢false (sym told ∙ ap waits c.in-MakePermanent.is))
+
+pub returns-in-MakePermanent-clause-advised : goal.returns-in-MakePermanent-clause-advised
+returns-in-MakePermanent-clause-advised g c = λ m free r. rw c.in-MakePermanent.is (nothing_told c.make_permanent.result)
+
+pub returns-in-MakeImmutable-clause-carried : goal.returns-in-MakeImmutable-clause-carried
+returns-in-MakeImmutable-clause-carried g c = λ m r. rw c.in-MakeImmutable.is (c.make_immutable.ensures.carried m r)
+
+pub returns-in-MakeImmutable-clause-passes : goal.returns-in-MakeImmutable-clause-passes
+returns-in-MakeImmutable-clause-passes g c = λ m r. rw c.in-MakeImmutable.is (c.make_immutable.ensures.passes m r)
+
+pub returns-in-MakeImmutable-clause-wrote : goal.returns-in-MakeImmutable-clause-wrote
+returns-in-MakeImmutable-clause-wrote g c = rw c.in-MakeImmutable.is c.make_immutable.ensures.wrote
 
 pub returns-in-MakeImmutable-clause-cost : goal.returns-in-MakeImmutable-clause-cost
-returns-in-MakeImmutable-clause-cost g c = λ spaces_of m s. on_layout c.args.self.now.filer.swapper.layout (g.D.Disk.state c.args.self.now.filer.swapper.under) (g.D.Disk.state c.make_immutable.new.self.filer.swapper.under) c.requires.size (constant _ _ _ 45 (omega arith) c.make_immutable.ensures.cost)
+returns-in-MakeImmutable-clause-cost g c = λ m r. c.make_immutable.ensures.cost m r
+
+pub returns-in-MakeImmutable-clause-reference : goal.returns-in-MakeImmutable-clause-reference
+returns-in-MakeImmutable-clause-reference g c = λ told. absurd (true≢false (sym told ∙ ap is_reference c.in-MakeImmutable.is))
+
+pub returns-in-MakeImmutable-clause-forced : goal.returns-in-MakeImmutable-clause-forced
+returns-in-MakeImmutable-clause-forced g c = λ m told free r. absurd (true≢false (sym told ∙ ap waits c.in-MakeImmutable.is))
+
+pub returns-in-MakeImmutable-clause-advised : goal.returns-in-MakeImmutable-clause-advised
+returns-in-MakeImmutable-clause-advised g c = λ m free r. rw c.in-MakeImmutable.is (nothing_told c.make_immutable.result)
+
+pub returns-in-Next-clause-carried : goal.returns-in-Next-clause-carried
+returns-in-Next-clause-carried g c = λ m r. rw c.in-Next.is (c.next.ensures.carried m r)
+
+pub returns-in-Next-clause-passes : goal.returns-in-Next-clause-passes
+returns-in-Next-clause-passes g c = λ m r. rw c.in-Next.is (c.next.ensures.passes m r)
+
+pub returns-in-Next-clause-wrote : goal.returns-in-Next-clause-wrote
+returns-in-Next-clause-wrote g c = rw c.in-Next.is c.next.ensures.wrote
 
 pub returns-in-Next-clause-cost : goal.returns-in-Next-clause-cost
-returns-in-Next-clause-cost g c = λ spaces_of m s. on_layout c.args.self.now.filer.swapper.layout (g.D.Disk.state c.args.self.now.filer.swapper.under) (g.D.Disk.state c.next.new.self.filer.swapper.under) c.requires.size (constant _ _ _ 36 (omega arith) c.next.ensures.cost)
+returns-in-Next-clause-cost g c = λ m r. c.next.ensures.cost m r
+
+pub returns-in-Next-clause-reference : goal.returns-in-Next-clause-reference
+returns-in-Next-clause-reference g c = λ told. absurd (true≢false (sym told ∙ ap is_reference c.in-Next.is))
+
+pub returns-in-Next-clause-forced : goal.returns-in-Next-clause-forced
+returns-in-Next-clause-forced g c = λ m told free r. absurd (true≢false (sym told ∙ ap waits c.in-Next.is))
+
+pub returns-in-Next-clause-advised : goal.returns-in-Next-clause-advised
+returns-in-Next-clause-advised g c = λ m free r. rw c.in-Next.is (nothing_told c.next.result)
+
+pub returns-in-Volume-clause-carried : goal.returns-in-Volume-clause-carried
+returns-in-Volume-clause-carried g c = λ m r.
+    rw c.in-Volume.is
+    (carried_out c.args.self.now.core c.volume.new.self.core c.args.self.now.volume c.volume.new.self.volume m call.Volume c.volume.ensures.kept c.volume.ensures.intervals refl r c.volume.result (λ spaces_of s. c.volume.ensures.carried spaces_of m s))
+
+pub returns-in-Volume-clause-passes : goal.returns-in-Volume-clause-passes
+returns-in-Volume-clause-passes g c = λ m r. rw c.in-Volume.is (c.volume.ensures.passes _ m r.session)
+
+pub returns-in-Volume-clause-sound : goal.returns-in-Volume-clause-sound
+returns-in-Volume-clause-sound g c = λ m r. c.volume.ensures.sound _ m r.session
+
+pub returns-in-Volume-clause-wrote : goal.returns-in-Volume-clause-wrote
+returns-in-Volume-clause-wrote g c = rw c.in-Volume.is c.volume.ensures.wrote
 
 pub returns-in-Volume-clause-cost : goal.returns-in-Volume-clause-cost
-returns-in-Volume-clause-cost g c = λ spaces_of m s. on_layout c.args.self.now.filer.swapper.layout (g.D.Disk.state c.args.self.now.filer.swapper.under) (g.D.Disk.state c.volume.new.self.filer.swapper.under) c.requires.size (constant _ _ _ 0 (omega arith) c.volume.ensures.cost)
+returns-in-Volume-clause-cost g c = λ m r. asked_inside (g.D.Disk.state c.args.self.now.core.filer.swapper.under) (g.D.Disk.state c.volume.new.self.core.filer.swapper.under) 0 (omega arith) c.volume.ensures.cost
 
-pub returns-in-Create-clause-later : goal.returns-in-Create-clause-later
-returns-in-Create-clause-later g c none = absurd (true≢false (sym (ap is_answered c.in-Create.is) ∙ none))
+pub returns-in-Volume-clause-reference : goal.returns-in-Volume-clause-reference
+returns-in-Volume-clause-reference g c = λ told. absurd (true≢false (sym told ∙ ap is_reference c.in-Volume.is))
 
-pub returns-in-Delete-clause-later : goal.returns-in-Delete-clause-later
-returns-in-Delete-clause-later g c none = absurd (true≢false (sym (ap is_answered c.in-Delete.is) ∙ none))
+pub returns-in-Volume-clause-forced : goal.returns-in-Volume-clause-forced
+returns-in-Volume-clause-forced g c = λ m told free r. absurd (true≢false (sym told ∙ ap waits c.in-Volume.is))
 
-pub returns-in-Attributes-clause-later : goal.returns-in-Attributes-clause-later
-returns-in-Attributes-clause-later g c none = absurd (true≢false (sym (ap is_answered c.in-Attributes.is) ∙ none))
+pub returns-in-Volume-clause-advised : goal.returns-in-Volume-clause-advised
+returns-in-Volume-clause-advised g c = λ m free r. rw c.in-Volume.is (nothing_told c.volume.result)
 
-pub returns-in-SetSize-clause-later : goal.returns-in-SetSize-clause-later
-returns-in-SetSize-clause-later g c none = absurd (true≢false (sym (ap is_answered c.in-SetSize.is) ∙ none))
-
-pub returns-in-MakePermanent-clause-later : goal.returns-in-MakePermanent-clause-later
-returns-in-MakePermanent-clause-later g c none = absurd (true≢false (sym (ap is_answered c.in-MakePermanent.is) ∙ none))
-
-pub returns-in-MakeImmutable-clause-later : goal.returns-in-MakeImmutable-clause-later
-returns-in-MakeImmutable-clause-later g c none = absurd (true≢false (sym (ap is_answered c.in-MakeImmutable.is) ∙ none))
-
-pub returns-in-Next-clause-later : goal.returns-in-Next-clause-later
-returns-in-Next-clause-later g c none = absurd (true≢false (sym (ap is_answered c.in-Next.is) ∙ none))
-
-pub returns-in-Volume-clause-later : goal.returns-in-Volume-clause-later
-returns-in-Volume-clause-later g c none = absurd (true≢false (sym (ap is_answered c.in-Volume.is) ∙ none))
+pub answer_on_spaces-requires-clause-on_spaces : goal.answer_on_spaces-requires-clause-on_spaces
+answer_on_spaces-requires-clause-on_spaces g c = on_spaces c.args.call.now c.requires.more c.in_default.not-Create c.in_default.not-Delete c.in_default.not-Attributes c.in_default.not-SetSize c.in_default.not-MakePermanent c.in_default.not-MakeImmutable c.in_default.not-Next c.in_default.not-Volume

@@ -6,40 +6,40 @@ use Rattle.session_words.specs.Parts.{shapes_of}
 use Rattle.session_words.specs.Volume.{volume_page}
 use Rattle.swapper_kernel.specs.Goes.{Same}
 use Rattle.swapper_kernel.specs.GoesLaws.{goes_itself}
-use Rattle.pilot_engine.specs.Session.{Carries}
-use Rattle.pilot_engine.proofs.BoundLemmas.{create_bounded, on_layout}
+use Rattle.running_words.specs.Session.{Carries}
+use Rattle.pilot_engine.proofs.BoundLemmas.{create_bounded, inside_layout}
 use Rattle.pilot_engine.proofs.CallLemmas.{carries_at}
 use Rattle.pilot_engine.proofs.CreateStops.{create_passed, create_broken}
 use Rattle.pilot_engine.proofs.CreateLemmas.{may_create, create_done, create_refused}
 use Rattle.pilot_engine.proofs.RefusalLemmas.{create_full, create_ids, create_there}
-use Rattle.pilot_engine.proofs.SessionLemmas.{room_is}
-use Rattle.pilot_engine.proofs.StageLemmas.{no_step}
+use Rattle.running_words.proofs.SessionLemmas.{room_is}
+use Rattle.running_words.proofs.StageLemmas.{no_step}
 use Rattle.pilot_engine.proofs.WroteLemmas.{wrote_file, wrote_some}
 use Rattle.pilot_engine.proofs.session.SessionOver.create.Goals as goal
 
 pub returns-then-pages-free-clause-carried : goal.returns-then-pages-free-clause-carried
 returns-then-pages-free-clause-carried g c = λ spaces_of m s.
-    let left = room_is spaces_of _ _ _ _ _ m s c.args.self.now.filer.swapper.accepted c.requires.opened.same_layout in
+    let left = room_is spaces_of _ _ _ _ _ m s c.args.self.now.core.filer.swapper.accepted c.requires.opened.same_layout in
     let over = c.if-pages-free.true in
     create_refused spaces_of _ _ _ _ _ m s (call.Create c.args.pages c.args.kind) why.Full (create_full m c.args.pages c.args.kind (omega (arith, over, left, s.same_used)))
 
 pub returns-then-pages-free-clause-wrote : goal.returns-then-pages-free-clause-wrote
-returns-then-pages-free-clause-wrote g c = record { labels = []; makes = (goes_itself Same volume_page (g.D.Disk.state c.args.self.now.filer.swapper.under) c.args.self.now.filer.swapper.pool (λ x. refl)).makes; opens = tt }
+returns-then-pages-free-clause-wrote g c = record { labels = []; makes = (goes_itself Same volume_page (g.D.Disk.state c.args.self.now.core.filer.swapper.under) c.args.self.now.core.filer.swapper.pool (λ x. refl)).makes; opens = tt }
 
 pub returns-then-self-clause-carried : goal.returns-then-self-clause-carried
 returns-then-self-clause-carried g c = λ spaces_of m s.
-    let left = room_is spaces_of _ _ _ _ _ m s c.args.self.now.filer.swapper.accepted c.requires.opened.same_layout in
+    let left = room_is spaces_of _ _ _ _ _ m s c.args.self.now.core.filer.swapper.accepted c.requires.opened.same_layout in
     let under = c.if-pages-free.false in
     create_refused spaces_of _ _ _ _ _ m s (call.Create c.args.pages c.args.kind) why.Ids (create_ids m c.args.pages c.args.kind (omega (arith, under, left, s.same_used)) (sym s.same_counter ∙ c.if-self.true))
 
 pub returns-then-self-clause-wrote : goal.returns-then-self-clause-wrote
-returns-then-self-clause-wrote g c = record { labels = []; makes = (goes_itself Same volume_page (g.D.Disk.state c.args.self.now.filer.swapper.under) c.args.self.now.filer.swapper.pool (λ x. refl)).makes; opens = tt }
+returns-then-self-clause-wrote g c = record { labels = []; makes = (goes_itself Same volume_page (g.D.Disk.state c.args.self.now.core.filer.swapper.under) c.args.self.now.core.filer.swapper.pool (λ x. refl)).makes; opens = tt }
 
 pub returns-in-Ok-clause-carried : goal.returns-in-Ok-clause-carried
 returns-in-Ok-clause-carried g c = λ spaces_of m s.
-    let is = c.args.self.now.filer.swapper.accepted in
+    let is = c.args.self.now.core.filer.swapper.accepted in
     let left = room_is spaces_of _ _ _ _ _ m s is c.requires.opened.same_layout in
-    let same_room : c.args.self.now.volume.layout.capacity ≡ c.args.self.now.filer.swapper.layout.capacity = ap (λ l. l.capacity) c.requires.opened.same_layout in
+    let same_room : c.args.self.now.volume.layout.capacity ≡ c.args.self.now.core.filer.swapper.layout.capacity = ap (λ l. l.capacity) c.requires.opened.same_layout in
     let under = c.if-pages-free.false in
     let other : c.args.self.now.volume.root.counter < 4294967295 = search rules in
     let made = c.in-Ok.ensures.created s.stands.memory (shapes_of m.files) m.spaces (may_create spaces_of _ _ _ _ _ m s is c.args.pages (omega (arith, under, same_room))) in
@@ -55,8 +55,8 @@ returns-in-Ok-clause-wrote g c = wrote_file c.args.self.now.volume.root c.args.k
 
 pub returns-in-Err-clause-sound : goal.returns-in-Err-clause-sound
 returns-in-Err-clause-sound g c = λ spaces_of m s.
-    let is = c.args.self.now.filer.swapper.accepted in
-    let same_room : c.args.self.now.volume.layout.capacity ≡ c.args.self.now.filer.swapper.layout.capacity = ap (λ l. l.capacity) c.requires.opened.same_layout in
+    let is = c.args.self.now.core.filer.swapper.accepted in
+    let same_room : c.args.self.now.volume.layout.capacity ≡ c.args.self.now.core.filer.swapper.layout.capacity = ap (λ l. l.capacity) c.requires.opened.same_layout in
     let under = c.if-pages-free.false in
     c.in-Err.ensures.sound s.stands.memory (shapes_of m.files) m.spaces (may_create spaces_of _ _ _ _ _ m s is c.args.pages (omega (arith, under, same_room)))
 
@@ -65,44 +65,44 @@ returns-in-Err-clause-wrote g c = wrote_some c.args.self.now.volume.root c.args.
 
 pub returns-then-pages-free-clause-passes : goal.returns-then-pages-free-clause-passes
 returns-then-pages-free-clause-passes g c = λ spaces_of m s.
-    no_step spaces_of _ _ _ _ m (call.Create c.args.pages c.args.kind) s.stands (goes_itself Same volume_page (g.D.Disk.state c.args.self.now.filer.swapper.under) c.args.self.now.filer.swapper.pool (λ x. refl)).makes (g.met.D.Disk.in_form c.args.self.now.filer.swapper.under)
+    no_step spaces_of _ _ _ _ m (call.Create c.args.pages c.args.kind) s.stands (goes_itself Same volume_page (g.D.Disk.state c.args.self.now.core.filer.swapper.under) c.args.self.now.core.filer.swapper.pool (λ x. refl)).makes (g.met.D.Disk.in_form c.args.self.now.core.filer.swapper.under)
 
 pub returns-then-self-clause-passes : goal.returns-then-self-clause-passes
 returns-then-self-clause-passes g c = λ spaces_of m s.
-    no_step spaces_of _ _ _ _ m (call.Create c.args.pages c.args.kind) s.stands (goes_itself Same volume_page (g.D.Disk.state c.args.self.now.filer.swapper.under) c.args.self.now.filer.swapper.pool (λ x. refl)).makes (g.met.D.Disk.in_form c.args.self.now.filer.swapper.under)
+    no_step spaces_of _ _ _ _ m (call.Create c.args.pages c.args.kind) s.stands (goes_itself Same volume_page (g.D.Disk.state c.args.self.now.core.filer.swapper.under) c.args.self.now.core.filer.swapper.pool (λ x. refl)).makes (g.met.D.Disk.in_form c.args.self.now.core.filer.swapper.under)
 
 pub returns-in-Ok-clause-passes : goal.returns-in-Ok-clause-passes
 returns-in-Ok-clause-passes g c = λ spaces_of m s.
-    let is = c.args.self.now.filer.swapper.accepted in
-    let same_room : c.args.self.now.volume.layout.capacity ≡ c.args.self.now.filer.swapper.layout.capacity = ap (λ l. l.capacity) c.requires.opened.same_layout in
+    let is = c.args.self.now.core.filer.swapper.accepted in
+    let same_room : c.args.self.now.volume.layout.capacity ≡ c.args.self.now.core.filer.swapper.layout.capacity = ap (λ l. l.capacity) c.requires.opened.same_layout in
     let under = c.if-pages-free.false in
     let other : c.args.self.now.volume.root.counter < 4294967295 = search rules in
     let small : c.args.pages < 4294967295 = search rules in
     let made = c.in-Ok.ensures.created s.stands.memory (shapes_of m.files) m.spaces (may_create spaces_of _ _ _ _ _ m s is c.args.pages (omega (arith, under, same_room))) in
-    create_passed spaces_of _ _ _ _ _ m s (g.met.D.Disk.in_form c.args.self.now.filer.swapper.under) c.requires.opened.valid other c.args.kind c.args.pages _ _ _ small made
+    create_passed spaces_of _ _ _ _ _ m s (g.met.D.Disk.in_form c.args.self.now.core.filer.swapper.under) c.requires.opened.valid other c.args.kind c.args.pages _ _ _ small made
 
 pub returns-in-Err-clause-passes : goal.returns-in-Err-clause-passes
 returns-in-Err-clause-passes g c = λ spaces_of m s.
-    let is = c.args.self.now.filer.swapper.accepted in
-    let same_room : c.args.self.now.volume.layout.capacity ≡ c.args.self.now.filer.swapper.layout.capacity = ap (λ l. l.capacity) c.requires.opened.same_layout in
+    let is = c.args.self.now.core.filer.swapper.accepted in
+    let same_room : c.args.self.now.volume.layout.capacity ≡ c.args.self.now.core.filer.swapper.layout.capacity = ap (λ l. l.capacity) c.requires.opened.same_layout in
     let under = c.if-pages-free.false in
     let other : c.args.self.now.volume.root.counter < 4294967295 = search rules in
     let small : c.args.pages < 4294967295 = search rules in
     let some = c.in-Err.ensures.broken s.stands.memory (shapes_of m.files) m.spaces (may_create spaces_of _ _ _ _ _ m s is c.args.pages (omega (arith, under, same_room))) in
-    create_broken spaces_of _ _ _ _ _ m s (g.met.D.Disk.in_form c.args.self.now.filer.swapper.under) c.requires.opened.valid other c.args.kind c.args.pages _ _ small some
+    create_broken spaces_of _ _ _ _ _ m s (g.met.D.Disk.in_form c.args.self.now.core.filer.swapper.under) c.requires.opened.valid other c.args.kind c.args.pages _ _ small some
 
 pub returns-in-Ok-clause-bounded : goal.returns-in-Ok-clause-bounded
 returns-in-Ok-clause-bounded g c =
-    let layout = c.args.self.now.filer.swapper.layout in
+    let layout = c.args.self.now.core.filer.swapper.layout in
     let same_room : c.args.self.now.volume.layout.capacity ≡ layout.capacity = ap (λ l. l.capacity) c.requires.opened.same_layout in
     let under = c.if-pages-free.false in
-    on_layout layout (g.D.Disk.state c.args.self.now.filer.swapper.under) (g.D.Disk.state c.create.new.filer.swapper.under) c.requires.size
-    (create_bounded layout c.args.self.now.filer.swapper.accepted _ _ c.args.pages (omega (arith, under, same_room)) c.create.ensures.cost)
+    inside_layout layout (g.D.Disk.state c.args.self.now.core.filer.swapper.under) (g.D.Disk.state c.create.new.filer.swapper.under) c.requires.size
+    (create_bounded layout c.args.self.now.core.filer.swapper.accepted _ _ c.args.pages (omega (arith, under, same_room)) c.create.ensures.cost)
 
 pub returns-in-Err-clause-bounded : goal.returns-in-Err-clause-bounded
 returns-in-Err-clause-bounded g c =
-    let layout = c.args.self.now.filer.swapper.layout in
+    let layout = c.args.self.now.core.filer.swapper.layout in
     let same_room : c.args.self.now.volume.layout.capacity ≡ layout.capacity = ap (λ l. l.capacity) c.requires.opened.same_layout in
     let under = c.if-pages-free.false in
-    on_layout layout (g.D.Disk.state c.args.self.now.filer.swapper.under) (g.D.Disk.state c.create.new.filer.swapper.under) c.requires.size
-    (create_bounded layout c.args.self.now.filer.swapper.accepted _ _ c.args.pages (omega (arith, under, same_room)) c.create.ensures.cost)
+    inside_layout layout (g.D.Disk.state c.args.self.now.core.filer.swapper.under) (g.D.Disk.state c.create.new.filer.swapper.under) c.requires.size
+    (create_bounded layout c.args.self.now.core.filer.swapper.accepted _ _ c.args.pages (omega (arith, under, same_room)) c.create.ensures.cost)

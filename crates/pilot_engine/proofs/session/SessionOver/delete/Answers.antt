@@ -1,100 +1,83 @@
-use Rattle.std.proofs.Common.{Option, ap, subst, arith}
+use Rattle.std.proofs.Common.{refl, sym, ap, subst, ◌∙◌, arith}
+use Rattle.labelled_disk.specs.declared.layout.Layout.{Layout}
 use Rattle.flat_machine.specs.declared.call.Call.TheVariants as call
-use Rattle.file_manager.specs.declared.attributes.Attributes.{Attributes}
-use Rattle.file_manager.specs.declared.volume.Volume.{Volume}
-use Rattle.file_manager.specs.Attributes.{IsAttributesOf}
-use Rattle.session_words.specs.Parts.{shapes_of}
-use Rattle.pilot_engine.proofs.BoundLemmas.{constant, delete_told, on_layout}
-use Rattle.pilot_engine.proofs.CallLemmas.{delete_done, delete_passed, delete_broken, missing_after, books_at, none_shown, carries_at, freed_wrote, some_freed_wrote}
-use Rattle.pilot_engine.proofs.RefusalLemmas.{delete_missing}
-use Rattle.pilot_engine.proofs.SessionLemmas.{session_books}
-use Rattle.pilot_engine.proofs.StageLemmas.{no_step}
+use Rattle.flat_machine.specs.declared.call.Refusal.TheVariants as why
+use Rattle.pilot_engine.specs.declared.sight.Sight.{Sight}
+use Rattle.std.proofs.Common.{ℕ, Option}
+use Rattle.std.specs.Prelude.{option_map}
+use Rattle.pilot_engine.specs.Seen.{IsSeenBy, IsSight}
+use Rattle.pilot_engine.proofs.BoundLemmas.{asked_inside, spent_besides}
+use Rattle.pilot_engine.proofs.LiftLemmas.{asked_passes, carried_out, refused_running, still_open}
+use Rattle.pilot_engine.proofs.PassThen.{asked_then}
+use Rattle.pilot_engine.proofs.WroteLemmas.{rose_behind, wrote_by, wrote_then}
+use Rattle.pilot_engine.proofs.RefusalLemmas.{delete_gone, no_file_hidden}
+use Rattle.pilot_engine.proofs.SeenLemmas.{delete_seen}
 use Rattle.pilot_engine.proofs.session.SessionOver.delete.Goals as goal
 
-pub returns-in-Ok-None-clause-carried : goal.returns-in-Ok-None-clause-carried
-returns-in-Ok-None-clause-carried g c = λ spaces_of m s.
-    let books = session_books spaces_of _ _ _ _ _ m s in
-    let told = subst (λ (o : Option Attributes). IsAttributesOf (shapes_of m.files c.args.id) o) c.in-Ok-None.field-0-is (c.in-Ok-None.ensures.told s.stands.memory (shapes_of m.files) m.spaces books) in
-    missing_after spaces_of _ _ _ _ _ _ _ _ _ m s c.attributes_of.ensures.makes c.attributes_of.ensures.brings (c.attributes_of.ensures.same s.stands.memory (shapes_of m.files) m.spaces books) c.attributes_of.ensures.layout
-    c.args.id told (call.Delete c.args.id) (delete_missing m s.alone c.args.id)
+pub returns-in-Ok-Hidden-clause-carried : goal.returns-in-Ok-Hidden-clause-carried
+returns-in-Ok-Hidden-clause-carried g c = λ m r.
+    refused_running _ _ m (call.Delete c.args.id) why.File (c.sight.ensures.runs m r) (delete_gone m c.args.id (no_file_hidden m c.args.id (subst (λ (x : Sight). IsSight m c.args.id x) c.in-Ok-Hidden.field-0-is (c.in-Ok-Hidden.ensures.answer m r))))
 
-pub returns-in-Ok-None-clause-passes : goal.returns-in-Ok-None-clause-passes
-returns-in-Ok-None-clause-passes g c = λ spaces_of m s. no_step spaces_of _ _ _ _ m (call.Delete c.args.id) s.stands c.attributes_of.ensures.makes (g.met.D.Disk.in_form c.args.self.now.filer.swapper.under)
+pub returns-in-Ok-Hidden-clause-passes : goal.returns-in-Ok-Hidden-clause-passes
+returns-in-Ok-Hidden-clause-passes g c = λ m r. asked_passes c.args.self.now.core c.args.self.now.volume m (call.Delete c.args.id) r (g.met.D.Disk.in_form c.args.self.now.core.filer.swapper.under) c.sight.ensures.makes
 
-pub returns-in-Err-clause-sound : goal.returns-in-Err-clause-sound
-returns-in-Err-clause-sound g c = λ spaces_of m s. c.in-Err.ensures.told s.stands.memory (shapes_of m.files) m.spaces (session_books spaces_of _ _ _ _ _ m s)
+pub returns-in-Ok-Hidden-clause-wrote : goal.returns-in-Ok-Hidden-clause-wrote
+returns-in-Ok-Hidden-clause-wrote g c = wrote_by c.sight.ensures.makes tt
+
+pub returns-in-Ok-Hidden-clause-cost : goal.returns-in-Ok-Hidden-clause-cost
+returns-in-Ok-Hidden-clause-cost g c = λ m r. asked_inside (g.D.Disk.state c.args.self.now.core.filer.swapper.under) (g.D.Disk.state c.sight.new.self.core.filer.swapper.under) 14532 (omega arith) c.sight.ensures.cost
+
+pub returns-in-Some-clause-carried : goal.returns-in-Some-clause-carried
+returns-in-Some-clause-carried g c = λ m r.
+    refused_running _ _ m (call.Delete c.args.id) _ (c.sight.ensures.runs m r) (delete_seen m r.session.stands.is.by.machine c.args.id _ (subst (λ (o : Option ℕ). IsSeenBy m c.args.id o) c.in-Some.is (subst (λ (x : Sight). IsSight m c.args.id x) c.in-Ok-By.field-0-is (c.in-Ok-By.ensures.answer m r))))
+
+pub returns-in-Some-clause-passes : goal.returns-in-Some-clause-passes
+returns-in-Some-clause-passes g c = λ m r. asked_passes c.args.self.now.core c.args.self.now.volume m (call.Delete c.args.id) r (g.met.D.Disk.in_form c.args.self.now.core.filer.swapper.under) c.sight.ensures.makes
+
+pub returns-in-Some-clause-wrote : goal.returns-in-Some-clause-wrote
+returns-in-Some-clause-wrote g c = wrote_by c.sight.ensures.makes tt
+
+pub returns-in-Some-clause-cost : goal.returns-in-Some-clause-cost
+returns-in-Some-clause-cost g c = λ m r. asked_inside (g.D.Disk.state c.args.self.now.core.filer.swapper.under) (g.D.Disk.state c.sight.new.self.core.filer.swapper.under) 14532 (omega arith) c.sight.ensures.cost
 
 pub returns-in-Err-clause-passes : goal.returns-in-Err-clause-passes
-returns-in-Err-clause-passes g c = λ spaces_of m s. no_step spaces_of _ _ _ _ m (call.Delete c.args.id) s.stands c.attributes_of.ensures.makes (g.met.D.Disk.in_form c.args.self.now.filer.swapper.under)
+returns-in-Err-clause-passes g c = λ m r. asked_passes c.args.self.now.core c.args.self.now.volume m (call.Delete c.args.id) r (g.met.D.Disk.in_form c.args.self.now.core.filer.swapper.under) c.sight.ensures.makes
 
-pub returns-in-Ok-clause-carried : goal.returns-in-Ok-clause-carried
-returns-in-Ok-clause-carried g c = λ spaces_of m s.
-    let books = session_books spaces_of _ _ _ _ _ m s in
-    let told = subst (λ (o : Option Attributes). IsAttributesOf (shapes_of m.files c.args.id) o) c.in-Ok-Some.field-0-is (c.in-Ok-Some.ensures.told s.stands.memory (shapes_of m.files) m.spaces books) in
-    let mid = c.attributes_of.ensures.same s.stands.memory (shapes_of m.files) m.spaces books in
-    let at = books_at _ _ _ _ _ _ _ _ mid c.attributes_of.ensures.layout in
-    let deleted = c.in-Ok.ensures.deleted s.stands.memory (shapes_of m.files) m.spaces _ at told (none_shown m.spaces s.alone c.args.id) in
-    let less = c.in-Ok.ensures.used s.stands.memory (shapes_of m.files) m.spaces _ at told in
-    carries_at spaces_of m (call.Delete c.args.id) _ _ _ _ _ _ _
-    (delete_done spaces_of _ _ _ _ _ _ _ _ _ m s c.attributes_of.ensures.makes c.attributes_of.ensures.brings mid c.attributes_of.ensures.layout _ _ _ _ c.args.id _ told
-    (ap (λ (v : Volume). v.root.serial) c.delete.ensures.rest_of_volume) (ap (λ (v : Volume). v.root.counter) c.delete.ensures.rest_of_volume) less deleted) c.delete.ensures.layout
+pub returns-in-Err-clause-wrote : goal.returns-in-Err-clause-wrote
+returns-in-Err-clause-wrote g c = wrote_by c.sight.ensures.makes tt
 
-pub returns-in-Ok-clause-passes : goal.returns-in-Ok-clause-passes
-returns-in-Ok-clause-passes g c = λ spaces_of m s.
-    let books = session_books spaces_of _ _ _ _ _ m s in
-    let told = subst (λ (o : Option Attributes). IsAttributesOf (shapes_of m.files c.args.id) o) c.in-Ok-Some.field-0-is (c.in-Ok-Some.ensures.told s.stands.memory (shapes_of m.files) m.spaces books) in
-    let mid = c.attributes_of.ensures.same s.stands.memory (shapes_of m.files) m.spaces books in
-    let at = books_at _ _ _ _ _ _ _ _ mid c.attributes_of.ensures.layout in
-    let deleted = c.in-Ok.ensures.deleted s.stands.memory (shapes_of m.files) m.spaces _ at told (none_shown m.spaces s.alone c.args.id) in
-    delete_passed spaces_of _ _ _ _ _ _ _ _ _ m s c.attributes_of.ensures.makes c.attributes_of.ensures.brings mid c.attributes_of.ensures.layout _ _ _ c.args.self.now.volume c.args.id _ told
-    (g.met.D.Disk.in_form c.args.self.now.filer.swapper.under) deleted
+pub returns-in-Err-clause-cost : goal.returns-in-Err-clause-cost
+returns-in-Err-clause-cost g c = λ m r. asked_inside (g.D.Disk.state c.args.self.now.core.filer.swapper.under) (g.D.Disk.state c.sight.new.self.core.filer.swapper.under) 14532 (omega arith) c.sight.ensures.cost
 
-pub returns-in-Ok-clause-wrote : goal.returns-in-Ok-clause-wrote
-returns-in-Ok-clause-wrote g c = freed_wrote c.attributes_of.ensures.makes c.in-Ok.ensures.makes
+pub delete_unseen-requires-clause-size : goal.delete_unseen-requires-clause-size
+delete_unseen-requires-clause-size g c = c.sight.ensures.makes.went.sectors ∙ c.requires.size ∙ ap (λ (l : Layout). l.sectors) (sym c.sight.ensures.layout)
 
-pub returns-in-Err-delete-clause-sound : goal.returns-in-Err-delete-clause-sound
-returns-in-Err-delete-clause-sound g c = λ spaces_of m s.
-    let books = session_books spaces_of _ _ _ _ _ m s in
-    let told = subst (λ (o : Option Attributes). IsAttributesOf (shapes_of m.files c.args.id) o) c.in-Ok-Some.field-0-is (c.in-Ok-Some.ensures.told s.stands.memory (shapes_of m.files) m.spaces books) in
-    let mid = c.attributes_of.ensures.same s.stands.memory (shapes_of m.files) m.spaces books in
-    c.in-Err-delete.ensures.sound s.stands.memory (shapes_of m.files) m.spaces _ (books_at _ _ _ _ _ _ _ _ mid c.attributes_of.ensures.layout) told (none_shown m.spaces s.alone c.args.id)
+pub delete_unseen-requires-clause-opened : goal.delete_unseen-requires-clause-opened
+delete_unseen-requires-clause-opened g c = still_open _ _ _ _ c.requires.opened c.sight.ensures.layout c.sight.ensures.volume
 
-pub returns-in-Err-delete-clause-passes : goal.returns-in-Err-delete-clause-passes
-returns-in-Err-delete-clause-passes g c = λ spaces_of m s.
-    let books = session_books spaces_of _ _ _ _ _ m s in
-    let told = subst (λ (o : Option Attributes). IsAttributesOf (shapes_of m.files c.args.id) o) c.in-Ok-Some.field-0-is (c.in-Ok-Some.ensures.told s.stands.memory (shapes_of m.files) m.spaces books) in
-    let mid = c.attributes_of.ensures.same s.stands.memory (shapes_of m.files) m.spaces books in
-    let first = c.in-Err-delete.ensures.first s.stands.memory (shapes_of m.files) m.spaces _ (books_at _ _ _ _ _ _ _ _ mid c.attributes_of.ensures.layout) told (none_shown m.spaces s.alone c.args.id) in
-    delete_broken spaces_of _ _ _ _ _ _ _ _ _ m s c.attributes_of.ensures.makes c.attributes_of.ensures.brings mid c.attributes_of.ensures.layout _ _ c.args.self.now.filer.runs c.args.self.now.volume c.args.id _ told
-    (g.met.D.Disk.in_form c.args.self.now.filer.swapper.under) first
+pub returns-clause-carried : goal.returns-clause-carried
+returns-clause-carried g c = λ m r.
+    carried_out c.sight.new.self.core c.delete_unseen.new.self.core c.sight.new.self.volume c.delete_unseen.new.self.volume m (call.Delete c.args.id) c.delete_unseen.ensures.kept c.delete_unseen.ensures.intervals refl (c.sight.ensures.runs m r) c.delete_unseen.result
+    (λ spaces_of s. c.delete_unseen.ensures.carried spaces_of m s ((subst (λ (x : Sight). IsSight m c.args.id x) c.in-Ok-By.field-0-is (c.in-Ok-By.ensures.answer m r)).mapped ∙ ap (option_map why.FileMapped) c.in-None.is))
 
-pub returns-in-Err-delete-clause-wrote : goal.returns-in-Err-delete-clause-wrote
-returns-in-Err-delete-clause-wrote g c = some_freed_wrote c.attributes_of.ensures.makes c.in-Err-delete.ensures.stopped
+pub returns-clause-sound : goal.returns-clause-sound
+returns-clause-sound g c = λ m r. let now = c.sight.ensures.runs m r in c.delete_unseen.ensures.sound _ m now.session ((subst (λ (x : Sight). IsSight m c.args.id x) c.in-Ok-By.field-0-is (c.in-Ok-By.ensures.answer m r)).mapped ∙ ap (option_map why.FileMapped) c.in-None.is)
 
-pub returns-in-Ok-None-clause-bounded : goal.returns-in-Ok-None-clause-bounded
-returns-in-Ok-None-clause-bounded g c = λ spaces_of m s. on_layout c.args.self.now.filer.swapper.layout (g.D.Disk.state c.args.self.now.filer.swapper.under) (g.D.Disk.state c.attributes_of.new.filer.swapper.under) c.requires.size (constant _ _ _ 29 (omega arith) c.attributes_of.ensures.cost)
+pub returns-clause-passes : goal.returns-clause-passes
+returns-clause-passes g c = λ m r.
+    let now = c.sight.ensures.runs m r in
+    asked_then m (call.Delete c.args.id) (asked_passes c.args.self.now.core c.args.self.now.volume m call.Volume r (g.met.D.Disk.in_form c.args.self.now.core.filer.swapper.under) c.sight.ensures.makes) (c.delete_unseen.ensures.passes _ m now.session ((subst (λ (x : Sight). IsSight m c.args.id x) c.in-Ok-By.field-0-is (c.in-Ok-By.ensures.answer m r)).mapped ∙ ap (option_map why.FileMapped) c.in-None.is))
 
-pub returns-in-Err-clause-bounded : goal.returns-in-Err-clause-bounded
-returns-in-Err-clause-bounded g c = λ spaces_of m s. on_layout c.args.self.now.filer.swapper.layout (g.D.Disk.state c.args.self.now.filer.swapper.under) (g.D.Disk.state c.attributes_of.new.filer.swapper.under) c.requires.size (constant _ _ _ 29 (omega arith) c.attributes_of.ensures.cost)
+pub returns-clause-wrote : goal.returns-clause-wrote
+returns-clause-wrote g c = wrote_then (wrote_by c.sight.ensures.makes tt) c.delete_unseen.ensures.wrote
 
-pub returns-in-Ok-clause-bounded : goal.returns-in-Ok-clause-bounded
-returns-in-Ok-clause-bounded g c = λ spaces_of m s.
-    let layout = c.args.self.now.filer.swapper.layout in
-    let books = session_books spaces_of _ _ _ _ _ m s in
-    let told = subst (λ (o : Option Attributes). IsAttributesOf (shapes_of m.files c.args.id) o) c.in-Ok-Some.field-0-is (c.in-Ok-Some.ensures.told s.stands.memory (shapes_of m.files) m.spaces books) in
-    let mid = c.attributes_of.ensures.same s.stands.memory (shapes_of m.files) m.spaces books in
-    let at = books_at _ _ _ _ _ _ _ _ mid c.attributes_of.ensures.layout in
-    let paid = c.delete.ensures.cost_told s.stands.memory (shapes_of m.files) m.spaces _ at told in
-    delete_told spaces_of (g.D.Disk.state c.args.self.now.filer.swapper.under) _ layout _ _ m s c.requires.opened c.args.self.now.filer.swapper.accepted c.attributes_of.new.filer.swapper.layout c.attributes_of.ensures.layout
-    (g.D.Disk.state c.attributes_of.new.filer.swapper.under) (g.D.Disk.state c.delete.new.filer.swapper.under) c.args.id _ told c.requires.size c.attributes_of.ensures.cost paid
+pub returns-clause-counted : goal.returns-clause-counted
+returns-clause-counted g c = λ is. rose_behind _ _ _ c.sight.ensures.makes.went.faults (c.delete_unseen.ensures.counted is)
 
-pub returns-in-Err-delete-clause-bounded : goal.returns-in-Err-delete-clause-bounded
-returns-in-Err-delete-clause-bounded g c = λ spaces_of m s.
-    let layout = c.args.self.now.filer.swapper.layout in
-    let books = session_books spaces_of _ _ _ _ _ m s in
-    let told = subst (λ (o : Option Attributes). IsAttributesOf (shapes_of m.files c.args.id) o) c.in-Ok-Some.field-0-is (c.in-Ok-Some.ensures.told s.stands.memory (shapes_of m.files) m.spaces books) in
-    let mid = c.attributes_of.ensures.same s.stands.memory (shapes_of m.files) m.spaces books in
-    let at = books_at _ _ _ _ _ _ _ _ mid c.attributes_of.ensures.layout in
-    let paid = c.delete.ensures.cost_told s.stands.memory (shapes_of m.files) m.spaces _ at told in
-    delete_told spaces_of (g.D.Disk.state c.args.self.now.filer.swapper.under) _ layout _ _ m s c.requires.opened c.args.self.now.filer.swapper.accepted c.attributes_of.new.filer.swapper.layout c.attributes_of.ensures.layout
-    (g.D.Disk.state c.attributes_of.new.filer.swapper.under) (g.D.Disk.state c.delete.new.filer.swapper.under) c.args.id _ told c.requires.size c.attributes_of.ensures.cost paid
+pub returns-clause-layout : goal.returns-clause-layout
+returns-clause-layout g c = c.delete_unseen.ensures.layout ∙ c.sight.ensures.layout
+
+pub returns-clause-cost : goal.returns-clause-cost
+returns-clause-cost g c = λ m r.
+    let now = c.sight.ensures.runs m r in
+    spent_besides (g.D.Disk.state c.args.self.now.core.filer.swapper.under) (g.D.Disk.state c.sight.new.self.core.filer.swapper.under) (g.D.Disk.state c.delete_unseen.new.self.core.filer.swapper.under) c.sight.ensures.makes.went.sectors (let few = c.sight.ensures.cost in omega (arith, few)) (c.delete_unseen.ensures.bounded _ m now.session)

@@ -2,10 +2,10 @@ use Rattle.std.proofs.Common.{ℕ, ◌<◌, ◌≤◌, Option, subst, arith}
 use Rattle.std.specs.Prelude.{IfSome}
 use Rattle.session_words.specs.Parts.{shapes_of}
 use Rattle.file_manager.specs.Answer.{IsNextFile}
-use Rattle.pilot_engine.specs.Bound.{room_above}
+use Rattle.running_words.specs.Bound.{room_above}
 use Rattle.pilot_engine.proofs.EndCosts.{next_there, room_step, visited}
-use Rattle.pilot_engine.proofs.SessionLemmas.{session_books, asked_at}
-use Rattle.pilot_engine.proofs.ShedLemmas.{shed_last, shed_next}
+use Rattle.running_words.proofs.SessionLemmas.{session_books}
+use Rattle.pilot_engine.proofs.ShedLemmas.{asked_alone, shed_last, shed_next}
 use Rattle.pilot_engine.proofs.WroteLemmas.{wrote_by, wrote_then}
 use Rattle.pilot_engine.specs.Closing.{IsOpenStop}
 use Rattle.pilot_engine.proofs.StopLemmas.{stops_quiet, throughout_then}
@@ -14,91 +14,91 @@ use Rattle.pilot_engine.proofs.session.SessionOver.delete_next.Goals as goal
 
 pub returns-in-Ok-None-clause-shed : goal.returns-in-Ok-None-clause-shed
 returns-in-Ok-None-clause-shed g c = λ spaces_of m s.
-    let books = session_books spaces_of _ _ _ _ _ m s in
+    let books = session_books spaces_of _ _ _ _ _ m s.session in
     let f = c.next.ensures in
-    let now = asked_at spaces_of _ _ _ _ _ _ _ _ m s f.makes f.brings (f.same s.stands.memory (shapes_of m.files) m.spaces books) _ f.layout in
-    shed_last spaces_of _ _ _ _ _ m c.args.cursor (subst (IsNextFile (shapes_of m.files) c.args.cursor) c.in-Ok-None.field-0-is (c.in-Ok-None.ensures.told s.stands.memory (shapes_of m.files) m.spaces books)) now
+    let now = asked_alone spaces_of _ _ _ _ _ _ _ _ m s f.makes f.brings (f.same s.session.stands.memory (shapes_of m.files) m.spaces books) _ f.layout in
+    shed_last spaces_of _ _ _ _ _ m c.args.cursor (subst (IsNextFile (shapes_of m.files) c.args.cursor) c.in-Ok-None.field-0-is (c.in-Ok-None.ensures.told s.session.stands.memory (shapes_of m.files) m.spaces books)) now
 
 pub returns-in-Err-clause-sound : goal.returns-in-Err-clause-sound
-returns-in-Err-clause-sound g c = λ spaces_of m s. c.in-Err.ensures.told s.stands.memory (shapes_of m.files) m.spaces (session_books spaces_of _ _ _ _ _ m s)
+returns-in-Err-clause-sound g c = λ spaces_of m s. c.in-Err.ensures.told s.session.stands.memory (shapes_of m.files) m.spaces (session_books spaces_of _ _ _ _ _ m s.session)
 
 pub returns-in-Ok-clause-shed : goal.returns-in-Ok-clause-shed
 returns-in-Ok-clause-shed g c = λ spaces_of m s.
-    let books = session_books spaces_of _ _ _ _ _ m s in
+    let books = session_books spaces_of _ _ _ _ _ m s.session in
     let f = c.next.ensures in
-    let now = asked_at spaces_of _ _ _ _ _ _ _ _ m s f.makes f.brings (f.same s.stands.memory (shapes_of m.files) m.spaces books) _ f.layout in
-    shed_next spaces_of _ _ _ _ _ m c.args.cursor _ (subst (IsNextFile (shapes_of m.files) c.args.cursor) c.in-Ok-Some.field-0-is (c.in-Ok-Some.ensures.told s.stands.memory (shapes_of m.files) m.spaces books)) (c.in-Ok.ensures.shed spaces_of m now)
+    let now = asked_alone spaces_of _ _ _ _ _ _ _ _ m s f.makes f.brings (f.same s.session.stands.memory (shapes_of m.files) m.spaces books) _ f.layout in
+    shed_next spaces_of _ _ _ _ _ m c.args.cursor _ (subst (IsNextFile (shapes_of m.files) c.args.cursor) c.in-Ok-Some.field-0-is (c.in-Ok-Some.ensures.told s.session.stands.memory (shapes_of m.files) m.spaces books)) (c.in-Ok.ensures.shed spaces_of m now)
 
 pub returns-in-Ok-clause-wrote : goal.returns-in-Ok-clause-wrote
 returns-in-Ok-clause-wrote g c = wrote_then (wrote_by c.next.ensures.makes tt) c.delete_unless_permanent.ensures.wrote
 
 pub returns-in-Err-delete_unless_permanent-clause-sound : goal.returns-in-Err-delete_unless_permanent-clause-sound
 returns-in-Err-delete_unless_permanent-clause-sound g c = λ spaces_of m s.
-    let books = session_books spaces_of _ _ _ _ _ m s in
+    let books = session_books spaces_of _ _ _ _ _ m s.session in
     let f = c.next.ensures in
-    c.in-Err-delete_unless_permanent.ensures.sound spaces_of m (asked_at spaces_of _ _ _ _ _ _ _ _ m s f.makes f.brings (f.same s.stands.memory (shapes_of m.files) m.spaces books) _ f.layout)
+    c.in-Err-delete_unless_permanent.ensures.sound spaces_of m (asked_alone spaces_of _ _ _ _ _ _ _ _ m s f.makes f.brings (f.same s.session.stands.memory (shapes_of m.files) m.spaces books) _ f.layout)
 
 pub returns-in-Err-delete_unless_permanent-clause-wrote : goal.returns-in-Err-delete_unless_permanent-clause-wrote
 returns-in-Err-delete_unless_permanent-clause-wrote g c = wrote_then (wrote_by c.next.ensures.makes tt) c.delete_unless_permanent.ensures.wrote
 
 pub returns-in-Ok-None-clause-stops : goal.returns-in-Ok-None-clause-stops
-returns-in-Ok-None-clause-stops g c = λ spaces_of m s. stops_quiet spaces_of _ _ _ _ m s.stands (g.met.D.Disk.in_form c.args.self.now.filer.swapper.under) c.next.ensures.makes
+returns-in-Ok-None-clause-stops g c = λ spaces_of m s. stops_quiet spaces_of _ _ _ _ m s.session.stands (g.met.D.Disk.in_form c.args.self.now.core.filer.swapper.under) c.next.ensures.makes
 
 pub returns-in-Err-clause-stops : goal.returns-in-Err-clause-stops
-returns-in-Err-clause-stops g c = λ spaces_of m s. stops_quiet spaces_of _ _ _ _ m s.stands (g.met.D.Disk.in_form c.args.self.now.filer.swapper.under) c.next.ensures.makes
+returns-in-Err-clause-stops g c = λ spaces_of m s. stops_quiet spaces_of _ _ _ _ m s.session.stands (g.met.D.Disk.in_form c.args.self.now.core.filer.swapper.under) c.next.ensures.makes
 
 pub returns-in-Ok-clause-stops : goal.returns-in-Ok-clause-stops
 returns-in-Ok-clause-stops g c = λ spaces_of m s.
-    let books = session_books spaces_of _ _ _ _ _ m s in
+    let books = session_books spaces_of _ _ _ _ _ m s.session in
     let f = c.next.ensures in
-    let now = asked_at spaces_of _ _ _ _ _ _ _ _ m s f.makes f.brings (f.same s.stands.memory (shapes_of m.files) m.spaces books) _ f.layout in
-    throughout_then (IsOpenStop m) (stops_quiet spaces_of _ _ _ _ m s.stands (g.met.D.Disk.in_form c.args.self.now.filer.swapper.under) c.next.ensures.makes) (c.delete_unless_permanent.ensures.stops spaces_of m now)
+    let now = asked_alone spaces_of _ _ _ _ _ _ _ _ m s f.makes f.brings (f.same s.session.stands.memory (shapes_of m.files) m.spaces books) _ f.layout in
+    throughout_then (IsOpenStop m) (stops_quiet spaces_of _ _ _ _ m s.session.stands (g.met.D.Disk.in_form c.args.self.now.core.filer.swapper.under) c.next.ensures.makes) (c.delete_unless_permanent.ensures.stops spaces_of m now)
 
 pub returns-in-Err-delete_unless_permanent-clause-stops : goal.returns-in-Err-delete_unless_permanent-clause-stops
 returns-in-Err-delete_unless_permanent-clause-stops g c = λ spaces_of m s.
-    let books = session_books spaces_of _ _ _ _ _ m s in
+    let books = session_books spaces_of _ _ _ _ _ m s.session in
     let f = c.next.ensures in
-    let now = asked_at spaces_of _ _ _ _ _ _ _ _ m s f.makes f.brings (f.same s.stands.memory (shapes_of m.files) m.spaces books) _ f.layout in
-    throughout_then (IsOpenStop m) (stops_quiet spaces_of _ _ _ _ m s.stands (g.met.D.Disk.in_form c.args.self.now.filer.swapper.under) c.next.ensures.makes) (c.delete_unless_permanent.ensures.stops spaces_of m now)
+    let now = asked_alone spaces_of _ _ _ _ _ _ _ _ m s f.makes f.brings (f.same s.session.stands.memory (shapes_of m.files) m.spaces books) _ f.layout in
+    throughout_then (IsOpenStop m) (stops_quiet spaces_of _ _ _ _ m s.session.stands (g.met.D.Disk.in_form c.args.self.now.core.filer.swapper.under) c.next.ensures.makes) (c.delete_unless_permanent.ensures.stops spaces_of m now)
 
 pub returns-in-Err-delete_unless_permanent-clause-counted : goal.returns-in-Err-delete_unless_permanent-clause-counted
 returns-in-Err-delete_unless_permanent-clause-counted g c = counted_then _ _ _ c.next.ensures.makes.went.faults c.in-Err-delete_unless_permanent.ensures.counted
 
 pub returns-in-Ok-clause-paid : goal.returns-in-Ok-clause-paid
 returns-in-Ok-clause-paid g c = λ spaces_of m s.
-    let books = session_books spaces_of _ _ _ _ _ m s in
+    let books = session_books spaces_of _ _ _ _ _ m s.session in
     let f = c.next.ensures in
-    let now = asked_at spaces_of _ _ _ _ _ _ _ _ m s f.makes f.brings (f.same s.stands.memory (shapes_of m.files) m.spaces books) _ f.layout in
-    let told = subst (IsNextFile (shapes_of m.files) c.args.cursor) c.in-Ok-Some.field-0-is (c.in-Ok-Some.ensures.told s.stands.memory (shapes_of m.files) m.spaces books) in
+    let now = asked_alone spaces_of _ _ _ _ _ _ _ _ m s f.makes f.brings (f.same s.session.stands.memory (shapes_of m.files) m.spaces books) _ f.layout in
+    let told = subst (IsNextFile (shapes_of m.files) c.args.cursor) c.in-Ok-Some.field-0-is (c.in-Ok-Some.ensures.told s.session.stands.memory (shapes_of m.files) m.spaces books) in
     let there = next_there m c.args.cursor c.in-Ok-Some.id told in
     let step = room_step m.files c.args.cursor c.in-Ok-Some.id there.0 told.0 there.1 in
-    let all = visited (g.D.Disk.state c.args.self.now.filer.swapper.under).transfers (g.D.Disk.state c.next.new.filer.swapper.under).transfers (g.D.Disk.state c.delete_unless_permanent.new.self.filer.swapper.under).transfers (room_above c.args.cursor m.files) (room_above c.in-Ok-Some.id m.files) there.0 step f.cost
+    let all = visited (g.D.Disk.state c.args.self.now.core.filer.swapper.under).transfers (g.D.Disk.state c.next.new.filer.swapper.under).transfers (g.D.Disk.state c.delete_unless_permanent.new.self.core.filer.swapper.under).transfers (room_above c.args.cursor m.files) (room_above c.in-Ok-Some.id m.files) there.0 step f.cost
     (c.delete_unless_permanent.ensures.cost spaces_of m there.0 now there.1)
     in
     all
 
 pub returns-in-Ok-clause-cost : goal.returns-in-Ok-clause-cost
 returns-in-Ok-clause-cost g c = λ spaces_of m s.
-    let books = session_books spaces_of _ _ _ _ _ m s in
+    let books = session_books spaces_of _ _ _ _ _ m s.session in
     let f = c.next.ensures in
-    let now = asked_at spaces_of _ _ _ _ _ _ _ _ m s f.makes f.brings (f.same s.stands.memory (shapes_of m.files) m.spaces books) _ f.layout in
-    let told = subst (IsNextFile (shapes_of m.files) c.args.cursor) c.in-Ok-Some.field-0-is (c.in-Ok-Some.ensures.told s.stands.memory (shapes_of m.files) m.spaces books) in
+    let now = asked_alone spaces_of _ _ _ _ _ _ _ _ m s f.makes f.brings (f.same s.session.stands.memory (shapes_of m.files) m.spaces books) _ f.layout in
+    let told = subst (IsNextFile (shapes_of m.files) c.args.cursor) c.in-Ok-Some.field-0-is (c.in-Ok-Some.ensures.told s.session.stands.memory (shapes_of m.files) m.spaces books) in
     let there = next_there m c.args.cursor c.in-Ok-Some.id told in
     let step = room_step m.files c.args.cursor c.in-Ok-Some.id there.0 told.0 there.1 in
-    let all = visited (g.D.Disk.state c.args.self.now.filer.swapper.under).transfers (g.D.Disk.state c.next.new.filer.swapper.under).transfers (g.D.Disk.state c.delete_unless_permanent.new.self.filer.swapper.under).transfers (room_above c.args.cursor m.files) (room_above c.in-Ok-Some.id m.files) there.0 step f.cost
+    let all = visited (g.D.Disk.state c.args.self.now.core.filer.swapper.under).transfers (g.D.Disk.state c.next.new.filer.swapper.under).transfers (g.D.Disk.state c.delete_unless_permanent.new.self.core.filer.swapper.under).transfers (room_above c.args.cursor m.files) (room_above c.in-Ok-Some.id m.files) there.0 step f.cost
     (c.delete_unless_permanent.ensures.cost spaces_of m there.0 now there.1)
     in
     omega (arith, all)
 
 pub returns-in-Err-delete_unless_permanent-clause-cost : goal.returns-in-Err-delete_unless_permanent-clause-cost
 returns-in-Err-delete_unless_permanent-clause-cost g c = λ spaces_of m s.
-    let books = session_books spaces_of _ _ _ _ _ m s in
+    let books = session_books spaces_of _ _ _ _ _ m s.session in
     let f = c.next.ensures in
-    let now = asked_at spaces_of _ _ _ _ _ _ _ _ m s f.makes f.brings (f.same s.stands.memory (shapes_of m.files) m.spaces books) _ f.layout in
-    let told = subst (IsNextFile (shapes_of m.files) c.args.cursor) c.in-Ok-Some.field-0-is (c.in-Ok-Some.ensures.told s.stands.memory (shapes_of m.files) m.spaces books) in
+    let now = asked_alone spaces_of _ _ _ _ _ _ _ _ m s f.makes f.brings (f.same s.session.stands.memory (shapes_of m.files) m.spaces books) _ f.layout in
+    let told = subst (IsNextFile (shapes_of m.files) c.args.cursor) c.in-Ok-Some.field-0-is (c.in-Ok-Some.ensures.told s.session.stands.memory (shapes_of m.files) m.spaces books) in
     let there = next_there m c.args.cursor c.in-Ok-Some.id told in
     let step = room_step m.files c.args.cursor c.in-Ok-Some.id there.0 told.0 there.1 in
-    let all = visited (g.D.Disk.state c.args.self.now.filer.swapper.under).transfers (g.D.Disk.state c.next.new.filer.swapper.under).transfers (g.D.Disk.state c.delete_unless_permanent.new.self.filer.swapper.under).transfers (room_above c.args.cursor m.files) (room_above c.in-Ok-Some.id m.files) there.0 step f.cost
+    let all = visited (g.D.Disk.state c.args.self.now.core.filer.swapper.under).transfers (g.D.Disk.state c.next.new.filer.swapper.under).transfers (g.D.Disk.state c.delete_unless_permanent.new.self.core.filer.swapper.under).transfers (room_above c.args.cursor m.files) (room_above c.in-Ok-Some.id m.files) there.0 step f.cost
     (c.delete_unless_permanent.ensures.cost spaces_of m there.0 now there.1)
     in
     omega (arith, all)

@@ -6,7 +6,7 @@ use Rattle.file_manager.proofs.Faults.{counted_then}
 use Rattle.pilot_engine.proofs.session.SessionOver.delete_temporary.Goals as goal
 
 pub files-init : goal.files-init
-files-init g c = cleared_none _ _ _ _ _ c.requires.size c.requires.opened (g.met.D.Disk.in_form c.args.self.now.filer.swapper.under)
+files-init g c = cleared_none _ _ _ _ _ c.requires.size c.requires.opened (g.met.D.Disk.in_form c.args.self.now.core.filer.swapper.under)
 
 pub delete_next-requires-clause-size : goal.delete_next-requires-clause-size
 delete_next-requires-clause-size g c = c.files.invariant.size
@@ -45,16 +45,16 @@ pub returns-in-Err-clause-layout : goal.returns-in-Err-clause-layout
 returns-in-Err-clause-layout g c = c.delete_next.ensures.layout ∙ c.files.invariant.same_layout
 
 pub returns-in-Ok-None-clause-stops : goal.returns-in-Ok-None-clause-stops
-returns-in-Ok-None-clause-stops g c = cleared_stops _ _ _ _ _ _ _ _ _ _ _ c.files.invariant _ c.delete_next.new.self.filer.swapper.pool c.delete_next.new.self.filer.swapper.layout c.delete_next.new.self.filer.runs c.delete_next.new.self.volume c.delete_next.ensures.stops
+returns-in-Ok-None-clause-stops g c = cleared_stops _ _ _ _ _ _ _ _ _ _ _ c.files.invariant _ c.delete_next.new.self.core.filer.swapper.pool c.delete_next.new.self.core.filer.swapper.layout c.delete_next.new.self.core.filer.runs c.delete_next.new.self.volume c.delete_next.ensures.stops
 
 pub returns-in-Err-clause-stops : goal.returns-in-Err-clause-stops
-returns-in-Err-clause-stops g c = cleared_stops _ _ _ _ _ _ _ _ _ _ _ c.files.invariant _ c.delete_next.new.self.filer.swapper.pool c.delete_next.new.self.filer.swapper.layout c.delete_next.new.self.filer.runs c.delete_next.new.self.volume c.delete_next.ensures.stops
+returns-in-Err-clause-stops g c = cleared_stops _ _ _ _ _ _ _ _ _ _ _ c.files.invariant _ c.delete_next.new.self.core.filer.swapper.pool c.delete_next.new.self.core.filer.swapper.layout c.delete_next.new.self.core.filer.runs c.delete_next.new.self.volume c.delete_next.ensures.stops
 
 pub returns-in-Err-clause-counted : goal.returns-in-Err-clause-counted
 returns-in-Err-clause-counted g c = counted_then _ _ _ c.files.invariant.wrote.makes.went.faults c.in-Err.ensures.counted
 
 pub returns-in-Ok-None-clause-cost : goal.returns-in-Ok-None-clause-cost
-returns-in-Ok-None-clause-cost g c = cleared_paid _ _ _ _ _ _ _ _ _ _ _ c.files.invariant (g.D.Disk.state c.delete_next.new.self.filer.swapper.under).transfers c.delete_next.ensures.cost
+returns-in-Ok-None-clause-cost g c = cleared_paid _ _ _ _ _ _ _ _ _ _ _ c.files.invariant (g.D.Disk.state c.delete_next.new.self.core.filer.swapper.under).transfers c.delete_next.ensures.cost
 
 pub returns-in-Err-clause-cost : goal.returns-in-Err-clause-cost
-returns-in-Err-clause-cost g c = cleared_paid _ _ _ _ _ _ _ _ _ _ _ c.files.invariant (g.D.Disk.state c.delete_next.new.self.filer.swapper.under).transfers c.delete_next.ensures.cost
+returns-in-Err-clause-cost g c = cleared_paid _ _ _ _ _ _ _ _ _ _ _ c.files.invariant (g.D.Disk.state c.delete_next.new.self.core.filer.swapper.under).transfers c.delete_next.ensures.cost

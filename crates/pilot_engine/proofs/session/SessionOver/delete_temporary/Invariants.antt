@@ -5,8 +5,8 @@ use Rattle.pilot_engine.proofs.session.SessionOver.delete_temporary.Given as goa
 -- the temporary files up to this one are gone
 abbrev pub invariant-files : goal.invariant-files
 invariant-files g l =
-    ClearedUpTo l.cursor (g.D.Disk.state l.fn.self.filer.swapper.under) l.fn.self.filer.swapper.pool l.fn.self.filer.swapper.layout l.fn.self.filer.runs l.fn.self.volume
-    (g.D.Disk.state l.self.filer.swapper.under) l.self.filer.swapper.pool l.self.filer.swapper.layout l.self.filer.runs l.self.volume
+    ClearedUpTo l.cursor (g.D.Disk.state l.fn.self.core.filer.swapper.under) l.fn.self.core.filer.swapper.pool l.fn.self.core.filer.swapper.layout l.fn.self.core.filer.runs l.fn.self.volume
+    (g.D.Disk.state l.self.core.filer.swapper.under) l.self.core.filer.swapper.pool l.self.core.filer.swapper.layout l.self.core.filer.runs l.self.volume
 
 abbrev pub decreases-files : goal.decreases-files
 decreases-files g l = 2 ^ 64 - l.cursor

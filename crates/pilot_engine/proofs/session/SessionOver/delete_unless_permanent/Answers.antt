@@ -1,10 +1,10 @@
 use Rattle.std.proofs.Common.{inr, subst}
 use Rattle.session_words.specs.Parts.{shapes_of}
 use Rattle.file_manager.specs.Attributes.{IsAttributesOf}
-use Rattle.pilot_engine.proofs.CallLemmas.{none_shown}
-use Rattle.pilot_engine.proofs.FlagLemmas.{freeing_open}
+use Rattle.pilot_engine.proofs.EndLemmas.{none_shown}
+use Rattle.running_words.proofs.FlagLemmas.{freeing_open}
 use Rattle.pilot_engine.proofs.EndCosts.{deleted_cost, looked_cost, pages_told}
-use Rattle.pilot_engine.proofs.SessionLemmas.{session_books}
+use Rattle.running_words.proofs.SessionLemmas.{session_books}
 use Rattle.pilot_engine.proofs.ShedLemmas.{shed_missing, shed_permanent, shed_deleted, books_now}
 use Rattle.pilot_engine.proofs.WroteLemmas.{wrote_by, wrote_then}
 use Rattle.pilot_engine.proofs.StopLemmas.{stops_deleted, stops_quiet}
@@ -13,23 +13,23 @@ use Rattle.pilot_engine.proofs.session.SessionOver.delete_unless_permanent.Goals
 
 pub returns-in-Ok-None-clause-shed : goal.returns-in-Ok-None-clause-shed
 returns-in-Ok-None-clause-shed g c = λ spaces_of m s.
-    let books = session_books spaces_of _ _ _ _ _ m s in
+    let books = session_books spaces_of _ _ _ _ _ m s.session in
     let f = c.attributes_of.ensures in
-    shed_missing spaces_of _ _ _ _ _ _ _ _ _ m s f.makes f.brings (f.same s.stands.memory (shapes_of m.files) m.spaces books) f.layout c.args.id (subst (IsAttributesOf (shapes_of m.files c.args.id)) c.in-Ok-None.field-0-is (c.in-Ok-None.ensures.told s.stands.memory (shapes_of m.files) m.spaces books))
+    shed_missing spaces_of _ _ _ _ _ _ _ _ _ m s f.makes f.brings (f.same s.session.stands.memory (shapes_of m.files) m.spaces books) f.layout c.args.id (subst (IsAttributesOf (shapes_of m.files c.args.id)) c.in-Ok-None.field-0-is (c.in-Ok-None.ensures.told s.session.stands.memory (shapes_of m.files) m.spaces books))
 
 pub returns-in-Err-clause-sound : goal.returns-in-Err-clause-sound
-returns-in-Err-clause-sound g c = λ spaces_of m s. c.in-Err.ensures.told s.stands.memory (shapes_of m.files) m.spaces (session_books spaces_of _ _ _ _ _ m s)
+returns-in-Err-clause-sound g c = λ spaces_of m s. c.in-Err.ensures.told s.session.stands.memory (shapes_of m.files) m.spaces (session_books spaces_of _ _ _ _ _ m s.session)
 
 pub returns-then-found-clause-shed : goal.returns-then-found-clause-shed
 returns-then-found-clause-shed g c = λ spaces_of m s.
-    let books = session_books spaces_of _ _ _ _ _ m s in
+    let books = session_books spaces_of _ _ _ _ _ m s.session in
     let f = c.attributes_of.ensures in
-    shed_permanent spaces_of _ _ _ _ _ _ _ _ _ m s f.makes f.brings (f.same s.stands.memory (shapes_of m.files) m.spaces books) f.layout c.args.id _ (subst (IsAttributesOf (shapes_of m.files c.args.id)) c.in-Ok-Some.field-0-is (c.in-Ok-Some.ensures.told s.stands.memory (shapes_of m.files) m.spaces books)) c.if-found.true
+    shed_permanent spaces_of _ _ _ _ _ _ _ _ _ m s f.makes f.brings (f.same s.session.stands.memory (shapes_of m.files) m.spaces books) f.layout c.args.id _ (subst (IsAttributesOf (shapes_of m.files c.args.id)) c.in-Ok-Some.field-0-is (c.in-Ok-Some.ensures.told s.session.stands.memory (shapes_of m.files) m.spaces books)) c.if-found.true
 
 pub returns-in-Ok-clause-shed : goal.returns-in-Ok-clause-shed
 returns-in-Ok-clause-shed g c = λ spaces_of m s.
-    let x = s.stands.memory in
-    let books = session_books spaces_of _ _ _ _ _ m s in
+    let x = s.session.stands.memory in
+    let books = session_books spaces_of _ _ _ _ _ m s.session in
     let f = c.attributes_of.ensures in
     let d = c.in-Ok.ensures in
     let told = subst (IsAttributesOf (shapes_of m.files c.args.id)) c.in-Ok-Some.field-0-is (c.in-Ok-Some.ensures.told x (shapes_of m.files) m.spaces books) in
@@ -43,8 +43,8 @@ returns-in-Ok-clause-wrote g c = wrote_then (wrote_by c.attributes_of.ensures.ma
 
 pub returns-in-Err-delete-clause-sound : goal.returns-in-Err-delete-clause-sound
 returns-in-Err-delete-clause-sound g c = λ spaces_of m s.
-    let x = s.stands.memory in
-    let books = session_books spaces_of _ _ _ _ _ m s in
+    let x = s.session.stands.memory in
+    let books = session_books spaces_of _ _ _ _ _ m s.session in
     let f = c.attributes_of.ensures in
     let told = subst (IsAttributesOf (shapes_of m.files c.args.id)) c.in-Ok-Some.field-0-is (c.in-Ok-Some.ensures.told x (shapes_of m.files) m.spaces books) in
     let now = books_now spaces_of _ _ _ _ _ _ _ _ _ m s f.makes f.brings (f.same x (shapes_of m.files) m.spaces books) f.layout c.args.id _ told in
@@ -54,65 +54,65 @@ pub returns-in-Err-delete-clause-wrote : goal.returns-in-Err-delete-clause-wrote
 returns-in-Err-delete-clause-wrote g c = wrote_then (wrote_by c.attributes_of.ensures.makes tt) (wrote_by c.in-Err-delete.ensures.stopped.makes (freeing_open c.in-Err-delete.ensures.stopped.sectors))
 
 pub returns-in-Ok-None-clause-stops : goal.returns-in-Ok-None-clause-stops
-returns-in-Ok-None-clause-stops g c = λ spaces_of m s. stops_quiet spaces_of _ _ _ _ m s.stands (g.met.D.Disk.in_form c.args.self.now.filer.swapper.under) c.attributes_of.ensures.makes
+returns-in-Ok-None-clause-stops g c = λ spaces_of m s. stops_quiet spaces_of _ _ _ _ m s.session.stands (g.met.D.Disk.in_form c.args.self.now.core.filer.swapper.under) c.attributes_of.ensures.makes
 
 pub returns-in-Err-clause-stops : goal.returns-in-Err-clause-stops
-returns-in-Err-clause-stops g c = λ spaces_of m s. stops_quiet spaces_of _ _ _ _ m s.stands (g.met.D.Disk.in_form c.args.self.now.filer.swapper.under) c.attributes_of.ensures.makes
+returns-in-Err-clause-stops g c = λ spaces_of m s. stops_quiet spaces_of _ _ _ _ m s.session.stands (g.met.D.Disk.in_form c.args.self.now.core.filer.swapper.under) c.attributes_of.ensures.makes
 
 pub returns-then-found-clause-stops : goal.returns-then-found-clause-stops
-returns-then-found-clause-stops g c = λ spaces_of m s. stops_quiet spaces_of _ _ _ _ m s.stands (g.met.D.Disk.in_form c.args.self.now.filer.swapper.under) c.attributes_of.ensures.makes
+returns-then-found-clause-stops g c = λ spaces_of m s. stops_quiet spaces_of _ _ _ _ m s.session.stands (g.met.D.Disk.in_form c.args.self.now.core.filer.swapper.under) c.attributes_of.ensures.makes
 
 pub returns-in-Ok-clause-stops : goal.returns-in-Ok-clause-stops
 returns-in-Ok-clause-stops g c = λ spaces_of m s.
-    let x = s.stands.memory in
-    let books = session_books spaces_of _ _ _ _ _ m s in
+    let x = s.session.stands.memory in
+    let books = session_books spaces_of _ _ _ _ _ m s.session in
     let f = c.attributes_of.ensures in
     let told = subst (IsAttributesOf (shapes_of m.files c.args.id)) c.in-Ok-Some.field-0-is (c.in-Ok-Some.ensures.told x (shapes_of m.files) m.spaces books) in
     let now = books_now spaces_of _ _ _ _ _ _ _ _ _ m s f.makes f.brings (f.same x (shapes_of m.files) m.spaces books) f.layout c.args.id _ told in
     let hidden = none_shown m.spaces s.alone c.args.id in
     let d = c.in-Ok.ensures.deleted x (shapes_of m.files) m.spaces _ now told hidden in
-    stops_deleted spaces_of _ _ _ _ m s.stands (g.met.D.Disk.in_form c.args.self.now.filer.swapper.under) _ _ c.args.id _ s.alone told c.if-found.false f.makes (inr (record { leader = d.leader; sectors = d.sectors; makes = d.leads.goes.makes; stops = d.stops }))
+    stops_deleted spaces_of _ _ _ _ m s.session.stands (g.met.D.Disk.in_form c.args.self.now.core.filer.swapper.under) _ _ c.args.id _ s.alone told c.if-found.false f.makes (inr (record { leader = d.leader; sectors = d.sectors; makes = d.leads.goes.makes; stops = d.stops }))
 
 pub returns-in-Err-delete-clause-stops : goal.returns-in-Err-delete-clause-stops
 returns-in-Err-delete-clause-stops g c = λ spaces_of m s.
-    let x = s.stands.memory in
-    let books = session_books spaces_of _ _ _ _ _ m s in
+    let x = s.session.stands.memory in
+    let books = session_books spaces_of _ _ _ _ _ m s.session in
     let f = c.attributes_of.ensures in
     let told = subst (IsAttributesOf (shapes_of m.files c.args.id)) c.in-Ok-Some.field-0-is (c.in-Ok-Some.ensures.told x (shapes_of m.files) m.spaces books) in
     let now = books_now spaces_of _ _ _ _ _ _ _ _ _ m s f.makes f.brings (f.same x (shapes_of m.files) m.spaces books) f.layout c.args.id _ told in
     let hidden = none_shown m.spaces s.alone c.args.id in
-    stops_deleted spaces_of _ _ _ _ m s.stands (g.met.D.Disk.in_form c.args.self.now.filer.swapper.under) _ _ c.args.id _ s.alone told c.if-found.false f.makes (c.in-Err-delete.ensures.first x (shapes_of m.files) m.spaces _ now told hidden)
+    stops_deleted spaces_of _ _ _ _ m s.session.stands (g.met.D.Disk.in_form c.args.self.now.core.filer.swapper.under) _ _ c.args.id _ s.alone told c.if-found.false f.makes (c.in-Err-delete.ensures.first x (shapes_of m.files) m.spaces _ now told hidden)
 
 pub returns-in-Err-delete-clause-counted : goal.returns-in-Err-delete-clause-counted
 returns-in-Err-delete-clause-counted g c = counted_then _ _ _ c.attributes_of.ensures.makes.went.faults c.in-Err-delete.ensures.counted
 
 pub returns-in-Ok-None-clause-cost : goal.returns-in-Ok-None-clause-cost
-returns-in-Ok-None-clause-cost g c = λ spaces_of m f s found. looked_cost (g.D.Disk.state c.args.self.now.filer.swapper.under).transfers (g.D.Disk.state c.attributes_of.new.filer.swapper.under).transfers f c.attributes_of.ensures.cost
+returns-in-Ok-None-clause-cost g c = λ spaces_of m f s found. looked_cost (g.D.Disk.state c.args.self.now.core.filer.swapper.under).transfers (g.D.Disk.state c.attributes_of.new.filer.swapper.under).transfers f c.attributes_of.ensures.cost
 
 pub returns-in-Err-clause-cost : goal.returns-in-Err-clause-cost
-returns-in-Err-clause-cost g c = λ spaces_of m f s found. looked_cost (g.D.Disk.state c.args.self.now.filer.swapper.under).transfers (g.D.Disk.state c.attributes_of.new.filer.swapper.under).transfers f c.attributes_of.ensures.cost
+returns-in-Err-clause-cost g c = λ spaces_of m f s found. looked_cost (g.D.Disk.state c.args.self.now.core.filer.swapper.under).transfers (g.D.Disk.state c.attributes_of.new.filer.swapper.under).transfers f c.attributes_of.ensures.cost
 
 pub returns-then-found-clause-cost : goal.returns-then-found-clause-cost
-returns-then-found-clause-cost g c = λ spaces_of m f s found. looked_cost (g.D.Disk.state c.args.self.now.filer.swapper.under).transfers (g.D.Disk.state c.attributes_of.new.filer.swapper.under).transfers f c.attributes_of.ensures.cost
+returns-then-found-clause-cost g c = λ spaces_of m f s found. looked_cost (g.D.Disk.state c.args.self.now.core.filer.swapper.under).transfers (g.D.Disk.state c.attributes_of.new.filer.swapper.under).transfers f c.attributes_of.ensures.cost
 
 pub returns-in-Ok-clause-cost : goal.returns-in-Ok-clause-cost
 returns-in-Ok-clause-cost g c = λ spaces_of m f s found.
-    let x = s.stands.memory in
-    let books = session_books spaces_of _ _ _ _ _ m s in
+    let x = s.session.stands.memory in
+    let books = session_books spaces_of _ _ _ _ _ m s.session in
     let look = c.attributes_of.ensures in
     let told = subst (IsAttributesOf (shapes_of m.files c.args.id)) c.in-Ok-Some.field-0-is (c.in-Ok-Some.ensures.told x (shapes_of m.files) m.spaces books) in
     let now = books_now spaces_of _ _ _ _ _ _ _ _ _ m s look.makes look.brings (look.same x (shapes_of m.files) m.spaces books) look.layout c.args.id _ told in
     let hidden = none_shown m.spaces s.alone c.args.id in
-    deleted_cost c.args.self.now.filer.swapper.layout c.attributes_of.new.filer.swapper.layout c.args.self.now.filer.swapper.accepted look.layout (g.D.Disk.state c.args.self.now.filer.swapper.under).transfers (g.D.Disk.state c.attributes_of.new.filer.swapper.under).transfers (g.D.Disk.state c.delete.new.filer.swapper.under).transfers
+    deleted_cost c.args.self.now.core.filer.swapper.layout c.attributes_of.new.filer.swapper.layout c.args.self.now.core.filer.swapper.accepted look.layout (g.D.Disk.state c.args.self.now.core.filer.swapper.under).transfers (g.D.Disk.state c.attributes_of.new.filer.swapper.under).transfers (g.D.Disk.state c.delete.new.filer.swapper.under).transfers
     c.in-Ok-Some.found.pages f (pages_told m c.args.id f c.in-Ok-Some.found found told) look.cost (c.delete.ensures.cost_sized x (shapes_of m.files) m.spaces _ now told hidden)
 
 pub returns-in-Err-delete-clause-cost : goal.returns-in-Err-delete-clause-cost
 returns-in-Err-delete-clause-cost g c = λ spaces_of m f s found.
-    let x = s.stands.memory in
-    let books = session_books spaces_of _ _ _ _ _ m s in
+    let x = s.session.stands.memory in
+    let books = session_books spaces_of _ _ _ _ _ m s.session in
     let look = c.attributes_of.ensures in
     let told = subst (IsAttributesOf (shapes_of m.files c.args.id)) c.in-Ok-Some.field-0-is (c.in-Ok-Some.ensures.told x (shapes_of m.files) m.spaces books) in
     let now = books_now spaces_of _ _ _ _ _ _ _ _ _ m s look.makes look.brings (look.same x (shapes_of m.files) m.spaces books) look.layout c.args.id _ told in
     let hidden = none_shown m.spaces s.alone c.args.id in
-    deleted_cost c.args.self.now.filer.swapper.layout c.attributes_of.new.filer.swapper.layout c.args.self.now.filer.swapper.accepted look.layout (g.D.Disk.state c.args.self.now.filer.swapper.under).transfers (g.D.Disk.state c.attributes_of.new.filer.swapper.under).transfers (g.D.Disk.state c.delete.new.filer.swapper.under).transfers
+    deleted_cost c.args.self.now.core.filer.swapper.layout c.attributes_of.new.filer.swapper.layout c.args.self.now.core.filer.swapper.accepted look.layout (g.D.Disk.state c.args.self.now.core.filer.swapper.under).transfers (g.D.Disk.state c.attributes_of.new.filer.swapper.under).transfers (g.D.Disk.state c.delete.new.filer.swapper.under).transfers
     c.in-Ok-Some.found.pages f (pages_told m c.args.id f c.in-Ok-Some.found found told) look.cost (c.delete.ensures.cost_sized x (shapes_of m.files) m.spaces _ now told hidden)

@@ -3,8 +3,8 @@ use Rattle.flat_machine.specs.Machine.{used}
 use Rattle.session_words.specs.Parts.{shapes_of}
 use Rattle.pilot_engine.proofs.EndCosts.{emptied_cost, files_cost}
 use Rattle.pilot_engine.proofs.EndLemmas.{emptied}
-use Rattle.pilot_engine.proofs.FlagLemmas.{freeing_open}
-use Rattle.pilot_engine.proofs.SessionLemmas.{session_books}
+use Rattle.running_words.proofs.FlagLemmas.{freeing_open}
+use Rattle.running_words.proofs.SessionLemmas.{session_books}
 use Rattle.pilot_engine.proofs.WroteLemmas.{wrote_by, wrote_then}
 use Rattle.pilot_engine.specs.Closing.{IsOpenStop}
 use Rattle.pilot_engine.proofs.StopLemmas.{stop_less, throughout_less, throughout_then}
@@ -15,8 +15,8 @@ use Rattle.pilot_engine.proofs.session.SessionOver.empty.Goals as goal
 pub returns-in-Ok-free_tables-clause-emptied : goal.returns-in-Ok-free_tables-clause-emptied
 returns-in-Ok-free_tables-clause-emptied g c = λ spaces_of m s.
     let h = c.in-Ok.ensures.shed spaces_of m s in
-    let books = session_books spaces_of _ _ _ _ _ h.left h.stands in
-    emptied spaces_of _ _ _ _ _ _ _ _ m h (c.in-Ok-free_tables.ensures.freed h.stands.stands.memory (shapes_of h.left.files) h.left.spaces books) _ refl
+    let books = session_books spaces_of _ _ _ _ _ h.left h.stands.session in
+    emptied spaces_of _ _ _ _ _ _ _ _ m h (c.in-Ok-free_tables.ensures.freed h.stands.session.stands.memory (shapes_of h.left.files) h.left.spaces books) _ refl
 
 pub returns-in-Ok-free_tables-clause-wrote : goal.returns-in-Ok-free_tables-clause-wrote
 returns-in-Ok-free_tables-clause-wrote g c = wrote_then c.delete_temporary.ensures.wrote (wrote_by c.in-Ok-free_tables.ensures.makes.makes (freeing_open c.in-Ok-free_tables.ensures.makes.sectors))
@@ -24,7 +24,7 @@ returns-in-Ok-free_tables-clause-wrote g c = wrote_then c.delete_temporary.ensur
 pub returns-in-Err-free_tables-clause-sound : goal.returns-in-Err-free_tables-clause-sound
 returns-in-Err-free_tables-clause-sound g c = λ spaces_of m s.
     let h = c.in-Ok.ensures.shed spaces_of m s in
-    c.in-Err-free_tables.ensures.sound h.stands.stands.memory (shapes_of h.left.files) h.left.spaces (session_books spaces_of _ _ _ _ _ h.left h.stands)
+    c.in-Err-free_tables.ensures.sound h.stands.session.stands.memory (shapes_of h.left.files) h.left.spaces (session_books spaces_of _ _ _ _ _ h.left h.stands.session)
 
 pub returns-in-Err-free_tables-clause-wrote : goal.returns-in-Err-free_tables-clause-wrote
 returns-in-Err-free_tables-clause-wrote g c = wrote_then c.delete_temporary.ensures.wrote (wrote_by c.in-Err-free_tables.ensures.stopped.makes (freeing_open c.in-Err-free_tables.ensures.stopped.sectors))
@@ -32,18 +32,18 @@ returns-in-Err-free_tables-clause-wrote g c = wrote_then c.delete_temporary.ensu
 pub returns-in-Ok-free_tables-clause-stops : goal.returns-in-Ok-free_tables-clause-stops
 returns-in-Ok-free_tables-clause-stops g c = λ spaces_of m s.
     let h = c.in-Ok.ensures.shed spaces_of m s in
-    let books = session_books spaces_of _ _ _ _ _ h.left h.stands in
-    let e = c.in-Ok-free_tables.ensures.freed h.stands.stands.memory (shapes_of h.left.files) h.left.spaces books in
+    let books = session_books spaces_of _ _ _ _ _ h.left h.stands.session in
+    let e = c.in-Ok-free_tables.ensures.freed h.stands.session.stands.memory (shapes_of h.left.files) h.left.spaces books in
     throughout_then (IsOpenStop m) (c.delete_temporary.ensures.stops spaces_of m s) (throughout_less (IsOpenStop h.left) (IsOpenStop m) (stop_less m h.left h.sheds)
-    (stops_freeing spaces_of _ _ _ _ h.left h.stands.stands (g.met.D.Disk.in_form c.delete_temporary.new.self.filer.swapper.under) e.sectors e.were e.leads.goes.makes))
+    (stops_freeing spaces_of _ _ _ _ h.left h.stands.session.stands (g.met.D.Disk.in_form c.delete_temporary.new.self.core.filer.swapper.under) e.sectors e.were e.leads.goes.makes))
 
 pub returns-in-Err-free_tables-clause-stops : goal.returns-in-Err-free_tables-clause-stops
 returns-in-Err-free_tables-clause-stops g c = λ spaces_of m s.
     let h = c.in-Ok.ensures.shed spaces_of m s in
-    let books = session_books spaces_of _ _ _ _ _ h.left h.stands in
-    let e = c.in-Err-free_tables.ensures.first h.stands.stands.memory (shapes_of h.left.files) h.left.spaces books in
+    let books = session_books spaces_of _ _ _ _ _ h.left h.stands.session in
+    let e = c.in-Err-free_tables.ensures.first h.stands.session.stands.memory (shapes_of h.left.files) h.left.spaces books in
     throughout_then (IsOpenStop m) (c.delete_temporary.ensures.stops spaces_of m s) (throughout_less (IsOpenStop h.left) (IsOpenStop m) (stop_less m h.left h.sheds)
-    (stops_freeing spaces_of _ _ _ _ h.left h.stands.stands (g.met.D.Disk.in_form c.delete_temporary.new.self.filer.swapper.under) e.sectors e.were e.makes))
+    (stops_freeing spaces_of _ _ _ _ h.left h.stands.session.stands (g.met.D.Disk.in_form c.delete_temporary.new.self.core.filer.swapper.under) e.sectors e.were e.makes))
 
 pub returns-in-Err-free_tables-clause-counted : goal.returns-in-Err-free_tables-clause-counted
 returns-in-Err-free_tables-clause-counted g c = counted_then _ _ _ c.delete_temporary.ensures.wrote.makes.went.faults c.in-Err-free_tables.ensures.counted
@@ -51,19 +51,19 @@ returns-in-Err-free_tables-clause-counted g c = counted_then _ _ _ c.delete_temp
 pub returns-in-Err-clause-cost : goal.returns-in-Err-clause-cost
 returns-in-Err-clause-cost g c = λ spaces_of m s.
     let room = c.requires.opened.room in
-    let same = s.same_used in
-    files_cost c.args.self.now.filer.swapper.layout c.args.self.now.filer.swapper.accepted (g.D.Disk.state c.args.self.now.filer.swapper.under).transfers (g.D.Disk.state c.delete_temporary.new.self.filer.swapper.under).transfers (used m) (omega (arith, room, same)) (c.delete_temporary.ensures.cost spaces_of m s)
+    let same = s.session.same_used in
+    files_cost c.args.self.now.core.filer.swapper.layout c.args.self.now.core.filer.swapper.accepted (g.D.Disk.state c.args.self.now.core.filer.swapper.under).transfers (g.D.Disk.state c.delete_temporary.new.self.core.filer.swapper.under).transfers (used m) (omega (arith, room, same)) (c.delete_temporary.ensures.cost spaces_of m s)
 
 pub returns-in-Ok-free_tables-clause-cost : goal.returns-in-Ok-free_tables-clause-cost
 returns-in-Ok-free_tables-clause-cost g c = λ spaces_of m s.
     let room = c.requires.opened.room in
-    let same = s.same_used in
-    emptied_cost c.args.self.now.filer.swapper.layout c.args.self.now.filer.swapper.accepted c.delete_temporary.new.self.filer.swapper.layout c.delete_temporary.ensures.layout (g.D.Disk.state c.args.self.now.filer.swapper.under).transfers (g.D.Disk.state c.delete_temporary.new.self.filer.swapper.under).transfers (g.D.Disk.state c.free_tables.new.filer.swapper.under).transfers (used m)
+    let same = s.session.same_used in
+    emptied_cost c.args.self.now.core.filer.swapper.layout c.args.self.now.core.filer.swapper.accepted c.delete_temporary.new.self.core.filer.swapper.layout c.delete_temporary.ensures.layout (g.D.Disk.state c.args.self.now.core.filer.swapper.under).transfers (g.D.Disk.state c.delete_temporary.new.self.core.filer.swapper.under).transfers (g.D.Disk.state c.free_tables.new.filer.swapper.under).transfers (used m)
     (omega (arith, room, same)) (c.delete_temporary.ensures.cost spaces_of m s) c.free_tables.ensures.cost
 
 pub returns-in-Err-free_tables-clause-cost : goal.returns-in-Err-free_tables-clause-cost
 returns-in-Err-free_tables-clause-cost g c = λ spaces_of m s.
     let room = c.requires.opened.room in
-    let same = s.same_used in
-    emptied_cost c.args.self.now.filer.swapper.layout c.args.self.now.filer.swapper.accepted c.delete_temporary.new.self.filer.swapper.layout c.delete_temporary.ensures.layout (g.D.Disk.state c.args.self.now.filer.swapper.under).transfers (g.D.Disk.state c.delete_temporary.new.self.filer.swapper.under).transfers (g.D.Disk.state c.free_tables.new.filer.swapper.under).transfers (used m)
+    let same = s.session.same_used in
+    emptied_cost c.args.self.now.core.filer.swapper.layout c.args.self.now.core.filer.swapper.accepted c.delete_temporary.new.self.core.filer.swapper.layout c.delete_temporary.ensures.layout (g.D.Disk.state c.args.self.now.core.filer.swapper.under).transfers (g.D.Disk.state c.delete_temporary.new.self.core.filer.swapper.under).transfers (g.D.Disk.state c.free_tables.new.filer.swapper.under).transfers (used m)
     (omega (arith, room, same)) (c.delete_temporary.ensures.cost spaces_of m s) c.free_tables.ensures.cost

@@ -1,10 +1,10 @@
 use Rattle.pilot_engine.proofs.session.SessionOver.finish.Goals as goal
 
 pub returns-clause-closed : goal.returns-clause-closed
-returns-clause-closed g c = λ spaces_of m s. rw c.into_disk.ensures (c.close-closed.ensures.closed spaces_of m s)
+returns-clause-closed g c = λ m r. rw c.into_disk.ensures (c.close-closed.ensures.closed m r)
 
 pub returns-clause-stops : goal.returns-clause-stops
-returns-clause-stops g c = λ spaces_of m s. rw c.into_disk.ensures (c.close-closed.ensures.stops spaces_of m s)
+returns-clause-stops g c = λ m r. rw c.into_disk.ensures (c.close-closed.ensures.stops m r)
 
 pub returns-clause-cost : goal.returns-clause-cost
-returns-clause-cost g c = λ spaces_of m s. rw c.into_disk.ensures (c.close-closed.ensures.cost spaces_of m s)
+returns-clause-cost g c = λ m r. rw c.into_disk.ensures (c.close-closed.ensures.cost m r)

@@ -1,68 +1,100 @@
-use Rattle.std.proofs.Common.{Option, refl, subst}
-use Rattle.labelled_disk.specs.Label.{leader_page}
+use Rattle.std.proofs.Common.{refl, sym, ap, subst, ◌∙◌, arith}
+use Rattle.labelled_disk.specs.declared.layout.Layout.{Layout}
 use Rattle.flat_machine.specs.declared.call.Call.TheVariants as call
-use Rattle.file_manager.specs.declared.attributes.Attributes.{Attributes}
-use Rattle.file_manager.specs.Attributes.{IsAttributesOf}
-use Rattle.session_words.specs.Parts.{shapes_of}
-use Rattle.label_calls.specs.declared.page.Mark.TheVariants.{Immutable}
-use Rattle.pilot_engine.proofs.CallLemmas.{immutable_done, immutable_passed, immutable_broken, missing_after, books_at, none_shown, carries_at, mark_wrote}
-use Rattle.pilot_engine.proofs.RefusalLemmas.{immutable_missing}
-use Rattle.pilot_engine.proofs.SessionLemmas.{session_books}
-use Rattle.pilot_engine.proofs.StageLemmas.{no_step}
+use Rattle.flat_machine.specs.declared.call.Refusal.TheVariants as why
+use Rattle.pilot_engine.specs.declared.sight.Sight.{Sight}
+use Rattle.pilot_engine.specs.Seen.{IsSight}
+use Rattle.pilot_engine.proofs.BoundLemmas.{asked_inside}
+use Rattle.pilot_engine.proofs.LiftLemmas.{asked_passes, carried_out, refused_running, still_open}
+use Rattle.pilot_engine.proofs.PassThen.{asked_then}
+use Rattle.pilot_engine.proofs.WroteLemmas.{rose_behind, wrote_by, wrote_then}
+use Rattle.std.proofs.Common.{ℕ, Option, true}
+use Rattle.space_tables.specs.Shows.{IsFirstWith, shows}
+use Rattle.space_tables.specs.declared.shown.Shown.{Shown}
+use Rattle.swapper_kernel.specs.GoesLaws.{makes_then}
+use Rattle.pilot_engine.proofs.RefusalLemmas.{no_file_hidden, immutable_gone}
+use Rattle.pilot_engine.proofs.SeenLemmas.{immutable_seen, written_by_none}
 use Rattle.pilot_engine.proofs.session.SessionOver.make_immutable.Goals as goal
 
-pub returns-in-Ok-None-clause-carried : goal.returns-in-Ok-None-clause-carried
-returns-in-Ok-None-clause-carried g c = λ spaces_of m s.
-    let books = session_books spaces_of _ _ _ _ _ m s in
-    let told = subst (λ (o : Option Attributes). IsAttributesOf (shapes_of m.files c.args.id) o) c.in-Ok-None.field-0-is (c.in-Ok-None.ensures.told s.stands.memory (shapes_of m.files) m.spaces books) in
-    missing_after spaces_of _ _ _ _ _ _ _ _ _ m s c.attributes_of.ensures.makes c.attributes_of.ensures.brings (c.attributes_of.ensures.same s.stands.memory (shapes_of m.files) m.spaces books) c.attributes_of.ensures.layout
-    c.args.id told (call.MakeImmutable c.args.id) (immutable_missing m s.alone c.args.id)
+pub returns-in-Ok-Hidden-clause-carried : goal.returns-in-Ok-Hidden-clause-carried
+returns-in-Ok-Hidden-clause-carried g c = λ m r.
+    refused_running _ _ m (call.MakeImmutable c.args.id) why.File (c.sight.ensures.runs m r) (immutable_gone m c.args.id (no_file_hidden m c.args.id (subst (λ (x : Sight). IsSight m c.args.id x) c.in-Ok-Hidden.field-0-is (c.in-Ok-Hidden.ensures.answer m r))))
 
-pub returns-in-Ok-None-clause-passes : goal.returns-in-Ok-None-clause-passes
-returns-in-Ok-None-clause-passes g c = λ spaces_of m s. no_step spaces_of _ _ _ _ m (call.MakeImmutable c.args.id) s.stands c.attributes_of.ensures.makes (g.met.D.Disk.in_form c.args.self.now.filer.swapper.under)
+pub returns-in-Ok-Hidden-clause-passes : goal.returns-in-Ok-Hidden-clause-passes
+returns-in-Ok-Hidden-clause-passes g c = λ m r. asked_passes c.args.self.now.core c.args.self.now.volume m (call.MakeImmutable c.args.id) r (g.met.D.Disk.in_form c.args.self.now.core.filer.swapper.under) c.sight.ensures.makes
 
-pub returns-in-Err-clause-sound : goal.returns-in-Err-clause-sound
-returns-in-Err-clause-sound g c = λ spaces_of m s. c.in-Err.ensures.told s.stands.memory (shapes_of m.files) m.spaces (session_books spaces_of _ _ _ _ _ m s)
+pub returns-in-Ok-Hidden-clause-wrote : goal.returns-in-Ok-Hidden-clause-wrote
+returns-in-Ok-Hidden-clause-wrote g c = wrote_by c.sight.ensures.makes tt
+
+pub returns-in-Ok-Hidden-clause-cost : goal.returns-in-Ok-Hidden-clause-cost
+returns-in-Ok-Hidden-clause-cost g c = λ m r. asked_inside (g.D.Disk.state c.args.self.now.core.filer.swapper.under) (g.D.Disk.state c.sight.new.self.core.filer.swapper.under) 14532 (omega arith) c.sight.ensures.cost
 
 pub returns-in-Err-clause-passes : goal.returns-in-Err-clause-passes
-returns-in-Err-clause-passes g c = λ spaces_of m s. no_step spaces_of _ _ _ _ m (call.MakeImmutable c.args.id) s.stands c.attributes_of.ensures.makes (g.met.D.Disk.in_form c.args.self.now.filer.swapper.under)
+returns-in-Err-clause-passes g c = λ m r. asked_passes c.args.self.now.core c.args.self.now.volume m (call.MakeImmutable c.args.id) r (g.met.D.Disk.in_form c.args.self.now.core.filer.swapper.under) c.sight.ensures.makes
 
-pub returns-in-Ok-clause-carried : goal.returns-in-Ok-clause-carried
-returns-in-Ok-clause-carried g c = λ spaces_of m s.
-    let books = session_books spaces_of _ _ _ _ _ m s in
-    let told = subst (λ (o : Option Attributes). IsAttributesOf (shapes_of m.files c.args.id) o) c.in-Ok-Some.field-0-is (c.in-Ok-Some.ensures.told s.stands.memory (shapes_of m.files) m.spaces books) in
-    let mid = c.attributes_of.ensures.same s.stands.memory (shapes_of m.files) m.spaces books in
-    let marked = c.in-Ok.ensures.told s.stands.memory (shapes_of m.files) m.spaces _ (books_at _ _ _ _ _ _ _ _ mid c.attributes_of.ensures.layout) told (none_shown m.spaces s.alone c.args.id leader_page) in
-    carries_at spaces_of m (call.MakeImmutable c.args.id) _ _ _ _ _ _ _
-    (immutable_done spaces_of _ _ _ _ _ _ _ _ _ m s c.attributes_of.ensures.makes c.attributes_of.ensures.brings mid c.attributes_of.ensures.layout _ _ _ _ refl c.args.id _ told marked) c.make_immutable.ensures.layout
+pub returns-in-Err-clause-wrote : goal.returns-in-Err-clause-wrote
+returns-in-Err-clause-wrote g c = wrote_by c.sight.ensures.makes tt
 
-pub returns-in-Ok-clause-passes : goal.returns-in-Ok-clause-passes
-returns-in-Ok-clause-passes g c = λ spaces_of m s.
-    let books = session_books spaces_of _ _ _ _ _ m s in
-    let told = subst (λ (o : Option Attributes). IsAttributesOf (shapes_of m.files c.args.id) o) c.in-Ok-Some.field-0-is (c.in-Ok-Some.ensures.told s.stands.memory (shapes_of m.files) m.spaces books) in
-    let mid = c.attributes_of.ensures.same s.stands.memory (shapes_of m.files) m.spaces books in
-    let marked = c.in-Ok.ensures.told s.stands.memory (shapes_of m.files) m.spaces _ (books_at _ _ _ _ _ _ _ _ mid c.attributes_of.ensures.layout) told (none_shown m.spaces s.alone c.args.id leader_page) in
-    immutable_passed spaces_of _ _ _ _ _ _ _ _ c.args.self.now.volume m s c.attributes_of.ensures.makes c.attributes_of.ensures.brings mid c.attributes_of.ensures.layout _ _ _ c.args.self.now.volume refl c.args.id _ told
-    (g.met.D.Disk.in_form c.args.self.now.filer.swapper.under) marked
+pub returns-in-Err-clause-cost : goal.returns-in-Err-clause-cost
+returns-in-Err-clause-cost g c = λ m r. asked_inside (g.D.Disk.state c.args.self.now.core.filer.swapper.under) (g.D.Disk.state c.sight.new.self.core.filer.swapper.under) 14532 (omega arith) c.sight.ensures.cost
 
-pub returns-in-Ok-clause-wrote : goal.returns-in-Ok-clause-wrote
-returns-in-Ok-clause-wrote g c = mark_wrote Immutable c.attributes_of.ensures.makes c.make_immutable.ensures.makes
+pub returns-in-Ok-Some-clause-carried : goal.returns-in-Ok-Some-clause-carried
+returns-in-Ok-Some-clause-carried g c = λ m r.
+    let now = c.sight.ensures.runs m r in
+    let first = subst (λ (o : Option (ℕ × Shown)). IsFirstWith (shows c.args.id true) m.spaces o) c.in-Ok-Some.field-0-is (c.in-Ok-Some.ensures.answer c.sight.new.self.volume m now) in
+    refused_running _ _ m (call.MakeImmutable c.args.id) _ (c.window_on.ensures.runs c.sight.new.self.volume m now) (immutable_seen m now.session.stands.is.by.machine c.args.id _ _ (subst (λ (x : Sight). IsSight m c.args.id x) c.in-Ok-By.field-0-is (c.in-Ok-By.ensures.answer m r)).named first)
 
-pub returns-in-Err-make_immutable-clause-sound : goal.returns-in-Err-make_immutable-clause-sound
-returns-in-Err-make_immutable-clause-sound g c = λ spaces_of m s.
-    let books = session_books spaces_of _ _ _ _ _ m s in
-    let told = subst (λ (o : Option Attributes). IsAttributesOf (shapes_of m.files c.args.id) o) c.in-Ok-Some.field-0-is (c.in-Ok-Some.ensures.told s.stands.memory (shapes_of m.files) m.spaces books) in
-    let mid = c.attributes_of.ensures.same s.stands.memory (shapes_of m.files) m.spaces books in
-    c.in-Err-make_immutable.ensures.sound s.stands.memory (shapes_of m.files) m.spaces _ (books_at _ _ _ _ _ _ _ _ mid c.attributes_of.ensures.layout) told
+pub returns-in-Ok-Some-clause-passes : goal.returns-in-Ok-Some-clause-passes
+returns-in-Ok-Some-clause-passes g c = λ m r. asked_passes c.args.self.now.core c.args.self.now.volume m (call.MakeImmutable c.args.id) r (g.met.D.Disk.in_form c.args.self.now.core.filer.swapper.under) (makes_then c.sight.ensures.makes c.window_on.ensures.makes)
 
-pub returns-in-Err-make_immutable-clause-wrote : goal.returns-in-Err-make_immutable-clause-wrote
-returns-in-Err-make_immutable-clause-wrote g c = mark_wrote Immutable c.attributes_of.ensures.makes c.make_immutable.ensures.makes
+pub returns-in-Ok-Some-clause-wrote : goal.returns-in-Ok-Some-clause-wrote
+returns-in-Ok-Some-clause-wrote g c = wrote_by (makes_then c.sight.ensures.makes c.window_on.ensures.makes) tt
 
-pub returns-in-Err-make_immutable-clause-passes : goal.returns-in-Err-make_immutable-clause-passes
-returns-in-Err-make_immutable-clause-passes g c = λ spaces_of m s.
-    let books = session_books spaces_of _ _ _ _ _ m s in
-    let told = subst (λ (o : Option Attributes). IsAttributesOf (shapes_of m.files c.args.id) o) c.in-Ok-Some.field-0-is (c.in-Ok-Some.ensures.told s.stands.memory (shapes_of m.files) m.spaces books) in
-    let mid = c.attributes_of.ensures.same s.stands.memory (shapes_of m.files) m.spaces books in
-    let broken = c.in-Err-make_immutable.ensures.broken s.stands.memory (shapes_of m.files) m.spaces _ (books_at _ _ _ _ _ _ _ _ mid c.attributes_of.ensures.layout) told in
-    immutable_broken spaces_of _ _ _ _ _ _ _ _ c.args.self.now.volume m s c.attributes_of.ensures.makes c.attributes_of.ensures.brings mid c.attributes_of.ensures.layout _ _ c.args.self.now.filer.runs c.args.self.now.volume refl c.args.id _ told
-    (g.met.D.Disk.in_form c.args.self.now.filer.swapper.under) broken
+pub returns-in-Ok-Some-clause-cost : goal.returns-in-Ok-Some-clause-cost
+returns-in-Ok-Some-clause-cost g c = λ m r. asked_inside (g.D.Disk.state c.args.self.now.core.filer.swapper.under) (g.D.Disk.state c.window_on.new.core.filer.swapper.under) 29064 (omega arith) (let first = c.sight.ensures.cost in let later = c.window_on.ensures.cost in omega (arith, first, later))
+
+pub returns-in-Err-window_on-clause-sound : goal.returns-in-Err-window_on-clause-sound
+returns-in-Err-window_on-clause-sound g c = λ m r. c.in-Err-window_on.ensures.sound c.sight.new.self.volume m (c.sight.ensures.runs m r)
+
+pub returns-in-Err-window_on-clause-passes : goal.returns-in-Err-window_on-clause-passes
+returns-in-Err-window_on-clause-passes g c = λ m r. asked_passes c.args.self.now.core c.args.self.now.volume m (call.MakeImmutable c.args.id) r (g.met.D.Disk.in_form c.args.self.now.core.filer.swapper.under) (makes_then c.sight.ensures.makes c.window_on.ensures.makes)
+
+pub returns-in-Err-window_on-clause-wrote : goal.returns-in-Err-window_on-clause-wrote
+returns-in-Err-window_on-clause-wrote g c = wrote_by (makes_then c.sight.ensures.makes c.window_on.ensures.makes) tt
+
+pub returns-in-Err-window_on-clause-cost : goal.returns-in-Err-window_on-clause-cost
+returns-in-Err-window_on-clause-cost g c = λ m r. asked_inside (g.D.Disk.state c.args.self.now.core.filer.swapper.under) (g.D.Disk.state c.window_on.new.core.filer.swapper.under) 29064 (omega arith) (let first = c.sight.ensures.cost in let later = c.window_on.ensures.cost in omega (arith, first, later))
+
+pub mark_immutable-requires-clause-size : goal.mark_immutable-requires-clause-size
+mark_immutable-requires-clause-size g c = (makes_then c.sight.ensures.makes c.window_on.ensures.makes).went.sectors ∙ c.requires.size ∙ ap (λ (l : Layout). l.sectors) (sym (c.window_on.ensures.layout ∙ c.sight.ensures.layout))
+
+pub mark_immutable-requires-clause-opened : goal.mark_immutable-requires-clause-opened
+mark_immutable-requires-clause-opened g c = still_open _ _ _ _ c.requires.opened (c.window_on.ensures.layout ∙ c.sight.ensures.layout) c.sight.ensures.volume
+
+pub returns-clause-carried : goal.returns-clause-carried
+returns-clause-carried g c = λ m r.
+    let now = c.sight.ensures.runs m r in
+    carried_out c.window_on.new.core c.mark_immutable.new.self.core c.sight.new.self.volume c.mark_immutable.new.self.volume m (call.MakeImmutable c.args.id) c.mark_immutable.ensures.kept c.mark_immutable.ensures.intervals refl (c.window_on.ensures.runs c.sight.new.self.volume m now) c.mark_immutable.result
+    (λ spaces_of s. c.mark_immutable.ensures.carried spaces_of m s (subst (λ (x : Sight). IsSight m c.args.id x) c.in-Ok-By.field-0-is (c.in-Ok-By.ensures.answer m r)).named (written_by_none m c.args.id (subst (λ (o : Option (ℕ × Shown)). IsFirstWith (shows c.args.id true) m.spaces o) c.in-Ok-None.field-0-is (c.in-Ok-None.ensures.answer c.sight.new.self.volume m now))))
+
+pub returns-clause-sound : goal.returns-clause-sound
+returns-clause-sound g c = λ m r. let now = c.window_on.ensures.runs c.sight.new.self.volume m (c.sight.ensures.runs m r) in c.mark_immutable.ensures.sound _ m now.session
+
+pub returns-clause-passes : goal.returns-clause-passes
+returns-clause-passes g c = λ m r.
+    let now = c.sight.ensures.runs m r in
+    let last = c.window_on.ensures.runs c.sight.new.self.volume m now in
+    asked_then m (call.MakeImmutable c.args.id) (asked_passes c.args.self.now.core c.args.self.now.volume m call.Volume r (g.met.D.Disk.in_form c.args.self.now.core.filer.swapper.under) (makes_then c.sight.ensures.makes c.window_on.ensures.makes))
+    (c.mark_immutable.ensures.passes _ m last.session (subst (λ (x : Sight). IsSight m c.args.id x) c.in-Ok-By.field-0-is (c.in-Ok-By.ensures.answer m r)).named (written_by_none m c.args.id (subst (λ (o : Option (ℕ × Shown)). IsFirstWith (shows c.args.id true) m.spaces o) c.in-Ok-None.field-0-is (c.in-Ok-None.ensures.answer c.sight.new.self.volume m now))))
+
+pub returns-clause-wrote : goal.returns-clause-wrote
+returns-clause-wrote g c = wrote_then (wrote_by (makes_then c.sight.ensures.makes c.window_on.ensures.makes) tt) c.mark_immutable.ensures.wrote
+
+pub returns-clause-counted : goal.returns-clause-counted
+returns-clause-counted g c = λ is. rose_behind _ _ _ (makes_then c.sight.ensures.makes c.window_on.ensures.makes).went.faults (c.mark_immutable.ensures.counted is)
+
+pub returns-clause-layout : goal.returns-clause-layout
+returns-clause-layout g c = c.mark_immutable.ensures.layout ∙ c.window_on.ensures.layout ∙ c.sight.ensures.layout
+
+pub returns-clause-cost : goal.returns-clause-cost
+returns-clause-cost g c = λ m r. asked_inside (g.D.Disk.state c.args.self.now.core.filer.swapper.under) (g.D.Disk.state c.mark_immutable.new.self.core.filer.swapper.under) 29109 (omega arith) (let first = c.sight.ensures.cost in let later = c.window_on.ensures.cost in let last = c.mark_immutable.ensures.cost in omega (arith, first, later, last))

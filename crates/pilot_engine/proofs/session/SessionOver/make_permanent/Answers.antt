@@ -1,68 +1,65 @@
-use Rattle.std.proofs.Common.{Option, refl, subst}
-use Rattle.labelled_disk.specs.Label.{leader_page}
+use Rattle.std.proofs.Common.{refl, sym, ap, subst, ◌∙◌, arith}
+use Rattle.labelled_disk.specs.declared.layout.Layout.{Layout}
 use Rattle.flat_machine.specs.declared.call.Call.TheVariants as call
-use Rattle.file_manager.specs.declared.attributes.Attributes.{Attributes}
-use Rattle.file_manager.specs.Attributes.{IsAttributesOf}
-use Rattle.session_words.specs.Parts.{shapes_of}
-use Rattle.label_calls.specs.declared.page.Mark.TheVariants.{Permanent}
-use Rattle.pilot_engine.proofs.CallLemmas.{permanent_done, permanent_passed, permanent_broken, missing_after, books_at, none_shown, carries_at, mark_wrote}
-use Rattle.pilot_engine.proofs.RefusalLemmas.{permanent_missing}
-use Rattle.pilot_engine.proofs.SessionLemmas.{session_books}
-use Rattle.pilot_engine.proofs.StageLemmas.{no_step}
+use Rattle.flat_machine.specs.declared.call.Refusal.TheVariants as why
+use Rattle.pilot_engine.specs.declared.sight.Sight.{Sight}
+use Rattle.pilot_engine.specs.Seen.{IsSight}
+use Rattle.pilot_engine.proofs.BoundLemmas.{asked_inside, spent_besides}
+use Rattle.pilot_engine.proofs.LiftLemmas.{asked_passes, carried_out, refused_running, still_open}
+use Rattle.pilot_engine.proofs.PassThen.{asked_then}
+use Rattle.pilot_engine.proofs.WroteLemmas.{rose_behind, wrote_by, wrote_then}
+use Rattle.pilot_engine.proofs.RefusalLemmas.{no_file_hidden, permanent_gone}
 use Rattle.pilot_engine.proofs.session.SessionOver.make_permanent.Goals as goal
 
-pub returns-in-Ok-None-clause-carried : goal.returns-in-Ok-None-clause-carried
-returns-in-Ok-None-clause-carried g c = λ spaces_of m s.
-    let books = session_books spaces_of _ _ _ _ _ m s in
-    let told = subst (λ (o : Option Attributes). IsAttributesOf (shapes_of m.files c.args.id) o) c.in-Ok-None.field-0-is (c.in-Ok-None.ensures.told s.stands.memory (shapes_of m.files) m.spaces books) in
-    missing_after spaces_of _ _ _ _ _ _ _ _ _ m s c.attributes_of.ensures.makes c.attributes_of.ensures.brings (c.attributes_of.ensures.same s.stands.memory (shapes_of m.files) m.spaces books) c.attributes_of.ensures.layout
-    c.args.id told (call.MakePermanent c.args.id) (permanent_missing m s.alone c.args.id)
+pub returns-in-Ok-Hidden-clause-carried : goal.returns-in-Ok-Hidden-clause-carried
+returns-in-Ok-Hidden-clause-carried g c = λ m r.
+    refused_running _ _ m (call.MakePermanent c.args.id) why.File (c.sight.ensures.runs m r) (permanent_gone m c.args.id (no_file_hidden m c.args.id (subst (λ (x : Sight). IsSight m c.args.id x) c.in-Ok-Hidden.field-0-is (c.in-Ok-Hidden.ensures.answer m r))))
 
-pub returns-in-Ok-None-clause-passes : goal.returns-in-Ok-None-clause-passes
-returns-in-Ok-None-clause-passes g c = λ spaces_of m s. no_step spaces_of _ _ _ _ m (call.MakePermanent c.args.id) s.stands c.attributes_of.ensures.makes (g.met.D.Disk.in_form c.args.self.now.filer.swapper.under)
+pub returns-in-Ok-Hidden-clause-passes : goal.returns-in-Ok-Hidden-clause-passes
+returns-in-Ok-Hidden-clause-passes g c = λ m r. asked_passes c.args.self.now.core c.args.self.now.volume m (call.MakePermanent c.args.id) r (g.met.D.Disk.in_form c.args.self.now.core.filer.swapper.under) c.sight.ensures.makes
 
-pub returns-in-Err-clause-sound : goal.returns-in-Err-clause-sound
-returns-in-Err-clause-sound g c = λ spaces_of m s. c.in-Err.ensures.told s.stands.memory (shapes_of m.files) m.spaces (session_books spaces_of _ _ _ _ _ m s)
+pub returns-in-Ok-Hidden-clause-wrote : goal.returns-in-Ok-Hidden-clause-wrote
+returns-in-Ok-Hidden-clause-wrote g c = wrote_by c.sight.ensures.makes tt
+
+pub returns-in-Ok-Hidden-clause-cost : goal.returns-in-Ok-Hidden-clause-cost
+returns-in-Ok-Hidden-clause-cost g c = λ m r. asked_inside (g.D.Disk.state c.args.self.now.core.filer.swapper.under) (g.D.Disk.state c.sight.new.self.core.filer.swapper.under) 14532 (omega arith) c.sight.ensures.cost
 
 pub returns-in-Err-clause-passes : goal.returns-in-Err-clause-passes
-returns-in-Err-clause-passes g c = λ spaces_of m s. no_step spaces_of _ _ _ _ m (call.MakePermanent c.args.id) s.stands c.attributes_of.ensures.makes (g.met.D.Disk.in_form c.args.self.now.filer.swapper.under)
+returns-in-Err-clause-passes g c = λ m r. asked_passes c.args.self.now.core c.args.self.now.volume m (call.MakePermanent c.args.id) r (g.met.D.Disk.in_form c.args.self.now.core.filer.swapper.under) c.sight.ensures.makes
 
-pub returns-in-Ok-clause-carried : goal.returns-in-Ok-clause-carried
-returns-in-Ok-clause-carried g c = λ spaces_of m s.
-    let books = session_books spaces_of _ _ _ _ _ m s in
-    let told = subst (λ (o : Option Attributes). IsAttributesOf (shapes_of m.files c.args.id) o) c.in-Ok-Some.field-0-is (c.in-Ok-Some.ensures.told s.stands.memory (shapes_of m.files) m.spaces books) in
-    let mid = c.attributes_of.ensures.same s.stands.memory (shapes_of m.files) m.spaces books in
-    let marked = c.in-Ok.ensures.told s.stands.memory (shapes_of m.files) m.spaces _ (books_at _ _ _ _ _ _ _ _ mid c.attributes_of.ensures.layout) told (none_shown m.spaces s.alone c.args.id leader_page) in
-    carries_at spaces_of m (call.MakePermanent c.args.id) _ _ _ _ _ _ _
-    (permanent_done spaces_of _ _ _ _ _ _ _ _ _ m s c.attributes_of.ensures.makes c.attributes_of.ensures.brings mid c.attributes_of.ensures.layout _ _ _ _ refl c.args.id _ told marked) c.make_permanent.ensures.layout
+pub returns-in-Err-clause-wrote : goal.returns-in-Err-clause-wrote
+returns-in-Err-clause-wrote g c = wrote_by c.sight.ensures.makes tt
 
-pub returns-in-Ok-clause-passes : goal.returns-in-Ok-clause-passes
-returns-in-Ok-clause-passes g c = λ spaces_of m s.
-    let books = session_books spaces_of _ _ _ _ _ m s in
-    let told = subst (λ (o : Option Attributes). IsAttributesOf (shapes_of m.files c.args.id) o) c.in-Ok-Some.field-0-is (c.in-Ok-Some.ensures.told s.stands.memory (shapes_of m.files) m.spaces books) in
-    let mid = c.attributes_of.ensures.same s.stands.memory (shapes_of m.files) m.spaces books in
-    let marked = c.in-Ok.ensures.told s.stands.memory (shapes_of m.files) m.spaces _ (books_at _ _ _ _ _ _ _ _ mid c.attributes_of.ensures.layout) told (none_shown m.spaces s.alone c.args.id leader_page) in
-    permanent_passed spaces_of _ _ _ _ _ _ _ _ c.args.self.now.volume m s c.attributes_of.ensures.makes c.attributes_of.ensures.brings mid c.attributes_of.ensures.layout _ _ _ c.args.self.now.volume refl c.args.id _ told
-    (g.met.D.Disk.in_form c.args.self.now.filer.swapper.under) marked
+pub returns-in-Err-clause-cost : goal.returns-in-Err-clause-cost
+returns-in-Err-clause-cost g c = λ m r. asked_inside (g.D.Disk.state c.args.self.now.core.filer.swapper.under) (g.D.Disk.state c.sight.new.self.core.filer.swapper.under) 14532 (omega arith) c.sight.ensures.cost
 
-pub returns-in-Ok-clause-wrote : goal.returns-in-Ok-clause-wrote
-returns-in-Ok-clause-wrote g c = mark_wrote Permanent c.attributes_of.ensures.makes c.make_permanent.ensures.makes
+pub mark_permanent-requires-clause-size : goal.mark_permanent-requires-clause-size
+mark_permanent-requires-clause-size g c = c.sight.ensures.makes.went.sectors ∙ c.requires.size ∙ ap (λ (l : Layout). l.sectors) (sym c.sight.ensures.layout)
 
-pub returns-in-Err-make_permanent-clause-sound : goal.returns-in-Err-make_permanent-clause-sound
-returns-in-Err-make_permanent-clause-sound g c = λ spaces_of m s.
-    let books = session_books spaces_of _ _ _ _ _ m s in
-    let told = subst (λ (o : Option Attributes). IsAttributesOf (shapes_of m.files c.args.id) o) c.in-Ok-Some.field-0-is (c.in-Ok-Some.ensures.told s.stands.memory (shapes_of m.files) m.spaces books) in
-    let mid = c.attributes_of.ensures.same s.stands.memory (shapes_of m.files) m.spaces books in
-    c.in-Err-make_permanent.ensures.sound s.stands.memory (shapes_of m.files) m.spaces _ (books_at _ _ _ _ _ _ _ _ mid c.attributes_of.ensures.layout) told
+pub mark_permanent-requires-clause-opened : goal.mark_permanent-requires-clause-opened
+mark_permanent-requires-clause-opened g c = still_open _ _ _ _ c.requires.opened c.sight.ensures.layout c.sight.ensures.volume
 
-pub returns-in-Err-make_permanent-clause-wrote : goal.returns-in-Err-make_permanent-clause-wrote
-returns-in-Err-make_permanent-clause-wrote g c = mark_wrote Permanent c.attributes_of.ensures.makes c.make_permanent.ensures.makes
+pub returns-in-Ok-By-clause-carried : goal.returns-in-Ok-By-clause-carried
+returns-in-Ok-By-clause-carried g c = λ m r.
+    carried_out c.sight.new.self.core c.mark_permanent.new.self.core c.sight.new.self.volume c.mark_permanent.new.self.volume m (call.MakePermanent c.args.id) c.mark_permanent.ensures.kept c.mark_permanent.ensures.intervals refl (c.sight.ensures.runs m r) c.mark_permanent.result
+    (λ spaces_of s. c.mark_permanent.ensures.carried spaces_of m s (subst (λ (x : Sight). IsSight m c.args.id x) c.in-Ok-By.field-0-is (c.in-Ok-By.ensures.answer m r)).named)
 
-pub returns-in-Err-make_permanent-clause-passes : goal.returns-in-Err-make_permanent-clause-passes
-returns-in-Err-make_permanent-clause-passes g c = λ spaces_of m s.
-    let books = session_books spaces_of _ _ _ _ _ m s in
-    let told = subst (λ (o : Option Attributes). IsAttributesOf (shapes_of m.files c.args.id) o) c.in-Ok-Some.field-0-is (c.in-Ok-Some.ensures.told s.stands.memory (shapes_of m.files) m.spaces books) in
-    let mid = c.attributes_of.ensures.same s.stands.memory (shapes_of m.files) m.spaces books in
-    let broken = c.in-Err-make_permanent.ensures.broken s.stands.memory (shapes_of m.files) m.spaces _ (books_at _ _ _ _ _ _ _ _ mid c.attributes_of.ensures.layout) told in
-    permanent_broken spaces_of _ _ _ _ _ _ _ _ c.args.self.now.volume m s c.attributes_of.ensures.makes c.attributes_of.ensures.brings mid c.attributes_of.ensures.layout _ _ c.args.self.now.filer.runs c.args.self.now.volume refl c.args.id _ told
-    (g.met.D.Disk.in_form c.args.self.now.filer.swapper.under) broken
+pub returns-in-Ok-By-clause-sound : goal.returns-in-Ok-By-clause-sound
+returns-in-Ok-By-clause-sound g c = λ m r. let now = c.sight.ensures.runs m r in c.mark_permanent.ensures.sound _ m now.session
+
+pub returns-in-Ok-By-clause-passes : goal.returns-in-Ok-By-clause-passes
+returns-in-Ok-By-clause-passes g c = λ m r.
+    let now = c.sight.ensures.runs m r in
+    asked_then m (call.MakePermanent c.args.id) (asked_passes c.args.self.now.core c.args.self.now.volume m call.Volume r (g.met.D.Disk.in_form c.args.self.now.core.filer.swapper.under) c.sight.ensures.makes) (c.mark_permanent.ensures.passes _ m now.session (subst (λ (x : Sight). IsSight m c.args.id x) c.in-Ok-By.field-0-is (c.in-Ok-By.ensures.answer m r)).named)
+
+pub returns-in-Ok-By-clause-wrote : goal.returns-in-Ok-By-clause-wrote
+returns-in-Ok-By-clause-wrote g c = wrote_then (wrote_by c.sight.ensures.makes tt) c.mark_permanent.ensures.wrote
+
+pub returns-in-Ok-By-clause-counted : goal.returns-in-Ok-By-clause-counted
+returns-in-Ok-By-clause-counted g c = λ is. rose_behind _ _ _ c.sight.ensures.makes.went.faults (c.mark_permanent.ensures.counted is)
+
+pub returns-in-Ok-By-clause-layout : goal.returns-in-Ok-By-clause-layout
+returns-in-Ok-By-clause-layout g c = c.mark_permanent.ensures.layout ∙ c.sight.ensures.layout
+
+pub returns-in-Ok-By-clause-cost : goal.returns-in-Ok-By-clause-cost
+returns-in-Ok-By-clause-cost g c = λ m r. asked_inside (g.D.Disk.state c.args.self.now.core.filer.swapper.under) (g.D.Disk.state c.mark_permanent.new.self.core.filer.swapper.under) 14577 (omega arith) (let first = c.sight.ensures.cost in let later = c.mark_permanent.ensures.cost in omega (arith, first, later))

@@ -1,5 +1,7 @@
 use Rattle.std.proofs.Common.{sym, ◌∙◌}
+use Rattle.flat_machine.specs.Start.{start}
 use Rattle.pilot_engine.proofs.StartFaults.{early_outside}
+use Rattle.pilot_engine.proofs.StartRuns.{runs_over}
 use Rattle.pilot_engine.proofs.StartWrites.{read_wrote, read_keeps, start_wrote, start_keeps}
 use Rattle.pilot_engine.proofs.session.SessionOver.over.Goals as goal
 
@@ -13,15 +15,16 @@ pub returns-in-Err-clause-wrote : goal.returns-in-Err-clause-wrote
 returns-in-Err-clause-wrote g c = read_wrote c.in-Err.ensures.reads.only
 
 pub returns-in-Ok-begin-clause-stands : goal.returns-in-Ok-begin-clause-stands
-returns-in-Ok-begin-clause-stands g c = λ d told sound. c.in-Ok-begin.ensures.begun d (c.in-Ok.ensures.reads.only.contents ∙ told) sound (c.in-Ok.ensures.read d told)
+returns-in-Ok-begin-clause-stands g c = λ d told sound.
+    runs_over c.over.result c.begin.new.filer c.in-Ok-begin.volume (start d) c.over.ensures.filer c.over.ensures.kept c.over.ensures.intervals (c.in-Ok-begin.ensures.begun d (c.in-Ok.ensures.reads.only.contents ∙ told) sound (c.in-Ok.ensures.read d told))
 
 pub returns-in-Ok-begin-clause-moments : goal.returns-in-Ok-begin-clause-moments
-returns-in-Ok-begin-clause-moments g c = λ d told right.
+returns-in-Ok-begin-clause-moments g c = λ d told right. rw c.over.ensures.filer (
     start_keeps c.in-Ok.ensures.reads.only c.in-Ok.opened.2 c.in-Ok.ensures.bare c.in-Ok-begin.ensures.starts d told right c.in-Ok.opened.0.swapper.layout.sectors
-    (g.met.D.Disk.whole c.args.disk d told ∙ sym c.in-Ok.ensures.reads.only.sectors ∙ c.in-Ok.ensures.size) c.in-Ok.ensures.valid c.in-Ok-begin.ensures.serial c.in-Ok-begin.ensures.counter (c.in-Ok.ensures.read d told)
+    (g.met.D.Disk.whole c.args.disk d told ∙ sym c.in-Ok.ensures.reads.only.sectors ∙ c.in-Ok.ensures.size) c.in-Ok.ensures.valid c.in-Ok-begin.ensures.serial c.in-Ok-begin.ensures.counter (c.in-Ok.ensures.read d told))
 
 pub returns-in-Ok-begin-clause-wrote : goal.returns-in-Ok-begin-clause-wrote
-returns-in-Ok-begin-clause-wrote g c = start_wrote c.in-Ok.ensures.reads.only c.in-Ok.opened.2 c.in-Ok.ensures.bare c.in-Ok-begin.ensures.starts
+returns-in-Ok-begin-clause-wrote g c = rw c.over.ensures.filer (start_wrote c.in-Ok.ensures.reads.only c.in-Ok.opened.2 c.in-Ok.ensures.bare c.in-Ok-begin.ensures.starts)
 
 pub returns-in-Err-begin-clause-refused : goal.returns-in-Err-begin-clause-refused
 returns-in-Err-begin-clause-refused g c = λ d why told is. absurd (c.in-Ok.ensures.refused d why told is)
@@ -38,4 +41,4 @@ pub returns-in-Err-begin-clause-wrote : goal.returns-in-Err-begin-clause-wrote
 returns-in-Err-begin-clause-wrote g c = rw c.into_disk.ensures (start_wrote c.in-Ok.ensures.reads.only c.in-Ok.opened.2 c.in-Ok.ensures.bare c.in-Err-begin.ensures.starts)
 
 pub returns-in-Ok-begin-clause-frames : goal.returns-in-Ok-begin-clause-frames
-returns-in-Ok-begin-clause-frames g c = c.in-Ok-begin.ensures.starts.makes.count ∙ c.in-Ok.ensures.frames
+returns-in-Ok-begin-clause-frames g c = rw c.over.ensures.filer (c.in-Ok-begin.ensures.starts.makes.count ∙ c.in-Ok.ensures.frames)

@@ -1,138 +1,67 @@
-use Rattle.std.proofs.Common.{Option, sym, ◌∙◌, subst, arith}
+use Rattle.std.proofs.Common.{refl, sym, ap, subst, ◌∙◌, arith}
+use Rattle.labelled_disk.specs.declared.layout.Layout.{Layout}
 use Rattle.flat_machine.specs.declared.call.Call.TheVariants as call
 use Rattle.flat_machine.specs.declared.call.Refusal.TheVariants as why
-use Rattle.swapper_kernel.specs.GoesLaws.{makes_nothing}
-use Rattle.session_words.specs.Parts.{shapes_of}
-use Rattle.session_words.specs.Volume.{volume_page}
-use Rattle.file_manager.specs.declared.attributes.Attributes.{Attributes}
-use Rattle.file_manager.specs.Attributes.{IsAttributesOf}
-use Rattle.pilot_engine.proofs.BoundLemmas.{constant, resize_told, on_layout}
-use Rattle.pilot_engine.proofs.CallLemmas.{missing_after, books_at, carries_at}
-use Rattle.pilot_engine.proofs.CreateLemmas.{create_refused}
-use Rattle.pilot_engine.proofs.RefusalLemmas.{size_missing}
-use Rattle.pilot_engine.proofs.SessionLemmas.{session_books}
-use Rattle.pilot_engine.proofs.SetSizeLemmas.{within_room, never_file, immutable_refused, full_refused, size_sound, size_done, size_passed, size_broken, resized_wrote, some_resized_wrote}
-use Rattle.pilot_engine.proofs.StageLemmas.{no_step}
-use Rattle.pilot_engine.proofs.WroteLemmas.{wrote_nothing}
+use Rattle.pilot_engine.specs.declared.sight.Sight.{Sight}
+use Rattle.pilot_engine.specs.Seen.{IsSight}
+use Rattle.pilot_engine.proofs.BoundLemmas.{asked_inside, spent_besides}
+use Rattle.pilot_engine.proofs.LiftLemmas.{asked_passes, carried_out, refused_running, still_open}
+use Rattle.pilot_engine.proofs.PassThen.{asked_then}
+use Rattle.pilot_engine.proofs.WroteLemmas.{rose_behind, wrote_by, wrote_then}
+use Rattle.pilot_engine.proofs.RefusalLemmas.{no_file_hidden, size_gone}
 use Rattle.pilot_engine.proofs.session.SessionOver.set_size.Goals as goal
 
-pub returns-then-not-may_be_file-clause-carried : goal.returns-then-not-may_be_file-clause-carried
-returns-then-not-may_be_file-clause-carried g c = λ spaces_of m s.
-    let other = sym c.may_be_file.ensures ∙ c.if-not-may_be_file.true in
-    create_refused spaces_of _ _ _ _ _ m s (call.SetSize c.args.id c.args.pages) why.File (size_missing m s.alone c.args.id (never_file spaces_of _ _ _ _ _ m s c.args.id other) c.args.pages)
+pub returns-in-Ok-Hidden-clause-carried : goal.returns-in-Ok-Hidden-clause-carried
+returns-in-Ok-Hidden-clause-carried g c = λ m r.
+    refused_running _ _ m (call.SetSize c.args.id c.args.pages) why.File (c.sight.ensures.runs m r) (size_gone m c.args.id (no_file_hidden m c.args.id (subst (λ (x : Sight). IsSight m c.args.id x) c.in-Ok-Hidden.field-0-is (c.in-Ok-Hidden.ensures.answer m r))) c.args.pages)
 
-pub returns-then-not-may_be_file-clause-passes : goal.returns-then-not-may_be_file-clause-passes
-returns-then-not-may_be_file-clause-passes g c = λ spaces_of m s. no_step spaces_of _ _ _ _ m (call.SetSize c.args.id c.args.pages) s.stands (makes_nothing volume_page _ _) (g.met.D.Disk.in_form c.args.self.now.filer.swapper.under)
+pub returns-in-Ok-Hidden-clause-passes : goal.returns-in-Ok-Hidden-clause-passes
+returns-in-Ok-Hidden-clause-passes g c = λ m r. asked_passes c.args.self.now.core c.args.self.now.volume m (call.SetSize c.args.id c.args.pages) r (g.met.D.Disk.in_form c.args.self.now.core.filer.swapper.under) c.sight.ensures.makes
 
-pub returns-then-not-may_be_file-clause-wrote : goal.returns-then-not-may_be_file-clause-wrote
-returns-then-not-may_be_file-clause-wrote g c = wrote_nothing _ _
+pub returns-in-Ok-Hidden-clause-wrote : goal.returns-in-Ok-Hidden-clause-wrote
+returns-in-Ok-Hidden-clause-wrote g c = wrote_by c.sight.ensures.makes tt
 
-pub returns-in-Ok-None-clause-carried : goal.returns-in-Ok-None-clause-carried
-returns-in-Ok-None-clause-carried g c = λ spaces_of m s.
-    let books = session_books spaces_of _ _ _ _ _ m s in
-    let told = subst (λ (o : Option Attributes). IsAttributesOf (shapes_of m.files c.args.id) o) c.in-Ok-None.field-0-is (c.in-Ok-None.ensures.told s.stands.memory (shapes_of m.files) m.spaces books) in
-    missing_after spaces_of _ _ _ _ _ _ _ _ _ m s c.attributes_of.ensures.makes c.attributes_of.ensures.brings (c.attributes_of.ensures.same s.stands.memory (shapes_of m.files) m.spaces books) c.attributes_of.ensures.layout
-    c.args.id told (call.SetSize c.args.id c.args.pages) (λ none. size_missing m s.alone c.args.id none c.args.pages)
-
-pub returns-in-Ok-None-clause-passes : goal.returns-in-Ok-None-clause-passes
-returns-in-Ok-None-clause-passes g c = λ spaces_of m s. no_step spaces_of _ _ _ _ m (call.SetSize c.args.id c.args.pages) s.stands c.attributes_of.ensures.makes (g.met.D.Disk.in_form c.args.self.now.filer.swapper.under)
-
-pub returns-in-Err-clause-sound : goal.returns-in-Err-clause-sound
-returns-in-Err-clause-sound g c = λ spaces_of m s. c.in-Err.ensures.told s.stands.memory (shapes_of m.files) m.spaces (session_books spaces_of _ _ _ _ _ m s)
+pub returns-in-Ok-Hidden-clause-cost : goal.returns-in-Ok-Hidden-clause-cost
+returns-in-Ok-Hidden-clause-cost g c = λ m r. asked_inside (g.D.Disk.state c.args.self.now.core.filer.swapper.under) (g.D.Disk.state c.sight.new.self.core.filer.swapper.under) 14532 (omega arith) c.sight.ensures.cost
 
 pub returns-in-Err-clause-passes : goal.returns-in-Err-clause-passes
-returns-in-Err-clause-passes g c = λ spaces_of m s. no_step spaces_of _ _ _ _ m (call.SetSize c.args.id c.args.pages) s.stands c.attributes_of.ensures.makes (g.met.D.Disk.in_form c.args.self.now.filer.swapper.under)
+returns-in-Err-clause-passes g c = λ m r. asked_passes c.args.self.now.core c.args.self.now.volume m (call.SetSize c.args.id c.args.pages) r (g.met.D.Disk.in_form c.args.self.now.core.filer.swapper.under) c.sight.ensures.makes
 
-pub returns-then-found-clause-carried : goal.returns-then-found-clause-carried
-returns-then-found-clause-carried g c = λ spaces_of m s.
-    let books = session_books spaces_of _ _ _ _ _ m s in
-    let told = subst (λ (o : Option Attributes). IsAttributesOf (shapes_of m.files c.args.id) o) c.in-Ok-Some.field-0-is (c.in-Ok-Some.ensures.told s.stands.memory (shapes_of m.files) m.spaces books) in
-    let mid = c.attributes_of.ensures.same s.stands.memory (shapes_of m.files) m.spaces books in
-    immutable_refused spaces_of _ _ _ _ _ m s _ _ _ _ c.attributes_of.ensures.makes c.attributes_of.ensures.brings mid c.attributes_of.ensures.layout c.args.id c.args.pages c.in-Ok-Some.found told c.if-found.true
+pub returns-in-Err-clause-wrote : goal.returns-in-Err-clause-wrote
+returns-in-Err-clause-wrote g c = wrote_by c.sight.ensures.makes tt
 
-pub returns-then-found-clause-passes : goal.returns-then-found-clause-passes
-returns-then-found-clause-passes g c = λ spaces_of m s. no_step spaces_of _ _ _ _ m (call.SetSize c.args.id c.args.pages) s.stands c.attributes_of.ensures.makes (g.met.D.Disk.in_form c.args.self.now.filer.swapper.under)
+pub returns-in-Err-clause-cost : goal.returns-in-Err-clause-cost
+returns-in-Err-clause-cost g c = λ m r. asked_inside (g.D.Disk.state c.args.self.now.core.filer.swapper.under) (g.D.Disk.state c.sight.new.self.core.filer.swapper.under) 14532 (omega arith) c.sight.ensures.cost
 
-pub returns-then-not-has_room-clause-carried : goal.returns-then-not-has_room-clause-carried
-returns-then-not-has_room-clause-carried g c = λ spaces_of m s.
-    let books = session_books spaces_of _ _ _ _ _ m s in
-    let told = subst (λ (o : Option Attributes). IsAttributesOf (shapes_of m.files c.args.id) o) c.in-Ok-Some.field-0-is (c.in-Ok-Some.ensures.told s.stands.memory (shapes_of m.files) m.spaces books) in
-    let mid = c.attributes_of.ensures.same s.stands.memory (shapes_of m.files) m.spaces books in
-    full_refused spaces_of _ _ _ _ _ m s _ _ _ _ c.attributes_of.ensures.makes c.attributes_of.ensures.brings mid c.attributes_of.ensures.layout c.args.id c.args.pages c.in-Ok-Some.found told c.args.self.now.filer.swapper.accepted c.requires.opened.same_layout c.if-found.false c.has_room.result c.has_room.ensures c.if-not-has_room.true
+pub resize-requires-clause-size : goal.resize-requires-clause-size
+resize-requires-clause-size g c = c.sight.ensures.makes.went.sectors ∙ c.requires.size ∙ ap (λ (l : Layout). l.sectors) (sym c.sight.ensures.layout)
 
-pub returns-then-not-has_room-clause-passes : goal.returns-then-not-has_room-clause-passes
-returns-then-not-has_room-clause-passes g c = λ spaces_of m s. no_step spaces_of _ _ _ _ m (call.SetSize c.args.id c.args.pages) s.stands c.attributes_of.ensures.makes (g.met.D.Disk.in_form c.args.self.now.filer.swapper.under)
+pub resize-requires-clause-opened : goal.resize-requires-clause-opened
+resize-requires-clause-opened g c = still_open _ _ _ _ c.requires.opened c.sight.ensures.layout c.sight.ensures.volume
 
-pub returns-in-Ok-clause-carried : goal.returns-in-Ok-clause-carried
-returns-in-Ok-clause-carried g c = λ spaces_of m s.
-    let books = session_books spaces_of _ _ _ _ _ m s in
-    let told = subst (λ (o : Option Attributes). IsAttributesOf (shapes_of m.files c.args.id) o) c.in-Ok-Some.field-0-is (c.in-Ok-Some.ensures.told s.stands.memory (shapes_of m.files) m.spaces books) in
-    let mid = c.attributes_of.ensures.same s.stands.memory (shapes_of m.files) m.spaces books in
-    carries_at spaces_of m (call.SetSize c.args.id c.args.pages) _ _ _ _ _ _ _
-    (size_done spaces_of _ _ _ _ _ m s _ _ _ _ c.attributes_of.ensures.makes c.attributes_of.ensures.brings mid c.attributes_of.ensures.layout c.args.id c.args.pages c.in-Ok-Some.found told c.args.self.now.filer.swapper.accepted c.requires.opened.same_layout c.if-found.false c.has_room.result c.has_room.ensures c.if-not-has_room.false _ _ _ _ c.set_size.ensures.same_numbers.0 c.in-Ok.ensures.grown c.in-Ok.ensures.used_grown c.in-Ok.ensures.shrunk c.in-Ok.ensures.used_shrunk) c.set_size.ensures.layout
+pub returns-in-Ok-By-clause-carried : goal.returns-in-Ok-By-clause-carried
+returns-in-Ok-By-clause-carried g c = λ m r.
+    carried_out c.sight.new.self.core c.resize.new.self.core c.sight.new.self.volume c.resize.new.self.volume m (call.SetSize c.args.id c.args.pages) c.resize.ensures.kept c.resize.ensures.intervals refl (c.sight.ensures.runs m r) c.resize.result
+    (λ spaces_of s. c.resize.ensures.carried spaces_of m s (subst (λ (x : Sight). IsSight m c.args.id x) c.in-Ok-By.field-0-is (c.in-Ok-By.ensures.answer m r)))
 
-pub returns-in-Ok-clause-passes : goal.returns-in-Ok-clause-passes
-returns-in-Ok-clause-passes g c = λ spaces_of m s.
-    let books = session_books spaces_of _ _ _ _ _ m s in
-    let told = subst (λ (o : Option Attributes). IsAttributesOf (shapes_of m.files c.args.id) o) c.in-Ok-Some.field-0-is (c.in-Ok-Some.ensures.told s.stands.memory (shapes_of m.files) m.spaces books) in
-    let mid = c.attributes_of.ensures.same s.stands.memory (shapes_of m.files) m.spaces books in
-    size_passed spaces_of _ _ _ _ _ m s _ _ _ _ c.attributes_of.ensures.makes c.attributes_of.ensures.brings mid c.attributes_of.ensures.layout c.args.id c.args.pages c.in-Ok-Some.found told c.args.self.now.filer.swapper.accepted c.requires.opened.same_layout c.if-found.false c.has_room.result c.has_room.ensures c.if-not-has_room.false _ _ c.set_size.new.filer.runs (g.met.D.Disk.in_form c.args.self.now.filer.swapper.under) c.in-Ok.ensures.grown c.in-Ok.ensures.shrunk
+pub returns-in-Ok-By-clause-sound : goal.returns-in-Ok-By-clause-sound
+returns-in-Ok-By-clause-sound g c = λ m r. let now = c.sight.ensures.runs m r in c.resize.ensures.sound _ m now.session (subst (λ (x : Sight). IsSight m c.args.id x) c.in-Ok-By.field-0-is (c.in-Ok-By.ensures.answer m r))
 
-pub returns-in-Ok-clause-wrote : goal.returns-in-Ok-clause-wrote
-returns-in-Ok-clause-wrote g c = resized_wrote c.args.id c.args.pages c.attributes_of.ensures.makes c.in-Ok.ensures.makes
+pub returns-in-Ok-By-clause-passes : goal.returns-in-Ok-By-clause-passes
+returns-in-Ok-By-clause-passes g c = λ m r.
+    let now = c.sight.ensures.runs m r in
+    asked_then m (call.SetSize c.args.id c.args.pages) (asked_passes c.args.self.now.core c.args.self.now.volume m call.Volume r (g.met.D.Disk.in_form c.args.self.now.core.filer.swapper.under) c.sight.ensures.makes) (c.resize.ensures.passes _ m now.session (subst (λ (x : Sight). IsSight m c.args.id x) c.in-Ok-By.field-0-is (c.in-Ok-By.ensures.answer m r)))
 
-pub returns-in-Err-set_size-clause-sound : goal.returns-in-Err-set_size-clause-sound
-returns-in-Err-set_size-clause-sound g c = λ spaces_of m s.
-    let books = session_books spaces_of _ _ _ _ _ m s in
-    let told = subst (λ (o : Option Attributes). IsAttributesOf (shapes_of m.files c.args.id) o) c.in-Ok-Some.field-0-is (c.in-Ok-Some.ensures.told s.stands.memory (shapes_of m.files) m.spaces books) in
-    let mid = c.attributes_of.ensures.same s.stands.memory (shapes_of m.files) m.spaces books in
-    size_sound spaces_of _ _ _ _ _ m s _ _ _ _ c.attributes_of.ensures.makes c.attributes_of.ensures.brings mid c.attributes_of.ensures.layout c.args.id c.args.pages c.in-Ok-Some.found told c.args.self.now.filer.swapper.accepted c.requires.opened.same_layout c.if-found.false c.has_room.result c.has_room.ensures c.if-not-has_room.false _ c.in-Err-set_size.ensures.sound_grown c.in-Err-set_size.ensures.sound_shrunk
+pub returns-in-Ok-By-clause-wrote : goal.returns-in-Ok-By-clause-wrote
+returns-in-Ok-By-clause-wrote g c = wrote_then (wrote_by c.sight.ensures.makes tt) c.resize.ensures.wrote
 
-pub returns-in-Err-set_size-clause-passes : goal.returns-in-Err-set_size-clause-passes
-returns-in-Err-set_size-clause-passes g c = λ spaces_of m s.
-    let books = session_books spaces_of _ _ _ _ _ m s in
-    let told = subst (λ (o : Option Attributes). IsAttributesOf (shapes_of m.files c.args.id) o) c.in-Ok-Some.field-0-is (c.in-Ok-Some.ensures.told s.stands.memory (shapes_of m.files) m.spaces books) in
-    let mid = c.attributes_of.ensures.same s.stands.memory (shapes_of m.files) m.spaces books in
-    size_broken spaces_of _ _ _ _ _ m s _ _ _ _ c.attributes_of.ensures.makes c.attributes_of.ensures.brings mid c.attributes_of.ensures.layout c.args.id c.args.pages c.in-Ok-Some.found told c.args.self.now.filer.swapper.accepted c.requires.opened.same_layout c.if-found.false c.has_room.result c.has_room.ensures c.if-not-has_room.false _ _ c.args.self.now.filer.runs (g.met.D.Disk.in_form c.args.self.now.filer.swapper.under) c.in-Err-set_size.ensures.broken_grown c.in-Err-set_size.ensures.broken_shrunk
+pub returns-in-Ok-By-clause-counted : goal.returns-in-Ok-By-clause-counted
+returns-in-Ok-By-clause-counted g c = λ is. rose_behind _ _ _ c.sight.ensures.makes.went.faults (c.resize.ensures.counted is)
 
-pub returns-in-Err-set_size-clause-wrote : goal.returns-in-Err-set_size-clause-wrote
-returns-in-Err-set_size-clause-wrote g c = some_resized_wrote c.args.id c.args.pages c.attributes_of.ensures.makes c.in-Err-set_size.ensures.stopped
+pub returns-in-Ok-By-clause-layout : goal.returns-in-Ok-By-clause-layout
+returns-in-Ok-By-clause-layout g c = c.resize.ensures.layout ∙ c.sight.ensures.layout
 
-pub returns-then-not-may_be_file-clause-bounded : goal.returns-then-not-may_be_file-clause-bounded
-returns-then-not-may_be_file-clause-bounded g c = λ spaces_of m s. on_layout c.args.self.now.filer.swapper.layout (g.D.Disk.state c.args.self.now.filer.swapper.under) (g.D.Disk.state c.args.self.now.filer.swapper.under) c.requires.size (constant _ _ _ 0 (omega arith) (omega arith))
-
-pub returns-in-Ok-None-clause-bounded : goal.returns-in-Ok-None-clause-bounded
-returns-in-Ok-None-clause-bounded g c = λ spaces_of m s. on_layout c.args.self.now.filer.swapper.layout (g.D.Disk.state c.args.self.now.filer.swapper.under) (g.D.Disk.state c.attributes_of.new.filer.swapper.under) c.requires.size (constant _ _ _ 29 (omega arith) c.attributes_of.ensures.cost)
-
-pub returns-in-Err-clause-bounded : goal.returns-in-Err-clause-bounded
-returns-in-Err-clause-bounded g c = λ spaces_of m s. on_layout c.args.self.now.filer.swapper.layout (g.D.Disk.state c.args.self.now.filer.swapper.under) (g.D.Disk.state c.attributes_of.new.filer.swapper.under) c.requires.size (constant _ _ _ 29 (omega arith) c.attributes_of.ensures.cost)
-
-pub returns-then-found-clause-bounded : goal.returns-then-found-clause-bounded
-returns-then-found-clause-bounded g c = λ spaces_of m s. on_layout c.args.self.now.filer.swapper.layout (g.D.Disk.state c.args.self.now.filer.swapper.under) (g.D.Disk.state c.attributes_of.new.filer.swapper.under) c.requires.size (constant _ _ _ 29 (omega arith) c.attributes_of.ensures.cost)
-
-pub returns-then-not-has_room-clause-bounded : goal.returns-then-not-has_room-clause-bounded
-returns-then-not-has_room-clause-bounded g c = λ spaces_of m s. on_layout c.args.self.now.filer.swapper.layout (g.D.Disk.state c.args.self.now.filer.swapper.under) (g.D.Disk.state c.attributes_of.new.filer.swapper.under) c.requires.size (constant _ _ _ 29 (omega arith) c.attributes_of.ensures.cost)
-
-pub returns-in-Ok-clause-bounded : goal.returns-in-Ok-clause-bounded
-returns-in-Ok-clause-bounded g c = λ spaces_of m s.
-    let layout = c.args.self.now.filer.swapper.layout in
-    let books = session_books spaces_of _ _ _ _ _ m s in
-    let told = subst (λ (o : Option Attributes). IsAttributesOf (shapes_of m.files c.args.id) o) c.in-Ok-Some.field-0-is (c.in-Ok-Some.ensures.told s.stands.memory (shapes_of m.files) m.spaces books) in
-    let mid = c.attributes_of.ensures.same s.stands.memory (shapes_of m.files) m.spaces books in
-    let at = books_at _ _ _ _ _ _ _ _ mid c.attributes_of.ensures.layout in
-    let paid = c.set_size.ensures.cost_told s.stands.memory (shapes_of m.files) m.spaces _ at told in
-    let within = within_room layout c.args.self.now.volume c.requires.opened.same_layout c.in-Ok-Some.found.pages c.args.pages c.has_room.result c.has_room.ensures c.if-not-has_room.false in
-    resize_told spaces_of (g.D.Disk.state c.args.self.now.filer.swapper.under) _ layout _ _ m s c.requires.opened c.args.self.now.filer.swapper.accepted c.attributes_of.new.filer.swapper.layout c.attributes_of.ensures.layout
-    (g.D.Disk.state c.attributes_of.new.filer.swapper.under) (g.D.Disk.state c.set_size.new.filer.swapper.under) c.args.id _ told c.args.pages within c.requires.size c.attributes_of.ensures.cost paid
-
-pub returns-in-Err-set_size-clause-bounded : goal.returns-in-Err-set_size-clause-bounded
-returns-in-Err-set_size-clause-bounded g c = λ spaces_of m s.
-    let layout = c.args.self.now.filer.swapper.layout in
-    let books = session_books spaces_of _ _ _ _ _ m s in
-    let told = subst (λ (o : Option Attributes). IsAttributesOf (shapes_of m.files c.args.id) o) c.in-Ok-Some.field-0-is (c.in-Ok-Some.ensures.told s.stands.memory (shapes_of m.files) m.spaces books) in
-    let mid = c.attributes_of.ensures.same s.stands.memory (shapes_of m.files) m.spaces books in
-    let at = books_at _ _ _ _ _ _ _ _ mid c.attributes_of.ensures.layout in
-    let paid = c.set_size.ensures.cost_told s.stands.memory (shapes_of m.files) m.spaces _ at told in
-    let within = within_room layout c.args.self.now.volume c.requires.opened.same_layout c.in-Ok-Some.found.pages c.args.pages c.has_room.result c.has_room.ensures c.if-not-has_room.false in
-    resize_told spaces_of (g.D.Disk.state c.args.self.now.filer.swapper.under) _ layout _ _ m s c.requires.opened c.args.self.now.filer.swapper.accepted c.attributes_of.new.filer.swapper.layout c.attributes_of.ensures.layout
-    (g.D.Disk.state c.attributes_of.new.filer.swapper.under) (g.D.Disk.state c.set_size.new.filer.swapper.under) c.args.id _ told c.args.pages within c.requires.size c.attributes_of.ensures.cost paid
+pub returns-in-Ok-By-clause-cost : goal.returns-in-Ok-By-clause-cost
+returns-in-Ok-By-clause-cost g c = λ m r.
+    let now = c.sight.ensures.runs m r in
+    spent_besides (g.D.Disk.state c.args.self.now.core.filer.swapper.under) (g.D.Disk.state c.sight.new.self.core.filer.swapper.under) (g.D.Disk.state c.resize.new.self.core.filer.swapper.under) c.sight.ensures.makes.went.sectors (let few = c.sight.ensures.cost in omega (arith, few)) (c.resize.ensures.bounded _ m now.session)

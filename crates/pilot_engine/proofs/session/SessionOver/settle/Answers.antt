@@ -5,10 +5,10 @@ use Rattle.pilot_engine.proofs.session.SessionOver.settle.Goals as goal
 
 pub returns-in-Ok-clause-wrote : goal.returns-in-Ok-clause-wrote
 returns-in-Ok-clause-wrote g c =
-    let settles : Settles (g.D.Disk.state c.args.self.now.filer.swapper.under) c.settle.result (g.D.Disk.state c.settle.new.self) = search rules in
-    wrote_settling _ _ c.args.self.now.filer.swapper.pool _ settles
+    let settles : Settles (g.D.Disk.state c.args.self.now.core.filer.swapper.under) c.settle.result (g.D.Disk.state c.settle.new.self) = search rules in
+    wrote_settling _ _ c.args.self.now.core.filer.swapper.pool _ settles
 
 pub returns-in-Err-clause-wrote : goal.returns-in-Err-clause-wrote
 returns-in-Err-clause-wrote g c =
-    let settles : Settles (g.D.Disk.state c.args.self.now.filer.swapper.under) c.settle.result (g.D.Disk.state c.settle.new.self) = search rules in
-    wrote_settling _ _ c.args.self.now.filer.swapper.pool _ settles
+    let settles : Settles (g.D.Disk.state c.args.self.now.core.filer.swapper.under) c.settle.result (g.D.Disk.state c.settle.new.self) = search rules in
+    wrote_settling _ _ c.args.self.now.core.filer.swapper.pool _ settles

@@ -1,19 +1,37 @@
 use Rattle.pilot_engine.proofs.session.SessionOver.step.Goals as goal
 
 pub returns-then-is_err-clause-carried : goal.returns-then-is_err-clause-carried
-returns-then-is_err-clause-carried g c = λ spaces_of m told s. c.answer-answer.ensures.carried spaces_of m told s
+returns-then-is_err-clause-carried g c = λ m r. c.answer-answer.ensures.carried m r
 
 pub returns-then-is_err-clause-passes : goal.returns-then-is_err-clause-passes
-returns-then-is_err-clause-passes g c = λ spaces_of m told s. c.answer-answer.ensures.passes spaces_of m told s
-
-pub returns-else-is_err-clause-carried : goal.returns-else-is_err-clause-carried
-returns-else-is_err-clause-carried g c = λ spaces_of m told s. c.answer-answer.ensures.carried spaces_of m told s
-
-pub returns-else-is_err-clause-passes : goal.returns-else-is_err-clause-passes
-returns-else-is_err-clause-passes g c = λ spaces_of m told s. c.answer-answer.ensures.passes spaces_of m told s
+returns-then-is_err-clause-passes g c = λ m r. c.answer-answer.ensures.passes m r
 
 pub returns-then-is_err-clause-cost : goal.returns-then-is_err-clause-cost
-returns-then-is_err-clause-cost g c = λ spaces_of m s. c.answer-answer.ensures.cost spaces_of m s
+returns-then-is_err-clause-cost g c = λ m r. c.answer-answer.ensures.cost m r
+
+pub returns-then-is_err-clause-sound : goal.returns-then-is_err-clause-sound
+returns-then-is_err-clause-sound g c = λ m r. c.answer-answer.ensures.sound m r
+
+pub returns-then-is_err-clause-forced : goal.returns-then-is_err-clause-forced
+returns-then-is_err-clause-forced g c = λ m told free r. c.answer-answer.ensures.forced m told free r
+
+pub returns-then-is_err-clause-advised : goal.returns-then-is_err-clause-advised
+returns-then-is_err-clause-advised g c = λ m free r. c.answer-answer.ensures.advised m free r
+
+pub returns-else-is_err-clause-carried : goal.returns-else-is_err-clause-carried
+returns-else-is_err-clause-carried g c = λ m r. c.answer-answer.ensures.carried m r
+
+pub returns-else-is_err-clause-passes : goal.returns-else-is_err-clause-passes
+returns-else-is_err-clause-passes g c = λ m r. c.answer-answer.ensures.passes m r
 
 pub returns-else-is_err-clause-cost : goal.returns-else-is_err-clause-cost
-returns-else-is_err-clause-cost g c = λ spaces_of m s. c.answer-answer.ensures.cost spaces_of m s
+returns-else-is_err-clause-cost g c = λ m r. c.answer-answer.ensures.cost m r
+
+pub returns-else-is_err-clause-sound : goal.returns-else-is_err-clause-sound
+returns-else-is_err-clause-sound g c = λ m r. c.answer-answer.ensures.sound m r
+
+pub returns-else-is_err-clause-forced : goal.returns-else-is_err-clause-forced
+returns-else-is_err-clause-forced g c = λ m told free r. c.answer-answer.ensures.forced m told free r
+
+pub returns-else-is_err-clause-advised : goal.returns-else-is_err-clause-advised
+returns-else-is_err-clause-advised g c = λ m free r. c.answer-answer.ensures.advised m free r

@@ -12,14 +12,14 @@ use Rattle.pilot_engine.proofs.session.SessionOver.write_clean.Goals as goal
 pub returns-in-Ok-clause-made : goal.returns-in-Ok-clause-made
 returns-in-Ok-clause-made g c = λ m ready.
     let r = c.args.self.now.volume.root in
-    let wrote : TellsWrite (root_write c.closed-root.result) (g.D.Disk.state c.args.self.now.filer.swapper.under) (g.D.Disk.state c.write_root.new.disk) = search rules in
-    let made = subst (λ (w : Root). TellsWrite (root_write w) (g.D.Disk.state c.args.self.now.filer.swapper.under) (g.D.Disk.state c.write_root.new.disk)) c.closed-root.ensures.closed wrote in
-    let long = g.met.D.Disk.whole c.args.self.now.filer.swapper.under ready.sectors ready.told ∙ c.requires.size in
+    let wrote : TellsWrite (root_write c.closed-root.result) (g.D.Disk.state c.args.self.now.core.filer.swapper.under) (g.D.Disk.state c.write_root.new.disk) = search rules in
+    let made = subst (λ (w : Root). TellsWrite (root_write w) (g.D.Disk.state c.args.self.now.core.filer.swapper.under) (g.D.Disk.state c.write_root.new.disk)) c.closed-root.ensures.closed wrote in
+    let long = g.met.D.Disk.whole c.args.self.now.core.filer.swapper.under ready.sectors ready.told ∙ c.requires.size in
     tells_shut m r _ _ ready (valid_at _ _ r long c.requires.opened.valid) made
 
 pub returns-in-Ok-clause-wrote : goal.returns-in-Ok-clause-wrote
 returns-in-Ok-clause-wrote g c =
-    let filer = c.args.self.now.filer in
+    let filer = c.args.self.now.core.filer in
     let r = c.args.self.now.volume.root in
     let old = g.D.Disk.state filer.swapper.under in
     let new = g.D.Disk.state c.write_root.new.disk in
@@ -32,7 +32,7 @@ returns-in-Ok-clause-wrote g c =
 
 pub returns-in-Err-clause-wrote : goal.returns-in-Err-clause-wrote
 returns-in-Err-clause-wrote g c =
-    let filer = c.args.self.now.filer in
+    let filer = c.args.self.now.core.filer in
     let r = c.args.self.now.volume.root in
     let old = g.D.Disk.state filer.swapper.under in
     let new = g.D.Disk.state c.write_root.new.disk in
@@ -46,20 +46,20 @@ returns-in-Err-clause-wrote g c =
 pub returns-in-Ok-clause-stops : goal.returns-in-Ok-clause-stops
 returns-in-Ok-clause-stops g c = λ m ready start.
     let r = c.args.self.now.volume.root in
-    let old = g.D.Disk.state c.args.self.now.filer.swapper.under in
+    let old = g.D.Disk.state c.args.self.now.core.filer.swapper.under in
     let new = g.D.Disk.state c.write_root.new.disk in
     let wrote : TellsWrite (root_write c.closed-root.result) old new = search rules in
     let made = subst (λ (w : Root). TellsWrite (root_write w) old new) c.closed-root.ensures.closed wrote in
-    let long = g.met.D.Disk.whole c.args.self.now.filer.swapper.under ready.sectors ready.told ∙ c.requires.size in
+    let long = g.met.D.Disk.whole c.args.self.now.core.filer.swapper.under ready.sectors ready.told ∙ c.requires.size in
     stops_root m r old new ready (valid_at _ _ r long c.requires.opened.valid) start (inr made)
 
 pub returns-in-Err-clause-stops : goal.returns-in-Err-clause-stops
 returns-in-Err-clause-stops g c =
     let r = c.args.self.now.volume.root in
-    let old = g.D.Disk.state c.args.self.now.filer.swapper.under in
+    let old = g.D.Disk.state c.args.self.now.core.filer.swapper.under in
     let new = g.D.Disk.state c.write_root.new.disk in
     let wrote : TellsSame old new ⊎ TellsWrite (root_write c.closed-root.result) old new = search rules in
     let either = subst (λ (w : Root). TellsSame old new ⊎ TellsWrite (root_write w) old new) c.closed-root.ensures.closed wrote in
     λ m ready start.
-    let long = g.met.D.Disk.whole c.args.self.now.filer.swapper.under ready.sectors ready.told ∙ c.requires.size in
+    let long = g.met.D.Disk.whole c.args.self.now.core.filer.swapper.under ready.sectors ready.told ∙ c.requires.size in
     stops_root m r old new ready (valid_at _ _ r long c.requires.opened.valid) start either

@@ -15,10 +15,10 @@ returns-in-Err-clause-sound g c = λ x stands. (rw (c.swapper_over-swapper.ensur
 
 pub returns-in-Ok-clause-cost : goal.returns-in-Ok-clause-cost
 returns-in-Ok-clause-cost g c =
-    few_written c.id.result 0 c.pages.result c.frames-slots.result c.frames.result.now c.args.self.now.filer.swapper.pool (g.D.Disk.state c.args.self.now.filer.swapper.under).transfers (g.D.Disk.state c.force.new.swapper.under).transfers
+    few_written c.id.result 0 c.pages.result c.frames-slots.result c.frames.result.now c.args.self.now.core.filer.swapper.pool (g.D.Disk.state c.args.self.now.core.filer.swapper.under).transfers (g.D.Disk.state c.force.new.swapper.under).transfers
     (rw c.swapper_over-swapper.ensures.value at c.frames.ensures) c.frames-slots.ensures.count c.frames-slots.ensures.most (rw c.swapper_over-swapper.ensures.value at c.force.ensures.cost)
 
 pub returns-in-Err-clause-cost : goal.returns-in-Err-clause-cost
 returns-in-Err-clause-cost g c =
-    few_written c.id.result 0 c.pages.result c.frames-slots.result c.frames.result.now c.args.self.now.filer.swapper.pool (g.D.Disk.state c.args.self.now.filer.swapper.under).transfers (g.D.Disk.state c.force.new.swapper.under).transfers
+    few_written c.id.result 0 c.pages.result c.frames-slots.result c.frames.result.now c.args.self.now.core.filer.swapper.pool (g.D.Disk.state c.args.self.now.core.filer.swapper.under).transfers (g.D.Disk.state c.force.new.swapper.under).transfers
     (rw c.swapper_over-swapper.ensures.value at c.frames.ensures) c.frames-slots.ensures.count c.frames-slots.ensures.most (rw c.swapper_over-swapper.ensures.value at c.force.ensures.cost)

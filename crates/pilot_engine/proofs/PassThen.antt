@@ -1,0 +1,150 @@
+-- What a stop leaves of a call that is carried out in two parts.
+use Rattle.std.proofs.Common.{◌≡◌, inl, inr, ℕ, zero, suc, ◌+◌, ◌-◌, ◌<◌, ◌≤◌, Bool, true, false, cond, List, ◌++◌, length, take, Option, Some, refl, sym, ◌∙◌, ap, subst, arith}
+use Rattle.std.specs.Prelude.{nat_le, option_map}
+use Rattle.std.proofs.lemmas.Bool.{cases_lt}
+use Rattle.std.proofs.lemmas.Bool.Decides.{nat_tests}
+use Rattle.labelled_disk.specs.declared.disk.DiskWrite.{DiskWrite}
+use Rattle.labelled_disk.specs.Moment.{moment}
+use Rattle.labelled_disk.specs.Root.{root_page, short_at}
+use Rattle.labelled_disk.specs.Sectors.{Sector}
+use Rattle.labelled_disk.specs.State.{DiskState}
+use Rattle.labelled_disk.specs.WriteRuns.{after_writes}
+use Rattle.labelled_disk.proofs.WriteRunLemmas.{after_writes-append, appended_then, moment-earlier}
+use Rattle.flat_machine.specs.declared.call.Call.{Call}
+use Rattle.flat_machine.specs.declared.call.Call.TheVariants as call
+use Rattle.flat_machine.specs.Machine.{Machine}
+use Rattle.file_manager.proofs.UpTo.{take_past}
+use Rattle.session_words.specs.StandsFor.{TellsSettled}
+use Rattle.running_words.specs.Stages.{Passes, stage, last_step}
+
+-- the steps of the writes up to one, and then those of later writes
+abbrev steps_then : ℕ → (ℕ → ℕ) → (ℕ → ℕ) → ℕ → ℕ
+steps_then n first later k = cond (nat_le k n) (first k) (later (k - n))
+
+then_low : (n : ℕ) (first later : ℕ → ℕ) (k : ℕ) → k ≤ n → steps_then n first later k ≡ first k
+then_low n first later k low = let a : nat_le k n ≡ true = grind (arith, nat_tests) in ap (λ (b : Bool). cond b (first k) (later (k - n))) a
+
+then_high : (n : ℕ) (first later : ℕ → ℕ) (k : ℕ) → n < k → steps_then n first later k ≡ later (k - n)
+then_high n first later k high = let a : nat_le k n ≡ false = grind (arith, nat_tests) in ap (λ (b : Bool). cond b (first k) (later (k - n))) a
+
+-- later moments begin where the earlier writes end
+later_moment : (d : List Sector) (first next : List DiskWrite) (j : ℕ) → moment d (first ++ next) (length first + j) ≡ moment (after_writes first d) next j
+later_moment d first next j = ap (λ (ws : List DiskWrite). after_writes ws d) (take_past first next j) ∙ sym (after_writes-append first (take j next) d)
+
+-- Two calls, each step of which is one of a third call.
+pub record AreParts (m n : Machine) (first later whole : Call) (one two : ℕ → ℕ) : Type 0 where
+  pub rise_one : (j k : ℕ) → j ≤ k → one j ≤ one k
+  pub rise_two : (j k : ℕ) → j ≤ k → two j ≤ two k
+  pub apart : (j k : ℕ) → j ≤ last_step m first → one j ≤ two k
+  pub few_one : (k : ℕ) → k ≤ last_step m first → one k ≤ last_step m whole
+  pub few_two : (k : ℕ) → k ≤ last_step n later → two k ≤ last_step m whole
+  pub alike_one : (d : List Sector) (k : ℕ) → TellsSettled d (stage m first k) → TellsSettled d (stage m whole (one k))
+  pub alike_two : (d : List Sector) (k : ℕ) → TellsSettled d (stage n later k) → TellsSettled d (stage m whole (two k))
+
+module _ {old mid new : DiskState} (m n : Machine) (a b c : Call) (one two : ℕ → ℕ) (parts : AreParts m n a b c one two) (first : Passes m a old mid) (later : Passes n b mid new) where
+  abbrev count : ℕ
+  count = length first.writes
+
+  abbrev early : ℕ → ℕ
+  early k = one (first.steps k)
+
+  abbrev late : ℕ → ℕ
+  late k = two (later.steps k)
+
+  abbrev step : ℕ → ℕ
+  step = steps_then count early late
+
+  rises : (j k : ℕ) → j ≤ k → step j ≤ step k
+  rises j k le = elim (cases_lt count k) [
+    | inl past_k ↦
+        let to = then_high count early late k past_k in
+        elim (cases_lt count j) [
+          | inl past ↦ let more = parts.rise_two (later.steps (j - count)) (later.steps (k - count)) (later.rise (j - count) (k - count) (omega (arith, le))) in let at = then_high count early late j past in omega (arith, more, at, to)
+          | inr few ↦ let more = parts.apart (first.steps j) (later.steps (k - count)) (first.within j) in let at = then_low count early late j few in omega (arith, more, at, to)
+        ]
+    | inr few_k ↦
+        let to = then_low count early late k few_k in
+        let at = then_low count early late j (omega (arith, le, few_k)) in
+        let more = parts.rise_one (first.steps j) (first.steps k) (first.rise j k le) in
+        omega (arith, more, at, to)
+  ]
+
+  few_steps : (k : ℕ) → step k ≤ last_step m c
+  few_steps k = elim (cases_lt count k) [
+    | inl past ↦ let most = parts.few_two (later.steps (k - count)) (later.within (k - count)) in let at = then_high count early late k past in omega (arith, most, at)
+    | inr few ↦ let most = parts.few_one (first.steps k) (first.within k) in let at = then_low count early late k few in omega (arith, most, at)
+  ]
+
+  module _ (d : List Sector) (k : ℕ) (told : old.contents ≡ Some d) where
+    told_mid : mid.contents ≡ Some (after_writes first.writes d)
+    told_mid = first.appended.contents ∙ ap (option_map (after_writes first.writes)) told
+
+    at_later : count < k → moment d (first.writes ++ later.writes) k ≡ moment (after_writes first.writes d) later.writes (k - count)
+    at_later past = let at : k ≡ count + (k - count) = omega (arith, past) in ap (moment d (first.writes ++ later.writes)) at ∙ later_moment d first.writes later.writes (k - count)
+
+    at_moment : TellsSettled (moment d (first.writes ++ later.writes) k) (stage m c (step k))
+    at_moment = elim (cases_lt count k) [
+      | inl past ↦
+          subst (λ (e : List Sector). TellsSettled e (stage m c (step k))) (sym (at_later past))
+          (subst (λ (j : ℕ). TellsSettled (moment (after_writes first.writes d) later.writes (k - count)) (stage m c j)) (sym (then_high count early late k past))
+          (parts.alike_two (moment (after_writes first.writes d) later.writes (k - count)) (later.steps (k - count)) (later.tells (after_writes first.writes d) (k - count) told_mid)))
+      | inr few ↦
+          subst (λ (e : List Sector). TellsSettled e (stage m c (step k))) (sym (moment-earlier d first.writes later.writes k few))
+          (subst (λ (j : ℕ). TellsSettled (moment d first.writes k) (stage m c j)) (sym (then_low count early late k few)) (parts.alike_one (moment d first.writes k) (first.steps k) (first.tells d k told)))
+    ]
+
+    flag_moment : short_at (root_page (moment d (first.writes ++ later.writes) k)) 10 ≡ 0
+    flag_moment = elim (cases_lt count k) [
+      | inl past ↦ subst (λ (e : List Sector). short_at (root_page e) 10 ≡ 0) (sym (at_later past)) (later.open_flag (after_writes first.writes d) (k - count) told_mid)
+      | inr few ↦ subst (λ (e : List Sector). short_at (root_page e) 10 ≡ 0) (sym (moment-earlier d first.writes later.writes k few)) (first.open_flag d k told)
+    ]
+
+  pub joined : Passes m c old new
+  joined = record {
+    writes = first.writes ++ later.writes;
+    appended = appended_then first.writes later.writes first.appended later.appended;
+    steps = step;
+    rise = rises;
+    within = few_steps;
+    tells = at_moment;
+    open_flag = flag_moment;
+  }
+
+-- A call for the volume's room changes nothing; it stands for any that only asks.
+pub stays : (m : Machine) (k : ℕ) → stage m call.Volume k ≡ m
+stays m zero = refl
+stays m (suc k) = refl
+
+-- at first nothing changes
+pub quiet_then : {old mid new : DiskState} (m n : Machine) (c b : Call) → Passes m call.Volume old mid → Passes n b mid new → last_step n b ≤ last_step m c
+    → ((d : List Sector) (k : ℕ) → TellsSettled d (stage n b k) → TellsSettled d (stage m c k)) → Passes m c old new
+quiet_then m n c b first later last alike =
+    joined m n call.Volume b c (λ k. 0) (λ k. k)
+    (record {
+      rise_one = λ j k le. omega arith;
+      rise_two = λ j k le. le;
+      apart = λ j k few. omega arith;
+      few_one = λ k few. omega arith;
+      few_two = λ k few. omega (arith, few, last);
+      alike_one = λ d k told. subst (TellsSettled d) (stays m k) told;
+      alike_two = alike;
+    }) first later
+
+-- after a question
+pub asked_then : {old mid new : DiskState} (m : Machine) (c : Call) → Passes m call.Volume old mid → Passes m c mid new → Passes m c old new
+asked_then m c first later = quiet_then m m c c first later (omega arith) (λ d k told. told)
+
+-- a call that is whole or absent, and then nothing more changes
+pub then_quiet : {old mid new : DiskState} (m n : Machine) (a c : Call) → Passes m a old mid → Passes n call.Volume mid new → last_step m a ≡ 1 → last_step m c ≡ 1
+    → ((d : List Sector) (k : ℕ) → TellsSettled d (stage m a k) → TellsSettled d (stage m c k)) → ((d : List Sector) → TellsSettled d n → TellsSettled d (stage m c 1)) → Passes m c old new
+then_quiet m n a c first later one last alike done =
+    joined m n a call.Volume c (λ k. k) (λ k. 1)
+    (record {
+      rise_one = λ j k le. le;
+      rise_two = λ j k le. omega arith;
+      apart = λ j k few. omega (arith, few, one);
+      few_one = λ k few. omega (arith, few, one, last);
+      few_two = λ k few. omega (arith, last);
+      alike_one = alike;
+      alike_two = λ d k told. done d (subst (TellsSettled d) (stays n k) told);
+    }) first later

@@ -1,0 +1,403 @@
+use Rattle.std.proofs.Common.{◌≤◌, ℕ, List, length, refl, sym, ap, subst, ◌∙◌, arith}
+use Rattle.std.proofs.lemmas.Bool.{true≢false}
+use Rattle.flat_machine.specs.References.{is_reference}
+use Rattle.pilot_engine.specs.Stepping.{waits}
+use Rattle.pilot_engine.proofs.BoundLemmas.{asked_inside}
+use Rattle.pilot_engine.proofs.LiftLemmas.{still_open}
+use Rattle.pilot_engine.proofs.StepLemmas.{none_on_spaces, nothing_told, of_pages}
+use Rattle.pilot_engine.proofs.AnonymousLemmas.{done_then, unset}
+use Rattle.fault_core.specs.Access.{last_page}
+use Rattle.fault_core.specs.Activate.{IsActive}
+use Rattle.fault_core.specs.Core.{kept}
+use Rattle.fault_core.specs.Kill.{AreWritableSo, is_absent}
+use Rattle.fault_core.specs.Range.{AreClean, AreGone}
+use Rattle.fault_core.specs.Unit.{IsReady}
+use Rattle.std.specs.Prelude.{IfOk, OnOk}
+use Rattle.running_words.specs.Running.{Carried}
+use Rattle.running_words.specs.Stages.{Passes}
+use Rattle.flat_machine.specs.Form.{IsInForm}
+use Rattle.flat_machine.specs.Refusal.{refusal}
+use Rattle.flat_machine.specs.declared.call.Call.TheVariants as call
+use Rattle.pilot_engine.proofs.session.SessionOver.answer_on_spaces.Goals as goal
+
+pub returns-in-MakeSpace-clause-carried : goal.returns-in-MakeSpace-clause-carried
+returns-in-MakeSpace-clause-carried g c = λ m r. rw c.in-MakeSpace.is (c.make_space.ensures.carried c.args.self.now.volume m r)
+
+pub returns-in-MakeSpace-clause-passes : goal.returns-in-MakeSpace-clause-passes
+returns-in-MakeSpace-clause-passes g c = λ m r. rw c.in-MakeSpace.is (c.make_space.ensures.passes c.args.self.now.volume m r)
+
+pub returns-in-MakeSpace-clause-sound : goal.returns-in-MakeSpace-clause-sound
+returns-in-MakeSpace-clause-sound g c = λ m r. c.make_space.ensures.sound c.args.self.now.volume m r
+
+pub returns-in-MakeSpace-clause-open_still : goal.returns-in-MakeSpace-clause-open_still
+returns-in-MakeSpace-clause-open_still g c = still_open _ _ _ _ c.requires.opened c.make_space.ensures.layout refl
+
+pub returns-in-MakeSpace-clause-wrote : goal.returns-in-MakeSpace-clause-wrote
+returns-in-MakeSpace-clause-wrote g c = rw c.in-MakeSpace.is c.make_space.ensures.wrote
+
+pub returns-in-MakeSpace-clause-cost : goal.returns-in-MakeSpace-clause-cost
+returns-in-MakeSpace-clause-cost g c = λ m r. c.make_space.ensures.cost
+
+pub returns-in-MakeSpace-clause-reference : goal.returns-in-MakeSpace-clause-reference
+returns-in-MakeSpace-clause-reference g c = λ told. absurd (true≢false (sym told ∙ ap is_reference c.in-MakeSpace.is))
+
+pub returns-in-MakeSpace-clause-advised : goal.returns-in-MakeSpace-clause-advised
+returns-in-MakeSpace-clause-advised g c = λ m free r. rw c.in-MakeSpace.is (nothing_told c.make_space.result)
+
+pub returns-in-MakeSpace-clause-forced : goal.returns-in-MakeSpace-clause-forced
+returns-in-MakeSpace-clause-forced g c = λ m told free r. absurd (true≢false (sym told ∙ ap waits c.in-MakeSpace.is))
+
+pub returns-in-RemoveSpace-clause-carried : goal.returns-in-RemoveSpace-clause-carried
+returns-in-RemoveSpace-clause-carried g c = λ m r. rw c.in-RemoveSpace.is (c.remove_space.ensures.carried c.args.self.now.volume m r)
+
+pub returns-in-RemoveSpace-clause-passes : goal.returns-in-RemoveSpace-clause-passes
+returns-in-RemoveSpace-clause-passes g c = λ m r. rw c.in-RemoveSpace.is (c.remove_space.ensures.passes c.args.self.now.volume m r)
+
+pub returns-in-RemoveSpace-clause-sound : goal.returns-in-RemoveSpace-clause-sound
+returns-in-RemoveSpace-clause-sound g c = λ m r. c.remove_space.ensures.sound c.args.self.now.volume m r
+
+pub returns-in-RemoveSpace-clause-open_still : goal.returns-in-RemoveSpace-clause-open_still
+returns-in-RemoveSpace-clause-open_still g c = still_open _ _ _ _ c.requires.opened c.remove_space.ensures.layout refl
+
+pub returns-in-RemoveSpace-clause-wrote : goal.returns-in-RemoveSpace-clause-wrote
+returns-in-RemoveSpace-clause-wrote g c = rw c.in-RemoveSpace.is c.remove_space.ensures.wrote
+
+pub returns-in-RemoveSpace-clause-cost : goal.returns-in-RemoveSpace-clause-cost
+returns-in-RemoveSpace-clause-cost g c = λ m r. c.remove_space.ensures.cost
+
+pub returns-in-RemoveSpace-clause-reference : goal.returns-in-RemoveSpace-clause-reference
+returns-in-RemoveSpace-clause-reference g c = λ told. absurd (true≢false (sym told ∙ ap is_reference c.in-RemoveSpace.is))
+
+pub returns-in-RemoveSpace-clause-advised : goal.returns-in-RemoveSpace-clause-advised
+returns-in-RemoveSpace-clause-advised g c = λ m free r. rw c.in-RemoveSpace.is (nothing_told c.remove_space.result)
+
+pub returns-in-RemoveSpace-clause-forced : goal.returns-in-RemoveSpace-clause-forced
+returns-in-RemoveSpace-clause-forced g c = λ m told free r. absurd (true≢false (sym told ∙ ap waits c.in-RemoveSpace.is))
+
+pub returns-in-Place-clause-carried : goal.returns-in-Place-clause-carried
+returns-in-Place-clause-carried g c = λ m r. rw c.in-Place.is (c.place.ensures.carried c.args.self.now.volume m r)
+
+pub returns-in-Place-clause-passes : goal.returns-in-Place-clause-passes
+returns-in-Place-clause-passes g c = λ m r. rw c.in-Place.is (c.place.ensures.passes c.args.self.now.volume m r)
+
+pub returns-in-Place-clause-sound : goal.returns-in-Place-clause-sound
+returns-in-Place-clause-sound g c = λ m r. c.place.ensures.sound c.args.self.now.volume m r
+
+pub returns-in-Place-clause-open_still : goal.returns-in-Place-clause-open_still
+returns-in-Place-clause-open_still g c = still_open _ _ _ _ c.requires.opened c.place.ensures.layout refl
+
+pub returns-in-Place-clause-wrote : goal.returns-in-Place-clause-wrote
+returns-in-Place-clause-wrote g c = rw c.in-Place.is c.place.ensures.wrote
+
+pub returns-in-Place-clause-cost : goal.returns-in-Place-clause-cost
+returns-in-Place-clause-cost g c = λ m r. c.place.ensures.cost
+
+pub returns-in-Place-clause-reference : goal.returns-in-Place-clause-reference
+returns-in-Place-clause-reference g c = λ told. absurd (true≢false (sym told ∙ ap is_reference c.in-Place.is))
+
+pub returns-in-Place-clause-advised : goal.returns-in-Place-clause-advised
+returns-in-Place-clause-advised g c = λ m free r. rw c.in-Place.is (nothing_told c.place.result)
+
+pub returns-in-Place-clause-forced : goal.returns-in-Place-clause-forced
+returns-in-Place-clause-forced g c = λ m told free r. absurd (true≢false (sym told ∙ ap waits c.in-Place.is))
+
+pub returns-in-Units-clause-carried : goal.returns-in-Units-clause-carried
+returns-in-Units-clause-carried g c = λ m r. rw c.in-Units.is (c.set_units.ensures.carried c.args.self.now.volume m r)
+
+pub returns-in-Units-clause-passes : goal.returns-in-Units-clause-passes
+returns-in-Units-clause-passes g c = λ m r. rw c.in-Units.is (c.set_units.ensures.passes c.args.self.now.volume m r)
+
+pub returns-in-Units-clause-sound : goal.returns-in-Units-clause-sound
+returns-in-Units-clause-sound g c = λ m r. c.set_units.ensures.sound c.args.self.now.volume m r
+
+pub returns-in-Units-clause-open_still : goal.returns-in-Units-clause-open_still
+returns-in-Units-clause-open_still g c = still_open _ _ _ _ c.requires.opened c.set_units.ensures.layout refl
+
+pub returns-in-Units-clause-wrote : goal.returns-in-Units-clause-wrote
+returns-in-Units-clause-wrote g c = rw c.in-Units.is c.set_units.ensures.wrote
+
+pub returns-in-Units-clause-cost : goal.returns-in-Units-clause-cost
+returns-in-Units-clause-cost g c = λ m r. c.set_units.ensures.cost
+
+pub returns-in-Units-clause-reference : goal.returns-in-Units-clause-reference
+returns-in-Units-clause-reference g c = λ told. absurd (true≢false (sym told ∙ ap is_reference c.in-Units.is))
+
+pub returns-in-Units-clause-advised : goal.returns-in-Units-clause-advised
+returns-in-Units-clause-advised g c = λ m free r. rw c.in-Units.is (nothing_told c.set_units.result)
+
+pub returns-in-Units-clause-forced : goal.returns-in-Units-clause-forced
+returns-in-Units-clause-forced g c = λ m told free r. absurd (true≢false (sym told ∙ ap waits c.in-Units.is))
+
+pub returns-in-Map-clause-carried : goal.returns-in-Map-clause-carried
+returns-in-Map-clause-carried g c = λ m r. rw c.in-Map.is (c.map.ensures.carried c.args.self.now.volume m r)
+
+pub returns-in-Map-clause-passes : goal.returns-in-Map-clause-passes
+returns-in-Map-clause-passes g c = λ m r. rw c.in-Map.is (c.map.ensures.passes c.args.self.now.volume m r)
+
+pub returns-in-Map-clause-sound : goal.returns-in-Map-clause-sound
+returns-in-Map-clause-sound g c = λ m r. c.map.ensures.sound c.args.self.now.volume m r
+
+pub returns-in-Map-clause-open_still : goal.returns-in-Map-clause-open_still
+returns-in-Map-clause-open_still g c = still_open _ _ _ _ c.requires.opened c.map.ensures.layout refl
+
+pub returns-in-Map-clause-wrote : goal.returns-in-Map-clause-wrote
+returns-in-Map-clause-wrote g c = rw c.in-Map.is c.map.ensures.wrote
+
+pub returns-in-Map-clause-cost : goal.returns-in-Map-clause-cost
+returns-in-Map-clause-cost g c = λ m r. c.map.ensures.cost
+
+pub returns-in-Map-clause-reference : goal.returns-in-Map-clause-reference
+returns-in-Map-clause-reference g c = λ told. absurd (true≢false (sym told ∙ ap is_reference c.in-Map.is))
+
+pub returns-in-Map-clause-advised : goal.returns-in-Map-clause-advised
+returns-in-Map-clause-advised g c = λ m free r. rw c.in-Map.is (nothing_told c.map.result)
+
+pub returns-in-Map-clause-forced : goal.returns-in-Map-clause-forced
+returns-in-Map-clause-forced g c = λ m told free r. absurd (true≢false (sym told ∙ ap waits c.in-Map.is))
+
+pub returns-in-MapAnonymous-clause-carried : goal.returns-in-MapAnonymous-clause-carried
+returns-in-MapAnonymous-clause-carried g c = λ m r. rw c.in-MapAnonymous.is (c.map_anonymous.ensures.carried m r)
+
+pub returns-in-MapAnonymous-clause-passes : goal.returns-in-MapAnonymous-clause-passes
+returns-in-MapAnonymous-clause-passes g c = λ m r. rw c.in-MapAnonymous.is (c.map_anonymous.ensures.passes m r)
+
+pub returns-in-MapAnonymous-clause-wrote : goal.returns-in-MapAnonymous-clause-wrote
+returns-in-MapAnonymous-clause-wrote g c = rw c.in-MapAnonymous.is c.map_anonymous.ensures.wrote
+
+pub returns-in-MapAnonymous-clause-cost : goal.returns-in-MapAnonymous-clause-cost
+returns-in-MapAnonymous-clause-cost g c = λ m r. c.map_anonymous.ensures.cost m r
+
+pub returns-in-MapAnonymous-clause-reference : goal.returns-in-MapAnonymous-clause-reference
+returns-in-MapAnonymous-clause-reference g c = λ told. absurd (true≢false (sym told ∙ ap is_reference c.in-MapAnonymous.is))
+
+pub returns-in-MapAnonymous-clause-advised : goal.returns-in-MapAnonymous-clause-advised
+returns-in-MapAnonymous-clause-advised g c = λ m free r. rw c.in-MapAnonymous.is (nothing_told c.map_anonymous.result)
+
+pub returns-in-MapAnonymous-clause-forced : goal.returns-in-MapAnonymous-clause-forced
+returns-in-MapAnonymous-clause-forced g c = λ m told free r. absurd (true≢false (sym told ∙ ap waits c.in-MapAnonymous.is))
+
+pub returns-in-Unmap-clause-carried : goal.returns-in-Unmap-clause-carried
+returns-in-Unmap-clause-carried g c = λ m r. rw c.in-Unmap.is (c.unmap.ensures.carried m r)
+
+pub returns-in-Unmap-clause-passes : goal.returns-in-Unmap-clause-passes
+returns-in-Unmap-clause-passes g c = λ m r. rw c.in-Unmap.is (c.unmap.ensures.passes m r)
+
+pub returns-in-Unmap-clause-wrote : goal.returns-in-Unmap-clause-wrote
+returns-in-Unmap-clause-wrote g c = rw c.in-Unmap.is c.unmap.ensures.wrote
+
+pub returns-in-Unmap-clause-cost : goal.returns-in-Unmap-clause-cost
+returns-in-Unmap-clause-cost g c = λ m r. c.unmap.ensures.cost m r
+
+pub returns-in-Unmap-clause-reference : goal.returns-in-Unmap-clause-reference
+returns-in-Unmap-clause-reference g c = λ told. absurd (true≢false (sym told ∙ ap is_reference c.in-Unmap.is))
+
+pub returns-in-Unmap-clause-advised : goal.returns-in-Unmap-clause-advised
+returns-in-Unmap-clause-advised g c = λ m free r. rw c.in-Unmap.is (nothing_told c.unmap.result)
+
+pub returns-in-Unmap-clause-forced : goal.returns-in-Unmap-clause-forced
+returns-in-Unmap-clause-forced g c = λ m told free r. done_then m c.in-Unmap.space c.unmap.new.self.core c.unmap.new.self.volume _ c.unmap.result (sym (ap (refusal m) c.in-Unmap.is) ∙ free) (c.unmap.ensures.carried m r) c.unmap.ensures.synced
+
+pub returns-in-Protect-clause-carried : goal.returns-in-Protect-clause-carried
+returns-in-Protect-clause-carried g c = λ m r. rw c.in-Protect.is (c.protect.ensures.carried c.args.self.now.volume m r)
+
+pub returns-in-Protect-clause-passes : goal.returns-in-Protect-clause-passes
+returns-in-Protect-clause-passes g c = λ m r. rw c.in-Protect.is (c.protect.ensures.passes c.args.self.now.volume m r)
+
+pub returns-in-Protect-clause-sound : goal.returns-in-Protect-clause-sound
+returns-in-Protect-clause-sound g c = λ m r. c.protect.ensures.sound c.args.self.now.volume m r
+
+pub returns-in-Protect-clause-open_still : goal.returns-in-Protect-clause-open_still
+returns-in-Protect-clause-open_still g c = still_open _ _ _ _ c.requires.opened c.protect.ensures.layout refl
+
+pub returns-in-Protect-clause-wrote : goal.returns-in-Protect-clause-wrote
+returns-in-Protect-clause-wrote g c = rw c.in-Protect.is c.protect.ensures.wrote
+
+pub returns-in-Protect-clause-cost : goal.returns-in-Protect-clause-cost
+returns-in-Protect-clause-cost g c = λ m r. c.protect.ensures.cost
+
+pub returns-in-Protect-clause-reference : goal.returns-in-Protect-clause-reference
+returns-in-Protect-clause-reference g c = λ told. absurd (true≢false (sym told ∙ ap is_reference c.in-Protect.is))
+
+pub returns-in-Protect-clause-advised : goal.returns-in-Protect-clause-advised
+returns-in-Protect-clause-advised g c = λ m free r. rw c.in-Protect.is (nothing_told c.protect.result)
+
+pub returns-in-Protect-clause-forced : goal.returns-in-Protect-clause-forced
+returns-in-Protect-clause-forced g c = λ m told free r. c.protect.ensures.synced c.args.self.now.volume m r (unset _ (sym (ap waits c.in-Protect.is) ∙ told)) (sym (ap (refusal m) c.in-Protect.is) ∙ free)
+
+pub returns-in-Load-clause-carried : goal.returns-in-Load-clause-carried
+returns-in-Load-clause-carried g c = λ m r. rw c.in-Load.is (c.load.ensures.carried c.args.self.now.volume m r)
+
+pub returns-in-Load-clause-passes : goal.returns-in-Load-clause-passes
+returns-in-Load-clause-passes g c = λ m r. rw c.in-Load.is (c.load.ensures.passes c.args.self.now.volume m r)
+
+pub returns-in-Load-clause-sound : goal.returns-in-Load-clause-sound
+returns-in-Load-clause-sound g c = λ m r. c.load.ensures.sound c.args.self.now.volume m r
+
+pub returns-in-Load-clause-open_still : goal.returns-in-Load-clause-open_still
+returns-in-Load-clause-open_still g c = still_open _ _ _ _ c.requires.opened c.load.ensures.layout refl
+
+pub returns-in-Load-clause-wrote : goal.returns-in-Load-clause-wrote
+returns-in-Load-clause-wrote g c = rw c.in-Load.is c.load.ensures.wrote
+
+pub returns-in-Load-clause-cost : goal.returns-in-Load-clause-cost
+returns-in-Load-clause-cost g c = λ m r. asked_inside (g.D.Disk.state c.args.self.now.core.filer.swapper.under) (g.D.Disk.state c.load.new.core.filer.swapper.under) 1680 (omega arith) c.load.ensures.cost
+
+pub returns-in-Load-clause-advised : goal.returns-in-Load-clause-advised
+returns-in-Load-clause-advised g c = λ m free r. rw c.in-Load.is (c.load.ensures.ready c.args.self.now.volume m r (sym (ap (refusal m) c.in-Load.is) ∙ free))
+
+pub returns-in-Load-clause-forced : goal.returns-in-Load-clause-forced
+returns-in-Load-clause-forced g c = λ m told free r. absurd (true≢false (sym told ∙ ap waits c.in-Load.is))
+
+pub returns-in-Store-clause-carried : goal.returns-in-Store-clause-carried
+returns-in-Store-clause-carried g c = λ m r.
+    rw c.in-Store.is
+    (subst (λ (bs : List ℕ). IfOk c.store.result (Carried m (call.Store c.in-Store.address bs) c.store.new.core c.args.self.now.volume)) c.as_slice.ensures.bytes (c.store.ensures.carried c.args.self.now.volume m r))
+
+pub returns-in-Store-clause-passes : goal.returns-in-Store-clause-passes
+returns-in-Store-clause-passes g c = λ m r.
+    rw c.in-Store.is
+    (subst (λ (bs : List ℕ). Passes m (call.Store c.in-Store.address bs) (g.D.Disk.state c.args.self.now.core.filer.swapper.under) (g.D.Disk.state c.store.new.core.filer.swapper.under)) c.as_slice.ensures.bytes (c.store.ensures.passes c.args.self.now.volume m r))
+
+pub returns-in-Store-clause-sound : goal.returns-in-Store-clause-sound
+returns-in-Store-clause-sound g c = λ m r. c.store.ensures.sound c.args.self.now.volume m r
+
+pub returns-in-Store-clause-open_still : goal.returns-in-Store-clause-open_still
+returns-in-Store-clause-open_still g c = still_open _ _ _ _ c.requires.opened c.store.ensures.layout refl
+
+pub returns-in-Store-clause-wrote : goal.returns-in-Store-clause-wrote
+returns-in-Store-clause-wrote g c = rw c.in-Store.is c.store.ensures.wrote
+
+pub returns-in-Store-clause-cost : goal.returns-in-Store-clause-cost
+returns-in-Store-clause-cost g c = λ m r. asked_inside (g.D.Disk.state c.args.self.now.core.filer.swapper.under) (g.D.Disk.state c.store.new.core.filer.swapper.under) 1680 (omega arith) c.store.ensures.cost
+
+pub returns-in-Store-clause-advised : goal.returns-in-Store-clause-advised
+returns-in-Store-clause-advised g c = λ m free r.
+    rw c.in-Store.is
+    (subst (λ (bs : List ℕ). OnOk c.store.result (IsReady (kept c.store.new.core) c.store.new.core.filer.swapper.pool (last_page c.in-Store.address (length bs)))) c.as_slice.ensures.bytes
+    (c.store.ensures.ready c.args.self.now.volume m r (ap (λ (bs : List ℕ). refusal m (call.Store c.in-Store.address bs)) c.as_slice.ensures.bytes ∙ sym (ap (refusal m) c.in-Store.is) ∙ free)))
+
+pub returns-in-Store-clause-forced : goal.returns-in-Store-clause-forced
+returns-in-Store-clause-forced g c = λ m told free r. absurd (true≢false (sym told ∙ ap waits c.in-Store.is))
+
+pub returns-in-Activate-clause-carried : goal.returns-in-Activate-clause-carried
+returns-in-Activate-clause-carried g c = λ m r. rw c.in-Activate.is (c.activate.ensures.carried c.args.self.now.volume m r)
+
+pub returns-in-Activate-clause-passes : goal.returns-in-Activate-clause-passes
+returns-in-Activate-clause-passes g c = λ m r. rw c.in-Activate.is (c.activate.ensures.passes c.args.self.now.volume m r)
+
+pub returns-in-Activate-clause-sound : goal.returns-in-Activate-clause-sound
+returns-in-Activate-clause-sound g c = λ m r. c.activate.ensures.sound c.args.self.now.volume m r
+
+pub returns-in-Activate-clause-open_still : goal.returns-in-Activate-clause-open_still
+returns-in-Activate-clause-open_still g c = still_open _ _ _ _ c.requires.opened c.activate.ensures.layout refl
+
+pub returns-in-Activate-clause-wrote : goal.returns-in-Activate-clause-wrote
+returns-in-Activate-clause-wrote g c = rw c.in-Activate.is c.activate.ensures.wrote
+
+pub returns-in-Activate-clause-cost : goal.returns-in-Activate-clause-cost
+returns-in-Activate-clause-cost g c = λ m r. c.activate.ensures.cost
+
+pub returns-in-Activate-clause-reference : goal.returns-in-Activate-clause-reference
+returns-in-Activate-clause-reference g c = λ told. absurd (true≢false (sym told ∙ ap is_reference c.in-Activate.is))
+
+pub returns-in-Activate-clause-advised : goal.returns-in-Activate-clause-advised
+returns-in-Activate-clause-advised g c = λ m free r. rw c.in-Activate.is (of_pages (IsActive m.spaces (kept c.activate.new.core) c.activate.new.core.filer.swapper.pool) m.spaces c.in-Activate.space c.activate.result (λ s at. c.activate.ensures.whole c.args.self.now.volume m s r at))
+
+pub returns-in-Activate-clause-forced : goal.returns-in-Activate-clause-forced
+returns-in-Activate-clause-forced g c = λ m told free r. absurd (true≢false (sym told ∙ ap waits c.in-Activate.is))
+
+pub returns-in-Deactivate-clause-carried : goal.returns-in-Deactivate-clause-carried
+returns-in-Deactivate-clause-carried g c = λ m r. rw c.in-Deactivate.is (c.deactivate.ensures.carried c.args.self.now.volume m r)
+
+pub returns-in-Deactivate-clause-passes : goal.returns-in-Deactivate-clause-passes
+returns-in-Deactivate-clause-passes g c = λ m r. rw c.in-Deactivate.is (c.deactivate.ensures.passes c.args.self.now.volume m r)
+
+pub returns-in-Deactivate-clause-sound : goal.returns-in-Deactivate-clause-sound
+returns-in-Deactivate-clause-sound g c = λ m r. c.deactivate.ensures.sound c.args.self.now.volume m r
+
+pub returns-in-Deactivate-clause-open_still : goal.returns-in-Deactivate-clause-open_still
+returns-in-Deactivate-clause-open_still g c = still_open _ _ _ _ c.requires.opened c.deactivate.ensures.layout refl
+
+pub returns-in-Deactivate-clause-wrote : goal.returns-in-Deactivate-clause-wrote
+returns-in-Deactivate-clause-wrote g c = rw c.in-Deactivate.is c.deactivate.ensures.wrote
+
+pub returns-in-Deactivate-clause-cost : goal.returns-in-Deactivate-clause-cost
+returns-in-Deactivate-clause-cost g c = λ m r. c.deactivate.ensures.cost
+
+pub returns-in-Deactivate-clause-reference : goal.returns-in-Deactivate-clause-reference
+returns-in-Deactivate-clause-reference g c = λ told. absurd (true≢false (sym told ∙ ap is_reference c.in-Deactivate.is))
+
+pub returns-in-Deactivate-clause-advised : goal.returns-in-Deactivate-clause-advised
+returns-in-Deactivate-clause-advised g c = λ m free r. rw c.in-Deactivate.is (of_pages (AreGone m.spaces c.deactivate.new.core.filer.swapper.pool) m.spaces c.in-Deactivate.space c.deactivate.result (λ s at. c.deactivate.ensures.gone c.args.self.now.volume m s r at))
+
+pub returns-in-Deactivate-clause-forced : goal.returns-in-Deactivate-clause-forced
+returns-in-Deactivate-clause-forced g c = λ m told free r. absurd (true≢false (sym told ∙ ap waits c.in-Deactivate.is))
+
+pub returns-in-Kill-clause-carried : goal.returns-in-Kill-clause-carried
+returns-in-Kill-clause-carried g c = λ m r. rw c.in-Kill.is (c.kill.ensures.carried c.args.self.now.volume m r)
+
+pub returns-in-Kill-clause-passes : goal.returns-in-Kill-clause-passes
+returns-in-Kill-clause-passes g c = λ m r. rw c.in-Kill.is (c.kill.ensures.passes c.args.self.now.volume m r)
+
+pub returns-in-Kill-clause-sound : goal.returns-in-Kill-clause-sound
+returns-in-Kill-clause-sound g c = λ m r. c.kill.ensures.sound c.args.self.now.volume m r
+
+pub returns-in-Kill-clause-open_still : goal.returns-in-Kill-clause-open_still
+returns-in-Kill-clause-open_still g c = still_open _ _ _ _ c.requires.opened c.kill.ensures.layout refl
+
+pub returns-in-Kill-clause-wrote : goal.returns-in-Kill-clause-wrote
+returns-in-Kill-clause-wrote g c = rw c.in-Kill.is c.kill.ensures.wrote
+
+pub returns-in-Kill-clause-cost : goal.returns-in-Kill-clause-cost
+returns-in-Kill-clause-cost g c = λ m r. c.kill.ensures.cost
+
+pub returns-in-Kill-clause-reference : goal.returns-in-Kill-clause-reference
+returns-in-Kill-clause-reference g c = λ told. absurd (true≢false (sym told ∙ ap is_reference c.in-Kill.is))
+
+pub returns-in-Kill-clause-advised : goal.returns-in-Kill-clause-advised
+returns-in-Kill-clause-advised g c = λ m free r. rw c.in-Kill.is (of_pages (AreWritableSo (is_absent c.kill.new.core.filer.swapper.pool) m.spaces) m.spaces c.in-Kill.space c.kill.result (λ s at. c.kill.ensures.gone c.args.self.now.volume m s r at))
+
+pub returns-in-Kill-clause-forced : goal.returns-in-Kill-clause-forced
+returns-in-Kill-clause-forced g c = λ m told free r. absurd (true≢false (sym told ∙ ap waits c.in-Kill.is))
+
+pub returns-in-ForceOut-clause-carried : goal.returns-in-ForceOut-clause-carried
+returns-in-ForceOut-clause-carried g c = λ m r. rw c.in-ForceOut.is (c.force_out.ensures.carried c.args.self.now.volume m r)
+
+pub returns-in-ForceOut-clause-passes : goal.returns-in-ForceOut-clause-passes
+returns-in-ForceOut-clause-passes g c = λ m r. rw c.in-ForceOut.is (c.force_out.ensures.passes c.args.self.now.volume m r)
+
+pub returns-in-ForceOut-clause-sound : goal.returns-in-ForceOut-clause-sound
+returns-in-ForceOut-clause-sound g c = λ m r. c.force_out.ensures.sound c.args.self.now.volume m r
+
+pub returns-in-ForceOut-clause-open_still : goal.returns-in-ForceOut-clause-open_still
+returns-in-ForceOut-clause-open_still g c = still_open _ _ _ _ c.requires.opened c.force_out.ensures.layout refl
+
+pub returns-in-ForceOut-clause-wrote : goal.returns-in-ForceOut-clause-wrote
+returns-in-ForceOut-clause-wrote g c = rw c.in-ForceOut.is c.force_out.ensures.wrote
+
+pub returns-in-ForceOut-clause-cost : goal.returns-in-ForceOut-clause-cost
+returns-in-ForceOut-clause-cost g c = λ m r. c.force_out.ensures.cost
+
+pub returns-in-ForceOut-clause-reference : goal.returns-in-ForceOut-clause-reference
+returns-in-ForceOut-clause-reference g c = λ told. absurd (true≢false (sym told ∙ ap is_reference c.in-ForceOut.is))
+
+pub returns-in-ForceOut-clause-advised : goal.returns-in-ForceOut-clause-advised
+returns-in-ForceOut-clause-advised g c = λ m free r. rw c.in-ForceOut.is (of_pages (AreClean m.spaces c.force_out.new.core.filer.swapper.pool) m.spaces c.in-ForceOut.space c.force_out.result (λ s at. c.force_out.ensures.clean c.args.self.now.volume m s r at))
+
+pub returns-in-ForceOut-clause-forced : goal.returns-in-ForceOut-clause-forced
+returns-in-ForceOut-clause-forced g c = λ m told free r. c.force_out.ensures.synced c.args.self.now.volume m r (sym (ap (refusal m) c.in-ForceOut.is) ∙ free)
+
+pub load-requires-clause-some : goal.load-requires-clause-some
+load-requires-clause-some g c = (subst IsInForm c.in-Load.is c.requires.in_form).0
+
+pub load-requires-clause-few : goal.load-requires-clause-few
+load-requires-clause-few g c = (subst IsInForm c.in-Load.is c.requires.in_form).1
+
+pub store-requires-clause-some : goal.store-requires-clause-some
+store-requires-clause-some g c = subst (λ (bs : List ℕ). 1 ≤ length bs) (sym c.as_slice.ensures.bytes) (subst IsInForm c.in-Store.is c.requires.in_form).0
+
+pub store-requires-clause-few : goal.store-requires-clause-few
+store-requires-clause-few g c = subst (λ (bs : List ℕ). length bs ≤ 64) (sym c.as_slice.ensures.bytes) (subst IsInForm c.in-Store.is c.requires.in_form).1
+
+pub unreachable-requires : goal.unreachable-requires
+unreachable-requires g c = none_on_spaces c.args.call.now c.requires.on_spaces c.in_default.not-MakeSpace c.in_default.not-RemoveSpace c.in_default.not-Place c.in_default.not-Units c.in_default.not-Map c.in_default.not-MapAnonymous c.in_default.not-Unmap c.in_default.not-Protect c.in_default.not-Load c.in_default.not-Store c.in_default.not-Activate c.in_default.not-Deactivate c.in_default.not-Kill c.in_default.not-ForceOut

@@ -1,0 +1,101 @@
+use Rattle.std.proofs.Common.{Option, ap, subst, arith}
+use Rattle.flat_machine.specs.declared.call.Call.TheVariants as call
+use Rattle.file_manager.specs.declared.attributes.Attributes.{Attributes}
+use Rattle.file_manager.specs.declared.volume.Volume.{Volume}
+use Rattle.file_manager.specs.Attributes.{IsAttributesOf}
+use Rattle.session_words.specs.Parts.{shapes_of}
+use Rattle.pilot_engine.proofs.BoundLemmas.{inside, delete_told, inside_layout}
+use Rattle.pilot_engine.proofs.CallLemmas.{delete_done, delete_passed, delete_broken, missing_after, file_told, books_at, carries_at, freed_wrote, some_freed_wrote}
+use Rattle.pilot_engine.proofs.RefusalLemmas.{delete_gone, delete_free, no_file_missing}
+use Rattle.pilot_engine.proofs.SeenLemmas.{unseen_named, unseen_pages}
+use Rattle.running_words.proofs.SessionLemmas.{session_books}
+use Rattle.running_words.proofs.StageLemmas.{no_step}
+use Rattle.pilot_engine.proofs.session.SessionOver.delete_unseen.Goals as goal
+
+pub returns-in-Ok-None-clause-carried : goal.returns-in-Ok-None-clause-carried
+returns-in-Ok-None-clause-carried g c = λ spaces_of m s unseen.
+    let books = session_books spaces_of _ _ _ _ _ m s in
+    let told = subst (λ (o : Option Attributes). IsAttributesOf (shapes_of m.files c.args.id) o) c.in-Ok-None.field-0-is (c.in-Ok-None.ensures.told s.stands.memory (shapes_of m.files) m.spaces books) in
+    missing_after spaces_of _ _ _ _ _ _ _ _ _ m s c.attributes_of.ensures.makes c.attributes_of.ensures.brings (c.attributes_of.ensures.same s.stands.memory (shapes_of m.files) m.spaces books) c.attributes_of.ensures.layout
+    c.args.id told (call.Delete c.args.id) (λ none. delete_gone m c.args.id (no_file_missing m c.args.id none))
+
+pub returns-in-Ok-None-clause-passes : goal.returns-in-Ok-None-clause-passes
+returns-in-Ok-None-clause-passes g c = λ spaces_of m s unseen. no_step spaces_of _ _ _ _ m (call.Delete c.args.id) s.stands c.attributes_of.ensures.makes (g.met.D.Disk.in_form c.args.self.now.core.filer.swapper.under)
+
+pub returns-in-Err-clause-sound : goal.returns-in-Err-clause-sound
+returns-in-Err-clause-sound g c = λ spaces_of m s unseen. c.in-Err.ensures.told s.stands.memory (shapes_of m.files) m.spaces (session_books spaces_of _ _ _ _ _ m s)
+
+pub returns-in-Err-clause-passes : goal.returns-in-Err-clause-passes
+returns-in-Err-clause-passes g c = λ spaces_of m s unseen. no_step spaces_of _ _ _ _ m (call.Delete c.args.id) s.stands c.attributes_of.ensures.makes (g.met.D.Disk.in_form c.args.self.now.core.filer.swapper.under)
+
+pub returns-in-Ok-clause-carried : goal.returns-in-Ok-clause-carried
+returns-in-Ok-clause-carried g c = λ spaces_of m s unseen.
+    let books = session_books spaces_of _ _ _ _ _ m s in
+    let told = subst (λ (o : Option Attributes). IsAttributesOf (shapes_of m.files c.args.id) o) c.in-Ok-Some.field-0-is (c.in-Ok-Some.ensures.told s.stands.memory (shapes_of m.files) m.spaces books) in
+    let mid = c.attributes_of.ensures.same s.stands.memory (shapes_of m.files) m.spaces books in
+    let at = books_at _ _ _ _ _ _ _ _ mid c.attributes_of.ensures.layout in
+    let deleted = c.in-Ok.ensures.deleted s.stands.memory (shapes_of m.files) m.spaces _ at told (unseen_pages m c.args.id unseen) in
+    let less = c.in-Ok.ensures.used s.stands.memory (shapes_of m.files) m.spaces _ at told in
+    carries_at spaces_of m (call.Delete c.args.id) _ _ _ _ _ _ _
+    (delete_done spaces_of _ _ _ _ _ _ _ _ _ m s c.attributes_of.ensures.makes c.attributes_of.ensures.brings mid c.attributes_of.ensures.layout _ _ _ _ c.args.id _ told (let f = file_told m c.args.id _ told in delete_free m c.args.id f.0 f.1 (unseen_named m c.args.id unseen) unseen)
+    (ap (λ (v : Volume). v.root.serial) c.delete.ensures.rest_of_volume) (ap (λ (v : Volume). v.root.counter) c.delete.ensures.rest_of_volume) less deleted) c.delete.ensures.layout
+
+pub returns-in-Ok-clause-passes : goal.returns-in-Ok-clause-passes
+returns-in-Ok-clause-passes g c = λ spaces_of m s unseen.
+    let books = session_books spaces_of _ _ _ _ _ m s in
+    let told = subst (λ (o : Option Attributes). IsAttributesOf (shapes_of m.files c.args.id) o) c.in-Ok-Some.field-0-is (c.in-Ok-Some.ensures.told s.stands.memory (shapes_of m.files) m.spaces books) in
+    let mid = c.attributes_of.ensures.same s.stands.memory (shapes_of m.files) m.spaces books in
+    let at = books_at _ _ _ _ _ _ _ _ mid c.attributes_of.ensures.layout in
+    let deleted = c.in-Ok.ensures.deleted s.stands.memory (shapes_of m.files) m.spaces _ at told (unseen_pages m c.args.id unseen) in
+    delete_passed spaces_of _ _ _ _ _ _ _ _ _ m s c.attributes_of.ensures.makes c.attributes_of.ensures.brings mid c.attributes_of.ensures.layout _ _ _ c.args.self.now.volume c.args.id _ told (let f = file_told m c.args.id _ told in delete_free m c.args.id f.0 f.1 (unseen_named m c.args.id unseen) unseen)
+    (g.met.D.Disk.in_form c.args.self.now.core.filer.swapper.under) deleted
+
+pub returns-in-Ok-clause-wrote : goal.returns-in-Ok-clause-wrote
+returns-in-Ok-clause-wrote g c = freed_wrote c.attributes_of.ensures.makes c.in-Ok.ensures.makes
+
+pub returns-in-Err-delete-clause-sound : goal.returns-in-Err-delete-clause-sound
+returns-in-Err-delete-clause-sound g c = λ spaces_of m s unseen.
+    let books = session_books spaces_of _ _ _ _ _ m s in
+    let told = subst (λ (o : Option Attributes). IsAttributesOf (shapes_of m.files c.args.id) o) c.in-Ok-Some.field-0-is (c.in-Ok-Some.ensures.told s.stands.memory (shapes_of m.files) m.spaces books) in
+    let mid = c.attributes_of.ensures.same s.stands.memory (shapes_of m.files) m.spaces books in
+    c.in-Err-delete.ensures.sound s.stands.memory (shapes_of m.files) m.spaces _ (books_at _ _ _ _ _ _ _ _ mid c.attributes_of.ensures.layout) told (unseen_pages m c.args.id unseen)
+
+pub returns-in-Err-delete-clause-passes : goal.returns-in-Err-delete-clause-passes
+returns-in-Err-delete-clause-passes g c = λ spaces_of m s unseen.
+    let books = session_books spaces_of _ _ _ _ _ m s in
+    let told = subst (λ (o : Option Attributes). IsAttributesOf (shapes_of m.files c.args.id) o) c.in-Ok-Some.field-0-is (c.in-Ok-Some.ensures.told s.stands.memory (shapes_of m.files) m.spaces books) in
+    let mid = c.attributes_of.ensures.same s.stands.memory (shapes_of m.files) m.spaces books in
+    let first = c.in-Err-delete.ensures.first s.stands.memory (shapes_of m.files) m.spaces _ (books_at _ _ _ _ _ _ _ _ mid c.attributes_of.ensures.layout) told (unseen_pages m c.args.id unseen) in
+    delete_broken spaces_of _ _ _ _ _ _ _ _ _ m s c.attributes_of.ensures.makes c.attributes_of.ensures.brings mid c.attributes_of.ensures.layout _ _ c.args.self.now.core.filer.runs c.args.self.now.volume c.args.id _ told (let f = file_told m c.args.id _ told in delete_free m c.args.id f.0 f.1 (unseen_named m c.args.id unseen) unseen)
+    (g.met.D.Disk.in_form c.args.self.now.core.filer.swapper.under) first
+
+pub returns-in-Err-delete-clause-wrote : goal.returns-in-Err-delete-clause-wrote
+returns-in-Err-delete-clause-wrote g c = some_freed_wrote c.attributes_of.ensures.makes c.in-Err-delete.ensures.stopped
+
+pub returns-in-Ok-None-clause-bounded : goal.returns-in-Ok-None-clause-bounded
+returns-in-Ok-None-clause-bounded g c = λ spaces_of m s. inside_layout c.args.self.now.core.filer.swapper.layout (g.D.Disk.state c.args.self.now.core.filer.swapper.under) (g.D.Disk.state c.attributes_of.new.filer.swapper.under) c.requires.size (inside _ _ _ 29 (omega arith) c.attributes_of.ensures.cost)
+
+pub returns-in-Err-clause-bounded : goal.returns-in-Err-clause-bounded
+returns-in-Err-clause-bounded g c = λ spaces_of m s. inside_layout c.args.self.now.core.filer.swapper.layout (g.D.Disk.state c.args.self.now.core.filer.swapper.under) (g.D.Disk.state c.attributes_of.new.filer.swapper.under) c.requires.size (inside _ _ _ 29 (omega arith) c.attributes_of.ensures.cost)
+
+pub returns-in-Ok-clause-bounded : goal.returns-in-Ok-clause-bounded
+returns-in-Ok-clause-bounded g c = λ spaces_of m s.
+    let layout = c.args.self.now.core.filer.swapper.layout in
+    let books = session_books spaces_of _ _ _ _ _ m s in
+    let told = subst (λ (o : Option Attributes). IsAttributesOf (shapes_of m.files c.args.id) o) c.in-Ok-Some.field-0-is (c.in-Ok-Some.ensures.told s.stands.memory (shapes_of m.files) m.spaces books) in
+    let mid = c.attributes_of.ensures.same s.stands.memory (shapes_of m.files) m.spaces books in
+    let at = books_at _ _ _ _ _ _ _ _ mid c.attributes_of.ensures.layout in
+    let paid = c.delete.ensures.cost_told s.stands.memory (shapes_of m.files) m.spaces _ at told in
+    delete_told spaces_of (g.D.Disk.state c.args.self.now.core.filer.swapper.under) _ layout _ _ m s c.requires.opened c.args.self.now.core.filer.swapper.accepted c.attributes_of.new.filer.swapper.layout c.attributes_of.ensures.layout
+    (g.D.Disk.state c.attributes_of.new.filer.swapper.under) (g.D.Disk.state c.delete.new.filer.swapper.under) c.args.id _ told c.requires.size c.attributes_of.ensures.cost paid
+
+pub returns-in-Err-delete-clause-bounded : goal.returns-in-Err-delete-clause-bounded
+returns-in-Err-delete-clause-bounded g c = λ spaces_of m s.
+    let layout = c.args.self.now.core.filer.swapper.layout in
+    let books = session_books spaces_of _ _ _ _ _ m s in
+    let told = subst (λ (o : Option Attributes). IsAttributesOf (shapes_of m.files c.args.id) o) c.in-Ok-Some.field-0-is (c.in-Ok-Some.ensures.told s.stands.memory (shapes_of m.files) m.spaces books) in
+    let mid = c.attributes_of.ensures.same s.stands.memory (shapes_of m.files) m.spaces books in
+    let at = books_at _ _ _ _ _ _ _ _ mid c.attributes_of.ensures.layout in
+    let paid = c.delete.ensures.cost_told s.stands.memory (shapes_of m.files) m.spaces _ at told in
+    delete_told spaces_of (g.D.Disk.state c.args.self.now.core.filer.swapper.under) _ layout _ _ m s c.requires.opened c.args.self.now.core.filer.swapper.accepted c.attributes_of.new.filer.swapper.layout c.attributes_of.ensures.layout
+    (g.D.Disk.state c.attributes_of.new.filer.swapper.under) (g.D.Disk.state c.delete.new.filer.swapper.under) c.args.id _ told c.requires.size c.attributes_of.ensures.cost paid

@@ -1,0 +1,26 @@
+use Rattle.pilot_engine.proofs.EndCosts.{few_gone}
+use Rattle.pilot_engine.proofs.session.SessionOver.let_all_go.Goals as goal
+
+pub returns-in-Ok-clause-alone : goal.returns-in-Ok-clause-alone
+returns-in-Ok-clause-alone g c = rw c.look_at_frames.ensures.same at c.in-Ok.ensures.alone
+
+pub returns-in-Err-clause-sound : goal.returns-in-Err-clause-sound
+returns-in-Err-clause-sound g c = rw c.look_at_frames.ensures.same at c.in-Err.ensures.sound
+
+pub returns-in-Ok-clause-stops : goal.returns-in-Ok-clause-stops
+returns-in-Ok-clause-stops g c = rw c.look_at_frames.ensures.same at c.let_root_go.ensures.stops
+
+pub returns-in-Err-clause-stops : goal.returns-in-Err-clause-stops
+returns-in-Err-clause-stops g c = rw c.look_at_frames.ensures.same at c.let_root_go.ensures.stops
+
+pub returns-in-Ok-clause-wrote : goal.returns-in-Ok-clause-wrote
+returns-in-Ok-clause-wrote g c = rw c.look_at_frames.ensures.same at c.let_root_go.ensures.wrote
+
+pub returns-in-Err-clause-wrote : goal.returns-in-Err-clause-wrote
+returns-in-Err-clause-wrote g c = rw c.look_at_frames.ensures.same at c.let_root_go.ensures.wrote
+
+pub returns-in-Ok-clause-cost : goal.returns-in-Ok-clause-cost
+returns-in-Ok-clause-cost g c = few_gone _ _ _ c.look_at_frames.ensures.few (rw c.look_at_frames.ensures.same at c.let_root_go.ensures.cost)
+
+pub returns-in-Err-clause-cost : goal.returns-in-Err-clause-cost
+returns-in-Err-clause-cost g c = few_gone _ _ _ c.look_at_frames.ensures.few (rw c.look_at_frames.ensures.same at c.let_root_go.ensures.cost)

@@ -1,0 +1,57 @@
+use Rattle.std.proofs.Common.{length, subst, sym}
+use Rattle.labelled_disk.specs.declared.layout.Layout.{Layout}
+use Rattle.fault_core.specs.Core.{kept, state}
+use Rattle.running_words.specs.RunningLaws.{IsWhole}
+use Rattle.running_words.specs.Session.{IsOpen}
+use Rattle.running_words.proofs.RunningLemmas.{running_laws}
+use Rattle.pilot_engine.proofs.AloneLemmas.{let_go_alone, own_makes, told_there}
+use Rattle.pilot_engine.proofs.EndCosts.{gone_cost}
+use Rattle.pilot_engine.proofs.StopLemmas.{stops_quiet}
+use Rattle.pilot_engine.proofs.WroteLemmas.{wrote_by}
+use Rattle.running_words.specs.Running.{exactly}
+use Rattle.pilot_engine.proofs.session.SessionOver.let_root_go.Goals as goal
+
+pub returns-in-Ok-clause-alone : goal.returns-in-Ok-clause-alone
+returns-in-Ok-clause-alone g c = λ m r.
+    let old = c.args.self.now.core in
+    let new = c.let_go.new.self in
+    let whole : IsWhole (state old) = record { layout = old.filer.swapper.accepted; size = c.requires.size } in
+    let told = told_there running_laws (state old) (state new) (kept old) (kept new) old.intervals new.intervals c.args.self.now.volume m whole r in
+    let x = r.session.stands.memory in
+    let named = r.session.stands.is.named in
+    let_go_alone running_laws (state old) (state new) (kept old) (kept new) old.intervals new.intervals c.args.self.now.volume m whole r c.let_go.ensures.reaches c.let_go.ensures.came c.let_go.ensures.intervals
+    (c.let_go.ensures.same x named m.spaces told) (c.in-Ok.ensures.gone x named m.spaces told)
+
+pub returns-in-Err-clause-sound : goal.returns-in-Err-clause-sound
+returns-in-Err-clause-sound g c = λ m r.
+    let old = c.args.self.now.core in
+    let whole : IsWhole (state old) = record { layout = old.filer.swapper.accepted; size = c.requires.size } in
+    c.in-Err.ensures.sound r.session.stands.memory r.session.stands.is.named m.spaces (running_laws.known (state old) (kept old) old.intervals c.args.self.now.volume m whole r)
+
+pub returns-in-Ok-clause-stops : goal.returns-in-Ok-clause-stops
+returns-in-Ok-clause-stops g c = λ m r.
+    stops_quiet (exactly r.pages m.spaces) _ _ _ _ m r.session.stands (g.met.D.Disk.in_form c.args.self.now.core.filer.swapper.under) (own_makes c.let_go.ensures.reaches.goes.makes)
+
+pub returns-in-Err-clause-stops : goal.returns-in-Err-clause-stops
+returns-in-Err-clause-stops g c = λ m r.
+    stops_quiet (exactly r.pages m.spaces) _ _ _ _ m r.session.stands (g.met.D.Disk.in_form c.args.self.now.core.filer.swapper.under) (own_makes c.let_go.ensures.reaches.goes.makes)
+
+pub returns-in-Ok-clause-wrote : goal.returns-in-Ok-clause-wrote
+returns-in-Ok-clause-wrote g c = wrote_by (own_makes c.let_go.ensures.reaches.goes.makes) tt
+
+pub returns-in-Err-clause-wrote : goal.returns-in-Err-clause-wrote
+returns-in-Err-clause-wrote g c = wrote_by (own_makes c.let_go.ensures.reaches.goes.makes) tt
+
+pub returns-in-Ok-clause-open_still : goal.returns-in-Ok-clause-open_still
+returns-in-Ok-clause-open_still g c = subst (λ (l : Layout). IsOpen l c.args.self.now.volume) (sym c.let_go.ensures.reaches.layout) c.requires.opened
+
+pub returns-in-Err-clause-open_still : goal.returns-in-Err-clause-open_still
+returns-in-Err-clause-open_still g c = subst (λ (l : Layout). IsOpen l c.args.self.now.volume) (sym c.let_go.ensures.reaches.layout) c.requires.opened
+
+pub returns-in-Ok-clause-cost : goal.returns-in-Ok-clause-cost
+returns-in-Ok-clause-cost g c =
+    gone_cost c.args.self.now.core.intervals (length c.args.self.now.core.filer.swapper.pool) (g.D.Disk.state c.args.self.now.core.filer.swapper.under).transfers (g.D.Disk.state c.let_go.new.self.filer.swapper.under).transfers c.args.self.now.core.few c.let_go.ensures.cost
+
+pub returns-in-Err-clause-cost : goal.returns-in-Err-clause-cost
+returns-in-Err-clause-cost g c =
+    gone_cost c.args.self.now.core.intervals (length c.args.self.now.core.filer.swapper.pool) (g.D.Disk.state c.args.self.now.core.filer.swapper.under).transfers (g.D.Disk.state c.let_go.new.self.filer.swapper.under).transfers c.args.self.now.core.few c.let_go.ensures.cost

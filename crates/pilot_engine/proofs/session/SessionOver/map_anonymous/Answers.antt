@@ -1,0 +1,139 @@
+use Rattle.std.proofs.Common.{rules, ℕ, ◌≡◌, ◌^◌, ◌≤◌, Result, Ok, Some, refl, sym, ap, subst, ◌∙◌, arith}
+use Rattle.labelled_disk.specs.declared.layout.Layout.{Layout}
+use Rattle.flat_machine.specs.declared.call.Call.TheVariants as call
+use Rattle.flat_machine.specs.declared.call.Reply.{Reply}
+use Rattle.flat_machine.specs.declared.call.Refusal.{Refusal}
+use Rattle.flat_machine.specs.declared.space.Space.{Space}
+use Rattle.flat_machine.specs.Refusal.{first_of}
+use Rattle.flat_machine.specs.Space.{space_at}
+use Rattle.projection_laws.specs.Tests.{map_row}
+use Rattle.table_calls.specs.Answers.{Tells}
+use Rattle.running_words.specs.Running.{Carried}
+use Rattle.space_calls.proofs.RunLemmas.{asked_runs, knows, reached_makes}
+use Rattle.pilot_engine.proofs.BoundLemmas.{asked_inside, spent_around}
+use Rattle.pilot_engine.proofs.LiftLemmas.{asked_passes, carried_out, refused_running, still_open}
+use Rattle.pilot_engine.proofs.NewWindow.{can_be_mapped, created, created_alike, map_refused, mapped_alike, mapped_machine, few_pages, may_have, not_created, own_space, unmapped_yet, window_carried, window_fits}
+use Rattle.pilot_engine.proofs.PassThen.{asked_then, quiet_then, then_quiet}
+use Rattle.pilot_engine.proofs.WroteLemmas.{rose_behind, wrote_by, wrote_then}
+use Rattle.pilot_engine.proofs.session.SessionOver.map_anonymous.Goals as goal
+
+pub returns-in-Ok-Err-clause-passes : goal.returns-in-Ok-Err-clause-passes
+returns-in-Ok-Err-clause-passes g c = λ m r. asked_passes c.args.self.now.core c.args.self.now.volume m (call.MapAnonymous c.args.space) r (g.met.D.Disk.in_form c.args.self.now.core.filer.swapper.under) (reached_makes c.can_map.ensures.asked.reaches)
+
+pub returns-in-Ok-Err-clause-wrote : goal.returns-in-Ok-Err-clause-wrote
+returns-in-Ok-Err-clause-wrote g c = wrote_by (reached_makes c.can_map.ensures.asked.reaches) tt
+
+pub returns-in-Ok-Err-clause-cost : goal.returns-in-Ok-Err-clause-cost
+returns-in-Ok-Err-clause-cost g c = λ m r. asked_inside (g.D.Disk.state c.args.self.now.core.filer.swapper.under) (g.D.Disk.state c.can_map.new.core.filer.swapper.under) 14364 (omega arith) c.can_map.ensures.cost
+
+pub returns-in-Ok-Err-clause-open_still : goal.returns-in-Ok-Err-clause-open_still
+returns-in-Ok-Err-clause-open_still g c = still_open _ _ _ _ c.requires.opened c.can_map.ensures.asked.reaches.layout refl
+
+pub returns-in-Ok-Err-clause-layout : goal.returns-in-Ok-Err-clause-layout
+returns-in-Ok-Err-clause-layout g c = c.can_map.ensures.asked.reaches.layout
+
+pub returns-in-Ok-Err-clause-carried : goal.returns-in-Ok-Err-clause-carried
+returns-in-Ok-Err-clause-carried g c = λ m r. refused_running _ _ m (call.MapAnonymous c.args.space) _ (asked_runs c.args.self.now.core c.args.self.now.core.filer.swapper.accepted c.requires.size c.can_map.new.core c.args.self.now.volume m c.can_map.ensures.asked r) (map_refused m c.args.space _ (λ at. (s : Space) × (space_at m.spaces c.args.space ≡ Some s) × (at ≡ (s.first, s.pages))) (subst (λ (x : Result (ℕ × ℕ) Refusal). Tells (first_of (map_row m.spaces c.args.space)) (λ at. (s : Space) × (space_at m.spaces c.args.space ≡ Some s) × (at ≡ (s.first, s.pages))) x) c.in-Ok-Err.field-0-is (c.in-Ok-Err.ensures.answer _ _ m.spaces (knows c.args.self.now.core c.args.self.now.core.filer.swapper.accepted c.requires.size c.args.self.now.volume m r))))
+
+pub returns-in-Err-clause-passes : goal.returns-in-Err-clause-passes
+returns-in-Err-clause-passes g c = λ m r. asked_passes c.args.self.now.core c.args.self.now.volume m (call.MapAnonymous c.args.space) r (g.met.D.Disk.in_form c.args.self.now.core.filer.swapper.under) (reached_makes c.can_map.ensures.asked.reaches)
+
+pub returns-in-Err-clause-wrote : goal.returns-in-Err-clause-wrote
+returns-in-Err-clause-wrote g c = wrote_by (reached_makes c.can_map.ensures.asked.reaches) tt
+
+pub returns-in-Err-clause-cost : goal.returns-in-Err-clause-cost
+returns-in-Err-clause-cost g c = λ m r. asked_inside (g.D.Disk.state c.args.self.now.core.filer.swapper.under) (g.D.Disk.state c.can_map.new.core.filer.swapper.under) 14364 (omega arith) c.can_map.ensures.cost
+
+pub returns-in-Err-clause-open_still : goal.returns-in-Err-clause-open_still
+returns-in-Err-clause-open_still g c = still_open _ _ _ _ c.requires.opened c.can_map.ensures.asked.reaches.layout refl
+
+pub returns-in-Err-clause-layout : goal.returns-in-Err-clause-layout
+returns-in-Err-clause-layout g c = c.can_map.ensures.asked.reaches.layout
+
+pub returns-in-Err-clause-sound : goal.returns-in-Err-clause-sound
+returns-in-Err-clause-sound g c = λ m r. c.in-Err.ensures.sound _ _ m.spaces (knows c.args.self.now.core c.args.self.now.core.filer.swapper.accepted c.requires.size c.args.self.now.volume m r)
+
+pub create-requires-clause-size : goal.create-requires-clause-size
+create-requires-clause-size g c = (reached_makes c.can_map.ensures.asked.reaches).went.sectors ∙ c.requires.size ∙ ap (λ (l : Layout). l.sectors) (sym c.can_map.ensures.asked.reaches.layout)
+
+pub create-requires-clause-opened : goal.create-requires-clause-opened
+create-requires-clause-opened g c = still_open _ _ _ _ c.requires.opened c.can_map.ensures.asked.reaches.layout refl
+
+pub returns-in-Err-create-clause-passes : goal.returns-in-Err-create-clause-passes
+returns-in-Err-create-clause-passes g c = λ m r.
+    let can = can_be_mapped m c.args.space c.in-Ok-Ok.run' (subst (λ (x : Result (ℕ × ℕ) Refusal). Tells (first_of (map_row m.spaces c.args.space)) (λ at. (s : Space) × (space_at m.spaces c.args.space ≡ Some s) × (at ≡ (s.first, s.pages))) x) c.in-Ok-Ok.field-0-is (c.in-Ok-Ok.ensures.answer _ _ m.spaces (knows c.args.self.now.core c.args.self.now.core.filer.swapper.accepted c.requires.size c.args.self.now.volume m r))) in
+    quiet_then m m (call.MapAnonymous c.args.space) (call.Create c.in-Ok-Ok.run'.1 0) (asked_passes c.args.self.now.core c.args.self.now.volume m call.Volume r (g.met.D.Disk.in_form c.args.self.now.core.filer.swapper.under) (reached_makes c.can_map.ensures.asked.reaches)) (c.create.ensures.passes _ m (asked_runs c.args.self.now.core c.args.self.now.core.filer.swapper.accepted c.requires.size c.can_map.new.core c.args.self.now.volume m c.can_map.ensures.asked r).session) (omega arith) (created_alike m r.session.stands.is.by.machine c.args.space c.in-Ok-Ok.run' can)
+
+pub returns-in-Err-create-clause-wrote : goal.returns-in-Err-create-clause-wrote
+returns-in-Err-create-clause-wrote g c = wrote_then (wrote_by (reached_makes c.can_map.ensures.asked.reaches) tt) c.create.ensures.wrote
+
+pub returns-in-Err-create-clause-layout : goal.returns-in-Err-create-clause-layout
+returns-in-Err-create-clause-layout g c = c.create.ensures.layout ∙ c.can_map.ensures.asked.reaches.layout
+
+pub returns-in-Err-create-clause-cost : goal.returns-in-Err-create-clause-cost
+returns-in-Err-create-clause-cost g c = λ m r. spent_around (g.D.Disk.state c.args.self.now.core.filer.swapper.under) (g.D.Disk.state c.can_map.new.core.filer.swapper.under) (g.D.Disk.state c.create.new.self.core.filer.swapper.under) (g.D.Disk.state c.create.new.self.core.filer.swapper.under) (reached_makes c.can_map.ensures.asked.reaches).went.sectors (let few = c.can_map.ensures.cost in omega (arith, few)) c.create.ensures.bounded (omega arith)
+
+pub returns-in-Err-create-clause-sound : goal.returns-in-Err-create-clause-sound
+returns-in-Err-create-clause-sound g c = λ m r. c.in-Err-create.ensures.sound _ m (asked_runs c.args.self.now.core c.args.self.now.core.filer.swapper.accepted c.requires.size c.can_map.new.core c.args.self.now.volume m c.can_map.ensures.asked r).session
+
+pub returns-in-Err-create-clause-counted : goal.returns-in-Err-create-clause-counted
+returns-in-Err-create-clause-counted g c = λ is. rose_behind _ _ _ (reached_makes c.can_map.ensures.asked.reaches).went.faults (c.in-Err-create.ensures.counted is)
+
+pub returns-in_default-clause-passes : goal.returns-in_default-clause-passes
+returns-in_default-clause-passes g c = λ m r.
+    let can = can_be_mapped m c.args.space c.in-Ok-Ok.run' (subst (λ (x : Result (ℕ × ℕ) Refusal). Tells (first_of (map_row m.spaces c.args.space)) (λ at. (s : Space) × (space_at m.spaces c.args.space ≡ Some s) × (at ≡ (s.first, s.pages))) x) c.in-Ok-Ok.field-0-is (c.in-Ok-Ok.ensures.answer _ _ m.spaces (knows c.args.self.now.core c.args.self.now.core.filer.swapper.accepted c.requires.size c.args.self.now.volume m r))) in
+    quiet_then m m (call.MapAnonymous c.args.space) (call.Create c.in-Ok-Ok.run'.1 0) (asked_passes c.args.self.now.core c.args.self.now.volume m call.Volume r (g.met.D.Disk.in_form c.args.self.now.core.filer.swapper.under) (reached_makes c.can_map.ensures.asked.reaches)) (c.create.ensures.passes _ m (asked_runs c.args.self.now.core c.args.self.now.core.filer.swapper.accepted c.requires.size c.can_map.new.core c.args.self.now.volume m c.can_map.ensures.asked r).session) (omega arith) (created_alike m r.session.stands.is.by.machine c.args.space c.in-Ok-Ok.run' can)
+
+pub returns-in_default-clause-wrote : goal.returns-in_default-clause-wrote
+returns-in_default-clause-wrote g c = wrote_then (wrote_by (reached_makes c.can_map.ensures.asked.reaches) tt) c.create.ensures.wrote
+
+pub returns-in_default-clause-layout : goal.returns-in_default-clause-layout
+returns-in_default-clause-layout g c = c.create.ensures.layout ∙ c.can_map.ensures.asked.reaches.layout
+
+pub returns-in_default-clause-cost : goal.returns-in_default-clause-cost
+returns-in_default-clause-cost g c = λ m r. spent_around (g.D.Disk.state c.args.self.now.core.filer.swapper.under) (g.D.Disk.state c.can_map.new.core.filer.swapper.under) (g.D.Disk.state c.create.new.self.core.filer.swapper.under) (g.D.Disk.state c.create.new.self.core.filer.swapper.under) (reached_makes c.can_map.ensures.asked.reaches).went.sectors (let few = c.can_map.ensures.cost in omega (arith, few)) c.create.ensures.bounded (omega arith)
+
+pub returns-in_default-clause-carried : goal.returns-in_default-clause-carried
+returns-in_default-clause-carried g c = λ m r.
+    let can = can_be_mapped m c.args.space c.in-Ok-Ok.run' (subst (λ (x : Result (ℕ × ℕ) Refusal). Tells (first_of (map_row m.spaces c.args.space)) (λ at. (s : Space) × (space_at m.spaces c.args.space ≡ Some s) × (at ≡ (s.first, s.pages))) x) c.in-Ok-Ok.field-0-is (c.in-Ok-Ok.ensures.answer _ _ m.spaces (knows c.args.self.now.core c.args.self.now.core.filer.swapper.accepted c.requires.size c.args.self.now.volume m r))) in
+    not_created m r.session.stands.is.by.machine c.args.space c.in-Ok-Ok.run' can c.create.new.self.core c.create.new.self.volume _ (carried_out c.can_map.new.core c.create.new.self.core c.args.self.now.volume c.create.new.self.volume m (call.Create c.in-Ok-Ok.run'.1 0) c.create.ensures.kept c.create.ensures.intervals refl (asked_runs c.args.self.now.core c.args.self.now.core.filer.swapper.accepted c.requires.size c.can_map.new.core c.args.self.now.volume m c.can_map.ensures.asked r) (Ok c.in-Ok.made) (λ spaces_of s. c.in-Ok.ensures.carried spaces_of m s)) c.in_default.not-File
+
+pub give_window-requires : goal.give_window-requires
+give_window-requires g c = record { size = c.create.ensures.wrote.makes.went.sectors ∙ (reached_makes c.can_map.ensures.asked.reaches).went.sectors ∙ c.requires.size ∙ ap (λ (l : Layout). l.sectors) (sym (c.create.ensures.layout ∙ c.can_map.ensures.asked.reaches.layout)) }
+
+pub returns-clause-carried : goal.returns-clause-carried
+returns-clause-carried g c = λ m r.
+    let can = can_be_mapped m c.args.space c.in-Ok-Ok.run' (subst (λ (x : Result (ℕ × ℕ) Refusal). Tells (first_of (map_row m.spaces c.args.space)) (λ at. (s : Space) × (space_at m.spaces c.args.space ≡ Some s) × (at ≡ (s.first, s.pages))) x) c.in-Ok-Ok.field-0-is (c.in-Ok-Ok.ensures.answer _ _ m.spaces (knows c.args.self.now.core c.args.self.now.core.filer.swapper.accepted c.requires.size c.args.self.now.volume m r))) in
+    let made = created m r.session.stands.is.by.machine c.args.space c.in-Ok-Ok.run' can c.create.new.self.core c.create.new.self.volume c.in-File.id (subst (λ (a : Reply). Carried m (call.Create c.in-Ok-Ok.run'.1 0) c.create.new.self.core c.create.new.self.volume a) c.in-File.is (carried_out c.can_map.new.core c.create.new.self.core c.args.self.now.volume c.create.new.self.volume m (call.Create c.in-Ok-Ok.run'.1 0) c.create.ensures.kept c.create.ensures.intervals refl (asked_runs c.args.self.now.core c.args.self.now.core.filer.swapper.accepted c.requires.size c.can_map.new.core c.args.self.now.volume m c.can_map.ensures.asked r) (Ok c.in-Ok.made) (λ spaces_of s. c.in-Ok.ensures.carried spaces_of m s))) in
+    let few : can.s.pages ≤ 2 ^ 32 = few_pages c.in-Ok-Ok.run'.1 can.s.pages can.pages (search rules) in
+    window_carried m r.session.stands.is.by.machine c.args.space c.in-Ok-Ok.run' can made.free c.in-File.id made.same_id c.give_window.new.core c.create.new.self.volume c.give_window.result (c.give_window.ensures.given c.create.new.self.volume _ can.s made.runs (may_have m r.session.stands.is.by.machine c.args.space c.in-Ok-Ok.run' can made.free) (own_space m r.session.stands.is.by.machine c.args.space c.in-Ok-Ok.run' can made.free) (unmapped_yet m r.session.stands.is.by.machine c.args.space c.in-Ok-Ok.run' can made.free) (window_fits m r.session.stands.is.by.machine c.args.space c.in-Ok-Ok.run' can made.free c.in-File.id made.same_id few) (mapped_machine m r.session.stands.is.by.machine c.args.space c.in-Ok-Ok.run' can made.free c.in-File.id made.same_id))
+
+pub returns-clause-sound : goal.returns-clause-sound
+returns-clause-sound g c = λ m r.
+    let can = can_be_mapped m c.args.space c.in-Ok-Ok.run' (subst (λ (x : Result (ℕ × ℕ) Refusal). Tells (first_of (map_row m.spaces c.args.space)) (λ at. (s : Space) × (space_at m.spaces c.args.space ≡ Some s) × (at ≡ (s.first, s.pages))) x) c.in-Ok-Ok.field-0-is (c.in-Ok-Ok.ensures.answer _ _ m.spaces (knows c.args.self.now.core c.args.self.now.core.filer.swapper.accepted c.requires.size c.args.self.now.volume m r))) in
+    let made = created m r.session.stands.is.by.machine c.args.space c.in-Ok-Ok.run' can c.create.new.self.core c.create.new.self.volume c.in-File.id (subst (λ (a : Reply). Carried m (call.Create c.in-Ok-Ok.run'.1 0) c.create.new.self.core c.create.new.self.volume a) c.in-File.is (carried_out c.can_map.new.core c.create.new.self.core c.args.self.now.volume c.create.new.self.volume m (call.Create c.in-Ok-Ok.run'.1 0) c.create.ensures.kept c.create.ensures.intervals refl (asked_runs c.args.self.now.core c.args.self.now.core.filer.swapper.accepted c.requires.size c.can_map.new.core c.args.self.now.volume m c.can_map.ensures.asked r) (Ok c.in-Ok.made) (λ spaces_of s. c.in-Ok.ensures.carried spaces_of m s))) in
+    let few : can.s.pages ≤ 2 ^ 32 = few_pages c.in-Ok-Ok.run'.1 can.s.pages can.pages (search rules) in
+    c.give_window.ensures.sound c.create.new.self.volume _ can.s made.runs (may_have m r.session.stands.is.by.machine c.args.space c.in-Ok-Ok.run' can made.free) (own_space m r.session.stands.is.by.machine c.args.space c.in-Ok-Ok.run' can made.free) (unmapped_yet m r.session.stands.is.by.machine c.args.space c.in-Ok-Ok.run' can made.free) (window_fits m r.session.stands.is.by.machine c.args.space c.in-Ok-Ok.run' can made.free c.in-File.id made.same_id few)
+
+pub returns-clause-passes : goal.returns-clause-passes
+returns-clause-passes g c = λ m r.
+    let can = can_be_mapped m c.args.space c.in-Ok-Ok.run' (subst (λ (x : Result (ℕ × ℕ) Refusal). Tells (first_of (map_row m.spaces c.args.space)) (λ at. (s : Space) × (space_at m.spaces c.args.space ≡ Some s) × (at ≡ (s.first, s.pages))) x) c.in-Ok-Ok.field-0-is (c.in-Ok-Ok.ensures.answer _ _ m.spaces (knows c.args.self.now.core c.args.self.now.core.filer.swapper.accepted c.requires.size c.args.self.now.volume m r))) in
+    let made = created m r.session.stands.is.by.machine c.args.space c.in-Ok-Ok.run' can c.create.new.self.core c.create.new.self.volume c.in-File.id (subst (λ (a : Reply). Carried m (call.Create c.in-Ok-Ok.run'.1 0) c.create.new.self.core c.create.new.self.volume a) c.in-File.is (carried_out c.can_map.new.core c.create.new.self.core c.args.self.now.volume c.create.new.self.volume m (call.Create c.in-Ok-Ok.run'.1 0) c.create.ensures.kept c.create.ensures.intervals refl (asked_runs c.args.self.now.core c.args.self.now.core.filer.swapper.accepted c.requires.size c.can_map.new.core c.args.self.now.volume m c.can_map.ensures.asked r) (Ok c.in-Ok.made) (λ spaces_of s. c.in-Ok.ensures.carried spaces_of m s))) in
+    asked_then m (call.MapAnonymous c.args.space) (asked_passes c.args.self.now.core c.args.self.now.volume m call.Volume r (g.met.D.Disk.in_form c.args.self.now.core.filer.swapper.under) (reached_makes c.can_map.ensures.asked.reaches))
+    (then_quiet m _ (call.Create c.in-Ok-Ok.run'.1 0) (call.MapAnonymous c.args.space) (c.create.ensures.passes _ m (asked_runs c.args.self.now.core c.args.self.now.core.filer.swapper.accepted c.requires.size c.can_map.new.core c.args.self.now.volume m c.can_map.ensures.asked r).session)
+    (asked_passes c.create.new.self.core c.create.new.self.volume _ call.Volume made.runs (g.met.D.Disk.in_form c.create.new.self.core.filer.swapper.under) c.give_window.ensures.makes) refl refl (created_alike m r.session.stands.is.by.machine c.args.space c.in-Ok-Ok.run' can) (mapped_alike m r.session.stands.is.by.machine c.args.space c.in-Ok-Ok.run' can made.free))
+
+pub returns-clause-wrote : goal.returns-clause-wrote
+returns-clause-wrote g c = wrote_then (wrote_by (reached_makes c.can_map.ensures.asked.reaches) tt) (wrote_then c.create.ensures.wrote (wrote_by c.give_window.ensures.makes tt))
+
+pub returns-clause-counted : goal.returns-clause-counted
+returns-clause-counted g c = λ is. rose_behind _ _ _ (reached_makes c.can_map.ensures.asked.reaches).went.faults (rose_behind _ _ _ c.create.ensures.wrote.makes.went.faults (c.give_window.ensures.counted is))
+
+pub returns-clause-open_still : goal.returns-clause-open_still
+returns-clause-open_still g c = still_open _ _ _ _ c.create.ensures.open_still c.give_window.ensures.layout refl
+
+pub returns-clause-layout : goal.returns-clause-layout
+returns-clause-layout g c = c.give_window.ensures.layout ∙ c.create.ensures.layout ∙ c.can_map.ensures.asked.reaches.layout
+
+pub returns-clause-cost : goal.returns-clause-cost
+returns-clause-cost g c = λ m r. spent_around (g.D.Disk.state c.args.self.now.core.filer.swapper.under) (g.D.Disk.state c.can_map.new.core.filer.swapper.under) (g.D.Disk.state c.create.new.self.core.filer.swapper.under) (g.D.Disk.state c.give_window.new.core.filer.swapper.under) (reached_makes c.can_map.ensures.asked.reaches).went.sectors (let few = c.can_map.ensures.cost in omega (arith, few)) c.create.ensures.bounded (let few = c.give_window.ensures.cost in omega (arith, few))

@@ -1,0 +1,67 @@
+use Rattle.std.proofs.Common.{Option, refl, subst}
+use Rattle.flat_machine.specs.declared.call.Call.TheVariants as call
+use Rattle.file_manager.specs.declared.attributes.Attributes.{Attributes}
+use Rattle.file_manager.specs.Attributes.{IsAttributesOf}
+use Rattle.session_words.specs.Parts.{shapes_of}
+use Rattle.label_calls.specs.declared.page.Mark.TheVariants.{Permanent}
+use Rattle.pilot_engine.proofs.CallLemmas.{permanent_done, permanent_passed, permanent_broken, missing_after, file_told, leader_hidden, books_at, carries_at, mark_wrote}
+use Rattle.pilot_engine.proofs.RefusalLemmas.{permanent_gone, permanent_free, no_file_missing}
+use Rattle.running_words.proofs.SessionLemmas.{session_books}
+use Rattle.running_words.proofs.StageLemmas.{no_step}
+use Rattle.pilot_engine.proofs.session.SessionOver.mark_permanent.Goals as goal
+
+pub returns-in-Ok-None-clause-carried : goal.returns-in-Ok-None-clause-carried
+returns-in-Ok-None-clause-carried g c = λ spaces_of m s named.
+    let books = session_books spaces_of _ _ _ _ _ m s in
+    let told = subst (λ (o : Option Attributes). IsAttributesOf (shapes_of m.files c.args.id) o) c.in-Ok-None.field-0-is (c.in-Ok-None.ensures.told s.stands.memory (shapes_of m.files) m.spaces books) in
+    missing_after spaces_of _ _ _ _ _ _ _ _ _ m s c.attributes_of.ensures.makes c.attributes_of.ensures.brings (c.attributes_of.ensures.same s.stands.memory (shapes_of m.files) m.spaces books) c.attributes_of.ensures.layout
+    c.args.id told (call.MakePermanent c.args.id) (λ none. permanent_gone m c.args.id (no_file_missing m c.args.id none))
+
+pub returns-in-Ok-None-clause-passes : goal.returns-in-Ok-None-clause-passes
+returns-in-Ok-None-clause-passes g c = λ spaces_of m s named. no_step spaces_of _ _ _ _ m (call.MakePermanent c.args.id) s.stands c.attributes_of.ensures.makes (g.met.D.Disk.in_form c.args.self.now.core.filer.swapper.under)
+
+pub returns-in-Err-clause-sound : goal.returns-in-Err-clause-sound
+returns-in-Err-clause-sound g c = λ spaces_of m s. c.in-Err.ensures.told s.stands.memory (shapes_of m.files) m.spaces (session_books spaces_of _ _ _ _ _ m s)
+
+pub returns-in-Err-clause-passes : goal.returns-in-Err-clause-passes
+returns-in-Err-clause-passes g c = λ spaces_of m s named. no_step spaces_of _ _ _ _ m (call.MakePermanent c.args.id) s.stands c.attributes_of.ensures.makes (g.met.D.Disk.in_form c.args.self.now.core.filer.swapper.under)
+
+pub returns-in-Ok-clause-carried : goal.returns-in-Ok-clause-carried
+returns-in-Ok-clause-carried g c = λ spaces_of m s named.
+    let books = session_books spaces_of _ _ _ _ _ m s in
+    let told = subst (λ (o : Option Attributes). IsAttributesOf (shapes_of m.files c.args.id) o) c.in-Ok-Some.field-0-is (c.in-Ok-Some.ensures.told s.stands.memory (shapes_of m.files) m.spaces books) in
+    let mid = c.attributes_of.ensures.same s.stands.memory (shapes_of m.files) m.spaces books in
+    let marked = c.in-Ok.ensures.told s.stands.memory (shapes_of m.files) m.spaces _ (books_at _ _ _ _ _ _ _ _ mid c.attributes_of.ensures.layout) told (leader_hidden spaces_of _ _ m s.stands c.args.id) in
+    carries_at spaces_of m (call.MakePermanent c.args.id) _ _ _ _ _ _ _
+    (permanent_done spaces_of _ _ _ _ _ _ _ _ _ m s c.attributes_of.ensures.makes c.attributes_of.ensures.brings mid c.attributes_of.ensures.layout _ _ _ _ refl c.args.id _ told (let f = file_told m c.args.id _ told in permanent_free m c.args.id f.0 f.1 named) marked) c.make_permanent.ensures.layout
+
+pub returns-in-Ok-clause-passes : goal.returns-in-Ok-clause-passes
+returns-in-Ok-clause-passes g c = λ spaces_of m s named.
+    let books = session_books spaces_of _ _ _ _ _ m s in
+    let told = subst (λ (o : Option Attributes). IsAttributesOf (shapes_of m.files c.args.id) o) c.in-Ok-Some.field-0-is (c.in-Ok-Some.ensures.told s.stands.memory (shapes_of m.files) m.spaces books) in
+    let mid = c.attributes_of.ensures.same s.stands.memory (shapes_of m.files) m.spaces books in
+    let marked = c.in-Ok.ensures.told s.stands.memory (shapes_of m.files) m.spaces _ (books_at _ _ _ _ _ _ _ _ mid c.attributes_of.ensures.layout) told (leader_hidden spaces_of _ _ m s.stands c.args.id) in
+    permanent_passed spaces_of _ _ _ _ _ _ _ _ c.args.self.now.volume m s c.attributes_of.ensures.makes c.attributes_of.ensures.brings mid c.attributes_of.ensures.layout _ _ _ c.args.self.now.volume refl c.args.id _ told (let f = file_told m c.args.id _ told in permanent_free m c.args.id f.0 f.1 named)
+    (g.met.D.Disk.in_form c.args.self.now.core.filer.swapper.under) marked
+
+pub returns-in-Ok-clause-wrote : goal.returns-in-Ok-clause-wrote
+returns-in-Ok-clause-wrote g c = mark_wrote Permanent c.attributes_of.ensures.makes c.make_permanent.ensures.makes
+
+pub returns-in-Err-make_permanent-clause-sound : goal.returns-in-Err-make_permanent-clause-sound
+returns-in-Err-make_permanent-clause-sound g c = λ spaces_of m s.
+    let books = session_books spaces_of _ _ _ _ _ m s in
+    let told = subst (λ (o : Option Attributes). IsAttributesOf (shapes_of m.files c.args.id) o) c.in-Ok-Some.field-0-is (c.in-Ok-Some.ensures.told s.stands.memory (shapes_of m.files) m.spaces books) in
+    let mid = c.attributes_of.ensures.same s.stands.memory (shapes_of m.files) m.spaces books in
+    c.in-Err-make_permanent.ensures.sound s.stands.memory (shapes_of m.files) m.spaces _ (books_at _ _ _ _ _ _ _ _ mid c.attributes_of.ensures.layout) told
+
+pub returns-in-Err-make_permanent-clause-wrote : goal.returns-in-Err-make_permanent-clause-wrote
+returns-in-Err-make_permanent-clause-wrote g c = mark_wrote Permanent c.attributes_of.ensures.makes c.make_permanent.ensures.makes
+
+pub returns-in-Err-make_permanent-clause-passes : goal.returns-in-Err-make_permanent-clause-passes
+returns-in-Err-make_permanent-clause-passes g c = λ spaces_of m s named.
+    let books = session_books spaces_of _ _ _ _ _ m s in
+    let told = subst (λ (o : Option Attributes). IsAttributesOf (shapes_of m.files c.args.id) o) c.in-Ok-Some.field-0-is (c.in-Ok-Some.ensures.told s.stands.memory (shapes_of m.files) m.spaces books) in
+    let mid = c.attributes_of.ensures.same s.stands.memory (shapes_of m.files) m.spaces books in
+    let broken = c.in-Err-make_permanent.ensures.broken s.stands.memory (shapes_of m.files) m.spaces _ (books_at _ _ _ _ _ _ _ _ mid c.attributes_of.ensures.layout) told in
+    permanent_broken spaces_of _ _ _ _ _ _ _ _ c.args.self.now.volume m s c.attributes_of.ensures.makes c.attributes_of.ensures.brings mid c.attributes_of.ensures.layout _ _ c.args.self.now.core.filer.runs c.args.self.now.volume refl c.args.id _ told (let f = file_told m c.args.id _ told in permanent_free m c.args.id f.0 f.1 named)
+    (g.met.D.Disk.in_form c.args.self.now.core.filer.swapper.under) broken

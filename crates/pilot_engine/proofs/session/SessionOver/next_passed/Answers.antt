@@ -1,0 +1,82 @@
+use Rattle.std.proofs.Common.{ℕ, ◌<◌, ◌≤◌, Option, Some, None, refl, sym, ap, subst, ◌∙◌, arith}
+use Rattle.std.specs.Prelude.{IfSome}
+use Rattle.labelled_disk.specs.declared.layout.Layout.{Layout}
+use Rattle.session_words.specs.Parts.{shapes_of}
+use Rattle.swapper_kernel.specs.GoesLaws.{makes_then}
+use Rattle.file_manager.specs.Answer.{IsNextFile}
+use Rattle.file_manager.proofs.Faults.{counted_then}
+use Rattle.running_words.proofs.SessionLemmas.{session_books}
+use Rattle.pilot_engine.specs.declared.sight.Sight.{Sight}
+use Rattle.pilot_engine.specs.Seen.{IsSight}
+use Rattle.pilot_engine.proofs.LiftLemmas.{searched_running}
+use Rattle.pilot_engine.proofs.session.SessionOver.next_passed.Goals as goal
+
+pub returns-in-Ok-None-clause-runs : goal.returns-in-Ok-None-clause-runs
+returns-in-Ok-None-clause-runs g c = λ m r. searched_running c.args.self.now.core (record c.args.self.now.core { filer = c.next.new.filer }) c.args.self.now.volume m r refl refl c.next.ensures.makes c.next.ensures.brings c.next.ensures.same c.next.ensures.layout
+
+pub returns-in-Err-clause-runs : goal.returns-in-Err-clause-runs
+returns-in-Err-clause-runs g c = λ m r. searched_running c.args.self.now.core (record c.args.self.now.core { filer = c.next.new.filer }) c.args.self.now.volume m r refl refl c.next.ensures.makes c.next.ensures.brings c.next.ensures.same c.next.ensures.layout
+
+pub returns-in-Ok-None-clause-turned : goal.returns-in-Ok-None-clause-turned
+returns-in-Ok-None-clause-turned g c = λ m r. subst (IsNextFile (shapes_of m.files) c.args.cursor) c.in-Ok-None.field-0-is (c.in-Ok-None.ensures.told r.session.stands.memory (shapes_of m.files) m.spaces (session_books _ _ _ _ _ _ m r.session))
+
+pub returns-in-Err-clause-sound : goal.returns-in-Err-clause-sound
+returns-in-Err-clause-sound g c = λ m r. c.in-Err.ensures.told r.session.stands.memory (shapes_of m.files) m.spaces (session_books _ _ _ _ _ _ m r.session)
+
+pub returns-in-Ok-Hidden-clause-turned : goal.returns-in-Ok-Hidden-clause-turned
+returns-in-Ok-Hidden-clause-turned g c = λ m r.
+    let now = searched_running c.args.self.now.core (record c.args.self.now.core { filer = c.next.new.filer }) c.args.self.now.volume m r refl refl c.next.ensures.makes c.next.ensures.brings c.next.ensures.same c.next.ensures.layout in
+    (subst (IsNextFile (shapes_of m.files) c.args.cursor) c.in-Ok-Some.field-0-is (c.in-Ok-Some.ensures.told r.session.stands.memory (shapes_of m.files) m.spaces (session_books _ _ _ _ _ _ m r.session)), (subst (λ (x : Sight). IsSight m c.in-Ok-Some.id x) c.in-Ok-Hidden.field-0-is (c.in-Ok-Hidden.ensures.answer m now)))
+
+pub returns-in-Ok-Hidden-clause-above : goal.returns-in-Ok-Hidden-clause-above
+returns-in-Ok-Hidden-clause-above g c = (subst (λ (o : Option ℕ). IfSome o (λ id. (c.args.cursor < id) × (16 ≤ id))) c.in-Ok-Some.field-0-is c.in-Ok-Some.ensures.above).0
+
+pub returns-in-Ok-By-clause-turned : goal.returns-in-Ok-By-clause-turned
+returns-in-Ok-By-clause-turned g c = λ m r.
+    let now = searched_running c.args.self.now.core (record c.args.self.now.core { filer = c.next.new.filer }) c.args.self.now.volume m r refl refl c.next.ensures.makes c.next.ensures.brings c.next.ensures.same c.next.ensures.layout in
+    (subst (IsNextFile (shapes_of m.files) c.args.cursor) c.in-Ok-Some.field-0-is (c.in-Ok-Some.ensures.told r.session.stands.memory (shapes_of m.files) m.spaces (session_books _ _ _ _ _ _ m r.session)), (subst (λ (x : Sight). IsSight m c.in-Ok-Some.id x) c.in-Ok-By.field-0-is (c.in-Ok-By.ensures.answer m now)).named)
+
+pub returns-in-Ok-By-clause-above : goal.returns-in-Ok-By-clause-above
+returns-in-Ok-By-clause-above g c = (subst (λ (o : Option ℕ). IfSome o (λ id. (c.args.cursor < id) × (16 ≤ id))) c.in-Ok-Some.field-0-is c.in-Ok-Some.ensures.above).0
+
+pub returns-in-Ok-Hidden-clause-runs : goal.returns-in-Ok-Hidden-clause-runs
+returns-in-Ok-Hidden-clause-runs g c = λ m r. c.sight.ensures.runs m (searched_running c.args.self.now.core (record c.args.self.now.core { filer = c.next.new.filer }) c.args.self.now.volume m r refl refl c.next.ensures.makes c.next.ensures.brings c.next.ensures.same c.next.ensures.layout)
+
+pub returns-in-Ok-Hidden-clause-makes : goal.returns-in-Ok-Hidden-clause-makes
+returns-in-Ok-Hidden-clause-makes g c = (makes_then c.next.ensures.makes c.sight.ensures.makes)
+
+pub returns-in-Ok-Hidden-clause-layout : goal.returns-in-Ok-Hidden-clause-layout
+returns-in-Ok-Hidden-clause-layout g c = c.sight.ensures.layout ∙ c.next.ensures.layout
+
+pub returns-in-Ok-Hidden-clause-cost : goal.returns-in-Ok-Hidden-clause-cost
+returns-in-Ok-Hidden-clause-cost g c = let first = c.next.ensures.cost in let later = c.sight.ensures.cost in omega (arith, first, later)
+
+pub returns-in-Ok-By-clause-runs : goal.returns-in-Ok-By-clause-runs
+returns-in-Ok-By-clause-runs g c = λ m r. c.sight.ensures.runs m (searched_running c.args.self.now.core (record c.args.self.now.core { filer = c.next.new.filer }) c.args.self.now.volume m r refl refl c.next.ensures.makes c.next.ensures.brings c.next.ensures.same c.next.ensures.layout)
+
+pub returns-in-Ok-By-clause-makes : goal.returns-in-Ok-By-clause-makes
+returns-in-Ok-By-clause-makes g c = (makes_then c.next.ensures.makes c.sight.ensures.makes)
+
+pub returns-in-Ok-By-clause-layout : goal.returns-in-Ok-By-clause-layout
+returns-in-Ok-By-clause-layout g c = c.sight.ensures.layout ∙ c.next.ensures.layout
+
+pub returns-in-Ok-By-clause-cost : goal.returns-in-Ok-By-clause-cost
+returns-in-Ok-By-clause-cost g c = let first = c.next.ensures.cost in let later = c.sight.ensures.cost in omega (arith, first, later)
+
+pub returns-in-Err-sight-clause-runs : goal.returns-in-Err-sight-clause-runs
+returns-in-Err-sight-clause-runs g c = λ m r. c.sight.ensures.runs m (searched_running c.args.self.now.core (record c.args.self.now.core { filer = c.next.new.filer }) c.args.self.now.volume m r refl refl c.next.ensures.makes c.next.ensures.brings c.next.ensures.same c.next.ensures.layout)
+
+pub returns-in-Err-sight-clause-makes : goal.returns-in-Err-sight-clause-makes
+returns-in-Err-sight-clause-makes g c = (makes_then c.next.ensures.makes c.sight.ensures.makes)
+
+pub returns-in-Err-sight-clause-layout : goal.returns-in-Err-sight-clause-layout
+returns-in-Err-sight-clause-layout g c = c.sight.ensures.layout ∙ c.next.ensures.layout
+
+pub returns-in-Err-sight-clause-cost : goal.returns-in-Err-sight-clause-cost
+returns-in-Err-sight-clause-cost g c = let first = c.next.ensures.cost in let later = c.sight.ensures.cost in omega (arith, first, later)
+
+pub returns-in-Err-sight-clause-sound : goal.returns-in-Err-sight-clause-sound
+returns-in-Err-sight-clause-sound g c = λ m r. c.in-Err-sight.ensures.sound m (searched_running c.args.self.now.core (record c.args.self.now.core { filer = c.next.new.filer }) c.args.self.now.volume m r refl refl c.next.ensures.makes c.next.ensures.brings c.next.ensures.same c.next.ensures.layout)
+
+pub returns-in-Err-sight-clause-counted : goal.returns-in-Err-sight-clause-counted
+returns-in-Err-sight-clause-counted g c = counted_then _ _ _ c.next.ensures.makes.went.faults c.in-Err-sight.ensures.counted

@@ -1,0 +1,152 @@
+use Rattle.std.proofs.Common.{Option, sym, ◌∙◌, subst, arith}
+use Rattle.flat_machine.specs.declared.call.Call.TheVariants as call
+use Rattle.flat_machine.specs.declared.call.Refusal.TheVariants as why
+use Rattle.swapper_kernel.specs.GoesLaws.{makes_nothing}
+use Rattle.session_words.specs.Parts.{shapes_of}
+use Rattle.session_words.specs.Volume.{volume_page}
+use Rattle.file_manager.specs.declared.attributes.Attributes.{Attributes}
+use Rattle.file_manager.specs.Attributes.{IsAttributesOf}
+use Rattle.pilot_engine.proofs.BoundLemmas.{inside, resize_told, inside_layout}
+use Rattle.pilot_engine.proofs.CallLemmas.{missing_after, books_at, carries_at}
+use Rattle.pilot_engine.proofs.CreateLemmas.{create_refused}
+use Rattle.pilot_engine.proofs.RefusalLemmas.{no_file_missing, size_gone}
+use Rattle.running_words.proofs.SessionLemmas.{session_books}
+use Rattle.pilot_engine.proofs.SetSizeLemmas.{within_room, never_file, immutable_refused, cut_held, cut_refused, full_refused, size_sound, size_done, size_passed, size_broken, resized_wrote, some_resized_wrote}
+use Rattle.running_words.proofs.StageLemmas.{no_step}
+use Rattle.pilot_engine.proofs.WroteLemmas.{wrote_nothing}
+use Rattle.pilot_engine.proofs.session.SessionOver.resize.Goals as goal
+
+pub returns-then-not-may_be_file-clause-carried : goal.returns-then-not-may_be_file-clause-carried
+returns-then-not-may_be_file-clause-carried g c = λ spaces_of m s by.
+    let other = sym c.may_be_file.ensures ∙ c.if-not-may_be_file.true in
+    create_refused spaces_of _ _ _ _ _ m s (call.SetSize c.args.id c.args.pages) why.File (size_gone m c.args.id (no_file_missing m c.args.id (never_file spaces_of _ _ _ _ _ m s c.args.id other)) c.args.pages)
+
+pub returns-then-not-may_be_file-clause-passes : goal.returns-then-not-may_be_file-clause-passes
+returns-then-not-may_be_file-clause-passes g c = λ spaces_of m s by. no_step spaces_of _ _ _ _ m (call.SetSize c.args.id c.args.pages) s.stands (makes_nothing volume_page _ _) (g.met.D.Disk.in_form c.args.self.now.core.filer.swapper.under)
+
+pub returns-then-not-may_be_file-clause-wrote : goal.returns-then-not-may_be_file-clause-wrote
+returns-then-not-may_be_file-clause-wrote g c = wrote_nothing _ _
+
+pub returns-in-Ok-None-clause-carried : goal.returns-in-Ok-None-clause-carried
+returns-in-Ok-None-clause-carried g c = λ spaces_of m s by.
+    let books = session_books spaces_of _ _ _ _ _ m s in
+    let told = subst (λ (o : Option Attributes). IsAttributesOf (shapes_of m.files c.args.id) o) c.in-Ok-None.field-0-is (c.in-Ok-None.ensures.told s.stands.memory (shapes_of m.files) m.spaces books) in
+    missing_after spaces_of _ _ _ _ _ _ _ _ _ m s c.attributes_of.ensures.makes c.attributes_of.ensures.brings (c.attributes_of.ensures.same s.stands.memory (shapes_of m.files) m.spaces books) c.attributes_of.ensures.layout
+    c.args.id told (call.SetSize c.args.id c.args.pages) (λ none. size_gone m c.args.id (no_file_missing m c.args.id none) c.args.pages)
+
+pub returns-in-Ok-None-clause-passes : goal.returns-in-Ok-None-clause-passes
+returns-in-Ok-None-clause-passes g c = λ spaces_of m s by. no_step spaces_of _ _ _ _ m (call.SetSize c.args.id c.args.pages) s.stands c.attributes_of.ensures.makes (g.met.D.Disk.in_form c.args.self.now.core.filer.swapper.under)
+
+pub returns-in-Err-clause-sound : goal.returns-in-Err-clause-sound
+returns-in-Err-clause-sound g c = λ spaces_of m s by. c.in-Err.ensures.told s.stands.memory (shapes_of m.files) m.spaces (session_books spaces_of _ _ _ _ _ m s)
+
+pub returns-in-Err-clause-passes : goal.returns-in-Err-clause-passes
+returns-in-Err-clause-passes g c = λ spaces_of m s by. no_step spaces_of _ _ _ _ m (call.SetSize c.args.id c.args.pages) s.stands c.attributes_of.ensures.makes (g.met.D.Disk.in_form c.args.self.now.core.filer.swapper.under)
+
+pub returns-then-found-clause-carried : goal.returns-then-found-clause-carried
+returns-then-found-clause-carried g c = λ spaces_of m s by.
+    let books = session_books spaces_of _ _ _ _ _ m s in
+    let told = subst (λ (o : Option Attributes). IsAttributesOf (shapes_of m.files c.args.id) o) c.in-Ok-Some.field-0-is (c.in-Ok-Some.ensures.told s.stands.memory (shapes_of m.files) m.spaces books) in
+    let mid = c.attributes_of.ensures.same s.stands.memory (shapes_of m.files) m.spaces books in
+    immutable_refused spaces_of _ _ _ _ _ m s _ _ _ _ c.attributes_of.ensures.makes c.attributes_of.ensures.brings mid c.attributes_of.ensures.layout c.args.id c.args.pages c.args.seen by c.in-Ok-Some.found told c.if-found.true
+
+pub returns-then-found-clause-passes : goal.returns-then-found-clause-passes
+returns-then-found-clause-passes g c = λ spaces_of m s by. no_step spaces_of _ _ _ _ m (call.SetSize c.args.id c.args.pages) s.stands c.attributes_of.ensures.makes (g.met.D.Disk.in_form c.args.self.now.core.filer.swapper.under)
+
+pub returns-then-not-has_room-clause-carried : goal.returns-then-not-has_room-clause-carried
+returns-then-not-has_room-clause-carried g c = λ spaces_of m s by.
+    let books = session_books spaces_of _ _ _ _ _ m s in
+    let told = subst (λ (o : Option Attributes). IsAttributesOf (shapes_of m.files c.args.id) o) c.in-Ok-Some.field-0-is (c.in-Ok-Some.ensures.told s.stands.memory (shapes_of m.files) m.spaces books) in
+    let mid = c.attributes_of.ensures.same s.stands.memory (shapes_of m.files) m.spaces books in
+    full_refused spaces_of _ _ _ _ _ m s _ _ _ _ c.attributes_of.ensures.makes c.attributes_of.ensures.brings mid c.attributes_of.ensures.layout c.args.id c.args.pages c.args.seen by c.in-Ok-Some.found told c.if-found.false c.args.self.now.core.filer.swapper.accepted c.requires.opened.same_layout (λ fewer. sym (c.held.ensures.cut fewer) ∙ c.in-None.is) c.has_room.result c.has_room.ensures c.if-not-has_room.true
+
+pub returns-then-not-has_room-clause-passes : goal.returns-then-not-has_room-clause-passes
+returns-then-not-has_room-clause-passes g c = λ spaces_of m s by. no_step spaces_of _ _ _ _ m (call.SetSize c.args.id c.args.pages) s.stands c.attributes_of.ensures.makes (g.met.D.Disk.in_form c.args.self.now.core.filer.swapper.under)
+
+pub returns-in-Ok-clause-carried : goal.returns-in-Ok-clause-carried
+returns-in-Ok-clause-carried g c = λ spaces_of m s by.
+    let books = session_books spaces_of _ _ _ _ _ m s in
+    let told = subst (λ (o : Option Attributes). IsAttributesOf (shapes_of m.files c.args.id) o) c.in-Ok-Some.field-0-is (c.in-Ok-Some.ensures.told s.stands.memory (shapes_of m.files) m.spaces books) in
+    let mid = c.attributes_of.ensures.same s.stands.memory (shapes_of m.files) m.spaces books in
+    carries_at spaces_of m (call.SetSize c.args.id c.args.pages) _ _ _ _ _ _ _
+    (size_done spaces_of _ _ _ _ _ m s _ _ _ _ c.attributes_of.ensures.makes c.attributes_of.ensures.brings mid c.attributes_of.ensures.layout c.args.id c.args.pages c.args.seen by c.in-Ok-Some.found told c.if-found.false c.args.self.now.core.filer.swapper.accepted c.requires.opened.same_layout (λ fewer. sym (c.held.ensures.cut fewer) ∙ c.in-None.is) c.has_room.result c.has_room.ensures c.if-not-has_room.false _ _ _ _ c.set_size.ensures.same_numbers.0 c.in-Ok.ensures.grown c.in-Ok.ensures.used_grown c.in-Ok.ensures.shrunk c.in-Ok.ensures.used_shrunk) c.set_size.ensures.layout
+
+pub returns-in-Ok-clause-passes : goal.returns-in-Ok-clause-passes
+returns-in-Ok-clause-passes g c = λ spaces_of m s by.
+    let books = session_books spaces_of _ _ _ _ _ m s in
+    let told = subst (λ (o : Option Attributes). IsAttributesOf (shapes_of m.files c.args.id) o) c.in-Ok-Some.field-0-is (c.in-Ok-Some.ensures.told s.stands.memory (shapes_of m.files) m.spaces books) in
+    let mid = c.attributes_of.ensures.same s.stands.memory (shapes_of m.files) m.spaces books in
+    size_passed spaces_of _ _ _ _ _ m s _ _ _ _ c.attributes_of.ensures.makes c.attributes_of.ensures.brings mid c.attributes_of.ensures.layout c.args.id c.args.pages c.args.seen by c.in-Ok-Some.found told c.if-found.false c.args.self.now.core.filer.swapper.accepted c.requires.opened.same_layout (λ fewer. sym (c.held.ensures.cut fewer) ∙ c.in-None.is) c.has_room.result c.has_room.ensures c.if-not-has_room.false _ _ c.set_size.new.filer.runs (g.met.D.Disk.in_form c.args.self.now.core.filer.swapper.under) c.in-Ok.ensures.grown c.in-Ok.ensures.shrunk
+
+pub returns-in-Ok-clause-wrote : goal.returns-in-Ok-clause-wrote
+returns-in-Ok-clause-wrote g c = resized_wrote c.args.id c.args.pages c.attributes_of.ensures.makes c.in-Ok.ensures.makes
+
+pub returns-in-Err-set_size-clause-sound : goal.returns-in-Err-set_size-clause-sound
+returns-in-Err-set_size-clause-sound g c = λ spaces_of m s by.
+    let books = session_books spaces_of _ _ _ _ _ m s in
+    let told = subst (λ (o : Option Attributes). IsAttributesOf (shapes_of m.files c.args.id) o) c.in-Ok-Some.field-0-is (c.in-Ok-Some.ensures.told s.stands.memory (shapes_of m.files) m.spaces books) in
+    let mid = c.attributes_of.ensures.same s.stands.memory (shapes_of m.files) m.spaces books in
+    size_sound spaces_of _ _ _ _ _ m s _ _ _ _ c.attributes_of.ensures.makes c.attributes_of.ensures.brings mid c.attributes_of.ensures.layout c.args.id c.args.pages c.args.seen by c.in-Ok-Some.found told c.if-found.false c.args.self.now.core.filer.swapper.accepted c.requires.opened.same_layout (λ fewer. sym (c.held.ensures.cut fewer) ∙ c.in-None.is) c.has_room.result c.has_room.ensures c.if-not-has_room.false _ c.in-Err-set_size.ensures.sound_grown c.in-Err-set_size.ensures.sound_shrunk
+
+pub returns-in-Err-set_size-clause-passes : goal.returns-in-Err-set_size-clause-passes
+returns-in-Err-set_size-clause-passes g c = λ spaces_of m s by.
+    let books = session_books spaces_of _ _ _ _ _ m s in
+    let told = subst (λ (o : Option Attributes). IsAttributesOf (shapes_of m.files c.args.id) o) c.in-Ok-Some.field-0-is (c.in-Ok-Some.ensures.told s.stands.memory (shapes_of m.files) m.spaces books) in
+    let mid = c.attributes_of.ensures.same s.stands.memory (shapes_of m.files) m.spaces books in
+    size_broken spaces_of _ _ _ _ _ m s _ _ _ _ c.attributes_of.ensures.makes c.attributes_of.ensures.brings mid c.attributes_of.ensures.layout c.args.id c.args.pages c.args.seen by c.in-Ok-Some.found told c.if-found.false c.args.self.now.core.filer.swapper.accepted c.requires.opened.same_layout (λ fewer. sym (c.held.ensures.cut fewer) ∙ c.in-None.is) c.has_room.result c.has_room.ensures c.if-not-has_room.false _ _ c.args.self.now.core.filer.runs (g.met.D.Disk.in_form c.args.self.now.core.filer.swapper.under) c.in-Err-set_size.ensures.broken_grown c.in-Err-set_size.ensures.broken_shrunk
+
+pub returns-in-Err-set_size-clause-wrote : goal.returns-in-Err-set_size-clause-wrote
+returns-in-Err-set_size-clause-wrote g c = some_resized_wrote c.args.id c.args.pages c.attributes_of.ensures.makes c.in-Err-set_size.ensures.stopped
+
+pub returns-then-not-may_be_file-clause-bounded : goal.returns-then-not-may_be_file-clause-bounded
+returns-then-not-may_be_file-clause-bounded g c = λ spaces_of m s. inside_layout c.args.self.now.core.filer.swapper.layout (g.D.Disk.state c.args.self.now.core.filer.swapper.under) (g.D.Disk.state c.args.self.now.core.filer.swapper.under) c.requires.size (inside _ _ _ 0 (omega arith) (omega arith))
+
+pub returns-in-Ok-None-clause-bounded : goal.returns-in-Ok-None-clause-bounded
+returns-in-Ok-None-clause-bounded g c = λ spaces_of m s. inside_layout c.args.self.now.core.filer.swapper.layout (g.D.Disk.state c.args.self.now.core.filer.swapper.under) (g.D.Disk.state c.attributes_of.new.filer.swapper.under) c.requires.size (inside _ _ _ 29 (omega arith) c.attributes_of.ensures.cost)
+
+pub returns-in-Err-clause-bounded : goal.returns-in-Err-clause-bounded
+returns-in-Err-clause-bounded g c = λ spaces_of m s. inside_layout c.args.self.now.core.filer.swapper.layout (g.D.Disk.state c.args.self.now.core.filer.swapper.under) (g.D.Disk.state c.attributes_of.new.filer.swapper.under) c.requires.size (inside _ _ _ 29 (omega arith) c.attributes_of.ensures.cost)
+
+pub returns-then-found-clause-bounded : goal.returns-then-found-clause-bounded
+returns-then-found-clause-bounded g c = λ spaces_of m s. inside_layout c.args.self.now.core.filer.swapper.layout (g.D.Disk.state c.args.self.now.core.filer.swapper.under) (g.D.Disk.state c.attributes_of.new.filer.swapper.under) c.requires.size (inside _ _ _ 29 (omega arith) c.attributes_of.ensures.cost)
+
+pub returns-then-not-has_room-clause-bounded : goal.returns-then-not-has_room-clause-bounded
+returns-then-not-has_room-clause-bounded g c = λ spaces_of m s. inside_layout c.args.self.now.core.filer.swapper.layout (g.D.Disk.state c.args.self.now.core.filer.swapper.under) (g.D.Disk.state c.attributes_of.new.filer.swapper.under) c.requires.size (inside _ _ _ 29 (omega arith) c.attributes_of.ensures.cost)
+
+pub returns-in-Ok-clause-bounded : goal.returns-in-Ok-clause-bounded
+returns-in-Ok-clause-bounded g c = λ spaces_of m s.
+    let layout = c.args.self.now.core.filer.swapper.layout in
+    let books = session_books spaces_of _ _ _ _ _ m s in
+    let told = subst (λ (o : Option Attributes). IsAttributesOf (shapes_of m.files c.args.id) o) c.in-Ok-Some.field-0-is (c.in-Ok-Some.ensures.told s.stands.memory (shapes_of m.files) m.spaces books) in
+    let mid = c.attributes_of.ensures.same s.stands.memory (shapes_of m.files) m.spaces books in
+    let at = books_at _ _ _ _ _ _ _ _ mid c.attributes_of.ensures.layout in
+    let paid = c.set_size.ensures.cost_told s.stands.memory (shapes_of m.files) m.spaces _ at told in
+    let within = within_room layout c.args.self.now.volume c.requires.opened.same_layout c.in-Ok-Some.found.pages c.args.pages c.has_room.result c.has_room.ensures c.if-not-has_room.false in
+    resize_told spaces_of (g.D.Disk.state c.args.self.now.core.filer.swapper.under) _ layout _ _ m s c.requires.opened c.args.self.now.core.filer.swapper.accepted c.attributes_of.new.filer.swapper.layout c.attributes_of.ensures.layout
+    (g.D.Disk.state c.attributes_of.new.filer.swapper.under) (g.D.Disk.state c.set_size.new.filer.swapper.under) c.args.id _ told c.args.pages within c.requires.size c.attributes_of.ensures.cost paid
+
+pub returns-in-Err-set_size-clause-bounded : goal.returns-in-Err-set_size-clause-bounded
+returns-in-Err-set_size-clause-bounded g c = λ spaces_of m s.
+    let layout = c.args.self.now.core.filer.swapper.layout in
+    let books = session_books spaces_of _ _ _ _ _ m s in
+    let told = subst (λ (o : Option Attributes). IsAttributesOf (shapes_of m.files c.args.id) o) c.in-Ok-Some.field-0-is (c.in-Ok-Some.ensures.told s.stands.memory (shapes_of m.files) m.spaces books) in
+    let mid = c.attributes_of.ensures.same s.stands.memory (shapes_of m.files) m.spaces books in
+    let at = books_at _ _ _ _ _ _ _ _ mid c.attributes_of.ensures.layout in
+    let paid = c.set_size.ensures.cost_told s.stands.memory (shapes_of m.files) m.spaces _ at told in
+    let within = within_room layout c.args.self.now.volume c.requires.opened.same_layout c.in-Ok-Some.found.pages c.args.pages c.has_room.result c.has_room.ensures c.if-not-has_room.false in
+    resize_told spaces_of (g.D.Disk.state c.args.self.now.core.filer.swapper.under) _ layout _ _ m s c.requires.opened c.args.self.now.core.filer.swapper.accepted c.attributes_of.new.filer.swapper.layout c.attributes_of.ensures.layout
+    (g.D.Disk.state c.attributes_of.new.filer.swapper.under) (g.D.Disk.state c.set_size.new.filer.swapper.under) c.args.id _ told c.args.pages within c.requires.size c.attributes_of.ensures.cost paid
+
+pub returns-in-Some-clause-carried : goal.returns-in-Some-clause-carried
+returns-in-Some-clause-carried g c = λ spaces_of m s by.
+    let books = session_books spaces_of _ _ _ _ _ m s in
+    let told = subst (λ (o : Option Attributes). IsAttributesOf (shapes_of m.files c.args.id) o) c.in-Ok-Some.field-0-is (c.in-Ok-Some.ensures.told s.stands.memory (shapes_of m.files) m.spaces books) in
+    let mid = c.attributes_of.ensures.same s.stands.memory (shapes_of m.files) m.spaces books in
+    let cut = cut_held c.in-Ok-Some.found.pages c.args.pages c.held.result c.args.seen _ c.held.ensures.cut c.held.ensures.grown c.in-Some.is in
+    cut_refused spaces_of _ _ _ _ _ m s _ _ _ _ c.attributes_of.ensures.makes c.attributes_of.ensures.brings mid c.attributes_of.ensures.layout c.args.id c.args.pages c.args.seen by c.in-Ok-Some.found told c.if-found.false cut.0 _ cut.1
+
+pub returns-in-Some-clause-passes : goal.returns-in-Some-clause-passes
+returns-in-Some-clause-passes g c = λ spaces_of m s by. no_step spaces_of _ _ _ _ m (call.SetSize c.args.id c.args.pages) s.stands c.attributes_of.ensures.makes (g.met.D.Disk.in_form c.args.self.now.core.filer.swapper.under)
+
+pub returns-in-Some-clause-bounded : goal.returns-in-Some-clause-bounded
+returns-in-Some-clause-bounded g c = λ spaces_of m s. inside_layout c.args.self.now.core.filer.swapper.layout (g.D.Disk.state c.args.self.now.core.filer.swapper.under) (g.D.Disk.state c.attributes_of.new.filer.swapper.under) c.requires.size (inside _ _ _ 29 (omega arith) c.attributes_of.ensures.cost)

@@ -1,0 +1,29 @@
+use Rattle.std.proofs.Common.{ℕ, Option, false, subst}
+use Rattle.space_tables.specs.Shows.{IsFirstWith, shows}
+use Rattle.space_tables.specs.declared.shown.Shown.{Shown}
+use Rattle.pilot_engine.proofs.SeenLemmas.{hidden_by, seen_by, seen_by_none}
+use Rattle.pilot_engine.proofs.session.SessionOver.sight.Goals as goal
+
+pub returns-then-shown-clause-answer : goal.returns-then-shown-clause-answer
+returns-then-shown-clause-answer g c = λ m r. hidden_by m r.session.stands.is.by.machine c.args.id _ _ (subst (λ (o : Option (ℕ × Shown)). IsFirstWith (shows c.args.id false) m.spaces o) c.in-Ok-Some.field-0-is (c.in-Ok-Some.ensures.answer c.args.self.now.volume m r)) c.if-shown.true
+
+pub returns-else-shown-clause-answer : goal.returns-else-shown-clause-answer
+returns-else-shown-clause-answer g c = λ m r. seen_by m r.session.stands.is.by.machine c.args.id _ _ (subst (λ (o : Option (ℕ × Shown)). IsFirstWith (shows c.args.id false) m.spaces o) c.in-Ok-Some.field-0-is (c.in-Ok-Some.ensures.answer c.args.self.now.volume m r)) c.if-shown.false
+
+pub returns-in-Ok-None-clause-answer : goal.returns-in-Ok-None-clause-answer
+returns-in-Ok-None-clause-answer g c = λ m r. seen_by_none m r.session.stands.is.by.machine c.args.id (subst (λ (o : Option (ℕ × Shown)). IsFirstWith (shows c.args.id false) m.spaces o) c.in-Ok-None.field-0-is (c.in-Ok-None.ensures.answer c.args.self.now.volume m r))
+
+pub returns-then-shown-clause-runs : goal.returns-then-shown-clause-runs
+returns-then-shown-clause-runs g c = λ m r. c.window_on.ensures.runs c.args.self.now.volume m r
+
+pub returns-else-shown-clause-runs : goal.returns-else-shown-clause-runs
+returns-else-shown-clause-runs g c = λ m r. c.window_on.ensures.runs c.args.self.now.volume m r
+
+pub returns-in-Ok-None-clause-runs : goal.returns-in-Ok-None-clause-runs
+returns-in-Ok-None-clause-runs g c = λ m r. c.window_on.ensures.runs c.args.self.now.volume m r
+
+pub returns-in-Err-clause-runs : goal.returns-in-Err-clause-runs
+returns-in-Err-clause-runs g c = λ m r. c.window_on.ensures.runs c.args.self.now.volume m r
+
+pub returns-in-Err-clause-sound : goal.returns-in-Err-clause-sound
+returns-in-Err-clause-sound g c = λ m r. c.in-Err.ensures.sound c.args.self.now.volume m r

@@ -1,0 +1,164 @@
+use Rattle.std.proofs.Common.{◌≡◌, Result, Ok, true, ◌^◌, refl, sym, ap, subst, ◌∙◌, arith}
+use Rattle.labelled_disk.specs.declared.layout.Layout.{Layout}
+use Rattle.flat_machine.specs.declared.call.Call.TheVariants as call
+use Rattle.flat_machine.specs.declared.call.Refusal.{Refusal}
+use Rattle.flat_machine.specs.Refusal.{first_of}
+use Rattle.projection_laws.specs.Tests.{window_row}
+use Rattle.space_tables.specs.declared.shown.Shown.{Shown}
+use Rattle.table_calls.specs.Answers.{Tells}
+use Rattle.space_calls.specs.Unmapping.{IsGivenUp, IsRefused, IsTaken}
+use Rattle.space_calls.proofs.RunLemmas.{reached_makes}
+use Rattle.running_words.specs.Running.{Runs}
+use Rattle.pilot_engine.proofs.AnonymousLemmas.{hidden_alike, hidden_carried, is_set, left_unseen, not_taken, passes_still, plain_carried, refused_undone, took, unset, waited_carried}
+use Rattle.pilot_engine.proofs.BoundLemmas.{asked_inside, spent_around, spent_besides}
+use Rattle.pilot_engine.proofs.LiftLemmas.{asked_passes, carried_out, refused_running, still_open}
+use Rattle.pilot_engine.proofs.PassThen.{quiet_then}
+use Rattle.pilot_engine.proofs.WroteLemmas.{rose_behind, wrote_by, wrote_then}
+use Rattle.pilot_engine.proofs.session.SessionOver.unmap.Goals as goal
+
+pub returns-in-Ok-Err-clause-passes : goal.returns-in-Ok-Err-clause-passes
+returns-in-Ok-Err-clause-passes g c = λ m r. asked_passes c.args.self.now.core c.args.self.now.volume m (call.Unmap c.args.space) r (g.met.D.Disk.in_form c.args.self.now.core.filer.swapper.under) c.take_window.ensures.makes
+
+pub returns-in-Ok-Err-clause-wrote : goal.returns-in-Ok-Err-clause-wrote
+returns-in-Ok-Err-clause-wrote g c = wrote_by c.take_window.ensures.makes tt
+
+pub returns-in-Ok-Err-clause-cost : goal.returns-in-Ok-Err-clause-cost
+returns-in-Ok-Err-clause-cost g c = λ m r. asked_inside (g.D.Disk.state c.args.self.now.core.filer.swapper.under) (g.D.Disk.state c.take_window.new.core.filer.swapper.under) (2 ^ 23) (omega arith) c.take_window.ensures.cost
+
+pub returns-in-Ok-Err-clause-open_still : goal.returns-in-Ok-Err-clause-open_still
+returns-in-Ok-Err-clause-open_still g c = still_open _ _ _ _ c.requires.opened c.take_window.ensures.layout refl
+
+pub returns-in-Ok-Err-clause-carried : goal.returns-in-Ok-Err-clause-carried
+returns-in-Ok-Err-clause-carried g c = λ m r.
+    refused_running _ _ m (call.Unmap c.args.space) _ (subst (λ (x : Result Shown Refusal). IsRefused (Runs c.take_window.new.core c.args.self.now.volume m) x) c.in-Ok-Err.field-0-is (c.in-Ok-Err.ensures.refused c.args.self.now.volume m r))
+    (not_taken m c.args.space _ (λ n. Runs c.take_window.new.core c.args.self.now.volume n) (subst (λ (x : Result Shown Refusal). Tells (first_of (window_row m.spaces c.args.space)) (IsTaken m c.args.space (λ n. Runs c.take_window.new.core c.args.self.now.volume n)) x) c.in-Ok-Err.field-0-is (c.in-Ok-Err.ensures.taken c.args.self.now.volume m r)))
+
+pub returns-in-Err-clause-passes : goal.returns-in-Err-clause-passes
+returns-in-Err-clause-passes g c = λ m r. asked_passes c.args.self.now.core c.args.self.now.volume m (call.Unmap c.args.space) r (g.met.D.Disk.in_form c.args.self.now.core.filer.swapper.under) c.take_window.ensures.makes
+
+pub returns-in-Err-clause-wrote : goal.returns-in-Err-clause-wrote
+returns-in-Err-clause-wrote g c = wrote_by c.take_window.ensures.makes tt
+
+pub returns-in-Err-clause-cost : goal.returns-in-Err-clause-cost
+returns-in-Err-clause-cost g c = λ m r. asked_inside (g.D.Disk.state c.args.self.now.core.filer.swapper.under) (g.D.Disk.state c.take_window.new.core.filer.swapper.under) (2 ^ 23) (omega arith) c.take_window.ensures.cost
+
+pub returns-in-Err-clause-open_still : goal.returns-in-Err-clause-open_still
+returns-in-Err-clause-open_still g c = still_open _ _ _ _ c.requires.opened c.take_window.ensures.layout refl
+
+pub returns-in-Err-clause-sound : goal.returns-in-Err-clause-sound
+returns-in-Err-clause-sound g c = λ m r. c.in-Err.ensures.sound c.args.self.now.volume m r
+
+pub returns-then-not-shown-clause-passes : goal.returns-then-not-shown-clause-passes
+returns-then-not-shown-clause-passes g c = λ m r. asked_passes c.args.self.now.core c.args.self.now.volume m (call.Unmap c.args.space) r (g.met.D.Disk.in_form c.args.self.now.core.filer.swapper.under) c.take_window.ensures.makes
+
+pub returns-then-not-shown-clause-wrote : goal.returns-then-not-shown-clause-wrote
+returns-then-not-shown-clause-wrote g c = wrote_by c.take_window.ensures.makes tt
+
+pub returns-then-not-shown-clause-cost : goal.returns-then-not-shown-clause-cost
+returns-then-not-shown-clause-cost g c = λ m r. asked_inside (g.D.Disk.state c.args.self.now.core.filer.swapper.under) (g.D.Disk.state c.take_window.new.core.filer.swapper.under) (2 ^ 23) (omega arith) c.take_window.ensures.cost
+
+pub returns-then-not-shown-clause-open_still : goal.returns-then-not-shown-clause-open_still
+returns-then-not-shown-clause-open_still g c = still_open _ _ _ _ c.requires.opened c.take_window.ensures.layout refl
+
+pub returns-then-not-shown-clause-carried : goal.returns-then-not-shown-clause-carried
+returns-then-not-shown-clause-carried g c = λ m r.
+    let t = took m c.args.space c.in-Ok-Ok.shown (λ n. Runs c.take_window.new.core c.args.self.now.volume n) (subst (λ (x : Result Shown Refusal). Tells (first_of (window_row m.spaces c.args.space)) (IsTaken m c.args.space (λ n. Runs c.take_window.new.core c.args.self.now.volume n)) x) c.in-Ok-Ok.field-0-is (c.in-Ok-Ok.ensures.taken c.args.self.now.volume m r)) in
+    plain_carried m r.session.stands.is.by.machine c.args.space t.s t.here c.in-Ok-Ok.shown t.window t.free c.take_window.new.core c.args.self.now.volume (unset _ c.if-not-shown.true) t.left
+
+pub delete_unseen-requires-clause-size : goal.delete_unseen-requires-clause-size
+delete_unseen-requires-clause-size g c = c.take_window.ensures.makes.went.sectors ∙ c.requires.size ∙ ap (λ (l : Layout). l.sectors) (sym c.take_window.ensures.layout)
+
+pub delete_unseen-requires-clause-opened : goal.delete_unseen-requires-clause-opened
+delete_unseen-requires-clause-opened g c = still_open _ _ _ _ c.requires.opened c.take_window.ensures.layout refl
+
+pub returns-in-Err-delete_unseen-clause-sound : goal.returns-in-Err-delete_unseen-clause-sound
+returns-in-Err-delete_unseen-clause-sound g c = λ m r. let t = took m c.args.space c.in-Ok-Ok.shown (λ n. Runs c.take_window.new.core c.args.self.now.volume n) (subst (λ (x : Result Shown Refusal). Tells (first_of (window_row m.spaces c.args.space)) (IsTaken m c.args.space (λ n. Runs c.take_window.new.core c.args.self.now.volume n)) x) c.in-Ok-Ok.field-0-is (c.in-Ok-Ok.ensures.taken c.args.self.now.volume m r)) in c.in-Err-delete_unseen.ensures.sound _ _ t.left.session (left_unseen m r.session.stands.is.by.machine c.args.space t.s t.here c.in-Ok-Ok.shown t.window t.free (is_set _ c.if-not-shown.false))
+
+pub returns-in-Err-delete_unseen-clause-passes : goal.returns-in-Err-delete_unseen-clause-passes
+returns-in-Err-delete_unseen-clause-passes g c = λ m r.
+    let t = took m c.args.space c.in-Ok-Ok.shown (λ n. Runs c.take_window.new.core c.args.self.now.volume n) (subst (λ (x : Result Shown Refusal). Tells (first_of (window_row m.spaces c.args.space)) (IsTaken m c.args.space (λ n. Runs c.take_window.new.core c.args.self.now.volume n)) x) c.in-Ok-Ok.field-0-is (c.in-Ok-Ok.ensures.taken c.args.self.now.volume m r)) in
+    quiet_then m _ (call.Unmap c.args.space) (call.Delete c.in-Ok-Ok.shown.id) (asked_passes c.args.self.now.core c.args.self.now.volume m call.Volume r (g.met.D.Disk.in_form c.args.self.now.core.filer.swapper.under) c.take_window.ensures.makes)
+    (c.delete_unseen.ensures.passes _ _ t.left.session (left_unseen m r.session.stands.is.by.machine c.args.space t.s t.here c.in-Ok-Ok.shown t.window t.free (is_set _ c.if-not-shown.false))) (omega arith) (hidden_alike m r.session.stands.is.by.machine c.args.space t.s t.here c.in-Ok-Ok.shown t.window t.free (is_set _ c.if-not-shown.false))
+
+pub returns-in-Err-delete_unseen-clause-wrote : goal.returns-in-Err-delete_unseen-clause-wrote
+returns-in-Err-delete_unseen-clause-wrote g c = wrote_then (wrote_by c.take_window.ensures.makes tt) c.delete_unseen.ensures.wrote
+
+pub returns-in-Err-delete_unseen-clause-counted : goal.returns-in-Err-delete_unseen-clause-counted
+returns-in-Err-delete_unseen-clause-counted g c = λ is. rose_behind _ _ _ c.take_window.ensures.makes.went.faults (c.in-Err-delete_unseen.ensures.counted is)
+
+pub returns-in-Err-delete_unseen-clause-layout : goal.returns-in-Err-delete_unseen-clause-layout
+returns-in-Err-delete_unseen-clause-layout g c = c.delete_unseen.ensures.layout ∙ c.take_window.ensures.layout
+
+pub returns-in-Err-delete_unseen-clause-cost : goal.returns-in-Err-delete_unseen-clause-cost
+returns-in-Err-delete_unseen-clause-cost g c = λ m r.
+    let t = took m c.args.space c.in-Ok-Ok.shown (λ n. Runs c.take_window.new.core c.args.self.now.volume n) (subst (λ (x : Result Shown Refusal). Tells (first_of (window_row m.spaces c.args.space)) (IsTaken m c.args.space (λ n. Runs c.take_window.new.core c.args.self.now.volume n)) x) c.in-Ok-Ok.field-0-is (c.in-Ok-Ok.ensures.taken c.args.self.now.volume m r)) in
+    spent_besides (g.D.Disk.state c.args.self.now.core.filer.swapper.under) (g.D.Disk.state c.take_window.new.core.filer.swapper.under) (g.D.Disk.state c.delete_unseen.new.self.core.filer.swapper.under) c.take_window.ensures.makes.went.sectors (let few = c.take_window.ensures.cost in omega (arith, few)) (c.delete_unseen.ensures.bounded _ _ t.left.session)
+
+pub returns-in-Ok-wait-clause-passes : goal.returns-in-Ok-wait-clause-passes
+returns-in-Ok-wait-clause-passes g c = λ m r.
+    let t = took m c.args.space c.in-Ok-Ok.shown (λ n. Runs c.take_window.new.core c.args.self.now.volume n) (subst (λ (x : Result Shown Refusal). Tells (first_of (window_row m.spaces c.args.space)) (IsTaken m c.args.space (λ n. Runs c.take_window.new.core c.args.self.now.volume n)) x) c.in-Ok-Ok.field-0-is (c.in-Ok-Ok.ensures.taken c.args.self.now.volume m r)) in
+    passes_still m (call.Unmap c.args.space)
+    (quiet_then m _ (call.Unmap c.args.space) (call.Delete c.in-Ok-Ok.shown.id) (asked_passes c.args.self.now.core c.args.self.now.volume m call.Volume r (g.met.D.Disk.in_form c.args.self.now.core.filer.swapper.under) c.take_window.ensures.makes)
+    (c.delete_unseen.ensures.passes _ _ t.left.session (left_unseen m r.session.stands.is.by.machine c.args.space t.s t.here c.in-Ok-Ok.shown t.window t.free (is_set _ c.if-not-shown.false))) (omega arith) (hidden_alike m r.session.stands.is.by.machine c.args.space t.s t.here c.in-Ok-Ok.shown t.window t.free (is_set _ c.if-not-shown.false)))
+    c.settle.ensures.same
+
+pub returns-in-Ok-wait-clause-wrote : goal.returns-in-Ok-wait-clause-wrote
+returns-in-Ok-wait-clause-wrote g c = wrote_then (wrote_then (wrote_by c.take_window.ensures.makes tt) c.delete_unseen.ensures.wrote) (wrote_by (reached_makes c.settle.ensures.reaches) tt)
+
+pub returns-in-Ok-wait-clause-open_still : goal.returns-in-Ok-wait-clause-open_still
+returns-in-Ok-wait-clause-open_still g c = still_open _ _ _ _ c.delete_unseen.ensures.open_still c.settle.ensures.layout refl
+
+pub returns-in-Ok-wait-clause-layout : goal.returns-in-Ok-wait-clause-layout
+returns-in-Ok-wait-clause-layout g c = c.settle.ensures.layout ∙ c.delete_unseen.ensures.layout ∙ c.take_window.ensures.layout
+
+pub returns-in-Ok-wait-clause-cost : goal.returns-in-Ok-wait-clause-cost
+returns-in-Ok-wait-clause-cost g c = λ m r.
+    let t = took m c.args.space c.in-Ok-Ok.shown (λ n. Runs c.take_window.new.core c.args.self.now.volume n) (subst (λ (x : Result Shown Refusal). Tells (first_of (window_row m.spaces c.args.space)) (IsTaken m c.args.space (λ n. Runs c.take_window.new.core c.args.self.now.volume n)) x) c.in-Ok-Ok.field-0-is (c.in-Ok-Ok.ensures.taken c.args.self.now.volume m r)) in
+    spent_around (g.D.Disk.state c.args.self.now.core.filer.swapper.under) (g.D.Disk.state c.take_window.new.core.filer.swapper.under) (g.D.Disk.state c.delete_unseen.new.self.core.filer.swapper.under) (g.D.Disk.state c.settle.new.core.filer.swapper.under) c.take_window.ensures.makes.went.sectors (let few = c.take_window.ensures.cost in omega (arith, few))
+    (c.delete_unseen.ensures.bounded _ _ t.left.session) (let few = c.settle.ensures.cost in omega (arith, few))
+
+pub returns-in-Err-wait-clause-passes : goal.returns-in-Err-wait-clause-passes
+returns-in-Err-wait-clause-passes g c = λ m r.
+    let t = took m c.args.space c.in-Ok-Ok.shown (λ n. Runs c.take_window.new.core c.args.self.now.volume n) (subst (λ (x : Result Shown Refusal). Tells (first_of (window_row m.spaces c.args.space)) (IsTaken m c.args.space (λ n. Runs c.take_window.new.core c.args.self.now.volume n)) x) c.in-Ok-Ok.field-0-is (c.in-Ok-Ok.ensures.taken c.args.self.now.volume m r)) in
+    passes_still m (call.Unmap c.args.space)
+    (quiet_then m _ (call.Unmap c.args.space) (call.Delete c.in-Ok-Ok.shown.id) (asked_passes c.args.self.now.core c.args.self.now.volume m call.Volume r (g.met.D.Disk.in_form c.args.self.now.core.filer.swapper.under) c.take_window.ensures.makes)
+    (c.delete_unseen.ensures.passes _ _ t.left.session (left_unseen m r.session.stands.is.by.machine c.args.space t.s t.here c.in-Ok-Ok.shown t.window t.free (is_set _ c.if-not-shown.false))) (omega arith) (hidden_alike m r.session.stands.is.by.machine c.args.space t.s t.here c.in-Ok-Ok.shown t.window t.free (is_set _ c.if-not-shown.false)))
+    c.settle.ensures.same
+
+pub returns-in-Err-wait-clause-wrote : goal.returns-in-Err-wait-clause-wrote
+returns-in-Err-wait-clause-wrote g c = wrote_then (wrote_then (wrote_by c.take_window.ensures.makes tt) c.delete_unseen.ensures.wrote) (wrote_by (reached_makes c.settle.ensures.reaches) tt)
+
+pub returns-in-Err-wait-clause-open_still : goal.returns-in-Err-wait-clause-open_still
+returns-in-Err-wait-clause-open_still g c = still_open _ _ _ _ c.delete_unseen.ensures.open_still c.settle.ensures.layout refl
+
+pub returns-in-Err-wait-clause-layout : goal.returns-in-Err-wait-clause-layout
+returns-in-Err-wait-clause-layout g c = c.settle.ensures.layout ∙ c.delete_unseen.ensures.layout ∙ c.take_window.ensures.layout
+
+pub returns-in-Err-wait-clause-cost : goal.returns-in-Err-wait-clause-cost
+returns-in-Err-wait-clause-cost g c = λ m r.
+    let t = took m c.args.space c.in-Ok-Ok.shown (λ n. Runs c.take_window.new.core c.args.self.now.volume n) (subst (λ (x : Result Shown Refusal). Tells (first_of (window_row m.spaces c.args.space)) (IsTaken m c.args.space (λ n. Runs c.take_window.new.core c.args.self.now.volume n)) x) c.in-Ok-Ok.field-0-is (c.in-Ok-Ok.ensures.taken c.args.self.now.volume m r)) in
+    spent_around (g.D.Disk.state c.args.self.now.core.filer.swapper.under) (g.D.Disk.state c.take_window.new.core.filer.swapper.under) (g.D.Disk.state c.delete_unseen.new.self.core.filer.swapper.under) (g.D.Disk.state c.settle.new.core.filer.swapper.under) c.take_window.ensures.makes.went.sectors (let few = c.take_window.ensures.cost in omega (arith, few))
+    (c.delete_unseen.ensures.bounded _ _ t.left.session) (let few = c.settle.ensures.cost in omega (arith, few))
+
+pub returns-in-Ok-wait-clause-carried : goal.returns-in-Ok-wait-clause-carried
+returns-in-Ok-wait-clause-carried g c = λ m r.
+    let t = took m c.args.space c.in-Ok-Ok.shown (λ n. Runs c.take_window.new.core c.args.self.now.volume n) (subst (λ (x : Result Shown Refusal). Tells (first_of (window_row m.spaces c.args.space)) (IsTaken m c.args.space (λ n. Runs c.take_window.new.core c.args.self.now.volume n)) x) c.in-Ok-Ok.field-0-is (c.in-Ok-Ok.ensures.taken c.args.self.now.volume m r)) in
+    let carried = hidden_carried m r.session.stands.is.by.machine c.args.space t.s t.here c.in-Ok-Ok.shown t.window t.free (is_set _ c.if-not-shown.false) c.delete_unseen.new.self.core c.delete_unseen.new.self.volume (Ok c.in-Ok.done)
+    (carried_out c.take_window.new.core c.delete_unseen.new.self.core c.args.self.now.volume c.delete_unseen.new.self.volume _ (call.Delete c.in-Ok-Ok.shown.id) c.delete_unseen.ensures.kept c.delete_unseen.ensures.intervals refl t.left (Ok c.in-Ok.done) (λ spaces_of s. c.in-Ok.ensures.carried spaces_of _ s (left_unseen m r.session.stands.is.by.machine c.args.space t.s t.here c.in-Ok-Ok.shown t.window t.free (is_set _ c.if-not-shown.false))))
+    in
+    waited_carried c.delete_unseen.new.self.core c.settle.new.core c.delete_unseen.new.self.core.filer.swapper.accepted (c.delete_unseen.ensures.wrote.makes.went.sectors ∙ c.take_window.ensures.makes.went.sectors ∙ c.requires.size ∙ ap (λ (l : Layout). l.sectors) (sym (c.delete_unseen.ensures.layout ∙ c.take_window.ensures.layout))) c.delete_unseen.new.self.volume m (call.Unmap c.args.space) c.in-Ok.done carried c.settle.ensures.reaches c.settle.ensures.frames c.settle.ensures.intervals c.settle.ensures.known
+
+pub returns-in-Ok-wait-clause-synced : goal.returns-in-Ok-wait-clause-synced
+returns-in-Ok-wait-clause-synced g c = λ is. c.in-Ok-wait.ensures.synced
+
+pub returns-in-Err-wait-clause-sound : goal.returns-in-Err-wait-clause-sound
+returns-in-Err-wait-clause-sound g c = λ m r. c.in-Err-wait.ensures.fault
+
+pub returns-in-Err-wait-clause-counted : goal.returns-in-Err-wait-clause-counted
+returns-in-Err-wait-clause-counted g c = λ is. rose_behind _ _ _ c.take_window.ensures.makes.went.faults (rose_behind _ _ _ c.delete_unseen.ensures.wrote.makes.went.faults c.in-Err-wait.ensures.counted)
+
+pub returns-in-Ok-Err-clause-synced : goal.returns-in-Ok-Err-clause-synced
+returns-in-Ok-Err-clause-synced g c = λ is. absurd (refused_undone _ is)
+
+pub returns-then-not-shown-clause-synced : goal.returns-then-not-shown-clause-synced
+returns-then-not-shown-clause-synced g c = λ is. subst (λ (x : Result Shown Refusal). IsGivenUp ((g.D.Disk.state c.take_window.new.core.filer.swapper.under).synced ≡ true) x) c.in-Ok-Ok.field-0-is c.in-Ok-Ok.ensures.synced

@@ -1,0 +1,25 @@
+use Rattle.fault_core.specs.View.{view_of}
+use Rattle.running_words.specs.RunningLaws.{IsWhole}
+use Rattle.pilot_engine.proofs.AloneLemmas.{own_makes}
+use Rattle.pilot_engine.proofs.StartRuns.{begun_runs, bytes, known_before, tables_before}
+use Rattle.pilot_engine.proofs.start.write_tables.Goals as goal
+
+pub returns-clause-runs : goal.returns-clause-runs
+returns-clause-runs g c = λ d volume s.
+    let old = c.args.filer.now in
+    let whole : IsWhole (view_of old) = record { layout = old.swapper.accepted; size = c.requires.size } in
+    let tells = c.in-Ok.ensures.begun (bytes (view_of old) volume d whole s) (tables_before (view_of old) volume d whole s) in
+    let now = begun_runs (view_of old) volume d whole s (view_of c.begin.new.filer) c.begin.ensures.kept c.begin.ensures.came (g.met.D.Disk.in_form c.begin.new.filer.swapper.under) c.look_at_frames.ensures.pages tells in
+    rw c.look_at_frames.ensures.same now
+
+pub returns-in-Err-clause-sound : goal.returns-in-Err-clause-sound
+returns-in-Err-clause-sound g c = λ d volume s.
+    let old = c.args.filer.now in
+    let whole : IsWhole (view_of old) = record { layout = old.swapper.accepted; size = c.requires.size } in
+    c.in-Err.ensures.sound s.stands.memory s.stands.is.named (bytes (view_of old) volume d whole s) (known_before (view_of old) volume d whole s)
+
+pub returns-clause-makes : goal.returns-clause-makes
+returns-clause-makes g c = rw c.look_at_frames.ensures.same (own_makes c.begin.ensures.kept.goes.makes)
+
+pub returns-in-Err-clause-makes : goal.returns-in-Err-clause-makes
+returns-in-Err-clause-makes g c = own_makes c.begin.ensures.kept.goes.makes

@@ -1,0 +1,90 @@
+//! Windows that show a file which no call names: it comes with its window, and goes with it.
+ghost use Rattle.std.specs.Prelude.{◌≡◌, true, IfOk, IfErr, Err};
+ghost use Rattle.labelled_disk.specs.Calls.{Rose};
+ghost use Rattle.labelled_disk.specs.declared.evidence.Halt.TheVariants as halt;
+ghost use Rattle.flat_machine.specs.declared.call.Call.TheVariants as call;
+ghost use Rattle.flat_machine.specs.declared.call.Reply.TheVariants as reply;
+ghost use Rattle.flat_machine.specs.Machine.{Machine};
+ghost use Rattle.running_words.specs.Bound.{CostsOther};
+ghost use Rattle.running_words.specs.Running.{Carried, Runs};
+ghost use Rattle.running_words.specs.Session.{IsOpen, Wrote};
+ghost use Rattle.running_words.specs.Stages.{Passes};
+
+use crate::SessionOver;
+use flat_machine::Reply;
+use labelled_disk::{Disk, Halt};
+use space_calls::{give_window, take_window, wait};
+use space_tables::Shown;
+use std::alloc::Allocator;
+use table_calls::can_map;
+
+impl<D: Disk, A: Allocator> SessionOver<D, A> {
+    // Takes the window of a space away, and an anonymous one's file with it. What was written is on the medium then.
+    pub(crate) fn unmap(&mut self, space: u32) -> Result<Reply, Halt>
+        requires size { (D.state self.old.core.filer.swapper.under).sectors ≡ self.old.core.filer.swapper.layout.sectors }
+        requires opened { IsOpen self.old.core.filer.swapper.layout self.old.volume }
+        ensures carried { (m : Machine) → Runs self.old.core self.old.volume m → IfOk result (Carried m (call.Unmap space) self.new.core self.new.volume) }
+        ensures sound { (m : Machine) → Runs self.old.core self.old.volume m → IfErr result (λ e. e ≡ halt.Disk) }
+        ensures passes { (m : Machine) → Runs self.old.core self.old.volume m → Passes m (call.Unmap space) (D.state self.old.core.filer.swapper.under) (D.state self.new.core.filer.swapper.under) }
+        ensures synced { IfOk result (λ answer. answer ≡ reply.Done → (D.state self.new.core.filer.swapper.under).synced ≡ true) }
+        ensures counted { result ≡ Err halt.Disk → Rose (D.state self.old.core.filer.swapper.under).faults (D.state self.new.core.filer.swapper.under).faults }
+        ensures wrote { Wrote (D.state self.old.core.filer.swapper.under) self.old.core.filer.swapper.pool (D.state self.new.core.filer.swapper.under) self.new.core.filer.swapper.pool }
+        ensures open_still { IsOpen self.new.core.filer.swapper.layout self.new.volume }
+        ensures layout { self.new.core.filer.swapper.layout ≡ self.old.core.filer.swapper.layout }
+        ensures running { self.new.running ≡ self.old.running }
+        ensures cost { (m : Machine) → Runs self.old.core self.old.volume m → CostsOther (D.state self.old.core.filer.swapper.under) (D.state self.new.core.filer.swapper.under) }
+    {
+        let shown = match take_window(&mut self.core, space) {
+            Ok(Ok(shown)) => shown,
+            Ok(Err(word)) => return Ok(Reply::Refused(word)),
+            Err(halt) => return Err(halt),
+        };
+        if !shown.anonymous {
+            return Ok(Reply::Done);
+        }
+        let done = match self.delete_unseen(shown.id) {
+            Ok(done) => done,
+            Err(halt) => return Err(halt),
+        };
+        match wait(&mut self.core) {
+            Ok(()) => Ok(done),
+            Err(halt) => Err(halt),
+        }
+    }
+
+    // Shows a new file of zero pages in a space, of its size.
+    pub(crate) fn map_anonymous(&mut self, space: u32) -> Result<Reply, Halt>
+        requires size { (D.state self.old.core.filer.swapper.under).sectors ≡ self.old.core.filer.swapper.layout.sectors }
+        requires opened { IsOpen self.old.core.filer.swapper.layout self.old.volume }
+        ensures carried { (m : Machine) → Runs self.old.core self.old.volume m → IfOk result (Carried m (call.MapAnonymous space) self.new.core self.new.volume) }
+        ensures sound { (m : Machine) → Runs self.old.core self.old.volume m → IfErr result (λ e. e ≡ halt.Disk) }
+        ensures passes { (m : Machine) → Runs self.old.core self.old.volume m → Passes m (call.MapAnonymous space) (D.state self.old.core.filer.swapper.under) (D.state self.new.core.filer.swapper.under) }
+        ensures counted { result ≡ Err halt.Disk → Rose (D.state self.old.core.filer.swapper.under).faults (D.state self.new.core.filer.swapper.under).faults }
+        ensures wrote { Wrote (D.state self.old.core.filer.swapper.under) self.old.core.filer.swapper.pool (D.state self.new.core.filer.swapper.under) self.new.core.filer.swapper.pool }
+        ensures open_still { IsOpen self.new.core.filer.swapper.layout self.new.volume }
+        ensures layout { self.new.core.filer.swapper.layout ≡ self.old.core.filer.swapper.layout }
+        ensures running { self.new.running ≡ self.old.running }
+        ensures cost { (m : Machine) → Runs self.old.core self.old.volume m → CostsOther (D.state self.old.core.filer.swapper.under) (D.state self.new.core.filer.swapper.under) }
+    {
+        let run = match can_map(&mut self.core, space) {
+            Ok(Ok(run)) => run,
+            Ok(Err(word)) => return Ok(Reply::Refused(word)),
+            Err(halt) => return Err(halt),
+        };
+        let made = match self.create(run.1, 0) {
+            Ok(made) => made,
+            Err(halt) => return Err(halt),
+        };
+        let id = match made {
+            Reply::File(id) => id,
+            _ => return Ok(made),
+        };
+        let shown = Shown {
+            id,
+            page: 0,
+            writable: true,
+            anonymous: true,
+        };
+        give_window(&mut self.core, space, shown)
+    }
+}

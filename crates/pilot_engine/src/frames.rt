@@ -1,0 +1,16 @@
+//! What is known of the frames of a filer.
+ghost use Rattle.std.specs.Prelude.{◌≡◌, ◌≤◌, length};
+ghost use Rattle.frame_pool.specs.Frames.{ArePages};
+
+use filer_kernel::FilerOver;
+use labelled_disk::Disk;
+use std::alloc::Allocator;
+
+// There are at most 4,096 frames, and the bytes of each are a page's.
+pub(crate) fn look_at_frames<D: Disk, A: Allocator>(filer: &mut FilerOver<D, A>)
+    ensures few { length filer.old.swapper.pool ≤ 4096 }
+    ensures pages { ArePages filer.old.swapper.pool }
+    ensures same { filer.new ≡ filer.old }
+{
+    let _slots = filer.swapper_over().frames().frames();
+}

@@ -1,0 +1,50 @@
+//! How windows show a file that a call names.
+ghost use Rattle.std.specs.Prelude.{◌≡◌, ◌+◌, ◌≤◌, [], IfOk, IfErr, Err};
+ghost use Rattle.labelled_disk.specs.Calls.{Rose};
+ghost use Rattle.labelled_disk.specs.declared.evidence.Halt.TheVariants as halt;
+ghost use Rattle.flat_machine.specs.Machine.{Machine};
+ghost use Rattle.session_words.specs.Volume.{volume_page};
+ghost use Rattle.swapper_kernel.specs.Goes.{Makes};
+ghost use Rattle.running_words.specs.Running.{Runs};
+ghost use Rattle.pilot_engine.specs.Seen.{IsSight};
+
+use crate::SessionOver;
+use labelled_disk::{Disk, FileId, Halt};
+use space_calls::window_on;
+use std::alloc::Allocator;
+
+/// Whose windows show a file.
+#[derive(Clone, Copy, Debug, PartialEq, Eq)]
+pub(crate) enum Sight {
+    /// An anonymous one does, so that no call may name the file.
+    Hidden,
+    /// That of the space of this handle is the first that does, or none is.
+    By(Option<u32>),
+}
+
+impl<D: Disk, A: Allocator> SessionOver<D, A> {
+    // Asks the space tables whose windows show a file.
+    pub(crate) fn sight(&mut self, id: FileId) -> Result<Sight, Halt>
+        requires size { (D.state self.old.core.filer.swapper.under).sectors ≡ self.old.core.filer.swapper.layout.sectors }
+        ensures answer { (m : Machine) → Runs self.old.core self.old.volume m → IfOk result (IsSight m id) }
+        ensures runs { (m : Machine) → Runs self.old.core self.old.volume m → Runs self.new.core self.new.volume m }
+        ensures sound { (m : Machine) → Runs self.old.core self.old.volume m → IfErr result (λ e. e ≡ halt.Disk) }
+        ensures counted { result ≡ Err halt.Disk → Rose (D.state self.old.core.filer.swapper.under).faults (D.state self.new.core.filer.swapper.under).faults }
+        ensures makes { Makes volume_page [] (D.state self.old.core.filer.swapper.under) self.old.core.filer.swapper.pool (D.state self.new.core.filer.swapper.under) self.new.core.filer.swapper.pool }
+        ensures layout { self.new.core.filer.swapper.layout ≡ self.old.core.filer.swapper.layout }
+        ensures volume { self.new.volume ≡ self.old.volume }
+        ensures running { self.new.running ≡ self.old.running }
+        ensures cost { (D.state self.new.core.filer.swapper.under).transfers ≤ (D.state self.old.core.filer.swapper.under).transfers + 14532 }
+    {
+        match window_on(&mut self.core, id, false) {
+            Ok(Some((handle, shown))) => {
+                if shown.anonymous {
+                    return Ok(Sight::Hidden);
+                }
+                Ok(Sight::By(Some(handle)))
+            }
+            Ok(None) => Ok(Sight::By(None)),
+            Err(halt) => Err(halt),
+        }
+    }
+}

@@ -1,0 +1,79 @@
+//! One call of a client on spaces.
+ghost use Rattle.std.specs.Prelude.{◌≡◌, ◌+◌, ◌≤◌, true, IfOk, IfErr, OnOk, Err, None};
+ghost use Rattle.labelled_disk.specs.Calls.{Rose};
+ghost use Rattle.labelled_disk.specs.declared.evidence.Halt.TheVariants as halt;
+ghost use Rattle.flat_machine.specs.Form.{IsInForm};
+ghost use Rattle.flat_machine.specs.Machine.{Machine};
+ghost use Rattle.flat_machine.specs.References.{is_reference};
+ghost use Rattle.flat_machine.specs.Refusal.{refusal};
+ghost use Rattle.running_words.specs.Bound.{CostsOther};
+ghost use Rattle.running_words.specs.Running.{Carried, Runs};
+ghost use Rattle.running_words.specs.Session.{IsOpen, WroteIn};
+ghost use Rattle.running_words.specs.Stages.{Passes, may_dirty};
+ghost use Rattle.fault_core.specs.Core.{kept};
+ghost use Rattle.pilot_engine.specs.Advised.{IsAdvised};
+ghost use Rattle.pilot_engine.specs.Stepping.{is_on_spaces, waits};
+
+use crate::SessionOver;
+use flat_machine::{Call, Reply};
+use labelled_disk::{Disk, Halt};
+use space_calls::{
+    activate, deactivate, force_out, kill, load, make_space, map, place, protect, remove_space,
+    set_units, store,
+};
+use std::alloc::Allocator;
+
+impl<D: Disk, A: Allocator> SessionOver<D, A> {
+    // Carries out a call on spaces.
+    pub(crate) fn answer_on_spaces(&mut self, call: &Call) -> Result<Reply, Halt>
+        requires size { (D.state self.old.core.filer.swapper.under).sectors ≡ self.old.core.filer.swapper.layout.sectors }
+        requires opened { IsOpen self.old.core.filer.swapper.layout self.old.volume }
+        requires on_spaces { is_on_spaces call.now ≡ true }
+        requires in_form { IsInForm call.now }
+        ensures carried { (m : Machine) → Runs self.old.core self.old.volume m
+            → IfOk result (Carried m call.now self.new.core self.new.volume) }
+        ensures sound { (m : Machine) → Runs self.old.core self.old.volume m
+            → IfErr result (λ e. e ≡ halt.Disk) }
+        ensures passes { (m : Machine) → Runs self.old.core self.old.volume m
+            → Passes m call.now (D.state self.old.core.filer.swapper.under) (D.state self.new.core.filer.swapper.under) }
+        ensures forced { (m : Machine) → waits call.now ≡ true → refusal m call.now ≡ None → Runs self.old.core self.old.volume m
+            → OnOk result ((D.state self.new.core.filer.swapper.under).synced ≡ true) }
+        ensures advised { (m : Machine) → refusal m call.now ≡ None → Runs self.old.core self.old.volume m
+            → OnOk result (IsAdvised m.spaces call.now (kept self.new.core) self.new.core.filer.swapper.pool) }
+        ensures counted { result ≡ Err halt.Disk → Rose (D.state self.old.core.filer.swapper.under).faults (D.state self.new.core.filer.swapper.under).faults }
+        ensures wrote { WroteIn (may_dirty call.now) (D.state self.old.core.filer.swapper.under) self.old.core.filer.swapper.pool (D.state self.new.core.filer.swapper.under) self.new.core.filer.swapper.pool }
+        ensures open_still { IsOpen self.new.core.filer.swapper.layout self.new.volume }
+        ensures layout { self.new.core.filer.swapper.layout ≡ self.old.core.filer.swapper.layout }
+        ensures running { self.new.running ≡ self.old.running }
+        ensures cost { (m : Machine) → Runs self.old.core self.old.volume m
+            → CostsOther (D.state self.old.core.filer.swapper.under) (D.state self.new.core.filer.swapper.under) }
+        ensures reference { is_reference call.now ≡ true → (D.state self.new.core.filer.swapper.under).transfers ≤ (D.state self.old.core.filer.swapper.under).transfers + 1680 }
+    {
+        match call {
+            Call::MakeSpace {
+                parent,
+                pages,
+                first,
+            } => make_space(&mut self.core, *parent, *pages, *first),
+            Call::RemoveSpace { space } => remove_space(&mut self.core, *space),
+            Call::Place { page } => place(&mut self.core, *page),
+            Call::Units { space, pages } => set_units(&mut self.core, *space, *pages),
+            Call::Map {
+                space,
+                id,
+                page,
+                writable,
+            } => map(&mut self.core, *space, *id, *page, *writable),
+            Call::MapAnonymous { space } => self.map_anonymous(*space),
+            Call::Unmap { space } => self.unmap(*space),
+            Call::Protect { space, writable } => protect(&mut self.core, *space, *writable),
+            Call::Load { address, count } => load(&mut self.core, *address, *count),
+            Call::Store { address, bytes } => store(&mut self.core, *address, bytes.as_slice()),
+            Call::Activate { space } => activate(&mut self.core, *space),
+            Call::Deactivate { space } => deactivate(&mut self.core, *space),
+            Call::Kill { space } => kill(&mut self.core, *space),
+            Call::ForceOut { space } => force_out(&mut self.core, *space),
+            _ => unreachable!(),
+        }
+    }
+}
