@@ -7,6 +7,7 @@ pub mod Lending
 pub mod Halted
 pub mod Triples
 pub mod Causes
+pub mod Evidence
 pub mod Tables
 pub mod PlaceLaws
 pub mod TableLaws
