@@ -1,0 +1,5 @@
+pub mod MeaningLemmas
+pub mod OptionLemmas
+pub mod PlainLemmas
+pub mod RefusalLemmas
+pub mod Walks

@@ -1,0 +1,39 @@
+-- Plain words mean what they say, and words mean one command at most.
+use Rattle.std.proofs.Common.{◌≡◌, ◌∙◌, ap, sym, subst, refl, ℕ, true, false, List, [], ◌∷◌, arith, codes, length, map, unwrap_or, get_or}
+use Rattle.clap.specs.Words.{Row, Text, matches_of, takes}
+use Rattle.command_words.specs.Meaning.{AreMeant, AreNamed, number_in}
+use Rattle.command_words.specs.Options.{NumberOption, name_of, numbers_of, options_of, parser_of, parser_with}
+use Rattle.command_words.specs.Plain.{ArePlain, flat, said}
+use Rattle.command_words.specs.declared.words.Command.{Command}
+use Rattle.command_words.specs.declared.words.Command.TheVariants as command
+use Rattle.command_words.proofs.OptionLemmas.{has_options}
+use Rattle.command_words.proofs.PlainLemmas.{number_said, pairs_taken}
+
+same_numbers : (rows : List Row) (pairs : List (Text × Text)) → ((o : NumberOption) → number_in rows o ≡ said pairs o) → (options : List NumberOption)
+    → map (number_in rows) options ≡ map (said pairs) options
+same_numbers rows pairs same [] = refl
+same_numbers rows pairs same (o ∷ os) = let first = same o in let rest = same_numbers rows pairs same os in cc
+
+-- plain texts are taken, with the numbers that they say
+pub plain_means : (texts : List Text) (c : Command) → ArePlain texts c → AreMeant texts c
+plain_means texts c plain =
+    let has = has_options c in
+    let is = plain.texts_are in
+    record {
+      named = (flat plain.pairs, is);
+      taken = ap (takes (parser_of c)) is ∙ (pairs_taken (name_of c) (options_of c) has plain.pairs plain.fit (name_of c)).takes;
+      numbers = plain.numbers ∙ sym (ap (λ (t : List Text). map (number_in (matches_of (parser_of c) t)) (options_of c)) is
+          ∙ same_numbers _ plain.pairs (number_said (name_of c) (options_of c) has plain.pairs plain.fit (name_of c)) (options_of c));
+    }
+
+-- the name that texts begin with is one
+pub same_name : (texts : List Text) (first second : Text) (rest other : List Text) → texts ≡ first ∷ rest → texts ≡ second ∷ other → first ≡ second
+same_name texts first second rest other is also = ap (λ (l : List Text). get_or l 0 []) (sym is ∙ also)
+
+-- texts mean one command
+pub one_meaning : (texts : List Text) (c d : Command) → AreMeant texts c → AreMeant texts d → c ≡ d
+one_meaning texts (command.Run n) (command.Run m) a b = let e : n ∷ [] ≡ m ∷ [] = a.numbers ∙ sym b.numbers in cc
+one_meaning texts (command.Format s k) (command.Format t l) a b = let e : s ∷ k ∷ [] ≡ t ∷ l ∷ [] = a.numbers ∙ sym b.numbers in cc
+one_meaning texts command.Scavenge command.Scavenge a b = refl
+one_meaning texts (command.Trial s n f) (command.Trial t m g) a b = let e : s ∷ n ∷ f ∷ [] ≡ t ∷ m ∷ g ∷ [] = a.numbers ∙ sym b.numbers in cc
+one_meaning texts c d a b = let e = ap length (same_name texts (name_of c) (name_of d) a.named.0 b.named.0 a.named.1 b.named.1) in absurd (omega (arith, e))

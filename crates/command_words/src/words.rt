@@ -1,0 +1,78 @@
+//! The command that words mean.
+ghost use Rattle.std.specs.Prelude.{◌≡◌, ◌⊎◌, ◌∷◌, ℕ, Ok, Err, IfOk, map, codes, List};
+ghost use Rattle.std.specs.String.{string_bytes};
+ghost use Rattle.clap.specs.Words.{Text};
+ghost use Rattle.command_words.specs.Meaning.{IsNoCommand, Means, Names};
+ghost use Rattle.command_words.specs.Options.{IsInRange};
+
+use crate::parsers::{
+    format_parser, number_or, read, run_parser, scavenge_parser, trial_parser,
+};
+use crate::refusal::Refused;
+use std::alloc::Global;
+
+/// A command, with its options.
+#[derive(Clone, Copy, Debug, PartialEq, Eq)]
+pub enum Command {
+    /// Answers a trace on a volume.
+    Run { frames: u32 },
+    /// Makes a volume.
+    Format { serial: u32, counter: u32 },
+    /// Restores a volume from its labels.
+    Scavenge,
+    /// Makes a volume, and drawn calls on it.
+    Trial { seed: u32, calls: u32, frames: u32 },
+}
+
+// The command `run` with these words.
+fn run_of(alloc: Global, words: &[String]) -> Result<Command, Refused> {
+    let matches = read(run_parser(alloc)?, words)?;
+    let frames = number_or(&matches, "frames", 64);
+    Ok(Command::Run { frames })
+}
+
+// The command `format` with these words.
+fn format_of(alloc: Global, words: &[String]) -> Result<Command, Refused> {
+    let matches = read(format_parser(alloc)?, words)?;
+    let serial = number_or(&matches, "serial", 1);
+    let counter = number_or(&matches, "counter", 1);
+    Ok(Command::Format { serial, counter })
+}
+
+// The command `scavenge` with these words.
+fn scavenge_of(alloc: Global, words: &[String]) -> Result<Command, Refused> {
+    read(scavenge_parser(alloc), words)?;
+    Ok(Command::Scavenge)
+}
+
+// The command `trial` with these words.
+fn trial_of(alloc: Global, words: &[String]) -> Result<Command, Refused> {
+    let matches = read(trial_parser(alloc)?, words)?;
+    let seed = number_or(&matches, "seed", 0);
+    let calls = number_or(&matches, "calls", 1000);
+    let frames = number_or(&matches, "frames", 64);
+    Ok(Command::Trial {
+        seed,
+        calls,
+        frames,
+    })
+}
+
+/// The command that the words mean, if they mean one.
+pub fn command_of(machine: Global, words: &[String]) -> Result<Command, Refused>
+    ensures meant { IfOk result (Means words.now) }
+    ensures range { IfOk result IsInRange }
+    ensures usage { result ≡ Err Refused.Usage → IsNoCommand words.now }
+    ensures unknown { ((c : Command) → ¬ Names words.now c) → result ≡ Err Refused.Usage }
+{
+    let Some(word) = words.first() else {
+        return Err(Refused::Usage);
+    };
+    match word.as_str() {
+        "run" => run_of(machine, words),
+        "format" => format_of(machine, words),
+        "scavenge" => scavenge_of(machine, words),
+        "trial" => trial_of(machine, words),
+        _ => Err(Refused::Usage),
+    }
+}
