@@ -1,12 +1,19 @@
 -- The commands as `clap` has them.
-use Rattle.std.proofs.Common.{◌≡◌, ◌≤◌, ◌<◌, ◌^◌, refl, lit<, ℕ, List, [], ◌∷◌, codes}
+use Rattle.std.proofs.Common.{◌≡◌, ◌≤◌, ◌<◌, ◌^◌, ap, refl, lit<, true, ℕ, List, [], ◌∷◌, arith, codes, get_or}
 use Rattle.clap.proofs.OnLiterals.{clap_on_literals}
+use Rattle.clap.specs.Faults.{is_simple_and_free}
 use Rattle.clap.specs.Simple.{built}
-use Rattle.command_words.specs.Options.{calls, counter, frames, name_of, options_of, parser_with, seed, serial}
+use Rattle.clap.specs.Walk.{Text}
+use Rattle.command_words.specs.Options.{NumberOption, calls, counter, frames, name_of, options_of, parser_with, seed, serial}
 use Rattle.command_words.specs.declared.words.Command.{Command}
 use Rattle.command_words.specs.declared.words.Command.TheVariants as command
 use Rattle.command_words.proofs.PlainLemmas.{HasOptions, OfEach, rule_named}
+use Rattle.command_words.proofs.RangeLemmas.{OnlyOne}
 use Rattle.command_words.proofs.Walks.{IsOption, IsPlainApp}
+
+run_is_free : is_simple_and_free (parser_with (codes "run") (frames ∷ [])) ≡ true
+unfolding clap_on_literals
+run_is_free = refl
 
 run_is_plain : IsPlainApp (parser_with (codes "run") (frames ∷ []))
 unfolding clap_on_literals
@@ -15,6 +22,10 @@ run_is_plain = record { simple = refl; leaf = refl; named = refl; defaults_pass 
 run_frames : IsOption (built (parser_with (codes "run") (frames ∷ []))).top (codes "frames") (rule_named (frames ∷ []) (codes "frames"))
 unfolding clap_on_literals
 run_frames = record { by_long = refl; by_id = refl; id = refl; values = refl; most = refl; least = refl; set = refl; reading = refl; word = refl; dashes = refl }
+
+format_is_free : is_simple_and_free (parser_with (codes "format") (serial ∷ counter ∷ [])) ≡ true
+unfolding clap_on_literals
+format_is_free = refl
 
 format_is_plain : IsPlainApp (parser_with (codes "format") (serial ∷ counter ∷ []))
 unfolding clap_on_literals
@@ -28,9 +39,17 @@ format_counter : IsOption (built (parser_with (codes "format") (serial ∷ count
 unfolding clap_on_literals
 format_counter = record { by_long = refl; by_id = refl; id = refl; values = refl; most = refl; least = refl; set = refl; reading = refl; word = refl; dashes = refl }
 
+scavenge_is_free : is_simple_and_free (parser_with (codes "scavenge") []) ≡ true
+unfolding clap_on_literals
+scavenge_is_free = refl
+
 scavenge_is_plain : IsPlainApp (parser_with (codes "scavenge") [])
 unfolding clap_on_literals
 scavenge_is_plain = record { simple = refl; leaf = refl; named = refl; defaults_pass = refl; no_defaults = refl; valid = λ rows. refl }
+
+trial_is_free : is_simple_and_free (parser_with (codes "trial") (seed ∷ calls ∷ frames ∷ [])) ≡ true
+unfolding clap_on_literals
+trial_is_free = refl
 
 trial_is_plain : IsPlainApp (parser_with (codes "trial") (seed ∷ calls ∷ frames ∷ []))
 unfolding clap_on_literals
@@ -50,7 +69,70 @@ trial_frames = record { by_long = refl; by_id = refl; id = refl; values = refl; 
 
 -- each command has its options
 pub has_options : (c : Command) → HasOptions (name_of c) (options_of c)
-has_options (command.Run n) = record { plain = run_is_plain; each = (run_frames, lit< tt, tt) }
-has_options (command.Format s k) = record { plain = format_is_plain; each = (format_serial, lit< tt, (format_counter, lit< tt, tt)) }
-has_options command.Scavenge = record { plain = scavenge_is_plain; each = tt }
-has_options (command.Trial s n f) = record { plain = trial_is_plain; each = (trial_seed, lit< tt, (trial_calls, lit< tt, (trial_frames, lit< tt, tt))) }
+has_options (command.Run n) = record { plain = run_is_plain; free = run_is_free; each = (run_frames, lit< tt, tt) }
+has_options (command.Format s k) = record { plain = format_is_plain; free = format_is_free; each = (format_serial, lit< tt, (format_counter, lit< tt, tt)) }
+has_options command.Scavenge = record { plain = scavenge_is_plain; free = scavenge_is_free; each = tt }
+has_options (command.Trial s n f) = record { plain = trial_is_plain; free = trial_is_free; each = (trial_seed, lit< tt, (trial_calls, lit< tt, (trial_frames, lit< tt, tt))) }
+
+-- two texts with other first letters
+other_letter : (a b : Text) → (get_or a 0 0 ≡ get_or b 0 0 → ⊥) → a ≡ b → ⊥
+other_letter a b differ e = differ (ap (λ (l : Text). get_or l 0 0) e)
+
+-- an option is one of these, and its number fits where it isn't given
+pub record IsOf (options : List NumberOption) (o : NumberOption) : Type 0 where
+  pub one : OnlyOne options o
+  pub own : (o.name ≡ codes "help" → ⊥) × (o.name ≡ codes "version" → ⊥) × (o.name ≡ [] → ⊥)
+  pub low : o.least ≤ o.otherwise
+  pub high : o.otherwise ≤ o.most
+  pub small : o.most < 2 ^ 32
+
+own_frames : (frames.name ≡ codes "help" → ⊥) × (frames.name ≡ codes "version" → ⊥) × (frames.name ≡ [] → ⊥)
+own_frames = (other_letter _ _ (λ e. omega (arith, e)), other_letter _ _ (λ e. omega (arith, e)), other_letter _ _ (λ e. omega (arith, e)))
+
+pub frames_of_run : IsOf (frames ∷ []) frames
+frames_of_run = record { one = ((λ e. (refl, refl)), tt); own = own_frames; low = omega arith; high = omega arith; small = omega arith }
+
+pub serial_of_format : IsOf (serial ∷ counter ∷ []) serial
+serial_of_format = record {
+  one = ((λ e. (refl, refl)), ((λ e. absurd (other_letter _ _ (λ f. omega (arith, f)) e)), tt));
+  own = (other_letter _ _ (λ e. omega (arith, e)), other_letter _ _ (λ e. omega (arith, e)), other_letter _ _ (λ e. omega (arith, e)));
+  low = omega arith;
+  high = omega arith;
+  small = omega arith;
+}
+
+pub counter_of_format : IsOf (serial ∷ counter ∷ []) counter
+counter_of_format = record {
+  one = ((λ e. absurd (other_letter _ _ (λ f. omega (arith, f)) e)), ((λ e. (refl, refl)), tt));
+  own = (other_letter _ _ (λ e. omega (arith, e)), other_letter _ _ (λ e. omega (arith, e)), other_letter _ _ (λ e. omega (arith, e)));
+  low = omega arith;
+  high = omega arith;
+  small = omega arith;
+}
+
+pub seed_of_trial : IsOf (seed ∷ calls ∷ frames ∷ []) seed
+seed_of_trial = record {
+  one = ((λ e. (refl, refl)), ((λ e. absurd (other_letter _ _ (λ f. omega (arith, f)) e)), ((λ e. absurd (other_letter _ _ (λ f. omega (arith, f)) e)), tt)));
+  own = (other_letter _ _ (λ e. omega (arith, e)), other_letter _ _ (λ e. omega (arith, e)), other_letter _ _ (λ e. omega (arith, e)));
+  low = omega arith;
+  high = omega arith;
+  small = omega arith;
+}
+
+pub calls_of_trial : IsOf (seed ∷ calls ∷ frames ∷ []) calls
+calls_of_trial = record {
+  one = ((λ e. absurd (other_letter _ _ (λ f. omega (arith, f)) e)), ((λ e. (refl, refl)), ((λ e. absurd (other_letter _ _ (λ f. omega (arith, f)) e)), tt)));
+  own = (other_letter _ _ (λ e. omega (arith, e)), other_letter _ _ (λ e. omega (arith, e)), other_letter _ _ (λ e. omega (arith, e)));
+  low = omega arith;
+  high = omega arith;
+  small = omega arith;
+}
+
+pub frames_of_trial : IsOf (seed ∷ calls ∷ frames ∷ []) frames
+frames_of_trial = record {
+  one = ((λ e. absurd (other_letter _ _ (λ f. omega (arith, f)) e)), ((λ e. absurd (other_letter _ _ (λ f. omega (arith, f)) e)), ((λ e. (refl, refl)), tt)));
+  own = own_frames;
+  low = omega arith;
+  high = omega arith;
+  small = omega arith;
+}

@@ -8,6 +8,7 @@ use Rattle.std.specs.Str.{bytes_eq}
 use Rattle.std.specs.Str.Parse.{IsNumeral, digits_value, without_leading_plus}
 use Rattle.clap.proofs.ValueTestLemmas.{Accepts-accepts}
 use Rattle.clap.specs.Facts.{parser_of_value}
+use Rattle.clap.specs.Faults.{is_simple_and_free}
 use Rattle.clap.specs.Simple.{built, filled, matches_of, with_index}
 use Rattle.clap.specs.Takes.{value_passes}
 use Rattle.clap.specs.ValueTests.{accepts}
@@ -73,6 +74,7 @@ of_named P (x ∷ xs) name o each e = go (bytes_eq x.name name) refl e (of_named
 -- a command of these options, with what its plain pairs are
 pub record HasOptions (name : Text) (options : List NumberOption) : Type 0 where
   pub plain : IsPlainApp (parser_with name options)
+  pub free : is_simple_and_free (parser_with name options) ≡ true
   pub each : OfEach (λ n. IsOption (built (parser_with name options)).top n (rule_named options n)) options
 
 module _ (name : Text) (options : List NumberOption) (has : HasOptions name options) where

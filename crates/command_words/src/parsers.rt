@@ -2,7 +2,7 @@
 ghost use Rattle.std.specs.Prelude.{◌≡◌, ◌≤◌, ◌∷◌, [], ℕ, Some, true, false, map, codes, IfOk, Err};
 ghost use Rattle.std.specs.String.{string_bytes};
 ghost use Rattle.std.specs.Option.{option_map_or};
-ghost use Rattle.clap.specs.Words.{HasMatchesOf, IsParsedFrom, Text, app_of, found_of, one_text, rule_of, takes};
+ghost use Rattle.clap.specs.Words.{HasMatchesOf, IsParsedFrom, Text, app_of, fault_of, found_of, is_simple_and_free, one_text, rule_of, takes};
 ghost use Rattle.clap.specs.Values.{IsUnsignedIn};
 ghost use Rattle.command_words.specs.Meaning.{number_of};
 ghost use Rattle.command_words.specs.Options.{NumberOption, calls, counter, frames, option_rule, parser_with, rule_for, seed, serial};
@@ -71,6 +71,8 @@ pub(crate) fn trial_parser<'a>(alloc: Global) -> Result<Command<'a>, AllocError>
 pub(crate) fn read<'a>(parser: Command<'a>, words: &'a [String]) -> Result<ArgMatches<'a>, Refused>
     ensures matches { IfOk result (HasMatchesOf (app_of parser.entry) (map string_bytes words.entry.now)) }
     ensures parsed { IfOk result (λ m. IsParsedFrom parser.entry m) }
+    ensures faultless { is_simple_and_free (app_of parser.entry) ≡ true
+        → IfOk result (λ _. fault_of (app_of parser.entry) (map string_bytes words.entry.now) ≡ []) }
     ensures refused { result ≡ Err Refused.Usage → takes (app_of parser.entry) (map string_bytes words.entry.now) ≡ false }
 {
     match parser.try_get_matches_from(words) {

@@ -18,7 +18,8 @@ pub enum Refused {
 }
 
 impl From<AllocError> for Refused {
-    ghost from_gives = { λ error given. given ≡ Refused.NoMemory };
+    ghost use Rattle.command_words.specs.declared.refusal.Refused.TheVariants.{NoMemory};
+    ghost from_gives = { λ error given. given ≡ NoMemory };
 
     fn from(_: AllocError) -> Self {
         Refused::NoMemory

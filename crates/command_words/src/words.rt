@@ -25,29 +25,53 @@ pub enum Command {
 }
 
 // The command `run` with these words.
-fn run_of(alloc: Global, words: &[String]) -> Result<Command, Refused> {
-    let matches = read(run_parser(alloc)?, words)?;
+fn run_of(alloc: Global, words: &[String]) -> Result<Command, Refused>
+    requires named { (rest : List Text) × (map string_bytes words.now ≡ codes "run" ∷ rest) }
+    ensures meant { IfOk result (Means words.now) }
+    ensures range { IfOk result IsInRange }
+    ensures refused { result ≡ Err Refused.Usage → IsNoCommand words.now }
+{
+    let parser = run_parser(alloc)?;
+    let matches = read(parser, words)?;
     let frames = number_or(&matches, "frames", 64);
     Ok(Command::Run { frames })
 }
 
 // The command `format` with these words.
-fn format_of(alloc: Global, words: &[String]) -> Result<Command, Refused> {
-    let matches = read(format_parser(alloc)?, words)?;
+fn format_of(alloc: Global, words: &[String]) -> Result<Command, Refused>
+    requires named { (rest : List Text) × (map string_bytes words.now ≡ codes "format" ∷ rest) }
+    ensures meant { IfOk result (Means words.now) }
+    ensures range { IfOk result IsInRange }
+    ensures refused { result ≡ Err Refused.Usage → IsNoCommand words.now }
+{
+    let parser = format_parser(alloc)?;
+    let matches = read(parser, words)?;
     let serial = number_or(&matches, "serial", 1);
     let counter = number_or(&matches, "counter", 1);
     Ok(Command::Format { serial, counter })
 }
 
 // The command `scavenge` with these words.
-fn scavenge_of(alloc: Global, words: &[String]) -> Result<Command, Refused> {
-    read(scavenge_parser(alloc), words)?;
+fn scavenge_of(alloc: Global, words: &[String]) -> Result<Command, Refused>
+    requires named { (rest : List Text) × (map string_bytes words.now ≡ codes "scavenge" ∷ rest) }
+    ensures meant { IfOk result (Means words.now) }
+    ensures range { IfOk result IsInRange }
+    ensures refused { result ≡ Err Refused.Usage → IsNoCommand words.now }
+{
+    let parser = scavenge_parser(alloc);
+    let _matches = read(parser, words)?;
     Ok(Command::Scavenge)
 }
 
 // The command `trial` with these words.
-fn trial_of(alloc: Global, words: &[String]) -> Result<Command, Refused> {
-    let matches = read(trial_parser(alloc)?, words)?;
+fn trial_of(alloc: Global, words: &[String]) -> Result<Command, Refused>
+    requires named { (rest : List Text) × (map string_bytes words.now ≡ codes "trial" ∷ rest) }
+    ensures meant { IfOk result (Means words.now) }
+    ensures range { IfOk result IsInRange }
+    ensures refused { result ≡ Err Refused.Usage → IsNoCommand words.now }
+{
+    let parser = trial_parser(alloc)?;
+    let matches = read(parser, words)?;
     let seed = number_or(&matches, "seed", 0);
     let calls = number_or(&matches, "calls", 1000);
     let frames = number_or(&matches, "frames", 64);
