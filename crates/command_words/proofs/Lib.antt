@@ -1,5 +1,6 @@
 pub mod FaultLemmas
 pub mod MeaningLemmas
+pub mod NameLemmas
 pub mod OptionLemmas
 pub mod PlainLemmas
 pub mod RangeLemmas

@@ -1,8 +1,8 @@
 -- Plain words mean what they say, and words mean one command at most.
-use Rattle.std.proofs.Common.{◌≡◌, ◌∙◌, ap, sym, subst, refl, ℕ, true, false, List, [], ◌∷◌, arith, codes, length, map, unwrap_or, get_or}
+use Rattle.std.proofs.Common.{◌≡◌, ◌∙◌, ap, sym, refl, List, [], ◌∷◌, arith, length, map, get_or}
 use Rattle.clap.specs.Words.{Row, Text, matches_of, takes}
-use Rattle.command_words.specs.Meaning.{AreMeant, AreNamed, number_in}
-use Rattle.command_words.specs.Options.{NumberOption, name_of, numbers_of, options_of, parser_of, parser_with}
+use Rattle.command_words.specs.Meaning.{AreMeant, number_in}
+use Rattle.command_words.specs.Options.{NumberOption, name_of, options_of, parser_of}
 use Rattle.command_words.specs.Plain.{ArePlain, flat, said}
 use Rattle.command_words.specs.declared.words.Command.{Command}
 use Rattle.command_words.specs.declared.words.Command.TheVariants as command

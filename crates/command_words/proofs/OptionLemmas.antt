@@ -1,5 +1,5 @@
 -- The commands as `clap` has them.
-use Rattle.std.proofs.Common.{◌≡◌, ◌≤◌, ◌<◌, ◌^◌, ap, refl, lit<, true, ℕ, List, [], ◌∷◌, arith, codes, get_or}
+use Rattle.std.proofs.Common.{◌≡◌, ◌≤◌, ◌<◌, ◌^◌, ap, refl, lit<, true, List, [], ◌∷◌, arith, codes, get_or}
 use Rattle.clap.proofs.OnLiterals.{clap_on_literals}
 use Rattle.clap.specs.Faults.{is_simple_and_free}
 use Rattle.clap.specs.Simple.{built}
@@ -7,7 +7,7 @@ use Rattle.clap.specs.Walk.{Text}
 use Rattle.command_words.specs.Options.{NumberOption, calls, counter, frames, name_of, options_of, parser_with, seed, serial}
 use Rattle.command_words.specs.declared.words.Command.{Command}
 use Rattle.command_words.specs.declared.words.Command.TheVariants as command
-use Rattle.command_words.proofs.PlainLemmas.{HasOptions, OfEach, rule_named}
+use Rattle.command_words.proofs.PlainLemmas.{HasOptions, rule_named}
 use Rattle.command_words.proofs.RangeLemmas.{OnlyOne}
 use Rattle.command_words.proofs.Walks.{IsOption, IsPlainApp}
 

@@ -1,5 +1,5 @@
 -- `clap` takes plain words, and finds the numbers that they say.
-use Rattle.std.proofs.Common.{◌≡◌, ◌∙◌, ◌<◌, ◌≤◌, ◌+◌, ◌^◌, ◌==◌, ap, sym, subst, refl, ◌++◌, unwrap_or, ℕ, Bool, true, false, List, [], ◌∷◌, drop, Option, Some, None, arith, cond, codes, find, map}
+use Rattle.std.proofs.Common.{◌≡◌, ◌∙◌, ◌<◌, ◌^◌, ◌==◌, ap, sym, subst, refl, ◌++◌, unwrap_or, Bool, true, false, List, [], ◌∷◌, drop, Option, Some, None, arith, cond, find, map}
 use Rattle.std.proofs.lemmas.Bool.{ne_eqb}
 use Rattle.std.proofs.lemmas.Slice.Eq.{bytes_eq-Decides}
 use Rattle.std.proofs.lemmas.Str.Parse.{digit_from_value}

@@ -1,7 +1,7 @@
 -- What a parse finds for an option is a number in its range.
-use Rattle.std.proofs.Common.{◌≡◌, ◌⊎◌, ◌∙◌, ◌<◌, ◌≤◌, ◌^◌, ◌&&◌, ap, sym, subst, refl, inl, inr, unwrap_or, ℕ, Bool, true, false, zero, suc, List, [], ◌∷◌, length, Option, Some, None, arith, codes, map, option_map}
+use Rattle.std.proofs.Common.{◌≡◌, ◌∙◌, ◌<◌, ap, sym, subst, refl, inl, inr, unwrap_or, ℕ, true, zero, suc, List, [], ◌∷◌, length, Option, Some, None, arith, codes, map, option_map}
 use Rattle.std.specs.List.{All, list_all, slice_index_or}
-use Rattle.std.specs.Prelude.{find, slice_get}
+use Rattle.std.specs.Prelude.{slice_get}
 use Rattle.std.specs.Borrow.{Bor}
 use Rattle.std.specs.Str.{bytes_eq}
 use Rattle.std.proofs.lemmas.Bool.{cases_lt}
@@ -9,8 +9,8 @@ use Rattle.std.proofs.lemmas.List.Elements.{All-get_or}
 use Rattle.std.proofs.lemmas.Slice.Eq.{bytes_eq-Decides}
 use Rattle.clap.proofs.CallerLemmas.{entry_by_id}
 use Rattle.clap.proofs.SimpleLemmas.{plain_fields, simple_groups}
-use Rattle.clap.specs.Built.{BuildsTo, IsAuto, IsParsedFrom, SameRules}
-use Rattle.clap.specs.Facts.{Entry, EntryPasses, HasReading, PassesArg, args_of, groups_of, parser_of, parser_of_value}
+use Rattle.clap.specs.Built.{IsAuto, IsParsedFrom, SameRules}
+use Rattle.clap.specs.Facts.{Entry, EntryPasses, PassesArg, args_of, groups_of, parser_of, parser_of_value}
 use Rattle.clap.specs.Matches.{found_of, matched_of, one_text}
 use Rattle.clap.specs.Simple.{App, app_of}
 use Rattle.clap.specs.Values.{Accepts, IsUnsignedIn, read_as, reading_of}

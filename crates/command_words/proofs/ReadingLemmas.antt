@@ -1,5 +1,5 @@
 -- What a parse makes of words.
-use Rattle.std.proofs.Common.{◌≡◌, ◌∙◌, ◌<◌, ◌≤◌, ◌^◌, ap, sym, subst, refl, ℕ, true, false, List, [], ◌∷◌, Option, Some, None, arith, codes, length, map}
+use Rattle.std.proofs.Common.{◌≡◌, ◌∙◌, ◌≤◌, ap, sym, subst, refl, ℕ, true, false, List, [], Option, Some, None, arith, length}
 use Rattle.std.specs.Option.{option_map_or}
 use Rattle.clap.proofs.WalkLemmas.{one_text-rows}
 use Rattle.clap.specs.Built.{IsParsedFrom}
@@ -12,7 +12,7 @@ use Rattle.clap.specs.Walk.{Text, one_of, rows_of}
 use Rattle.clap.specs.declared.builder.command.Command.{Command as Parser}
 use Rattle.clap.specs.declared.parser.matches.ArgMatches.{ArgMatches}
 use Rattle.command_words.specs.Meaning.{AreMeant, AreNamed, number_in, number_of}
-use Rattle.command_words.specs.Options.{NumberOption, name_of, options_of, parser_of, parser_with}
+use Rattle.command_words.specs.Options.{NumberOption, name_of, parser_of, parser_with}
 use Rattle.command_words.specs.declared.words.Command.{Command}
 use Rattle.command_words.specs.declared.words.Command.TheVariants as command
 use Rattle.command_words.proofs.FaultLemmas.{faultless_taken}

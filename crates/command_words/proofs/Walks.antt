@@ -1,11 +1,11 @@
 -- A simple command with options of one value takes plain pairs, and finds their values.
-use Rattle.std.proofs.Common.{◌≡◌, ◌∙◌, ◌<◌, ◌≤◌, ◌+◌, ◌&&◌, ◌||◌, ◌++◌, ◌==◌, ap, ap₂, sym, subst, refl, ℕ, Bool, true, false, not, List, [], ◌∷◌, length, Option, Some, None, arith, cond, nat_lt, nat_le, inl, inr, find, fold, map, option_map, rules, unwrap_or}
+use Rattle.std.proofs.Common.{◌≡◌, ◌∙◌, ◌&&◌, ◌||◌, ◌++◌, ap, sym, refl, Bool, true, false, List, [], ◌∷◌, Option, Some, None, cond, find, fold, map}
 use Rattle.std.specs.List.{list_all, list_any}
 use Rattle.std.specs.Str.{bytes_eq}
 use Rattle.std.proofs.lemmas.Slice.Eq.{bytes_eq-Decides}
 use Rattle.clap.specs.Lexer.{long_of, short_of}
 use Rattle.clap.specs.Facts.{unwrap_or_range}
-use Rattle.clap.specs.Walk.{Held, Row, Rule, Text, Walk, action_of, arg_by_id, arg_by_long, at_row, has_row, is_empty, more_values, most_values, option, row_text, reading_by, settled_rows, takes_values, used, walk, walk_from, walked, with_default, without}
+use Rattle.clap.specs.Walk.{Held, Row, Rule, Text, action_of, arg_by_id, arg_by_long, at_row, has_row, is_empty, more_values, most_values, option, row_text, reading_by, settled_rows, takes_values, used, walk, walk_from, walked, with_default, without}
 use Rattle.clap.specs.Takes.{settle_passes, turn_passes, value_passes, walk_passes}
 use Rattle.clap.proofs.SimpleLemmas.{is_nil}
 use Rattle.clap.proofs.WalkLemmas.{both}

@@ -19,6 +19,7 @@ pub enum Refused {
 
 impl From<AllocError> for Refused {
     ghost use Rattle.command_words.specs.declared.refusal.Refused.TheVariants.{NoMemory};
+
     ghost from_gives = { λ error given. given ≡ NoMemory };
 
     fn from(_: AllocError) -> Self {

@@ -5,9 +5,7 @@ ghost use Rattle.clap.specs.Words.{Text};
 ghost use Rattle.command_words.specs.Meaning.{IsNoCommand, Means, Names};
 ghost use Rattle.command_words.specs.Options.{IsInRange};
 
-use crate::parsers::{
-    format_parser, number_or, read, run_parser, scavenge_parser, trial_parser,
-};
+use crate::parsers::{format_parser, number_or, read, run_parser, scavenge_parser, trial_parser};
 use crate::refusal::Refused;
 use std::alloc::Global;
 

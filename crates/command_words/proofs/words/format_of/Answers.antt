@@ -1,8 +1,8 @@
-use Rattle.std.proofs.Common.{◌≡◌, ◌∷◌, [], ap, ap₂, refl, ℕ, List, codes, map, string_bytes}
+use Rattle.std.proofs.Common.{◌∷◌, [], ap₂, ℕ, codes, map, string_bytes}
 use Rattle.command_words.specs.Options.{counter, serial}
 use Rattle.command_words.specs.declared.words.Command.TheVariants as command
 use Rattle.command_words.proofs.OptionLemmas.{counter_of_format, has_options, serial_of_format}
-use Rattle.command_words.proofs.ReadingLemmas.{fits, none_meant, number_found, number_in_range, words_taken}
+use Rattle.command_words.proofs.ReadingLemmas.{fits, number_found, number_in_range, words_taken}
 use Rattle.command_words.proofs.words.format_of.Goals as goal
 
 pub number_or-serial-requires : goal.number_or-serial-requires

@@ -1,8 +1,8 @@
-use Rattle.std.proofs.Common.{◌≡◌, ◌∷◌, [], ap, ap₂, refl, ℕ, List, codes, map, string_bytes}
+use Rattle.std.proofs.Common.{◌∷◌, [], ap, ℕ, codes, map, string_bytes}
 use Rattle.command_words.specs.Options.{frames}
 use Rattle.command_words.specs.declared.words.Command.TheVariants as command
 use Rattle.command_words.proofs.OptionLemmas.{frames_of_run, has_options}
-use Rattle.command_words.proofs.ReadingLemmas.{fits, none_meant, number_found, number_in_range, words_taken}
+use Rattle.command_words.proofs.ReadingLemmas.{fits, number_found, number_in_range, words_taken}
 use Rattle.command_words.proofs.words.run_of.Goals as goal
 
 pub number_or-frames-requires : goal.number_or-frames-requires

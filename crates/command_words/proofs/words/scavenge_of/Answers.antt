@@ -1,7 +1,7 @@
-use Rattle.std.proofs.Common.{◌≡◌, ◌∷◌, [], ap, ap₂, refl, ℕ, List, codes, map, string_bytes}
+use Rattle.std.proofs.Common.{[], refl, codes, map, string_bytes}
 use Rattle.command_words.specs.declared.words.Command.TheVariants as command
 use Rattle.command_words.proofs.OptionLemmas.{has_options}
-use Rattle.command_words.proofs.ReadingLemmas.{none_meant, words_taken}
+use Rattle.command_words.proofs.ReadingLemmas.{words_taken}
 use Rattle.command_words.proofs.words.scavenge_of.Goals as goal
 
 pub returns-clause-meant : goal.returns-clause-meant

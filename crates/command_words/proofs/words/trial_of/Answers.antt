@@ -1,8 +1,8 @@
-use Rattle.std.proofs.Common.{◌≡◌, ◌∷◌, [], ap, ap₂, refl, ℕ, List, codes, map, string_bytes}
+use Rattle.std.proofs.Common.{◌∷◌, [], codes, map, string_bytes}
 use Rattle.command_words.specs.Options.{calls, frames, seed}
 use Rattle.command_words.specs.declared.words.Command.TheVariants as command
 use Rattle.command_words.proofs.OptionLemmas.{calls_of_trial, frames_of_trial, has_options, seed_of_trial}
-use Rattle.command_words.proofs.ReadingLemmas.{fits, none_meant, number_found, number_in_range, words_taken}
+use Rattle.command_words.proofs.ReadingLemmas.{fits, number_found, number_in_range, words_taken}
 use Rattle.command_words.proofs.words.trial_of.Goals as goal
 
 pub number_or-seed-requires : goal.number_or-seed-requires

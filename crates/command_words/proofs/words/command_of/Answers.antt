@@ -1,0 +1,31 @@
+use Rattle.command_words.specs.declared.words.Command.TheVariants as command
+use Rattle.command_words.proofs.NameLemmas.{first_named}
+use Rattle.command_words.proofs.words.command_of.Goals as goal
+
+pub run_of-requires : goal.run_of-requires
+run_of-requires c = record { named = first_named c.args.words.now c.first.result c.in-Some.word c.as_str.result.now _ c.first.ensures.value c.in-Some.is c.as_str.ensures.value c.in-run.is }
+
+pub returns-in-run-clause-unknown : goal.returns-in-run-clause-unknown
+returns-in-run-clause-unknown c none =
+    absurd (none (command.Run 64) (first_named c.args.words.now c.first.result c.in-Some.word c.as_str.result.now _ c.first.ensures.value c.in-Some.is c.as_str.ensures.value c.in-run.is))
+
+pub format_of-requires : goal.format_of-requires
+format_of-requires c = record { named = first_named c.args.words.now c.first.result c.in-Some.word c.as_str.result.now _ c.first.ensures.value c.in-Some.is c.as_str.ensures.value c.in-format.is }
+
+pub returns-in-format-clause-unknown : goal.returns-in-format-clause-unknown
+returns-in-format-clause-unknown c none =
+    absurd (none (command.Format 1 1) (first_named c.args.words.now c.first.result c.in-Some.word c.as_str.result.now _ c.first.ensures.value c.in-Some.is c.as_str.ensures.value c.in-format.is))
+
+pub scavenge_of-requires : goal.scavenge_of-requires
+scavenge_of-requires c = record { named = first_named c.args.words.now c.first.result c.in-Some.word c.as_str.result.now _ c.first.ensures.value c.in-Some.is c.as_str.ensures.value c.in-scavenge.is }
+
+pub returns-in-scavenge-clause-unknown : goal.returns-in-scavenge-clause-unknown
+returns-in-scavenge-clause-unknown c none =
+    absurd (none (command.Scavenge) (first_named c.args.words.now c.first.result c.in-Some.word c.as_str.result.now _ c.first.ensures.value c.in-Some.is c.as_str.ensures.value c.in-scavenge.is))
+
+pub trial_of-requires : goal.trial_of-requires
+trial_of-requires c = record { named = first_named c.args.words.now c.first.result c.in-Some.word c.as_str.result.now _ c.first.ensures.value c.in-Some.is c.as_str.ensures.value c.in-trial.is }
+
+pub returns-in-trial-clause-unknown : goal.returns-in-trial-clause-unknown
+returns-in-trial-clause-unknown c none =
+    absurd (none (command.Trial 0 1000 64) (first_named c.args.words.now c.first.result c.in-Some.word c.as_str.result.now _ c.first.ensures.value c.in-Some.is c.as_str.ensures.value c.in-trial.is))
