@@ -9,7 +9,7 @@ ghost use Rattle.labelled_disk.specs.Calls.{OnlyReads, Rose};
 ghost use Rattle.labelled_disk.specs.Layout.{IsCount};
 ghost use Rattle.flat_machine.specs.declared.call.Reply.{Reply};
 ghost use Rattle.flat_machine.specs.Machine.{Machine};
-ghost use Rattle.swapper_kernel.specs.Goes.{Went};
+ghost use Rattle.volume_root.specs.Later.{IsLater};
 ghost use Rattle.trace_io.specs.Stream.{IsFrontOf};
 ghost use Rattle.running_words.specs.Session.{IsOpen};
 ghost use Rattle.running_words.specs.Running.{Runs};
@@ -162,7 +162,7 @@ pub(crate) fn run_trial<A: Allocator, D: Disk, K: Sink>(
     ensures damage_line { result.0 ≡ Status.Damaged → (e : Evidence)
         × Puts (Rose (K.faults sink.old) (K.faults sink.new)) (K.took sink.old) (K.took sink.new)
         (last_line (Cause.Damaged e)) }
-    ensures same_disk { Went (D.state disk) (D.state result.1) }
+    ensures later { IsLater (D.state disk) (D.state result.1) }
 {
     match SessionOver::fresh(alloc, disk, frames) {
         Ok(session) => try_session(session, seed, calls, sink),
