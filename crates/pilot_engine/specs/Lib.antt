@@ -1,4 +1,5 @@
 pub mod Opening
+pub mod Fresh
 pub mod Room
 pub mod Closing
 pub mod Seen

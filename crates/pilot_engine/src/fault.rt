@@ -9,7 +9,7 @@ pub enum StartFault {
     Root(RootFault),
     #[error("there is no memory left")]
     NoMemory,
-    /// The root was written, or may have been.
+    /// The root was written, or may have been; or other sectors, where a volume is made.
     #[error("{0}")]
     Halt(Halt),
 }

@@ -9,6 +9,7 @@ mod delete;
 mod fault;
 mod finish;
 mod frames;
+mod fresh;
 mod laws;
 mod marks;
 mod order;

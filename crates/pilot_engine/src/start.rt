@@ -96,9 +96,9 @@ fn write_tables<D: Disk, A: Allocator>(filer: &mut FilerOver<D, A>) -> Result<()
     Ok(())
 }
 
-// Puts a volume with this root into use: the root is written with the clean flag 0, the pages of the space tables are made,
-// and the tables of the root alone are written into them. No frame is there yet.
-fn begin<D: Disk, A: Allocator>(
+/// Puts a volume with this root into use: the root is written with the clean flag 0, the pages of the space tables are made,
+/// and the tables of the root alone are written into them. No frame is there yet.
+pub(crate) fn begin<D: Disk, A: Allocator>(
     filer: &mut FilerOver<D, A>,
     layout: Layout,
     root: Root,

@@ -22,8 +22,8 @@ use pilot_engine::SessionOver;
 use std::alloc::Allocator;
 use trace_io::{Sink, write_reply};
 
-// Ends the session, and hands the disk back, with the status where that failed.
-fn close<D: Disk, A: Allocator, K: Sink>(
+/// Ends the session, and hands the disk back, with the status where that failed.
+pub(crate) fn close<D: Disk, A: Allocator, K: Sink>(
     session: SessionOver<D, A>,
     sink: &mut K,
 ) -> (Option<Status>, D)

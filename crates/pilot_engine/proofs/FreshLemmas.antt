@@ -1,0 +1,50 @@
+-- A session on a volume that was just made.
+use Rattle.std.proofs.Common.{◌≡◌, ℕ, List, [], ◌∷◌, length, Option, Some, refl, sym, ◌∙◌, ap, subst, arith}
+use Rattle.std.proofs.lemmas.List.FromFn.{length-map-range_with_len}
+use Rattle.labelled_disk.specs.Layout.{IsCount, capacity, layout_of}
+use Rattle.labelled_disk.specs.Root.{page_in, root_page}
+use Rattle.labelled_disk.specs.Sectors.{Sector}
+use Rattle.labelled_disk.specs.State.{DiskState}
+use Rattle.labelled_disk.proofs.Finds.{get_set_same}
+use Rattle.flat_machine.specs.Machine.{Machine}
+use Rattle.flat_machine.specs.Space.{root}
+use Rattle.flat_machine.specs.Start.{opened, start}
+use Rattle.volume_root.specs.declared.root.Root.{Root}
+use Rattle.volume_root.specs.Format.{formatted, new_root, new_sector, new_sectors}
+use Rattle.volume_root.specs.FormatLaws.{IsEmptyVolume}
+use Rattle.volume_root.specs.RootPage.{root_bytes, root_in, root_label}
+use Rattle.volume_root.specs.Sound.{Sound}
+use Rattle.volume_root.proofs.NewVolume.{new_is_empty}
+use Rattle.volume_root.proofs.WrittenLemmas.{root_read}
+
+module _ (n : ℕ) (count : IsCount n) where
+  made : IsEmptyVolume n 1 1 (formatted n 1 1)
+  made = new_is_empty n 1 1 count (omega arith) (omega arith) (omega arith) (omega arith)
+
+  -- its root is the one that was written
+  same_root : new_root n 1 1 ≡ root_in (root_page (formatted n 1 1))
+  same_root =
+      let long = length-map-range_with_len (new_sector (layout_of n)) 0 n in
+      let there = get_set_same (new_sectors (layout_of n) n) 0 (root_label, root_bytes (new_root n 1 1)) (let c = count.0 in omega (arith, long, c)) in
+      sym (root_read n (new_root n 1 1) (record { version = refl; accepted = count; count = refl; serial = omega arith; counter = omega arith }) (omega arith) (omega arith))
+      ∙ ap (λ (s : Option Sector). root_in (page_in s)) (sym there)
+
+  -- and it starts the machine without files
+  same_start : start (formatted n 1 1) ≡ opened 1 1 (capacity n)
+  same_start = λ i. record {
+    files = made.no_files i;
+    spaces = root ∷ [];
+    serial = made.has_serial i;
+    counter = made.has_counter i;
+    capacity = capacity (made.sectors i);
+    unforced = [];
+  }
+
+-- what is so of each sound volume, with its root and the machine that it starts, is so of the new one
+pub fresh_volume : (P : Machine → Type 0) (before now : DiskState) (d : List Sector) (r : Root) → length d ≡ before.sectors → IsCount before.sectors → r ≡ new_root before.sectors 1 1
+    → now.contents ≡ Some (formatted (length d) 1 1)
+    → ((e : List Sector) → now.contents ≡ Some e → Sound e → r ≡ root_in (root_page e) → P (start e)) → P (opened 1 1 (capacity before.sectors))
+fresh_volume P before now d r long count is told all =
+    let n = before.sectors in
+    let there : now.contents ≡ Some (formatted n 1 1) = told ∙ ap (λ (k : ℕ). Some (formatted k 1 1)) long in
+    subst P (same_start n count) (all (formatted n 1 1) there (made n count).sound (is ∙ same_root n count))

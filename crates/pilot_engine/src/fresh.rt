@@ -1,0 +1,123 @@
+//! A session is started on a volume that is made for it.
+ghost use Rattle.std.specs.Prelude.{◌≡◌, ◌⊎◌, ℕ, ◌≤◌, ◌<◌, List, [], Some, true, length, Err, IfOk, IfErr, OnOk, OnErr, MatchResult};
+ghost use Rattle.labelled_disk.specs.declared.evidence.Halt.TheVariants as halt;
+ghost use Rattle.labelled_disk.specs.declared.layout.RootFault.TheVariants as fault;
+ghost use Rattle.labelled_disk.specs.Calls.{OnlyReads, Rose};
+ghost use Rattle.labelled_disk.specs.Layout.{IsCount, capacity};
+ghost use Rattle.labelled_disk.specs.Sectors.{Sector};
+ghost use Rattle.filer_kernel.specs.Cached.{runs_of};
+ghost use Rattle.flat_machine.specs.Start.{opened};
+ghost use Rattle.volume_root.specs.Format.{formatted};
+ghost use Rattle.volume_root.specs.Later.{IsLater};
+ghost use Rattle.volume_root.specs.RootPage.{IsValidRoot};
+ghost use Rattle.pilot_engine.specs.declared.fault.StartFault.TheVariants as start_fault;
+ghost use Rattle.pilot_engine.specs.Fresh.{IsFreshFault, new_root};
+ghost use Rattle.pilot_engine.specs.Opening.{IsBare, IsDiskFault, IsEarly, IsOutside};
+ghost use Rattle.running_words.specs.Running.{Runs};
+ghost use Rattle.running_words.specs.Session.{IsOpen};
+
+use crate::start::begin;
+use crate::{SessionOver, StartFault};
+use fault_core::CoreOver;
+use filer_kernel::FilerOver;
+use labelled_disk::{Disk, Halt, Layout, RootFault};
+use std::alloc::Allocator;
+use swapper_kernel::SwapperOver;
+use volume_root::{Root, format};
+
+// Takes the memory of so many frames over a disk that a volume can be made on.
+fn frames_for<D: Disk, A: Allocator>(
+    alloc: A,
+    disk: D,
+    frames: u32,
+) -> Result<(FilerOver<D, A>, Layout), (StartFault, D)>
+    requires least { 24 ≤ frames }
+    requires most { frames ≤ 4096 }
+    ensures count { IfOk result (λ r. IsCount (D.state disk).sectors) }
+    ensures layout { IfOk result (λ r. r.1 ≡ r.0.swapper.layout) }
+    ensures size { IfOk result (λ r. (D.state r.0.swapper.under).sectors ≡ r.0.swapper.layout.sectors) }
+    ensures under { IfOk result (λ r. r.0.swapper.under ≡ disk) }
+    ensures bare { IfOk result (λ r. IsBare r.0.swapper.pool) }
+    ensures no_runs { IfOk result (λ r. (n : ℕ) → runs_of n r.0.runs ≡ []) }
+    ensures frames { IfOk result (λ r. length r.0.swapper.pool ≡ frames) }
+    ensures refused { IfErr result (λ e. IsFreshFault (D.state disk).sectors e.0 × IsEarly e.0) }
+    ensures back { IfErr result (λ e. e.1 ≡ disk) }
+{
+    let layout = match Layout::of(disk.sectors()) {
+        Ok(layout) => layout,
+        Err(why) => return Err((StartFault::Root(why), disk)),
+    };
+    match SwapperOver::over(alloc, disk, layout, frames) {
+        Ok(swapper) => Ok((FilerOver::over(swapper), layout)),
+        Err((_, disk)) => Err((StartFault::NoMemory, disk)),
+    }
+}
+
+// Makes a volume of all sectors of the disk, with serial 1 and counter 1, and gives its root. No frame is over a sector.
+fn make_volume<D: Disk, A: Allocator>(filer: &mut FilerOver<D, A>) -> Result<Root, Halt>
+    requires count { IsCount (D.state filer.old.swapper.under).sectors }
+    ensures root { IfOk result (λ root. root ≡ new_root (D.state filer.old.swapper.under).sectors 1 1) }
+    ensures contents { OnOk result ((d : List Sector) → (D.state filer.old.swapper.under).contents ≡ Some d
+        → (D.state filer.new.swapper.under).contents ≡ Some (formatted (length d) 1 1)) }
+    ensures fault { IfErr result (λ e. e ≡ halt.Disk) }
+    ensures counted { OnErr result (Rose (D.state filer.old.swapper.under).faults (D.state filer.new.swapper.under).faults) }
+    ensures later { IsLater (D.state filer.old.swapper.under) (D.state filer.new.swapper.under) }
+    ensures frames { filer.new.swapper.pool ≡ filer.old.swapper.pool }
+    ensures layout { filer.new.swapper.layout ≡ filer.old.swapper.layout }
+    ensures runs { filer.new.runs ≡ filer.old.runs }
+{
+    let disk = filer.disk_over();
+    match format(disk, 1, 1) {
+        Ok(layout) => Ok(Root {
+            version: 3,
+            clean: true,
+            sectors: layout.sectors,
+            serial: 1,
+            counter: 1,
+        }),
+        Err(_) => Err(Halt::Disk),
+    }
+}
+
+impl<D: Disk, A: Allocator> SessionOver<D, A> {
+    /// Makes a volume of all sectors of a disk, whatever it holds, with serial 1 and counter 1, and starts a session on it, with
+    /// 24 to 4,096 frames. The memory for these, all that they ever have, is taken before anything is written. The disk is handed
+    /// back where no session starts.
+    pub fn fresh(alloc: A, disk: D, frames: u32) -> Result<SessionOver<D, A>, (StartFault, D)>
+        requires least { 24 ≤ frames }
+        requires most { frames ≤ 4096 }
+        ensures stands { (d : List Sector) → (D.state disk).contents ≡ Some d
+            → IfOk result (λ s. Runs s.core s.volume (opened 1 1 (capacity (D.state disk).sectors))) }
+        ensures size { IfOk result (λ s. (D.state s.core.filer.swapper.under).sectors ≡ s.core.filer.swapper.layout.sectors) }
+        ensures opened { IfOk result (λ s. IsOpen s.core.filer.swapper.layout s.volume) }
+        ensures running { IfOk result (λ s. s.running ≡ true) }
+        ensures frames { IfOk result (λ s. length s.core.filer.swapper.pool ≡ frames) }
+
+        // No session starts.
+        ensures count { ¬ IsCount (D.state disk).sectors → MatchResult result (λ s. ⊥) (λ e. e.0 ≡ start_fault.Root (fault.BadCount (D.state disk).sectors)) }
+        ensures refused { IfErr result (λ e. IsFreshFault (D.state disk).sectors e.0) }
+        ensures unwritten { IfErr result (λ e. IsEarly e.0 → OnlyReads (D.state disk) (D.state e.1)) }
+        ensures counted { IfErr result (λ e. IsDiskFault e.0 → Rose (D.state disk).faults (D.state e.1).faults) }
+        ensures sound { (d : List Sector) → (D.state disk).contents ≡ Some d → IsCount (D.state disk).sectors → IfErr result (λ e. IsOutside e.0) }
+
+        // The disk is the same, later.
+        ensures later { MatchResult result (λ s. IsLater (D.state disk) (D.state s.core.filer.swapper.under)) (λ e. IsLater (D.state disk) (D.state e.1)) }
+    {
+        let (mut filer, layout) = match frames_for(alloc, disk, frames) {
+            Ok(opened) => opened,
+            Err(fault) => return Err(fault),
+        };
+        let root = match make_volume(&mut filer) {
+            Ok(root) => root,
+            Err(halt) => return Err((StartFault::Halt(halt), filer.into_disk())),
+        };
+        match begin(&mut filer, layout, root) {
+            Ok(volume) => Ok(SessionOver {
+                core: CoreOver::over(filer, 1),
+                volume,
+                running: true,
+            }),
+            Err(halt) => Err((StartFault::Halt(halt), filer.into_disk())),
+        }
+    }
+}

@@ -1,0 +1,171 @@
+//! A trial: drawn calls are carried out in a session on a new volume, and what came of them is told in one line.
+ghost use Rattle.std.specs.Prelude.{◌≡◌, ◌≢◌, ◌↔◌, ◌⊎◌, ◌+◌, ◌<◌, ◌≤◌, ℕ, List, Some, length, true, IfOk, IfErr, OnOk, Err};
+ghost use Rattle.std.specs.Prelude.{slice_get};
+ghost use Rattle.std.specs.Io.KnownBytes.{Appends};
+ghost use Rattle.labelled_disk.specs.declared.evidence.Evidence.{Evidence};
+ghost use Rattle.labelled_disk.specs.declared.evidence.Halt.TheVariants as halt;
+ghost use Rattle.labelled_disk.specs.Sectors.{Sector};
+ghost use Rattle.labelled_disk.specs.Calls.{OnlyReads, Rose};
+ghost use Rattle.labelled_disk.specs.Layout.{IsCount};
+ghost use Rattle.flat_machine.specs.declared.call.Reply.{Reply};
+ghost use Rattle.flat_machine.specs.Machine.{Machine};
+ghost use Rattle.volume_root.specs.Later.{IsLater};
+ghost use Rattle.trace_io.specs.Stream.{IsFrontOf};
+ghost use Rattle.running_words.specs.Session.{IsOpen};
+ghost use Rattle.running_words.specs.Running.{Runs};
+ghost use Rattle.pilot_top.specs.Last.{last_line, Puts};
+ghost use Rattle.pilot_top.specs.Trial.{HasNoFile, IsTrial, first_calls, trial_line};
+
+use crate::Status;
+use crate::closing::close;
+use crate::counting::Counts;
+use crate::last::Cause;
+use crate::stopping::{refuse, stop};
+use flat_machine::Call;
+use labelled_disk::{Disk, Halt, RootFault};
+use pilot_engine::SessionOver;
+use std::alloc::Allocator;
+use trace_io::Sink;
+use trace_maker::TraceMaker;
+
+// The identifier of the first file of a volume with serial 1 and counter 1.
+const FIRST_FILE: u64 = 0x1_0000_0001;
+
+// One of the calls that make four files, four spaces, and a window of each space on its file.
+fn first_call(index: u32) -> Call {
+    match index {
+        0..=3 => Call::Create { pages: 16, kind: 0 },
+        4..=7 => Call::MakeSpace {
+            parent: 0,
+            pages: 16,
+            first: None,
+        },
+        _ => Call::Map {
+            space: index - 7,
+            id: FIRST_FILE + u64::from(index - 8),
+            page: 0,
+            writable: true,
+        },
+    }
+}
+
+// Makes the files, the spaces and the windows.
+fn prepare<D: Disk, A: Allocator>(session: &mut SessionOver<D, A>) -> Result<(), Halt> {
+    for index in 0..12 {
+        match session.step(&first_call(index)) {
+            Ok(_) => (),
+            Err(halt) => return Err(halt),
+        }
+    }
+    Ok(())
+}
+
+// Carries the drawn calls out, so many, and counts what came of them.
+fn count_calls<D: Disk, A: Allocator>(
+    session: &mut SessionOver<D, A>,
+    seed: u32,
+    calls: u32,
+) -> Result<Counts, Halt> {
+    let mut maker = TraceMaker::new(seed);
+    let mut counts = Counts::none();
+    for _ in 0..calls {
+        match session.step(&maker.next_call()) {
+            Ok(reply) => counts.add(&reply),
+            Err(halt) => return Err(halt),
+        }
+    }
+    Ok(counts)
+}
+
+// Carries all calls of a trial out.
+fn try_calls<D: Disk, A: Allocator>(
+    session: &mut SessionOver<D, A>,
+    seed: u32,
+    calls: u32,
+) -> Result<Counts, Halt> {
+    match prepare(session) {
+        Ok(()) => count_calls(session, seed, calls),
+        Err(halt) => Err(halt),
+    }
+}
+
+// Carries a trial out in a session on a new volume, ends the session, and then tells what came of it.
+fn try_session<D: Disk, A: Allocator, K: Sink>(
+    session: SessionOver<D, A>,
+    seed: u32,
+    calls: u32,
+    sink: &mut K,
+) -> (Status, D) {
+    let mut session = session;
+    let counts = match try_calls(&mut session, seed, calls) {
+        Ok(counts) => counts,
+        Err(halt) => return (stop(halt, sink), session.into_disk()),
+    };
+    let (stopped, disk) = close(session, sink);
+    if let Some(status) = stopped {
+        return (status, disk);
+    }
+    match sink.put(&counts.line(calls)) {
+        Ok(()) => (Status::Done, disk),
+        Err(_) => (Status::StreamFault, disk),
+    }
+}
+
+/// Makes a volume of all sectors of the disk, with serial 1 and counter 1, carries so many drawn calls out in a session with so
+/// many frames, ends the session, and writes a line about the replies. The disk is handed back.
+pub(crate) fn run_trial<A: Allocator, D: Disk, K: Sink>(
+    alloc: A,
+    seed: u32,
+    calls: u32,
+    frames: u32,
+    disk: D,
+    sink: &mut K,
+) -> (Status, D)
+    requires least { 24 ≤ frames }
+    requires most { frames ≤ 4096 }
+    ensures ends { (result.0 ≡ Status.Done) ⊎ (result.0 ≡ Status.StreamFault)
+        ⊎ (result.0 ≡ Status.DiskFault) ⊎ (result.0 ≡ Status.NotOpened)
+        ⊎ (result.0 ≡ Status.NoMemory) ⊎ (result.0 ≡ Status.Damaged) }
+    ensures line { (d : List Sector) → (D.state disk).contents ≡ Some d → result.0 ≡ Status.Done
+        → (replies : List Reply) × IsTrial (D.state disk).sectors seed calls replies
+        × Appends (K.took sink.old) (K.took sink.new) (trial_line calls replies) }
+    ensures part_of_line { (d : List Sector) → (D.state disk).contents ≡ Some d → result.0 ≡ Status.StreamFault
+        → (replies : List Reply) × IsTrial (D.state disk).sectors seed calls replies
+        × (front : List ℕ) × IsFrontOf front (trial_line calls replies)
+        × Appends (K.took sink.old) (K.took sink.new) front }
+    ensures left { (d : List Sector) → (D.state disk).contents ≡ Some d
+        → (result.0 ≡ Status.Done) ⊎ (result.0 ≡ Status.StreamFault)
+        → HasNoFile (D.state result.1) }
+    ensures complete { (d : List Sector) → (D.state disk).contents ≡ Some d → IsCount (D.state disk).sectors
+        → ¬ Rose (D.state disk).faults (D.state result.1).faults
+        → ¬ Rose (K.faults sink.old) (K.faults sink.new)
+        → (result.0 ≡ Status.Done) ⊎ (result.0 ≡ Status.NoMemory) }
+
+    // A count of sectors that no volume has; and no memory for the frames.
+    ensures not_opened { result.0 ≡ Status.NotOpened ↔ ¬ IsCount (D.state disk).sectors }
+    ensures count_line { result.0 ≡ Status.NotOpened
+        → Puts (Rose (K.faults sink.old) (K.faults sink.new)) (K.took sink.old) (K.took sink.new)
+        (last_line (Cause.Root (RootFault.BadCount (D.state disk).sectors))) }
+    ensures unwritten { result.0 ≡ Status.NotOpened → OnlyReads (D.state disk) (D.state result.1) }
+    ensures memory { result.0 ≡ Status.NoMemory
+        → OnlyReads (D.state disk) (D.state result.1) × (sink.new ≡ sink.old) }
+
+    // Disk or sink failed; on a disk that tells what it holds, no damage is found.
+    ensures disk_cause { result.0 ≡ Status.DiskFault
+        → Rose (D.state disk).faults (D.state result.1).faults }
+    ensures disk_line { result.0 ≡ Status.DiskFault
+        → Puts (Rose (K.faults sink.old) (K.faults sink.new)) (K.took sink.old) (K.took sink.new)
+        (last_line Cause.DiskFault) }
+    ensures stream_cause { result.0 ≡ Status.StreamFault
+        → Rose (K.faults sink.old) (K.faults sink.new) }
+    ensures sound { (d : List Sector) → (D.state disk).contents ≡ Some d → result.0 ≢ Status.Damaged }
+    ensures damage_line { result.0 ≡ Status.Damaged → (e : Evidence)
+        × Puts (Rose (K.faults sink.old) (K.faults sink.new)) (K.took sink.old) (K.took sink.new)
+        (last_line (Cause.Damaged e)) }
+    ensures later { IsLater (D.state disk) (D.state result.1) }
+{
+    match SessionOver::fresh(alloc, disk, frames) {
+        Ok(session) => try_session(session, seed, calls, sink),
+        Err((fault, disk)) => (refuse(fault, sink), disk),
+    }
+}
