@@ -6,6 +6,8 @@ use Rattle.labelled_disk.specs.Sectors.{free_label}
 use Rattle.label_calls.specs.Labels.{IsNotOf}
 use Rattle.label_calls.specs.Runs.{IsOneNotOf}
 use Rattle.label_calls.proofs.RunLemmas.{so_far_none, so_far_more, one_still_there, made_some, cause_before, run_is, freeing_is, row_is, not_of_before, named_some, was_before}
+use Rattle.label_calls.specs.OwnLaws.{relabels_own, own_then, may_own}
+use Rattle.label_calls.proofs.OwnLemmas.{of_page, so_far_own}
 use Rattle.label_calls.proofs.run.free_pages_up.Goals as goal
 
 pub loop-k-init : goal.loop-k-init
@@ -57,3 +59,11 @@ pub returns-clause-were : goal.returns-clause-were
 returns-clause-were g c = λ d told k below.
     let all : c.loop-k.k ≡ c.args.pages = search rules in
     c.loop-k.invariant.found d told k (omega (arith, all, below))
+
+pub returns-in-Err-clause-own : goal.returns-in-Err-clause-own
+returns-in-Err-clause-own g c =
+    relabels_own (own_then (so_far_own (λ k. c.args.sector + k) free_label _ c.args.id c.loop-k.k c.loop-k.invariant (λ i l named. of_page _ l named) (λ i below. apart c.args.sector i)) (may_own c.in-Err.ensures.stopped c.in-Err.ensures.own))
+
+pub returns-clause-own : goal.returns-clause-own
+returns-clause-own g c =
+    relabels_own (so_far_own (λ k. c.args.sector + k) free_label _ c.args.id c.loop-k.k c.loop-k.invariant (λ i l named. of_page _ l named) (λ i below. apart c.args.sector i))

@@ -5,6 +5,8 @@ use Rattle.labelled_disk.specs.Runs.{growth, page_label, zero_bytes}
 use Rattle.label_calls.specs.Labels.{IsTaken}
 use Rattle.label_calls.specs.Runs.{IsOneTaken}
 use Rattle.label_calls.proofs.RunLemmas.{turns, so_far_none, so_far_more, one_still_there, made_some, cause_before, run_is, growth_is, taken_before}
+use Rattle.label_calls.specs.OwnLaws.{relabels_own, own_then, may_own}
+use Rattle.label_calls.proofs.OwnLemmas.{so_far_whole}
 use Rattle.label_calls.proofs.run.make_pages.Goals as goal
 
 pub loop-k-init : goal.loop-k-init
@@ -50,3 +52,10 @@ returns-clause-made g c =
     let all : c.loop-k.k ≡ c.args.pages = search rules in
     let so_far = rw all at c.loop-k.invariant in
     run_is (λ k. c.args.sector + k) (λ k. write.Whole (c.args.sector + k) (page_label c.args.id c.args.kind (c.args.page + k)) zero_bytes) _ c.args.sector c.args.pages _ _ _ _ _ _ _ (all_are c.args.id c.args.kind c.args.page c.args.sector c.args.pages) so_far
+
+pub returns-in-Err-clause-own : goal.returns-in-Err-clause-own
+returns-in-Err-clause-own g c = λ other.
+    relabels_own (own_then (so_far_whole (λ k. c.args.sector + k) (λ k. page_label c.args.id c.args.kind (c.args.page + k)) zero_bytes _ other c.loop-k.k c.loop-k.invariant) (may_own c.in-Err.ensures.stopped (c.in-Err.ensures.own other)))
+
+pub returns-clause-own : goal.returns-clause-own
+returns-clause-own g c = λ other. relabels_own (so_far_whole (λ k. c.args.sector + k) (λ k. page_label c.args.id c.args.kind (c.args.page + k)) zero_bytes _ other c.loop-k.k c.loop-k.invariant)
