@@ -9,7 +9,7 @@ use Rattle.page_tree.specs.Tells.{IsInserted, IsFull, IsTakenOut, IsPutOver}
 use Rattle.page_tree.specs.Put.{capacity_of}
 use Rattle.page_tree.specs.Page.{page_at, count_in}
 use Rattle.file_map.specs.Shown.{IsShown}
-use Rattle.file_map.specs.Entries.{Sight, Broken, IsLast, IsFirst, IsPut, IsReplaced, IsTakenOut as IsOut, IsOwn, IsFullOr, IsCause}
+use Rattle.file_map.specs.Entries.{Sight, Broken, Stops, IsLast, IsFirst, IsPut, IsReplaced, IsTakenOut as IsOut, IsOwn, IsFullOr, IsCause, IsPutCause}
 
 own : {X : Type 0} (e : TreeError X) → FromMemory e → IsOwn e
 own Full h = h
@@ -51,7 +51,7 @@ cause (Err (Malformed page)) tells breaks shows accounted shown broken known = s
 cause (Err (Mem error)) tells breaks shows accounted shown broken known = known
 
 pub put_cause : {T X : Type 0} (r : Result T (TreeError X)) (full : List ℕ → Type 0) (whole : Type 0) (tells : List ℕ → Type 0) (breaks : List ℕ → ℕ → Type 0) (shows : Sight → Type 0) (accounted : X → Type 0) → (((b : List ℕ) → tells b → full b) → whole)
-    → ((page : ℕ) → ((b : List ℕ) → tells b → breaks b page) → shows (Broken page)) → ((b : List ℕ) → tells b → IfErr r (IfFull (full b))) → ((b : List ℕ) → tells b → IfErr r (IfMalformed (breaks b))) → IfErr r (IfMemory accounted) → IfErr r (IsCause whole shows accounted)
+    → ((page : ℕ) → ((b : List ℕ) → tells b → breaks b page) → shows (Stops page)) → ((b : List ℕ) → tells b → IfErr r (IfFull (full b))) → ((b : List ℕ) → tells b → IfErr r (IfMalformed (breaks b))) → IfErr r (IfMemory accounted) → IfErr r (IsPutCause whole shows accounted)
 put_cause (Ok x) full whole tells breaks shows accounted is shown most broken known = tt
 put_cause (Err Full) full whole tells breaks shows accounted is shown most broken known = is most
 put_cause (Err (Malformed page)) full whole tells breaks shows accounted is shown most broken known = shown page broken

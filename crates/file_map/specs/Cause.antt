@@ -4,7 +4,7 @@ use Rattle.page_tree.specs.declared.error.TreeError.{TreeError}
 use Rattle.page_tree.specs.declared.error.TreeError.TheVariants.{Full as TreeFull, Malformed as TreeMalformed, Mem as TreeMem}
 use Rattle.file_map.specs.declared.error.MapError.{MapError}
 use Rattle.file_map.specs.declared.error.MapError.TheVariants.{Full, Malformed, Mem}
-use Rattle.file_map.specs.Entries.{Sight, Entry, Count, Broken}
+use Rattle.file_map.specs.Entries.{Sight, Entry, Count, Broken, Stops}
 use Rattle.file_map.specs.declared.run.Run.{Run}
 use Rattle.file_map.specs.Run.{IsRecord, run_bytes}
 use Rattle.file_map.specs.FileMap.{most_records}
@@ -27,6 +27,12 @@ abbrev pub IsCause : {X : Type 0} → ℕ → Type 0 → (Sight → Type 0) → 
 IsCause n full shows accounted Full = full
 IsCause n full shows accounted (Malformed page) = IsBroken n shows page
 IsCause n full shows accounted (Mem error) = accounted error
+
+-- why an addition answered one: also a page where no record can be put in
+abbrev pub IsAddCause : {X : Type 0} → ℕ → Type 0 → (Sight → Type 0) → (X → Type 0) → MapError X → Type 0
+IsAddCause n full shows accounted Full = full
+IsAddCause n full shows accounted (Malformed page) = IsBroken n shows page ⊎ shows (Stops page)
+IsAddCause n full shows accounted (Mem error) = accounted error
 
 -- a record of the file is shown that ends behind page `from`, so that a cut there takes something out
 pub record IsToCut (id from : ℕ) (shows : Sight → Type 0) : Type 0 where

@@ -5,11 +5,13 @@ use Rattle.flat_mem.specs.Order.{entry_at, key_at, at_most, IsLastAtMost, NoneAt
 use Rattle.page_tree.specs.declared.error.TreeError.{TreeError}
 use Rattle.page_tree.specs.declared.error.TreeError.TheVariants.{Full, Malformed, Mem}
 
--- what the pages of a list show: an entry in a page, how many entries there are, or a page that breaks its form
+-- what the pages of a list show: an entry in a page, how many entries there are, a page that breaks its form, or one where no
+-- entry can be put in
 pub data Sight : Type 0 where
   Entry : ℕ → List ℕ → Sight
   Count : ℕ → Sight
   Broken : ℕ → Sight
+  Stops : ℕ → Sight
 
 -- the entry is the last whose key is at most the given one, or no entry is such
 abbrev pub IsLast : ℕ → List (List ℕ) → List ℕ → List ℕ → Option ℕ → Type 0
@@ -64,6 +66,12 @@ abbrev pub IsCause : {X : Type 0} → Type 0 → (Sight → Type 0) → (X → T
 IsCause full shows accounted Full = full
 IsCause full shows accounted (Malformed page) = shows (Broken page)
 IsCause full shows accounted (Mem error) = accounted error
+
+-- why an insertion answered one: a page that is malformed is shown to be, or to take no more entries
+abbrev pub IsPutCause : {X : Type 0} → Type 0 → (Sight → Type 0) → (X → Type 0) → TreeError X → Type 0
+IsPutCause full shows accounted Full = full
+IsPutCause full shows accounted (Malformed page) = shows (Stops page)
+IsPutCause full shows accounted (Mem error) = accounted error
 
 -- the error is the memory's own
 abbrev pub IsOwn : {X : Type 0} → TreeError X → Type 0

@@ -5,7 +5,7 @@ ghost use Rattle.file_map.specs.Run.{IsRun};
 ghost use Rattle.file_map.specs.FileMap.{AreNamed, Triples, IsNew, with_run, most_records};
 ghost use Rattle.file_map.specs.Edits.{Joins};
 ghost use Rattle.file_map.specs.Entries.{Sight};
-ghost use Rattle.file_map.specs.Cause.{IsCause, IsOwn, IsFullOr, IsMost, IfFull};
+ghost use Rattle.file_map.specs.Cause.{IsCause, IsAddCause, IsOwn, IsFullOr, IsMost, IfFull};
 
 use crate::count::{count_of, most_of};
 use crate::entries::SortedEntries;
@@ -69,7 +69,7 @@ fn put<T: SortedEntries>(entries: &mut T, sectors: u32, run: Run) -> Result<(), 
     requires run { IsRun sectors run }
     ensures added { (named : Triples) → AreNamed sectors (T.lists entries.old) named → IsNew named run → (n : ℕ) → T.counts entries.old n → n < most_records sectors → n < T.room entries.old → MatchResult result (λ _. AreNamed sectors (T.lists entries.new) (with_run named run)) IsOwn }
     ensures kept { T.beside entries.old entries.new }
-    ensures cause { IfErr result (IsCause sectors ((n : ℕ) → T.counts entries.old n → T.room entries.old ≤ n) (T.shows entries.old) (T.accounted entries.old entries.new)) }
+    ensures cause { IfErr result (IsAddCause sectors ((n : ℕ) → T.counts entries.old n → T.room entries.old ≤ n) (T.shows entries.old) (T.accounted entries.old entries.new)) }
     ensures cost { T.spent entries.new ≤ T.spent entries.old + T.look_cost + T.replace_cost + T.insert_cost }
 {
     if extend(entries, sectors, run)? {
@@ -92,7 +92,7 @@ pub fn add<T: SortedEntries>(
     ensures room { (n : ℕ) → T.counts entries.old n → IfOk result (λ _. n < most_records sectors) }
     ensures full_same { (b : List ℕ) → T.told entries.old b → IfErr result (IfFull (T.told entries.new b)) }
     ensures kept { T.beside entries.old entries.new }
-    ensures cause { IfErr result (IsCause sectors (IsMost sectors (T.counts entries.old)) (T.shows entries.old) (T.accounted entries.old entries.new)) }
+    ensures cause { IfErr result (IsAddCause sectors (IsMost sectors (T.counts entries.old)) (T.shows entries.old) (T.accounted entries.old entries.new)) }
     ensures cost { T.spent entries.new ≤ T.spent entries.old + T.count_cost + T.look_cost + T.replace_cost + T.insert_cost }
 {
     if count_of(entries, sectors)? == most_of(sectors) {

@@ -1,7 +1,7 @@
 //! A sorted list of entries, as the map uses it.
 ghost use Rattle.std.specs.Prelude.{◌≡◌, ℕ, ◌+◌, ◌≤◌, List, length, false, IfOk, IfErr, IfSome, MatchResult};
 ghost use Rattle.flat_mem.specs.Order.{IsRising};
-ghost use Rattle.file_map.specs.Entries.{Sight, Entry, Count, IsLast, IsFirst, IsPut, IsReplaced, IsTakenOut, IsCause, IsOwn, IsFullOr};
+ghost use Rattle.file_map.specs.Entries.{Sight, Entry, Count, IsLast, IsFirst, IsPut, IsReplaced, IsTakenOut, IsCause, IsPutCause, IsOwn, IsFullOr};
 
 use crate::run::{Key, Record};
 use page_tree::TreeError;
@@ -118,7 +118,7 @@ pub trait SortedEntries: SearchedEntries {
     fn insert(&mut self, entry: &Record) -> Result<(), TreeError<Self::Error>>
         ensures answer { (xs : List (List ℕ)) → Self.lists self.old xs → MatchResult result (λ _. IsPut 12 (Self.lists self.new) xs entry.now) (IsFullOr (Self.room self.old) (Self.lists self.new) xs) }
         ensures kept { Self.beside self.old self.new }
-        ensures cause { IfErr result (IsCause ((n : ℕ) → Self.counts self.old n → Self.room self.old ≤ n) (Self.shows self.old) (Self.accounted self.old self.new)) }
+        ensures cause { IfErr result (IsPutCause ((n : ℕ) → Self.counts self.old n → Self.room self.old ≤ n) (Self.shows self.old) (Self.accounted self.old self.new)) }
         ensures cost { Self.spent self.new ≤ Self.spent self.old + insert_cost };
 
     /// Writes an entry over the last with its key. False where there is none.

@@ -5,7 +5,7 @@ ghost use Rattle.labelled_disk.specs.Layout.{IsCount, vfm};
 ghost use Rattle.file_map.specs.Run.{IsRun, holds, run_bytes};
 ghost use Rattle.file_map.specs.FileMap.{Triples, IsFound, IsSize, IsNext, IsNew, no_triples, with_run, without_from, most_records};
 ghost use Rattle.file_map.specs.Entries.{Entry};
-ghost use Rattle.file_map.specs.Cause.{IsCause, IsToCut, IsOwn, IsFullOr, IsMost, IfFull};
+ghost use Rattle.file_map.specs.Cause.{IsCause, IsAddCause, IsToCut, IsOwn, IsFullOr, IsMost, IfFull};
 
 use crate::error::MapError;
 use crate::run::Run;
@@ -99,7 +99,7 @@ impl<M: FlatMem> FileMap<M> {
         ensures room { (n : ℕ) → Counts self.old n → IfOk result (λ _. n < most_records (map_sectors self.old)) }
         ensures sectors { map_sectors self.new ≡ map_sectors self.old }
         ensures kept { M.beside (map_memory self.old) (map_memory self.new) }
-        ensures cause { IfErr result (IsCause (map_sectors self.old) (IsMost (map_sectors self.old) (Counts self.old)) (Shows self.old) (M.accounted (map_memory self.old) (map_memory self.new))) }
+        ensures cause { IfErr result (IsAddCause (map_sectors self.old) (IsMost (map_sectors self.old) (Counts self.old)) (Shows self.old) (M.accounted (map_memory self.old) (map_memory self.new))) }
         ensures cost { M.spent (map_memory self.new) ≤ M.spent (map_memory self.old) + 49 * M.cost }
     {
         let mut tree = PageTree::<&mut M, 24, 12>::over(&mut self.mem);

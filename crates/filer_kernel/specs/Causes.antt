@@ -12,7 +12,7 @@ use Rattle.page_tree.specs.Page.{page_at, count_in}
 use Rattle.file_map.specs.declared.run.Run.{Run}
 use Rattle.file_map.specs.Run.{holds, sector_at, run_bytes}
 use Rattle.file_map.specs.FileMap.{most_records}
-use Rattle.file_map.specs.Entries.{Sight, Entry}
+use Rattle.file_map.specs.Entries.{Sight, Entry, Stops}
 use Rattle.file_map.specs.Cause.{IsBroken, IsMost}
 use Rattle.file_map.specs.Map.{ShownBy}
 use Rattle.swapper_kernel.specs.declared.manager.Manager.TheVariants.{FileMap}
@@ -57,10 +57,10 @@ MapHalts layout old before new halt = HasCause (MapEvidence layout old before) o
 abbrev pub MapCounts : Layout → DiskState → Slots → ℕ → Type 0
 MapCounts layout disk slots n = (b : List ℕ) × Tells FileMap disk slots layout b × (n ≡ count_in (page_at b 0))
 
--- such evidence, or the map has as many records as it may
+-- such evidence, or a page of the map where no record can be put in, or the map has as many records as it may
 abbrev pub AddEvidence : Layout → DiskState → Slots → Evidence → Type 0
 AddEvidence layout disk slots (Mismatch sector wanted found) = IsOther (held_or slots (IsMapHome FileMap layout)) disk sector wanted found
-AddEvidence layout disk slots (Malformed window page) = (window ≡ 2) × (IsBroken layout.sectors (MapShows layout disk slots) page ⊎ ((page ≡ 0) × IsMost layout.sectors (MapCounts layout disk slots)))
+AddEvidence layout disk slots (Malformed window page) = (window ≡ 2) × ((IsBroken layout.sectors (MapShows layout disk slots) page ⊎ MapShows layout disk slots (Stops page)) ⊎ ((page ≡ 0) × IsMost layout.sectors (MapCounts layout disk slots)))
 AddEvidence layout disk slots (Missing id page) = ⊥
 
 -- the halt of a call that adds to the map

@@ -1,10 +1,14 @@
 //! The pages of the space tables, found through the file map and brought into frames.
-ghost use Rattle.std.specs.Prelude.{◌≡◌, ℕ, ◌+◌, ◌*◌, ◌<◌, ◌≤◌, List, length, IfOk, IfErr, IsOk};
+ghost use Rattle.std.specs.Prelude.{◌≡◌, ℕ, ◌+◌, ◌*◌, ◌<◌, ◌≤◌, find, List, length, IfOk, IfErr, IsOk, Some};
 ghost use Rattle.labelled_disk.specs.Sectors.{Sector};
 ghost use Rattle.flat_mem.specs.Memory.{part};
 ghost use Rattle.frame_pool.specs.Frames.{ArePages, Frame, Has, HasPage};
+ghost use Rattle.file_map.specs.declared.run.Run.{Run};
+ghost use Rattle.file_map.specs.Run.{holds};
+ghost use Rattle.swapper_kernel.specs.declared.manager.Manager.TheVariants.{FileMap as FileMapPages};
 ghost use Rattle.swapper_kernel.specs.Homes.{IsNamed};
 ghost use Rattle.swapper_kernel.specs.Stands.{Stands};
+ghost use Rattle.swapper_kernel.specs.Window.{Tells};
 ghost use Rattle.filer_kernel.specs.Cached.{runs_of};
 ghost use Rattle.filer_kernel.specs.Tables.{BesideTables, IfMissing, IsFoundHome, IsTableAccounted, TablesTell};
 
@@ -30,6 +34,8 @@ impl<D: Disk, A: Allocator> FilerOver<D, A> {
         ensures error { IfErr result (IsTableAccounted (D.state self.old.swapper.under) self.old.swapper.pool self.old.swapper.layout self.old.runs (D.state self.new.swapper.under)) }
         ensures missing { IfErr result (IfMissing page) }
         ensures kept { BesideTables (D.state self.old.swapper.under) self.old.swapper.pool self.old.swapper.layout self.old.runs (D.state self.new.swapper.under) self.new.swapper.pool self.new.swapper.layout self.new.runs }
+        ensures same_bytes { (b : List ℕ) → Tells FileMapPages (D.state self.old.swapper.under) self.old.swapper.pool self.old.swapper.layout b → Tells FileMapPages (D.state self.new.swapper.under) self.new.swapper.pool self.old.swapper.layout b }
+        ensures idle { (r : Run) → find (λ r. holds r 3 page) (runs_of self.old.swapper.layout.sectors self.old.runs) ≡ Some r → self.new.swapper ≡ self.old.swapper }
         ensures cost { (D.state self.new.swapper.under).transfers ≤ (D.state self.old.swapper.under).transfers + 14 }
     {
         let Some(run) = self.find(TABLES, page)? else {
@@ -56,7 +62,11 @@ impl<D: Disk, A: Allocator> FilerOver<D, A> {
         ensures missing { IfErr result (IfMissing page) }
         ensures kept { BesideTables (D.state self.old.swapper.under) self.old.swapper.pool self.old.swapper.layout self.old.runs (D.state self.new.swapper.under) self.new.swapper.pool self.new.swapper.layout self.new.runs }
         ensures idle { (i : ℕ) → HasPage self.old.swapper.pool i 3 page → IsOk result × (self.new.swapper ≡ self.old.swapper) × (self.new.runs ≡ self.old.runs) }
+        ensures same_bytes { (b : List ℕ) → Tells FileMapPages (D.state self.old.swapper.under) self.old.swapper.pool self.old.swapper.layout b → Tells FileMapPages (D.state self.new.swapper.under) self.new.swapper.pool self.old.swapper.layout b }
         ensures cost { (D.state self.new.swapper.under).transfers ≤ (D.state self.old.swapper.under).transfers + 16 }
+        // where a run that is kept has the page, no search is made: the page alone moves, and a page that yields to it
+        ensures warm { (r : Run) → find (λ r. holds r 3 page) (runs_of self.old.swapper.layout.sectors self.old.runs) ≡ Some r
+            → (D.state self.new.swapper.under).transfers ≤ (D.state self.old.swapper.under).transfers + 2 }
     {
         if let Some(slot) = self.swapper.frames().find(TABLES, page) {
             return Ok(slot);

@@ -3,7 +3,7 @@ use Rattle.std.proofs.lemmas.List.{length-map}
 use Rattle.file_map.specs.Run.{run_bytes}
 use Rattle.file_map.specs.Entries.{IsPut}
 use Rattle.file_map.proofs.Adding.{put_named}
-use Rattle.file_map.proofs.Outcomes.{passed, passed_cause, cause, cause_wider}
+use Rattle.file_map.proofs.Outcomes.{passed, passed_cause, put_cause, add_cause, add_cause_wider}
 use Rattle.file_map.proofs.add.put.Goals as goal
 
 pub returns-in_err-extend-clause-added : goal.returns-in_err-extend-clause-added
@@ -23,9 +23,9 @@ returns-in_err-insert-clause-cause g c =
     let last = g.met.T.SearchedEntries.beside_itself c.insert.new.self in
     let room = g.met.T.SearchedEntries.same_room _ _ c.extend.ensures.kept in
     passed_cause _ _ _ c.from_residual-in_err-insert.ensures.1
-    (cause_wider c.args.sectors ((n : ℕ) → g.T.SearchedEntries.counts c.extend.new.entries n → g.T.SearchedEntries.room c.extend.new.entries ≤ n) ((n : ℕ) → g.T.SearchedEntries.counts c.args.entries.now n → g.T.SearchedEntries.room c.args.entries.now ≤ n)
+    (add_cause_wider c.args.sectors ((n : ℕ) → g.T.SearchedEntries.counts c.extend.new.entries n → g.T.SearchedEntries.room c.extend.new.entries ≤ n) ((n : ℕ) → g.T.SearchedEntries.counts c.args.entries.now n → g.T.SearchedEntries.room c.args.entries.now ≤ n)
     (g.T.SearchedEntries.shows c.extend.new.entries) (g.T.SearchedEntries.shows c.args.entries.now) (g.T.SearchedEntries.accounted c.extend.new.entries c.insert.new.self) (g.T.SearchedEntries.accounted c.args.entries.now c.insert.new.self) _
     (λ is n counted. omega (arith, room, is n (c.in_ok-extend.ensures.same_count c.if-branch.false n counted)))
     (c.in_ok-extend.ensures.same_sights c.if-branch.false)
     (λ e why. g.met.T.SearchedEntries.accounted_wider _ _ _ _ e c.extend.ensures.kept c.insert.ensures.kept last why)
-    (cause c.args.sectors ((n : ℕ) → g.T.SearchedEntries.counts c.extend.new.entries n → g.T.SearchedEntries.room c.extend.new.entries ≤ n) (g.T.SearchedEntries.shows c.extend.new.entries) (g.T.SearchedEntries.accounted c.extend.new.entries c.insert.new.self) c.in_err-insert.field-0.0 c.in_err-insert.ensures.cause))
+    (put_cause c.args.sectors ((n : ℕ) → g.T.SearchedEntries.counts c.extend.new.entries n → g.T.SearchedEntries.room c.extend.new.entries ≤ n) (g.T.SearchedEntries.shows c.extend.new.entries) (g.T.SearchedEntries.accounted c.extend.new.entries c.insert.new.self) c.in_err-insert.field-0.0 c.in_err-insert.ensures.cause))

@@ -4,7 +4,7 @@ use Rattle.page_tree.specs.Page.{page_at, count_in}
 use Rattle.page_tree.specs.Tells.{TellsTree}
 use Rattle.file_map.specs.Run.{run_bytes}
 use Rattle.file_map.specs.FileMap.{AreNamed, with_run, most_records}
-use Rattle.file_map.specs.Cause.{IsCause, IsFullOr, IsMost}
+use Rattle.file_map.specs.Cause.{IsAddCause, IsFullOr, IsMost}
 use Rattle.file_map.specs.Shown.{IsShown}
 use Rattle.file_map.proofs.Edits.{relisted}
 use Rattle.file_map.proofs.map.FileMap.add.Goals as goal
@@ -24,7 +24,7 @@ returns-clause-room g c = λ n counted.
 pub returns-clause-cause : goal.returns-clause-cause
 returns-clause-cause g c =
     let here : (tree_memory c.over-tree.result).now ≡ c.args.self.now.mem = λ i. (c.over-tree.ensures.memory i).now in
-    subst (λ m. IfErr c.add.result (IsCause c.args.self.now.sectors (IsMost c.args.self.now.sectors (λ n. (b : List ℕ) × g.M.FlatMem.tells m b × (n ≡ count_in (page_at b 0)))) (λ sight. (b : List ℕ) → g.M.FlatMem.tells m b → IsShown (g.M.FlatMem.size m / 512) b sight) (g.M.FlatMem.accounted m (tree_memory c.add.new.entries).now))) here c.add.ensures.cause
+    subst (λ m. IfErr c.add.result (IsAddCause c.args.self.now.sectors (IsMost c.args.self.now.sectors (λ n. (b : List ℕ) × g.M.FlatMem.tells m b × (n ≡ count_in (page_at b 0)))) (λ sight. (b : List ℕ) → g.M.FlatMem.tells m b → IsShown (g.M.FlatMem.size m / 512) b sight) (g.M.FlatMem.accounted m (tree_memory c.add.new.entries).now))) here c.add.ensures.cause
 
 pub returns-clause-full_same : goal.returns-clause-full_same
 returns-clause-full_same g c = λ b h.

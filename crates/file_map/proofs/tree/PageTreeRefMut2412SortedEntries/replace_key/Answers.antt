@@ -1,5 +1,4 @@
 use Rattle.std.proofs.Common.{◌/◌, ℕ, List}
-use Rattle.page_tree.specs.Broken.{StopsInsertion}
 use Rattle.page_tree.specs.PageTree.{tree_memory, Lists}
 use Rattle.file_map.specs.Shown.{IsShown}
 use Rattle.file_map.proofs.Trees.{put_over, cause, kept_count, kept_sights}
@@ -9,7 +8,7 @@ pub returns-clause-answer : goal.returns-clause-answer
 returns-clause-answer g c = λ xs listed. put_over c.replace_key.result (Lists c.replace_key.new.self) xs c.args.entry.now (c.replace_key.ensures.replaced xs listed)
 
 pub returns-clause-cause : goal.returns-clause-cause
-returns-clause-cause g c = cause c.replace_key.result _ _ (λ sight. (b : List ℕ) → g.M.FlatMem.tells (tree_memory c.args.self.now).now b → IsShown (g.M.FlatMem.size (tree_memory c.args.self.now).now / 512) b sight) _ (λ page broken b h. StopsInsertion.broken (broken b h)) c.replace_key.ensures.malformed c.replace_key.ensures.cause
+returns-clause-cause g c = cause c.replace_key.result _ _ (λ sight. (b : List ℕ) → g.M.FlatMem.tells (tree_memory c.args.self.now).now b → IsShown (g.M.FlatMem.size (tree_memory c.args.self.now).now / 512) b sight) _ (λ page broken. broken) c.replace_key.ensures.malformed c.replace_key.ensures.cause
 
 pub returns-clause-same_count : goal.returns-clause-same_count
 returns-clause-same_count g c = kept_count c.replace_key.result _ _ c.replace_key.ensures.absent

@@ -8,15 +8,15 @@ use Rattle.filer_kernel.specs.Becomes.{Becomes}
 use Rattle.filer_kernel.specs.Causes.{AddHalts}
 use Rattle.filer_kernel.specs.Triples.{MapIs}
 use Rattle.filer_kernel.proofs.Lent.{lent}
-use Rattle.filer_kernel.proofs.FileLemmas.{IsWindowCause, names_told, becomes_named, cause_here, ok_halted, match_on_ok}
-use Rattle.filer_kernel.proofs.AddLemmas.{TellsMost, has_room, add_sound, add_right, add_halts}
+use Rattle.filer_kernel.proofs.FileLemmas.{names_told, becomes_named, ok_halted, match_on_ok}
+use Rattle.filer_kernel.proofs.AddLemmas.{IsWindowAddCause, add_cause_here, TellsMost, has_room, add_sound, add_right, add_halts}
 use Rattle.filer_kernel.proofs.filer.FilerOver.add.Given as given
 use Rattle.filer_kernel.proofs.filer.FilerOver.add.Goals as goal
 
 -- why the map answers an error
-cause : (g : given.Over) (c : goal.After-halted g) → IfErr c.add.result (IsWindowCause c.over-map.result.sectors (TellsMost c.over-map.result.sectors FileMap (g.D.Disk.state c.args.self.now.swapper.under) c.args.self.now.swapper.pool c.args.self.now.swapper.layout)
+cause : (g : given.Over) (c : goal.After-halted g) → IfErr c.add.result (IsWindowAddCause c.over-map.result.sectors (TellsMost c.over-map.result.sectors FileMap (g.D.Disk.state c.args.self.now.swapper.under) c.args.self.now.swapper.pool c.args.self.now.swapper.layout)
     FileMap (g.D.Disk.state c.args.self.now.swapper.under) c.args.self.now.swapper.pool c.args.self.now.swapper.layout (g.D.Disk.state c.add.new.self.mem.swapper.now.under))
-cause g c = cause_here c.add.result c.over-map.result.sectors (TellsMost c.over-map.result.sectors) (g.D.Disk.state c.add.new.self.mem.swapper.now.under) (search rules) (search rules) (search rules) (search rules) c.add.ensures.cause
+cause g c = add_cause_here c.add.result c.over-map.result.sectors (TellsMost c.over-map.result.sectors) (g.D.Disk.state c.add.new.self.mem.swapper.now.under) (search rules) (search rules) (search rules) (search rules) c.add.ensures.cause
 
 pub returns-clause-added : goal.returns-clause-added
 returns-clause-added g c =

@@ -1,4 +1,6 @@
-use Rattle.std.proofs.Common.{◌≡◌}
+use Rattle.std.proofs.Common.{◌≡◌, refl}
+use Rattle.swapper_kernel.specs.declared.manager.Manager.TheVariants.{FileMap}
+use Rattle.swapper_kernel.proofs.WindowLemmas.{tells_swapped}
 use Rattle.filer_kernel.specs.TableLaws.{beside_tables_itself}
 use Rattle.filer_kernel.specs.TableOnce.{tables_swapped}
 use Rattle.filer_kernel.proofs.TableLemmas.{table_shown, table_there, table_shown_there, beside_fetched, accounted_fetched, found_missing}
@@ -43,3 +45,6 @@ returns-clause-idle g c = λ i has. absurd (c.find.ensures.nowhere.0 c.in_defaul
 
 pub returns-clause-missing : goal.returns-clause-missing
 returns-clause-missing g c = found_missing (λ o. o ≡ c.in_ok-home.home) (g.D.Disk.state c.table_home.new.self.swapper.under) c.table_home.new.self.swapper.pool (g.D.Disk.state c.fetch.new.self.under) c.args.page c.fetch.result c.fetch.ensures.cause
+
+pub returns-clause-same_bytes : goal.returns-clause-same_bytes
+returns-clause-same_bytes g c = λ b tells. tells_swapped FileMap refl c.fetch.ensures.swaps b (c.in_ok-home.ensures.same_bytes b tells)
