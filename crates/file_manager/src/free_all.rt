@@ -5,6 +5,7 @@ ghost use Rattle.labelled_disk.specs.Calls.{Rose};
 ghost use Rattle.labelled_disk.specs.Sectors.{Sector};
 ghost use Rattle.file_map.specs.FileMap.{Triples};
 ghost use Rattle.flat_machine.specs.declared.space.Space.{Space};
+ghost use Rattle.filer_kernel.specs.Evidence.{ShowsSo};
 ghost use Rattle.file_manager.specs.Freeing.{MayFreeAll, FreedAll, FreedFirst, MakesFree, MakesSomeFree};
 
 use crate::release::{free_run, free_up};
@@ -31,6 +32,7 @@ pub(crate) fn free_all<D: Disk, A: Allocator>(
         → OnErr result (FreedFirst named id pages (D.state filer.old.swapper.under) filer.old.swapper.pool (D.state filer.new.swapper.under) filer.new.swapper.pool) }
     ensures makes { OnOk result (MakesFree (1 + pages) (D.state filer.old.swapper.under) filer.old.swapper.pool (D.state filer.new.swapper.under) filer.new.swapper.pool) }
     ensures stopped { OnErr result (MakesSomeFree (D.state filer.old.swapper.under) filer.old.swapper.pool (D.state filer.new.swapper.under) filer.new.swapper.pool) }
+    ensures so { IfErr result (ShowsSo (D.state filer.new.swapper.under)) }
     ensures counted { result ≡ Err halt.Disk → Rose (D.state filer.old.swapper.under).faults (D.state filer.new.swapper.under).faults }
     ensures layout { filer.new.swapper.layout ≡ filer.old.swapper.layout }
     ensures cost { (D.state filer.new.swapper.under).transfers ≤ (D.state filer.old.swapper.under).transfers + (1 + pages) * (16 + 4 * filer.old.swapper.layout.vam) }

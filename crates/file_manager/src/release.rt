@@ -16,6 +16,7 @@ ghost use Rattle.label_calls.specs.Labels.{ones_of};
 ghost use Rattle.label_calls.specs.Runs.{AreUncovered, HaveOnes, RelabelsRun, MadeSome};
 ghost use Rattle.filer_kernel.specs.Cached.{runs_of};
 ghost use Rattle.filer_kernel.specs.Triples.{MapIs, AreOf};
+ghost use Rattle.filer_kernel.specs.Evidence.{ShowsSo};
 ghost use Rattle.file_manager.specs.Freeing.{MayFree, Freed, FreedSome, IsPartOf, NamesAll, MakesFree, MakesSomeFree, run_sectors};
 
 use file_map::Run;
@@ -33,6 +34,7 @@ fn part_of<D: Disk, A: Allocator>(
 ) -> Result<Run, Halt>
     requires size { (D.state filer.old.swapper.under).sectors ≡ filer.old.swapper.layout.sectors }
     requires some { 1 ≤ most }
+    ensures so { (id ≡ 3) ⊎ (16 ≤ id) → IfErr result (ShowsSo (D.state filer.new.swapper.under)) }
     ensures counted { result ≡ Err halt.Disk → Rose (D.state filer.old.swapper.under).faults (D.state filer.new.swapper.under).faults }
     ensures form { IfOk result (IsPartOf filer.old.swapper.layout.sectors id page (page + most)) }
     ensures named { (m : List Sector) (named : Triples) → Stands (D.state filer.old.swapper.under) filer.old.swapper.pool m → MapIs filer.old.swapper.layout named m → AreOf named (runs_of filer.old.swapper.layout.sectors filer.old.runs)
@@ -70,6 +72,7 @@ fn free_labels<D: Disk, A: Allocator>(filer: &mut FilerOver<D, A>, run: Run) -> 
     ensures stopped { OnErr result (MadeSome (freeing (run_sectors run)) (D.state filer.old.swapper.under) filer.old.swapper.pool (D.state filer.new.swapper.under)) }
     ensures sound { (m : List Sector) → Stands (D.state filer.old.swapper.under) filer.old.swapper.pool m → AreUncovered filer.old.swapper.pool run.sector run.pages
         → HaveOnes (λ k. ones_of (record { id = run.id; page = run.first + k })) m run.sector run.pages → IfErr result (λ e. e ≡ halt.Disk) }
+    ensures so { IfErr result (ShowsSo (D.state filer.new.swapper.under)) }
     ensures counted { result ≡ Err halt.Disk → Rose (D.state filer.old.swapper.under).faults (D.state filer.new.swapper.under).faults }
     ensures frames { filer.new.swapper.pool ≡ filer.old.swapper.pool }
     ensures layout { filer.new.swapper.layout ≡ filer.old.swapper.layout }
@@ -103,6 +106,7 @@ pub(crate) fn free_run<D: Disk, A: Allocator>(
         → OnErr result (FreedSome named id page (page + most) (D.state filer.old.swapper.under) filer.old.swapper.pool (D.state filer.new.swapper.under) filer.new.swapper.pool) }
     ensures makes { IfOk result (λ pages. MakesFree pages (D.state filer.old.swapper.under) filer.old.swapper.pool (D.state filer.new.swapper.under) filer.new.swapper.pool) }
     ensures stopped { OnErr result (MakesSomeFree (D.state filer.old.swapper.under) filer.old.swapper.pool (D.state filer.new.swapper.under) filer.new.swapper.pool) }
+    ensures so { IfErr result (ShowsSo (D.state filer.new.swapper.under)) }
     ensures counted { result ≡ Err halt.Disk → Rose (D.state filer.old.swapper.under).faults (D.state filer.new.swapper.under).faults }
     ensures layout { filer.new.swapper.layout ≡ filer.old.swapper.layout }
     ensures spent { IfOk result (λ pages. (D.state filer.new.swapper.under).transfers ≤ (D.state filer.old.swapper.under).transfers + (14 + 2 * pages + 4 * filer.old.swapper.layout.vam)) }
@@ -141,6 +145,7 @@ pub(crate) fn free_up<D: Disk, A: Allocator>(
         → OnErr result (FreedSome named id from end (D.state filer.old.swapper.under) filer.old.swapper.pool (D.state filer.new.swapper.under) filer.new.swapper.pool) }
     ensures makes { OnOk result (MakesFree (end - from) (D.state filer.old.swapper.under) filer.old.swapper.pool (D.state filer.new.swapper.under) filer.new.swapper.pool) }
     ensures stopped { OnErr result (MakesSomeFree (D.state filer.old.swapper.under) filer.old.swapper.pool (D.state filer.new.swapper.under) filer.new.swapper.pool) }
+    ensures so { IfErr result (ShowsSo (D.state filer.new.swapper.under)) }
     ensures counted { result ≡ Err halt.Disk → Rose (D.state filer.old.swapper.under).faults (D.state filer.new.swapper.under).faults }
     ensures layout { filer.new.swapper.layout ≡ filer.old.swapper.layout }
     ensures cost { (D.state filer.new.swapper.under).transfers ≤ (D.state filer.old.swapper.under).transfers + (end - from) * (16 + 4 * filer.old.swapper.layout.vam) }

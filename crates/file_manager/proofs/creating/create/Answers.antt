@@ -15,6 +15,8 @@ use Rattle.file_manager.proofs.NewFile.{created_as, root_stops, map_stop, file_s
 use Rattle.file_manager.proofs.RootForm.{next_is_file, counted_valid, counted_has}
 use Rattle.file_manager.proofs.creating.create.Given as given
 use Rattle.file_manager.proofs.creating.create.Goals.{After-frames_of}
+use Rattle.filer_kernel.specs.EvidenceLaws.{so_of_cut}
+use Rattle.file_manager.proofs.SoLemmas.{fault_shows}
 use Rattle.file_manager.proofs.creating.create.Goals as goal
 
 pub returns-in-Err-clause-sound : goal.returns-in-Err-clause-sound
@@ -127,3 +129,9 @@ returns-in-Err-make_file-clause-broken g c = λ x shapes spaces may.
     let beside = rw (c.in-Ok.ensures.frames, c.in-Ok.ensures.layout) at c.in-Ok-cut.ensures.beside in
     let now = behind g (goal.at.returns-in-Err-make_file-clause-broken g c).After-frames_of x shapes spaces may in
     file_broken c.args.volume.now.root c.args.kind c.args.pages x c.in-Ok.ensures.made.makes beside now.0 now.1 ((rw (c.frames_of.ensures.same, lay, id) at c.in-Err-make_file.ensures.broken) now.0 shapes spaces now.2)
+
+pub returns-in-Err-clause-so : goal.returns-in-Err-clause-so
+returns-in-Err-clause-so g c = fault_shows (g.D.Disk.state c.write_over.new.filer.swapper.under) c.in-Err.halt c.in-Err.ensures.fault
+
+pub returns-in-Err-cut-clause-so : goal.returns-in-Err-cut-clause-so
+returns-in-Err-cut-clause-so g c = so_of_cut c.cut.ensures.beside.goes.makes c.in-Err-cut.halt c.write_over.new.filer.swapper.layout c.in-Err-cut.ensures.cause

@@ -12,6 +12,7 @@ use Rattle.filer_kernel.specs.PlaceLaws.{data_first}
 use Rattle.file_manager.specs.Shrinking.{leader_run}
 use Rattle.file_manager.proofs.CountedLemmas.{rose_of, rose_after}
 use Rattle.file_manager.proofs.CutSteps.{leader_in_form, few_left, leader_new, once_left, others_left}
+use Rattle.filer_kernel.specs.EvidenceLaws.{so_of_add, so_of_cut}
 use Rattle.file_manager.proofs.cutting.cut_to.Goals as goal
 
 pub returns-in-Err-clause-sound : goal.returns-in-Err-clause-sound
@@ -65,3 +66,9 @@ returns-clause-runs g c = λ n. rw (c.frames_of.ensures.same, c.add.ensures.runs
 
 pub returns-clause-beside : goal.returns-clause-beside
 returns-clause-beside g c = rw c.frames_of.ensures.same (beside_then refl c.cut.ensures.beside c.add.ensures.beside)
+
+pub returns-in-Err-clause-so : goal.returns-in-Err-clause-so
+returns-in-Err-clause-so g c = so_of_cut c.cut.ensures.beside.goes.makes c.in-Err.halt c.args.filer.now.swapper.layout c.in-Err.ensures.cause
+
+pub returns-in-Err-add-clause-so : goal.returns-in-Err-add-clause-so
+returns-in-Err-add-clause-so g c = so_of_add c.add.ensures.beside.goes.makes c.in-Err-add.halt c.cut.new.self.swapper.layout c.in-Err-add.ensures.cause

@@ -6,6 +6,7 @@ use Rattle.file_manager.proofs.BookLemmas.{map_is, map_named}
 use Rattle.file_manager.proofs.FreedRun.{map_makes, map_stops}
 use Rattle.file_manager.proofs.DeletedFile.{may_free, size_is, deletes_first, deletes_all, deleted_by, delete_makes, delete_stops, free_stops, told_cost, sized_cost}
 use Rattle.file_manager.proofs.Faults.{counted, counted_then}
+use Rattle.filer_kernel.specs.EvidenceLaws.{so_of_map, so_of_cut}
 use Rattle.file_manager.proofs.deleting.delete.Goals as goal
 
 pub returns-in-Err-clause-sound : goal.returns-in-Err-clause-sound
@@ -200,3 +201,9 @@ returns-clause-cost_sized g c = λ x shapes spaces f books found hidden.
     let lay : c.free_all.new.filer.swapper.layout ≡ layout = c.in-Ok-free_all.ensures.layout ∙ c.size.ensures.beside.layout in
     let three = (rw lay at c.cut.ensures.cost_sized) freed.memory b.named c.in-Ok.pages freed.rest.stands freed.rest.map asked in
     rw c.frames_of-volume.ensures.same (sized_cost (g.D.Disk.state c.args.filer.now.swapper.under).transfers (g.D.Disk.state c.size.new.self.swapper.under).transfers (g.D.Disk.state c.free_all.new.filer.swapper.under).transfers (g.D.Disk.state c.cut.new.self.swapper.under).transfers f.size c.in-Ok.pages (16 + 4 * layout.vam) size c.size.ensures.cost two three)
+
+pub returns-in-Err-clause-so : goal.returns-in-Err-clause-so
+returns-in-Err-clause-so g c = so_of_map c.size.ensures.beside.goes.makes c.in-Err.halt c.args.filer.now.swapper.layout c.in-Err.ensures.cause
+
+pub returns-in-Err-cut-clause-so : goal.returns-in-Err-cut-clause-so
+returns-in-Err-cut-clause-so g c = so_of_cut c.cut.ensures.beside.goes.makes c.in-Err-cut.halt c.free_all.new.filer.swapper.layout c.in-Err-cut.ensures.cause

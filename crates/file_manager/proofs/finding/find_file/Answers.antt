@@ -14,6 +14,7 @@ use Rattle.file_manager.proofs.BookLemmas.{map_is, kept_are, map_named, own_maps
 use Rattle.file_manager.proofs.FreedRun.{map_makes, map_brings}
 use Rattle.file_manager.proofs.MarkLemmas.{leader_one}
 use Rattle.file_manager.proofs.FindingLemmas.{shape_by_leader, leader_halts, no_leader_before, map_halts_before, books_read, read_makes, read_map_brings, read_bytes, read_brings}
+use Rattle.filer_kernel.specs.EvidenceLaws.{so_of_map}
 use Rattle.file_manager.proofs.finding.find_file.Goals as goal
 
 pub returns-in-Ok-None-clause-told : goal.returns-in-Ok-None-clause-told
@@ -128,3 +129,6 @@ returns-in-Err-size-clause-cause g c =
 
 pub returns-in-Ok-None-clause-missing : goal.returns-in-Ok-None-clause-missing
 returns-in-Ok-None-clause-missing g c none = c.in-Ok-None.ensures.missing (search rules)
+
+pub returns-in-Err-size-clause-so : goal.returns-in-Err-size-clause-so
+returns-in-Err-size-clause-so g c = so_of_map c.size.ensures.beside.goes.makes c.in-Err-size.halt c.leader_label.new.filer.swapper.layout c.in-Err-size.ensures.cause

@@ -10,6 +10,7 @@ use Rattle.file_manager.proofs.RunStages.{one_free, marks_shown, bits_shown, map
 use Rattle.file_manager.proofs.RunLeads.{above_maps, fewer_of_file, map_makes, added_makes, stopped_labels, stopped_behind, run_in_form, none_over, ones_free, labelled, map_then, named_then, run_leads, row_was_free}
 use Rattle.file_manager.proofs.GrowBroken.{none_grew, labels_grew, all_grew}
 use Rattle.file_manager.proofs.Faults.{counted, counted_then}
+use Rattle.filer_kernel.specs.EvidenceLaws.{so_of_add}
 use Rattle.file_manager.proofs.growth.make_run.Goals as goal
 
 pub returns-in-Err-clause-sound : goal.returns-in-Err-clause-sound
@@ -153,3 +154,6 @@ returns-in-Err-add-clause-counted g c =
     let first = c.in-Ok.ensures.kept.goes.makes.went.faults in
     let second = c.in-Ok-label_run.ensures.made.makes.went.faults in
     counted _ _ (g.D.Disk.state c.label_run.new.filer.swapper.under) (g.D.Disk.state c.add.new.self.swapper.under) _ (omega (arith, first, second)) c.in-Err-add.ensures.cause
+
+pub returns-in-Err-add-clause-so : goal.returns-in-Err-add-clause-so
+returns-in-Err-add-clause-so g c = so_of_add c.add.ensures.beside.goes.makes c.in-Err-add.halt c.label_run.new.filer.swapper.layout c.in-Err-add.ensures.cause

@@ -8,6 +8,7 @@ use Rattle.filer_kernel.specs.PlaceLaws.{data_first}
 use Rattle.file_manager.proofs.FreedRun.{none_over, ones, labelled, named_then, run_freed, run_makes, run_stops, all_stop, map_stops}
 use Rattle.file_manager.proofs.StoppedFree.{some_none, some_labels, some_run}
 use Rattle.file_manager.proofs.Faults.{counted, counted_then}
+use Rattle.filer_kernel.specs.EvidenceLaws.{so_of_halts}
 use Rattle.file_manager.proofs.release.free_run.Goals as goal
 
 pub returns-in-Err-clause-sound : goal.returns-in-Err-clause-sound
@@ -102,3 +103,9 @@ returns-in-Err-give-clause-counted g c =
     let first = c.part_of.ensures.beside.goes.makes.went.faults in
     let second = c.in-Ok-free_labels.ensures.freed.makes.went.faults in
     counted _ _ (g.D.Disk.state c.free_labels.new.filer.swapper.under) (g.D.Disk.state c.give.new.self.swapper.under) _ (omega (arith, first, second)) c.in-Err-give.ensures.cause
+
+pub returns-in-Err-clause-so : goal.returns-in-Err-clause-so
+returns-in-Err-clause-so g c = c.in-Err.ensures.so c.requires.of_file
+
+pub returns-in-Err-give-clause-so : goal.returns-in-Err-give-clause-so
+returns-in-Err-give-clause-so g c = so_of_halts c.in-Err-give.ensures.kept.goes.makes c.in-Err-give.halt _ c.in-Err-give.ensures.cause

@@ -1,4 +1,4 @@
-use Rattle.std.proofs.Common.{◌≡◌, ◌+◌, ◌-◌, ◌*◌, ◌<◌, ◌≤◌, sym, ◌∙◌, ap, subst, arith, rules}
+use Rattle.std.proofs.Common.{◌≡◌, inr, ◌+◌, ◌-◌, ◌*◌, ◌<◌, ◌≤◌, sym, ◌∙◌, ap, subst, arith, rules}
 use Rattle.std.proofs.lemmas.Option.{none-some}
 use Rattle.file_map.specs.FileMap.{most_records}
 use Rattle.swapper_kernel.specs.Stands.{labels_of}
@@ -280,3 +280,6 @@ returns-in-Ok-clause-room g c = λ within. room_grown c.args.volume.now c.grow.n
 
 pub returns-in-Ok-shrink-clause-room : goal.returns-in-Ok-shrink-clause-room
 returns-in-Ok-shrink-clause-room g c = room_shrunk c.args.volume.now c.shrink.new.volume (c.in-Ok-Some.file.pages - c.args.pages) c.in-Ok-shrink.ensures.used
+
+pub returns-in-Ok-None-clause-so : goal.returns-in-Ok-None-clause-so
+returns-in-Ok-None-clause-so g c = inr (file_id c.args.id c.requires.of_file)

@@ -1,4 +1,4 @@
-use Rattle.std.proofs.Common.{◌≡◌, ◌-◌, sym, ◌∙◌, ap, subst, arith}
+use Rattle.std.proofs.Common.{◌≡◌, inr, ◌-◌, sym, ◌∙◌, ap, subst, arith}
 use Rattle.labelled_disk.specs.declared.layout.Layout.{Layout}
 use Rattle.swapper_kernel.specs.declared.manager.Manager.TheVariants.{AllocationMap, FileMap}
 use Rattle.filer_kernel.specs.declared.cached.CachedRuns.{CachedRuns}
@@ -7,6 +7,7 @@ use Rattle.filer_kernel.specs.Triples.{AreOf}
 use Rattle.filer_kernel.specs.PlaceLaws.{data_first}
 use Rattle.file_manager.proofs.FreedRun.{all_stop, map_stops}
 use Rattle.file_manager.proofs.DownRun.{none_over, ones, labelled, named_then, is_named, few_pages, run_freed, down_makes, down_stops, down_broken, none_broken, all_broken}
+use Rattle.filer_kernel.specs.EvidenceLaws.{so_of_halts}
 use Rattle.file_manager.proofs.shrinking.free_last.Goals as goal
 
 pub returns-in-Err-clause-sound : goal.returns-in-Err-clause-sound
@@ -113,3 +114,9 @@ returns-clause-some g c =
 
 pub returns-clause-makes : goal.returns-clause-makes
 returns-clause-makes g c = down_makes c.in-Ok.run' c.last_part.ensures.beside c.in-Ok-free_labels_down.ensures.frames c.in-Ok-free_labels_down.ensures.freed c.in-Ok-give.ensures.kept
+
+pub returns-in-Err-clause-so : goal.returns-in-Err-clause-so
+returns-in-Err-clause-so g c = c.in-Err.ensures.so (inr c.requires.of_file)
+
+pub returns-in-Err-give-clause-so : goal.returns-in-Err-give-clause-so
+returns-in-Err-give-clause-so g c = so_of_halts c.in-Err-give.ensures.kept.goes.makes c.in-Err-give.halt _ c.in-Err-give.ensures.cause

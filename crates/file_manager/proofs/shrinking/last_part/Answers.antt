@@ -2,6 +2,7 @@ use Rattle.std.proofs.Common.{◌≤◌, ◌-◌, sym, ◌∙◌, subst, rules, 
 use Rattle.std.proofs.lemmas.Bool.{true≢false}
 use Rattle.file_map.specs.FileMap.{IsFound}
 use Rattle.file_manager.proofs.DownRun.{last_named}
+use Rattle.filer_kernel.specs.EvidenceLaws.{so_of_map}
 use Rattle.file_manager.proofs.shrinking.last_part.Goals as goal
 
 pub returns-in-Ok-Some-clause-named : goal.returns-in-Ok-Some-clause-named
@@ -17,3 +18,9 @@ returns-in-Ok-None-clause-sound g c = λ m named sector stands map labels is.
 
 pub returns-in-Err-clause-sound : goal.returns-in-Err-clause-sound
 returns-in-Err-clause-sound g c = λ m named sector stands map labels is. c.in-Err.ensures.sound m named stands map labels
+
+pub returns-in-Err-clause-so : goal.returns-in-Err-clause-so
+returns-in-Err-clause-so g c = λ of_file. so_of_map c.find.ensures.beside.goes.makes c.in-Err.halt c.args.filer.now.swapper.layout c.in-Err.ensures.cause
+
+pub returns-in-Ok-None-clause-so : goal.returns-in-Ok-None-clause-so
+returns-in-Ok-None-clause-so g c = λ of_file. of_file

@@ -4,6 +4,7 @@ use Rattle.swapper_kernel.specs.declared.manager.Manager.TheVariants.{FileMap}
 use Rattle.file_manager.proofs.FreedRun.{all_stop}
 use Rattle.file_manager.proofs.TablesFreed.{bare, tables_all, tables_may, tables_some, tables_ended, forgot_freed, forgot_some, freed_cut}
 use Rattle.file_manager.proofs.Faults.{counted, counted_then}
+use Rattle.filer_kernel.specs.EvidenceLaws.{so_of_cut}
 use Rattle.file_manager.proofs.tables.free_tables.Goals as goal
 
 pub returns-in-Err-clause-sound : goal.returns-in-Err-clause-sound
@@ -77,3 +78,6 @@ returns-in-Err-cut-clause-first g c = λ x shapes spaces books.
     let m = bare layout is kept shapes spaces x _ _ books _ _ f.gone f.left f.goes f.form in
     let h = (rw (f.layout, f.runs) at c.in-Ok.ensures.freed) books.booked.named spaces m.0 may in
     tables_all layout is kept shapes spaces x _ _ books _ _ f.gone f.left f.goes f.form _ _ _ _ _ _ _ h c.in-Err-cut.ensures.beside
+
+pub returns-in-Err-cut-clause-so : goal.returns-in-Err-cut-clause-so
+returns-in-Err-cut-clause-so g c = so_of_cut c.cut.ensures.beside.goes.makes c.in-Err-cut.halt c.free_up.new.filer.swapper.layout c.in-Err-cut.ensures.cause
