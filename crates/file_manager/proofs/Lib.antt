@@ -36,3 +36,4 @@ pub mod DownTo
 pub mod CutSteps
 pub mod ShrinkLemmas
 pub mod SizeSteps
+pub mod OwnSteps

@@ -6,6 +6,8 @@ use Rattle.file_manager.proofs.BookLemmas.{map_is, map_named}
 use Rattle.file_manager.proofs.FreedRun.{map_makes, map_stops}
 use Rattle.file_manager.proofs.DeletedFile.{may_free, size_is, deletes_first, deletes_all, deleted_by, delete_makes, delete_stops, free_stops, told_cost, sized_cost}
 use Rattle.file_manager.proofs.Faults.{counted, counted_then}
+use Rattle.label_calls.specs.OwnLaws.{relabels_own, own_then}
+use Rattle.file_manager.proofs.OwnSteps.{map_own, freed_own, some_own, own_after}
 use Rattle.file_manager.proofs.deleting.delete.Goals as goal
 
 pub returns-in-Err-clause-sound : goal.returns-in-Err-clause-sound
@@ -200,3 +202,15 @@ returns-clause-cost_sized g c = λ x shapes spaces f books found hidden.
     let lay : c.free_all.new.filer.swapper.layout ≡ layout = c.in-Ok-free_all.ensures.layout ∙ c.size.ensures.beside.layout in
     let three = (rw lay at c.cut.ensures.cost_sized) freed.memory b.named c.in-Ok.pages freed.rest.stands freed.rest.map asked in
     rw c.frames_of-volume.ensures.same (sized_cost (g.D.Disk.state c.args.filer.now.swapper.under).transfers (g.D.Disk.state c.size.new.self.swapper.under).transfers (g.D.Disk.state c.free_all.new.filer.swapper.under).transfers (g.D.Disk.state c.cut.new.self.swapper.under).transfers f.size c.in-Ok.pages (16 + 4 * layout.vam) size c.size.ensures.cost two three)
+
+pub returns-in-Err-clause-own : goal.returns-in-Err-clause-own
+returns-in-Err-clause-own g c = relabels_own (map_own c.args.id c.size.ensures.beside)
+
+pub returns-in-Err-free_all-clause-own : goal.returns-in-Err-free_all-clause-own
+returns-in-Err-free_all-clause-own g c = own_after (map_own c.args.id c.size.ensures.beside) (some_own c.in-Err-free_all.ensures.stopped c.in-Err-free_all.ensures.own)
+
+pub returns-in-Err-cut-clause-own : goal.returns-in-Err-cut-clause-own
+returns-in-Err-cut-clause-own g c = own_after (map_own c.args.id c.size.ensures.beside) (own_then (freed_own c.in-Ok-free_all.ensures.makes c.in-Ok-free_all.ensures.own) (map_own c.args.id c.in-Err-cut.ensures.beside))
+
+pub returns-clause-own : goal.returns-clause-own
+returns-clause-own g c = rw c.frames_of-volume.ensures.same (own_after (map_own c.args.id c.size.ensures.beside) (own_then (freed_own c.in-Ok-free_all.ensures.makes c.in-Ok-free_all.ensures.own) (map_own c.args.id c.in-Ok-cut.ensures.beside)))

@@ -13,6 +13,8 @@ use Rattle.file_manager.proofs.MarkLemmas.{marked_after, stopped_makes, leader_o
 use Rattle.file_manager.proofs.MarkStops.{marks_first}
 use Rattle.file_manager.proofs.CauseLemmas.{search_halts, label_halts}
 use Rattle.file_manager.proofs.Faults.{counted, no_fault}
+use Rattle.label_calls.specs.OwnLaws.{relabels_own, wrote_own, quiet_own}
+use Rattle.file_manager.proofs.OwnSteps.{leader_own, own_after}
 use Rattle.file_manager.proofs.marks.mark.Goals as goal
 
 pub returns-in-Ok-None-clause-sound : goal.returns-in-Ok-None-clause-sound
@@ -80,3 +82,17 @@ returns-in-Err-mark_leader-clause-cause g c =
     let kept = runs_of layout.sectors c.args.filer.now.runs in
     let given = subst (λ (o : Option ℕ). IfSome o (λ sector. IsRunHome layout old c.args.filer.now.swapper.pool kept (home_at sector (record { id = c.args.id; page = leader_page })))) c.in-Ok-Some.field-0-is c.in-Ok-Some.ensures.given in
     label_halts layout kept c.args.id old c.args.filer.now.swapper.pool (g.D.Disk.state c.leader_of.new.filer.swapper.under) (g.D.Disk.state c.mark_leader.new.swapper.under) c.leader_of.new.filer.swapper.pool c.in-Ok-Some.sector c.leader_of.ensures.makes given c.in-Err-mark_leader.halt (rw c.swapper_over-swapper.ensures.value at c.in-Err-mark_leader.ensures.cause)
+
+pub returns-in-Ok-None-clause-own : goal.returns-in-Ok-None-clause-own
+returns-in-Ok-None-clause-own g c = relabels_own (quiet_own c.args.id c.leader_of.ensures.makes)
+
+pub returns-in-Err-clause-own : goal.returns-in-Err-clause-own
+returns-in-Err-clause-own g c = relabels_own (quiet_own c.args.id c.leader_of.ensures.makes)
+
+pub returns-in-Err-mark_leader-clause-own : goal.returns-in-Err-mark_leader-clause-own
+returns-in-Err-mark_leader-clause-own g c = own_after (quiet_own c.args.id c.leader_of.ensures.makes) (leader_own c.args.mark (rw c.swapper_over-swapper.ensures.value at c.in-Err-mark_leader.ensures.stopped) (rw c.swapper_over-swapper.ensures.value at c.mark_leader.ensures.own))
+
+pub returns-clause-own : goal.returns-clause-own
+returns-clause-own g c =
+    let made = rw c.swapper_over-swapper.ensures.value at c.in-Ok.ensures.marked in
+    own_after (quiet_own c.args.id c.leader_of.ensures.makes) (wrote_own made.1.makes (rw c.swapper_over-swapper.ensures.value at c.mark_leader.ensures.own))

@@ -7,3 +7,9 @@ returns-in-Err-clause-sound g c = λ m stands free ones. (rw (c.swapper_over-swa
 
 pub returns-in-Err-clause-counted : goal.returns-in-Err-clause-counted
 returns-in-Err-clause-counted g c = counted _ _ (g.D.Disk.state c.args.filer.now.swapper.under) (g.D.Disk.state c.free_pages_up.new.swapper.under) _ (omega arith) (rw (c.swapper_over-swapper.ensures.value) at c.in-Err.ensures.cause)
+
+pub returns-in-Ok-clause-own : goal.returns-in-Ok-clause-own
+returns-in-Ok-clause-own g c = rw (c.swapper_over-swapper.ensures.value) at c.free_pages_up.ensures.own
+
+pub returns-in-Err-clause-own : goal.returns-in-Err-clause-own
+returns-in-Err-clause-own g c = rw (c.swapper_over-swapper.ensures.value) at c.free_pages_up.ensures.own

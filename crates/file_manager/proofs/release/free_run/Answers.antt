@@ -8,6 +8,8 @@ use Rattle.filer_kernel.specs.PlaceLaws.{data_first}
 use Rattle.file_manager.proofs.FreedRun.{none_over, ones, labelled, named_then, run_freed, run_makes, run_stops, all_stop, map_stops}
 use Rattle.file_manager.proofs.StoppedFree.{some_none, some_labels, some_run}
 use Rattle.file_manager.proofs.Faults.{counted, counted_then}
+use Rattle.label_calls.specs.OwnLaws.{relabels_own, wrote_own, own_then}
+use Rattle.file_manager.proofs.OwnSteps.{map_own, own_after, same_id}
 use Rattle.file_manager.proofs.release.free_run.Goals as goal
 
 pub returns-in-Err-clause-sound : goal.returns-in-Err-clause-sound
@@ -102,3 +104,15 @@ returns-in-Err-give-clause-counted g c =
     let first = c.part_of.ensures.beside.goes.makes.went.faults in
     let second = c.in-Ok-free_labels.ensures.freed.makes.went.faults in
     counted _ _ (g.D.Disk.state c.free_labels.new.filer.swapper.under) (g.D.Disk.state c.give.new.self.swapper.under) _ (omega (arith, first, second)) c.in-Err-give.ensures.cause
+
+pub returns-in-Err-clause-own : goal.returns-in-Err-clause-own
+returns-in-Err-clause-own g c = relabels_own (map_own c.args.id c.part_of.ensures.beside)
+
+pub returns-in-Err-free_labels-clause-own : goal.returns-in-Err-free_labels-clause-own
+returns-in-Err-free_labels-clause-own g c = own_after (map_own c.args.id c.part_of.ensures.beside) (wrote_own c.in-Err-free_labels.ensures.stopped.makes (same_id c.in-Ok.ensures.form.same_id c.in-Err-free_labels.ensures.own))
+
+pub returns-in-Err-give-clause-own : goal.returns-in-Err-give-clause-own
+returns-in-Err-give-clause-own g c = own_after (map_own c.args.id c.part_of.ensures.beside) (own_then (wrote_own c.in-Ok-free_labels.ensures.freed.makes (same_id c.in-Ok.ensures.form.same_id c.in-Ok-free_labels.ensures.own)) (map_own c.args.id c.in-Err-give.ensures.kept))
+
+pub returns-clause-own : goal.returns-clause-own
+returns-clause-own g c = own_after (map_own c.args.id c.part_of.ensures.beside) (own_then (wrote_own c.in-Ok-free_labels.ensures.freed.makes (same_id c.in-Ok.ensures.form.same_id c.in-Ok-free_labels.ensures.own)) (map_own c.args.id c.in-Ok-give.ensures.kept))
