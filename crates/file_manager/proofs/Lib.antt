@@ -37,3 +37,5 @@ pub mod CutSteps
 pub mod ShrinkLemmas
 pub mod SizeSteps
 pub mod SoLemmas
+
+pub mod OwnSteps

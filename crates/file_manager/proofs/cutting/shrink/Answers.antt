@@ -2,6 +2,7 @@ use Rattle.swapper_kernel.specs.declared.manager.Manager.TheVariants.{FileMap}
 use Rattle.file_manager.proofs.CountedLemmas.{rose_after}
 use Rattle.file_manager.proofs.FreedRun.{all_stop}
 use Rattle.file_manager.proofs.ShrinkLemmas.{may_free, leader_is_alone, named_apart, shrunk_by, stopped_in, stopped_cut, makes_cut}
+use Rattle.file_manager.proofs.OwnSteps.{map_own, freed_own, own_after}
 use Rattle.file_manager.proofs.cutting.shrink.Goals as goal
 
 pub returns-in-Err-clause-sound : goal.returns-in-Err-clause-sound
@@ -54,3 +55,12 @@ returns-clause-shrunk g c = λ x shapes spaces f may size t.
 
 pub returns-clause-makes : goal.returns-clause-makes
 returns-clause-makes g c = makes_cut c.in-Ok.ensures.makes c.cut_to.ensures.beside
+
+pub returns-in-Err-clause-own : goal.returns-in-Err-clause-own
+returns-in-Err-clause-own g c = c.in-Err.ensures.own
+
+pub returns-in-Err-cut_to-clause-own : goal.returns-in-Err-cut_to-clause-own
+returns-in-Err-cut_to-clause-own g c = own_after (freed_own c.in-Ok.ensures.makes c.in-Ok.ensures.own) (map_own c.args.id c.cut_to.ensures.beside)
+
+pub returns-clause-own : goal.returns-clause-own
+returns-clause-own g c = own_after (freed_own c.in-Ok.ensures.makes c.in-Ok.ensures.own) (map_own c.args.id c.cut_to.ensures.beside)

@@ -8,6 +8,8 @@ use Rattle.file_manager.proofs.CountedLemmas.{of_answer, rose_after}
 use Rattle.file_manager.proofs.Faults.{counted, counted_then, no_fault}
 use Rattle.file_manager.proofs.NextLemmas.{file_id}
 use Rattle.file_manager.proofs.SizeSteps.{shape_is, may_grow_now, may_shrink_now, grown_told, shrunk_told, grew_told, some_told, grew_none, some_none, grown_makes, grown_stops, shrunk_makes, shrunk_stops, none_resized, room_grown, room_shrunk, grow_cost, shrink_cost}
+use Rattle.label_calls.specs.OwnLaws.{relabels_own, quiet_own}
+use Rattle.file_manager.proofs.OwnSteps.{grown_own, grew_own, freed_own, some_own, own_after}
 use Rattle.file_manager.proofs.resizing.set_size.Goals as goal
 
 pub find_file-requires-clause-client : goal.find_file-requires-clause-client
@@ -283,3 +285,21 @@ returns-in-Ok-shrink-clause-room g c = room_shrunk c.args.volume.now c.shrink.ne
 
 pub returns-in-Ok-None-clause-so : goal.returns-in-Ok-None-clause-so
 returns-in-Ok-None-clause-so g c = inr (file_id c.args.id c.requires.of_file)
+
+pub returns-in-Ok-None-clause-own : goal.returns-in-Ok-None-clause-own
+returns-in-Ok-None-clause-own g c = relabels_own (quiet_own c.args.id c.find_file.ensures.makes)
+
+pub returns-in-Err-clause-own : goal.returns-in-Err-clause-own
+returns-in-Err-clause-own g c = relabels_own (quiet_own c.args.id c.find_file.ensures.makes)
+
+pub returns-in-Ok-clause-own : goal.returns-in-Ok-clause-own
+returns-in-Ok-clause-own g c = own_after (quiet_own c.args.id c.find_file.ensures.makes) (grown_own c.args.id c.in-Ok.ensures.makes)
+
+pub returns-in-Err-grow-clause-own : goal.returns-in-Err-grow-clause-own
+returns-in-Err-grow-clause-own g c = own_after (quiet_own c.args.id c.find_file.ensures.makes) (grew_own c.args.id c.in-Err-grow.ensures.stopped)
+
+pub returns-in-Ok-shrink-clause-own : goal.returns-in-Ok-shrink-clause-own
+returns-in-Ok-shrink-clause-own g c = own_after (quiet_own c.args.id c.find_file.ensures.makes) (freed_own c.in-Ok-shrink.ensures.makes c.in-Ok-shrink.ensures.own)
+
+pub returns-in-Err-shrink-clause-own : goal.returns-in-Err-shrink-clause-own
+returns-in-Err-shrink-clause-own g c = own_after (quiet_own c.args.id c.find_file.ensures.makes) (some_own c.in-Err-shrink.ensures.stopped c.in-Err-shrink.ensures.own)
