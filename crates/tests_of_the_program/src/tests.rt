@@ -2,6 +2,8 @@ mod damage;
 mod examples;
 mod faults;
 mod format;
+mod images;
+mod labels;
 mod machine;
 mod many;
 mod memory;
@@ -57,10 +59,10 @@ struct Outcome {
 }
 
 // A command over a disk, with source and sink calls that fail, counted from 1.
-fn command(
+fn command<D: Disk>(
     alloc: Global,
     words: &[&str],
-    disk: &mut MemoryDisk<Global>,
+    disk: &mut D,
     trace: &[u8],
     source_fails: &[u64],
     sink_fails: &[u64],

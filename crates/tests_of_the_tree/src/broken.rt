@@ -84,7 +84,7 @@ fn each_call_returns_where_a_byte_is_broken(rt: HostRuntime) -> Result<(), Fail>
     let mut mem = VecMem::zeroed(rt.alloc(), 34)?;
     assert!(rt; sixty(&mut mem));
     assert_eq!(rt; each_call(&mut mem), 10);
-    for at in 0..24u64 {
+    for at in 0..512u64 {
         assert!(rt; with_byte_turned(rt.alloc(), at)?.is_some(), "at {at}");
     }
     // the first split made page 3 the root

@@ -7,3 +7,5 @@ mod broken;
 mod calls;
 #[cfg(test)]
 mod many;
+#[cfg(test)]
+mod pages;

@@ -10,14 +10,45 @@ const MAKE: &[u8] = b"create 3 9\npermanent 0000000700000001\n";
 
 const CHANGE: &[u8] = b"setsize 0000000700000001 1\ndelete 0000000700000001\n";
 
-// What a restored volume answers, one after another, while the file is made, cut, and deleted.
+// Makes a permanent file of one page and a temporary one, stores, forces, stores again, and halts.
+const STORE: &[u8] = b"create 1 9\npermanent 0000000700000001\ncreate 1 0\nspace 0 1\n\
+map 1 0000000700000001 0 rw\nstore 0 414243\nforce 0\nstore 2 44\nhalt\n";
+
+const STORE_MORE: &[u8] = b"space 0 1\nmap 1 0000000700000001 0 rw\nstore 1 45\n";
+
+// Files that are temporary, and so there at no moment.
+const ONE_PAGE: &[u8] = b"create 1 0\nspace 0 1\nmap 1 0000000700000001 0 rw\n\
+store 0 414243\nload 0 3\nclose\n";
+
+const MAPPED: &[u8] = b"create 2 0\nspace 0 2\nmap 1 0000000700000001 0 rw\n\
+setsize 0000000700000001 1\nsetsize 0000000700000001 4\nattr 0000000700000001\n\
+delete 0000000700000001\nimmutable 0000000700000001\n";
+
+// What is asked of a restored volume.
+const LOOK: &[u8] = b"attr 0000000700000001\nspace 0 1\nmap 1 0000000700000001 0 ro\n\
+load 0 3\nvolume\n";
+
+const GONE: &[u8] = b"error file\nspace 1 0\nerror file\nerror nomap 0\nvolume 124 124\n";
+
+// What restored volumes answer, one after another, while a file is made, cut, and deleted.
 const FILES: [&[u8]; 5] = [
-    b"error file\nvolume 124 124\n",
-    b"attr 3 9 perm mutable\nvolume 124 120\n",
-    b"attr 2 9 perm mutable\nvolume 124 121\n",
-    b"attr 1 9 perm mutable\nvolume 124 122\n",
-    b"error file\nvolume 124 124\n",
+    GONE,
+    b"attr 3 9 perm mutable\nspace 1 0\nok\nbytes 000000\nvolume 124 120\n",
+    b"attr 2 9 perm mutable\nspace 1 0\nok\nbytes 000000\nvolume 124 121\n",
+    b"attr 1 9 perm mutable\nspace 1 0\nok\nbytes 000000\nvolume 124 122\n",
+    GONE,
 ];
+
+// The same while a file is stored to: what was not forced before the halt is not there.
+const BYTES: [&[u8]; 4] = [
+    GONE,
+    b"attr 1 9 perm mutable\nspace 1 0\nok\nbytes 000000\nvolume 124 122\n",
+    b"attr 1 9 perm mutable\nspace 1 0\nok\nbytes 414243\nvolume 124 122\n",
+    b"attr 1 9 perm mutable\nspace 1 0\nok\nbytes 414543\nvolume 124 122\n",
+];
+
+// A command, and the trace that it is given.
+type Step<'a> = (&'a str, &'a [u8]);
 
 // A disk of 256 sectors after the first of these writes.
 fn moment(alloc: Global, writes: &[DiskWrite], count: usize) -> Result<MemoryDisk<Global>, Fail> {
@@ -43,25 +74,67 @@ fn moment(alloc: Global, writes: &[DiskWrite], count: usize) -> Result<MemoryDis
     Ok(disk)
 }
 
-// The volume is new after 257 writes.
-#[test]
-fn a_stop_leaves_the_files_as_they_were_at_that_moment(rt: HostRuntime) -> Result<(), Fail> {
-    let mut disk = volume(rt.alloc(), &[])?;
-    let _ = run(rt.alloc(), &mut disk, MAKE)?;
-    let _ = run(rt.alloc(), &mut disk, CHANGE)?;
-    let writes = disk.written();
-    let mut files = FILES.iter();
-    let mut now = files.next();
-    for count in 257..=writes.len() {
-        let mut stopped = moment(rt.alloc(), writes, count)?;
-        let _ = command(rt.alloc(), &["scavenge"], &mut stopped, b"", &[], &[])?;
-        let outcome = run(rt.alloc(), &mut stopped, b"attr 0000000700000001\nvolume\n")?;
-        if now.is_some_and(|text| outcome.out.as_slice() != *text) {
-            now = files.next();
-        }
-        assert_eq!(rt; Some(&outcome.out.as_slice()), now, "write {count}");
+// Restores a volume twice, and gives what a run then answers, or what the second restoration wrote
+// where it freed a sector.
+fn restored(alloc: Global, disk: &mut MemoryDisk<Global>) -> Result<Vec<u8>, Fail> {
+    let _ = command(alloc, &["scavenge"], disk, b"", &[], &[])?;
+    let again = command(alloc, &["scavenge"], disk, b"", &[], &[])?;
+    if !again.out.ends_with(b" 0 0\n") {
+        return Ok(again.out);
     }
-    assert!(rt; files.next().is_none());
+    Ok(run(alloc, disk, LOOK)?.out)
+}
+
+// Commands on a new volume, which is made by 257 writes. Gives the first number of writes after which
+// a restored volume answers what is not the answer before nor the next; or that of all where the last
+// answer did not come.
+fn first_wrong(
+    alloc: Global,
+    steps: &[Step<'_>],
+    answers: &[&[u8]],
+) -> Result<Option<usize>, Fail> {
+    let mut disk = volume(alloc, &[])?;
+    for (word, trace) in steps {
+        let _ = command(alloc, &[*word], &mut disk, trace, &[], &[])?;
+    }
+    let writes = disk.written();
+    let mut answers = answers.iter();
+    let mut now = answers.next();
+    for count in 257..=writes.len() {
+        let mut stopped = moment(alloc, writes, count)?;
+        let out = restored(alloc, &mut stopped)?;
+        if now.is_some_and(|text| out.as_slice() != *text) {
+            now = answers.next();
+        }
+        if !now.is_some_and(|text| out.as_slice() == *text) {
+            return Ok(Some(count));
+        }
+    }
+    Ok(answers.next().map(|_| writes.len()))
+}
+
+#[test]
+fn a_stop_leaves_a_file_as_it_was_at_that_moment(rt: HostRuntime) -> Result<(), Fail> {
+    let steps: [Step<'_>; 2] = [("run", MAKE), ("run", CHANGE)];
+    assert_eq!(rt; first_wrong(rt.alloc(), &steps, &FILES)?, None);
+    Ok(())
+}
+
+#[test]
+fn a_stop_leaves_the_bytes_that_were_forced(rt: HostRuntime) -> Result<(), Fail> {
+    let steps: [Step<'_>; 3] = [("run", STORE), ("scavenge", b""), ("run", STORE_MORE)];
+    assert_eq!(rt; first_wrong(rt.alloc(), &steps, &BYTES)?, None);
+    Ok(())
+}
+
+#[test]
+fn a_stop_leaves_no_temporary_file(rt: HostRuntime) -> Result<(), Fail> {
+    assert_eq!(rt;
+        first_wrong(rt.alloc(), &[("run", ONE_PAGE)], &[GONE])?,
+        None
+    );
+    let steps: [Step<'_>; 2] = [("run", MAPPED), ("scavenge", b"")];
+    assert_eq!(rt; first_wrong(rt.alloc(), &steps, &[GONE])?, None);
     Ok(())
 }
 

@@ -61,6 +61,13 @@ fn the_label_and_each_byte_of_a_root_are_tested(rt: HostRuntime) -> Result<(), F
         let outcome = run(rt.alloc(), &mut disk, b"volume\n")?;
         assert_eq!(rt; outcome.status, Status::NotOpened, "byte {at}");
         assert_eq!(rt; outcome.out.as_slice(), last, "byte {at}");
+        let restored = command(rt.alloc(), &["scavenge"], &mut disk, b"", &[], &[])?;
+        let text: &[u8] = if at == 11 && label == ROOT {
+            b"scavenged 0 0 0 0\n"
+        } else {
+            last
+        };
+        assert_eq!(rt; restored.out.as_slice(), text, "byte {at}");
     }
     Ok(())
 }

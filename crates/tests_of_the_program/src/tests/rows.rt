@@ -1,7 +1,7 @@
 //! Runs of one volume after another, line by line beside what they write.
 
 use super::{command, windows};
-use labelled_disk::MemoryDisk;
+use labelled_disk::{Disk, MemoryDisk};
 use std::alloc::Global;
 use std::test::Fail;
 
@@ -170,7 +170,7 @@ $scavenge 0
 >scavenged 0 0 0 0";
 
 // The sectors of the volume, its counter, and what is done to it.
-const SCRIPTS: [(u32, &str, &[u8]); 9] = [
+pub(crate) const SCRIPTS: [(u32, &str, &[u8]); 9] = [
     (256, "1", NOTHING),
     (256, "1", LEADER_COUNTS),
     (256, "1", SIZES),
@@ -200,7 +200,33 @@ fn trace_and_output(alloc: Global, part: &[u8]) -> Result<(Vec<u8>, Vec<u8>), Fa
     Ok((trace, out))
 }
 
-// What the first part of a script wrote that did not end as it says, with its exit; or no bytes.
+// What a part of a script wrote where it did not end as it says, with its exit; or no bytes.
+pub(crate) fn wrong_part<D: Disk>(
+    alloc: Global,
+    disk: &mut D,
+    frames: &str,
+    part: &[u8],
+) -> Result<Vec<u8>, Fail> {
+    let (trace, out) = trace_and_output(alloc, part)?;
+    let is_run = part.starts_with(b"run");
+    let command_row: &[u8] = if is_run { b"run " } else { b"scavenge " };
+    let mut outcome = if is_run {
+        command(alloc, &["run", "--frames", frames], disk, &trace, &[], &[])?
+    } else {
+        command(alloc, &["scavenge"], disk, &trace, &[], &[])?
+    };
+    let exit = b'0'.saturating_add(outcome.status.exit());
+    let ends = part
+        .strip_prefix(command_row)
+        .is_some_and(|rows| rows.starts_with(&[exit]));
+    if !ends || outcome.out.as_slice() != out.as_slice() {
+        outcome.out.push(exit)?;
+        return Ok(outcome.out);
+    }
+    Ok(Vec::new(alloc))
+}
+
+// That of the first part of a script that did not.
 fn first_wrong(
     alloc: Global,
     disk: &mut MemoryDisk<Global>,
@@ -208,21 +234,9 @@ fn first_wrong(
     script: &[u8],
 ) -> Result<Vec<u8>, Fail> {
     for part in script.split(|b| *b == b'$').skip(1) {
-        let (trace, out) = trace_and_output(alloc, part)?;
-        let is_run = part.starts_with(b"run");
-        let command_row: &[u8] = if is_run { b"run " } else { b"scavenge " };
-        let mut outcome = if is_run {
-            command(alloc, &["run", "--frames", frames], disk, &trace, &[], &[])?
-        } else {
-            command(alloc, &["scavenge"], disk, &trace, &[], &[])?
-        };
-        let exit = b'0'.saturating_add(outcome.status.exit());
-        let ends = part
-            .strip_prefix(command_row)
-            .is_some_and(|rows| rows.starts_with(&[exit]));
-        if !ends || outcome.out.as_slice() != out.as_slice() {
-            outcome.out.push(exit)?;
-            return Ok(outcome.out);
+        let wrong = wrong_part(alloc, disk, frames, part)?;
+        if !wrong.is_empty() {
+            return Ok(wrong);
         }
     }
     Ok(Vec::new(alloc))

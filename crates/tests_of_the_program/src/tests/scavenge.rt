@@ -11,6 +11,17 @@ const TRACE: &[u8] = b"next 0000000000000000\nattr 0000000700000001\nvolume\n";
 
 const ANSWERS: &[u8] = b"file 0000000700000001\nattr 2 9 perm mutable\nvolume 124 121\n";
 
+// Makes a permanent file of one page and a temporary one, stores, forces and halts; and what a
+// later run then answers.
+const STORE: &[u8] = b"create 1 9\npermanent 0000000700000001\ncreate 1 0\nspace 0 1\n\
+map 1 0000000700000001 0 rw\nstore 0 414243\nforce 0\nhalt\n";
+
+const LOAD: &[u8] = b"next 0000000700000001\nattr 0000000700000001\nspace 0 1\n\
+map 1 0000000700000001 0 ro\nload 0 3\ncreate 1 0\n";
+
+const LOADED: &[u8] = b"none\nattr 1 9 perm mutable\nspace 1 0\nok\nbytes 414243\n\
+file 0000000700000003\n";
+
 // A volume of 256 sectors with serial 7, with these labels, whose clean flag is not set.
 fn stopped(alloc: Global, labels: &[(u32, Label)]) -> Result<MemoryDisk<Global>, Fail> {
     let mut disk = volume(alloc, &[])?;
@@ -93,5 +104,29 @@ fn what_is_lost_is_told(rt: HostRuntime) -> Result<(), Fail> {
         assert_eq!(rt; outcome.status, Status::Done);
         assert_eq!(rt; outcome.out.as_slice(), text);
     }
+    Ok(())
+}
+
+// A stored page, whatever then stands in both maps; and a map that has the three pages of a file, of
+// which one lost its label.
+#[test]
+fn what_a_run_left_is_restored(rt: HostRuntime) -> Result<(), Fail> {
+    let mut disk = volume(rt.alloc(), &[])?;
+    let _ = run(rt.alloc(), &mut disk, STORE)?;
+    fill_maps(&mut disk, &[0xff; 512])?;
+    let outcome = scavenge(rt.alloc(), &mut disk)?;
+    assert_eq!(rt; outcome.out.as_slice(), b"scavenged 1 1 98 0\n".as_slice());
+    let again = run(rt.alloc(), &mut disk, LOAD)?;
+    assert_eq!(rt; again.out.as_slice(), LOADED);
+    let mut disk = volume(rt.alloc(), &[])?;
+    let _ = run(
+        rt.alloc(),
+        &mut disk,
+        b"create 3 9\npermanent 0000000700000001\n",
+    )?;
+    set_labels(&mut disk, &[(134, Label::FREE)])?;
+    let outcome = scavenge(rt.alloc(), &mut disk)?;
+    let text = b"lost 135 0000000700000001 2\nscavenged 1 1 1 1\n";
+    assert_eq!(rt; outcome.out.as_slice(), text.as_slice());
     Ok(())
 }
