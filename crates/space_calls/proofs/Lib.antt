@@ -16,6 +16,7 @@ mod LoadLemmas
 mod MovedLemmas
 mod StoreLemmas
 mod RangeLemmas
+mod EvidenceOfFiles
 pub mod BareLemmas
 pub mod TakenMachine
 pub mod AwayLemmas
