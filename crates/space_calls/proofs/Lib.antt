@@ -17,6 +17,7 @@ mod MovedLemmas
 mod StoreLemmas
 mod RangeLemmas
 mod EvidenceOfFiles
+mod WindowHalts
 pub mod BareLemmas
 pub mod TakenMachine
 pub mod AwayLemmas

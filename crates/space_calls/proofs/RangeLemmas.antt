@@ -76,7 +76,7 @@ module _ (v w : View) (is : IsLayout v.layout) (space : ℕ) where
   asked_halt count e halts = halts_before v v is (reaches_itself v) (TablesBreak v (λ b page. BreaksSlot b page space)) (BreaksRange v count space) (λ page breaks. inl breaks) w w (omega arith) e halts
 
   module _ (reaches : Reaches v w) (count now : ℕ) (same : now ≡ count) (z : View) where
-    some_before : (page : ℕ) → BreaksSome w now page → BreaksSome v count page
+    pub some_before : (page : ℕ) → BreaksSome w now page → BreaksSome v count page
     some_before page (asked, breaks) = (
       asked,
       record {

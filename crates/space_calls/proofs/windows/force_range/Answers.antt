@@ -37,3 +37,11 @@ returns-clause-makes g c = moved_reaches c.args.core.now c.frame_count-frames.ne
 
 pub returns-clause-so : goal.returns-clause-so
 returns-clause-so g c = if_so c.force.result _ (state c.frame_count-frames.new.core) (state c.force.new.self) c.force.ensures.reaches.goes.makes c.force.ensures.cause
+
+-- ---- What was asked, and why it failed.
+
+pub returns-clause-cause : goal.returns-clause-cause
+returns-clause-cause g c = rw c.frame_count-frames.ensures.same at c.force.ensures.cause
+
+pub returns-clause-reaches : goal.returns-clause-reaches
+returns-clause-reaches g c = rw c.frame_count-frames.ensures.same at c.force.ensures.reaches
