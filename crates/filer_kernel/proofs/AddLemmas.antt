@@ -82,10 +82,13 @@ pub add_halts : {T : Type 0} (r : Result T (MapError Halt)) (n : ℕ) (x : Layou
     → IfErr r (IsWindowAddCause n (TellsMost n FileMap d s x) FileMap d s x e) → IfErr (halted r) (AddHalts x d s e)
 add_halts (Ok value) n x d e s of size is = tt
 add_halts (Err Full) n x d e s of size is = (refl, inr (refl, subst (λ (k : ℕ). TellsMost k FileMap d s x) of is))
-add_halts (Err (Malformed page)) n x d e s of size is = (refl, inl (elim is [
-  | inl broken ↦ inl (broken_same of (window_pages FileMap d.sectors x size) broken)
-  | inr stops ↦ inr (stops_same (window_pages FileMap d.sectors x size) stops)
-]))
+add_halts (Err (Malformed page)) n x d e s of size is = (
+  refl,
+  inl (elim is [
+    | inl broken ↦ inl (broken_same of (window_pages FileMap d.sectors x size) broken)
+    | inr stops ↦ inr (stops_same (window_pages FileMap d.sectors x size) stops)
+  ]),
+)
 add_halts (Err (Mem h)) n x d e s of size is = window_halts x d e s h is.cause
 
 -- over a map in form
