@@ -37,3 +37,9 @@ pub mod CutSteps
 pub mod ShrinkLemmas
 pub mod SizeSteps
 pub mod SoLemmas
+pub mod Keeping
+pub mod RunCauses
+pub mod CutCauses
+pub mod MakeStops
+pub mod ResizeStops
+pub mod Forgotten
