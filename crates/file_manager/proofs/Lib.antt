@@ -39,3 +39,9 @@ pub mod SizeSteps
 pub mod SoLemmas
 
 pub mod OwnSteps
+pub mod Keeping
+pub mod RunCauses
+pub mod CutCauses
+pub mod MakeStops
+pub mod ResizeStops
+pub mod Forgotten

@@ -12,6 +12,8 @@ ghost use Rattle.swapper_kernel.specs.Stands.{Stands, labels_of};
 ghost use Rattle.label_calls.specs.Labels.{HasOne, IsNotOf, ones_of};
 ghost use Rattle.session_words.specs.Parts.{Shapes};
 ghost use Rattle.session_words.specs.Volume.{volume_page};
+ghost use Rattle.filer_kernel.specs.Cached.{runs_of};
+ghost use Rattle.file_manager.specs.Grounds.{KeepsMap, IsUnframed};
 ghost use Rattle.filer_kernel.specs.Evidence.{ShowsSo};
 ghost use Rattle.file_manager.specs.Finding.{IsFoundFile, FileHalts};
 ghost use Rattle.file_manager.specs.Book.{Books, BringsOwn};
@@ -82,7 +84,8 @@ pub(crate) fn find_file<D: Disk, A: Allocator>(
     ensures missing { result ≡ Ok None → NamesNone filer.old.swapper.layout (D.state filer.old.swapper.under) filer.old.swapper.pool id leader_page }
     ensures makes { Makes volume_page [] (D.state filer.old.swapper.under) filer.old.swapper.pool (D.state filer.new.swapper.under) filer.new.swapper.pool }
     ensures brings { BringsOwn filer.old.swapper.pool filer.new.swapper.pool }
-    ensures cause { IfErr result (FileHalts filer.old.swapper.layout id (D.state filer.old.swapper.under) filer.old.swapper.pool (D.state filer.new.swapper.under)) }
+    ensures cause { IfErr result (FileHalts filer.old.swapper.layout (runs_of filer.old.swapper.layout.sectors filer.old.runs) id (D.state filer.old.swapper.under) filer.old.swapper.pool (D.state filer.new.swapper.under)) }
+    ensures keeps { KeepsMap (IsUnframed filer.old.swapper.pool id) filer.old.swapper.layout id (D.state filer.old.swapper.under) filer.old.swapper.pool (runs_of filer.old.swapper.layout.sectors filer.old.runs) (D.state filer.new.swapper.under) filer.new.swapper.pool (runs_of filer.old.swapper.layout.sectors filer.new.runs) }
     ensures so { IfErr result (ShowsSo (D.state filer.new.swapper.under)) }
     ensures layout { filer.new.swapper.layout ≡ filer.old.swapper.layout }
     ensures cost { (D.state filer.new.swapper.under).transfers ≤ (D.state filer.old.swapper.under).transfers + 29 }

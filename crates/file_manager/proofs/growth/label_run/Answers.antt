@@ -13,3 +13,6 @@ pub returns-in-Err-clause-so : goal.returns-in-Err-clause-so
 returns-in-Err-clause-so g c =
     let new = g.D.Disk.state c.make_pages.new.swapper.under in
     so_of_taken new c.args.run.sector c.args.run.pages (g.D.Disk.state c.args.filer.now.swapper.under) new c.in-Err.halt (rw c.swapper_over-swapper.ensures.value at c.in-Err.ensures.so)
+
+pub returns-in-Err-clause-cause : goal.returns-in-Err-clause-cause
+returns-in-Err-clause-cause g c = rw c.swapper_over-swapper.ensures.value at c.in-Err.ensures.cause

@@ -1,6 +1,6 @@
 use Rattle.std.proofs.Common.{rules, ◌≡◌, ◌<◌}
 use Rattle.file_manager.proofs.FreedRun.{stops_then}
-use Rattle.file_manager.proofs.FreedUpTo.{to_none, to_then, to_rest, to_all, to_made, to_spent, to_stopped_cost}
+use Rattle.file_manager.proofs.FreedUpTo.{to_none, to_then, to_rest, to_all, to_made, to_spent, to_stopped_cost, to_halts}
 use Rattle.file_manager.proofs.StoppedFree.{some_then}
 use Rattle.file_manager.proofs.Faults.{counted_then}
 use Rattle.label_calls.specs.OwnLaws.{relabels_own}
@@ -14,6 +14,8 @@ pub loop-page-preserved : goal.loop-page-preserved
 loop-page-preserved g c =
     let below : c.loop-page.page < c.args.end = search rules in
     to_then c.loop-page.invariant below c.in-Ok.ensures.some c.in-Ok.ensures.layout c.in-Ok.ensures.spent c.in-Ok.ensures.makes c.in-Ok.ensures.freed c.in-Ok.ensures.own
+
+    to_then c.loop-page.invariant below c.in-Ok.ensures.some c.in-Ok.ensures.layout c.in-Ok.ensures.spent c.in-Ok.ensures.makes c.in-Ok.ensures.keeps c.in-Ok.ensures.freed
 
 pub returns-in-Err-clause-sound : goal.returns-in-Err-clause-sound
 returns-in-Err-clause-sound g c = λ named spaces m may.
@@ -58,3 +60,11 @@ returns-in-Err-clause-own g c = own_after c.loop-page.invariant.own (some_own c.
 
 pub returns-clause-own : goal.returns-clause-own
 returns-clause-own g c = relabels_own c.loop-page.invariant.own
+
+pub returns-in-Err-clause-cause : goal.returns-in-Err-clause-cause
+returns-in-Err-clause-cause g c =
+    let below : c.loop-page.page < c.args.end = search rules in
+    to_halts c.loop-page.invariant c.requires.size below (g.D.Disk.state c.free_run.new.filer.swapper.under) c.in-Err.halt c.in-Err.ensures.cause
+
+pub returns-clause-keeps : goal.returns-clause-keeps
+returns-clause-keeps g c = c.loop-page.invariant.keeps

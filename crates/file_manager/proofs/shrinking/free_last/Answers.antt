@@ -11,6 +11,10 @@ use Rattle.filer_kernel.specs.EvidenceLaws.{so_of_halts}
 
 use Rattle.label_calls.specs.OwnLaws.{relabels_own, wrote_own, own_then}
 use Rattle.file_manager.proofs.OwnSteps.{map_own, own_after, same_id}
+use Rattle.file_manager.proofs.RunCauses.{at_labels, at_marks, run_kept}
+use Rattle.file_manager.specs.Shrinking.{run_down}
+use Rattle.file_manager.proofs.DownLemmas.{down_has}
+use Rattle.file_manager.specs.Grounds.{IsUnframed, KeepsMap}
 use Rattle.file_manager.proofs.shrinking.free_last.Goals as goal
 
 pub returns-in-Err-clause-sound : goal.returns-in-Err-clause-sound
@@ -135,3 +139,32 @@ returns-in-Err-give-clause-own g c = own_after (map_own c.args.id c.last_part.en
 
 pub returns-clause-own : goal.returns-clause-own
 returns-clause-own g c = own_after (map_own c.args.id c.last_part.ensures.beside) (own_then (wrote_own c.in-Ok-free_labels_down.ensures.freed.makes (same_id c.in-Ok.ensures.form.same_id c.in-Ok-free_labels_down.ensures.own)) (map_own c.args.id c.in-Ok-give.ensures.kept))
+
+pub returns-in-Err-free_labels_down-clause-cause : goal.returns-in-Err-free_labels_down-clause-cause
+returns-in-Err-free_labels_down-clause-cause g c =
+    let layout = c.args.filer.now.swapper.layout in
+    let form = c.in-Ok.ensures.form in
+    let keep = c.last_part.ensures.keeps (inr c.requires.of_file) in
+    at_labels c.args.filer.now.swapper.accepted (inr c.requires.of_file) c.in-Ok.run' form.form form.same_id keep (λ p. p ≡ c.args.end - 1) c.in-Ok.ensures.homes (g.D.Disk.state c.free_labels_down.new.filer.swapper.under) c.in-Err-free_labels_down.halt c.in-Err-free_labels_down.ensures.cause
+
+pub returns-in-Err-give-clause-cause : goal.returns-in-Err-give-clause-cause
+returns-in-Err-give-clause-cause g c =
+    let layout = c.args.filer.now.swapper.layout in
+    let form = c.in-Ok.ensures.form in
+    let keep = c.last_part.ensures.keeps (inr c.requires.of_file) in
+    let frames = c.in-Ok-free_labels_down.ensures.frames in
+    let lay : c.free_labels_down.new.filer.swapper.layout ≡ layout = c.in-Ok-free_labels_down.ensures.layout ∙ c.last_part.ensures.beside.layout in
+    at_marks c.args.filer.now.swapper.accepted (inr c.requires.of_file) c.in-Ok.run' form.form form.same_id keep (run_down c.in-Ok.run') (down_has c.in-Ok.run') c.in-Ok-free_labels_down.ensures.freed c.in-Ok-free_labels_down.ensures.were (λ p. p ≡ c.args.end - 1) (g.D.Disk.state c.give.new.self.swapper.under) c.in-Err-give.halt (rw (frames, lay) at c.in-Err-give.ensures.cause)
+
+pub returns-clause-keeps : goal.returns-clause-keeps
+returns-clause-keeps g c =
+    let layout = c.args.filer.now.swapper.layout in
+    let form = c.in-Ok.ensures.form in
+    let keep = c.last_part.ensures.keeps (inr c.requires.of_file) in
+    let frames = c.in-Ok-free_labels_down.ensures.frames in
+    let lay : c.free_labels_down.new.filer.swapper.layout ≡ layout = c.in-Ok-free_labels_down.ensures.layout ∙ c.last_part.ensures.beside.layout in
+    let old = g.D.Disk.state c.args.filer.now.swapper.under in
+    let pool = c.args.filer.now.swapper.pool in
+    let same_runs : c.give.new.self.runs ≡ c.last_part.new.filer.runs = c.in-Ok-give.ensures.runs ∙ c.in-Ok-free_labels_down.ensures.runs in
+    subst (λ (r : CachedRuns). KeepsMap (IsUnframed pool c.args.id) layout c.args.id old pool (runs_of layout.sectors c.args.filer.now.runs) (g.D.Disk.state c.give.new.self.swapper.under) c.give.new.self.swapper.pool (runs_of layout.sectors r)) (sym same_runs)
+    (run_kept c.args.filer.now.swapper.accepted (inr c.requires.of_file) c.in-Ok.run' form.form form.same_id keep (run_down c.in-Ok.run') (down_has c.in-Ok.run') c.in-Ok-free_labels_down.ensures.freed c.in-Ok-free_labels_down.ensures.were (rw (frames, lay) at c.in-Ok-give.ensures.kept))
