@@ -1,5 +1,5 @@
 -- Labels that are written over those of one file alone: what the calls on maps, labels and files say of it, and what follows.
-use Rattle.std.proofs.Common.{◌≡◌, ◌⊎◌, inl, inr, ℕ, List, [], sym, subst}
+use Rattle.std.proofs.Common.{◌≡◌, ◌⊎◌, inl, inr, ℕ, [], subst}
 use Rattle.labelled_disk.specs.declared.disk.DiskWrite.TheVariants as write
 use Rattle.labelled_disk.specs.declared.label.Label.{Label}
 use Rattle.labelled_disk.specs.declared.layout.Layout.{Layout}

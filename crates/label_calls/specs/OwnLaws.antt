@@ -1,6 +1,6 @@
 -- Labels that are written over those of one file alone: calls in a row, calls that write no label without its page, and one
 -- label over another that was read.
-use Rattle.std.proofs.Common.{◌≡◌, ◌⊎◌, inl, inr, ℕ, zero, suc, ◌+◌, ◌<◌, Bool, true, false, List, [], ◌∷◌, ◌++◌, length, take, Some, None, Option, refl, sym, ◌∙◌, ap, subst, arith}
+use Rattle.std.proofs.Common.{◌≡◌, ◌⊎◌, inl, inr, ℕ, zero, suc, ◌+◌, ◌<◌, Bool, true, false, List, [], ◌∷◌, ◌++◌, length, take, Some, None, Option, sym, ◌∙◌, ap, subst, arith}
 use Rattle.std.specs.Prelude.{slice_get, option_map, filter, not}
 use Rattle.std.proofs.lemmas.Bool.{true≢false}
 use Rattle.std.proofs.lemmas.List.{append_cancel_left}
@@ -17,7 +17,7 @@ use Rattle.labelled_disk.specs.WriteRuns.{Appended, after_writes}
 use Rattle.labelled_disk.proofs.WriteRunLemmas.{appended_none, appended_one, appended_then, moment-earlier, after_writes-append}
 use Rattle.frame_pool.specs.Frames.{Slots}
 use Rattle.swapper_kernel.specs.Goes.{Pages, Makes, is_page_write}
-use Rattle.label_calls.specs.Labels.{Labels, Relabels, MayHaveWritten}
+use Rattle.label_calls.specs.Labels.{MayHaveWritten}
 use Rattle.label_calls.specs.Own.{RelabelsOwn}
 
 -- each of these writes that is of a label without its page stands, at its moment, over a label of this identifier
