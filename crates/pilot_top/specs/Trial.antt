@@ -1,5 +1,5 @@
 -- A trial: drawn calls on a new volume, and what is told of their replies.
-use Rattle.std.specs.Prelude.{◌≡◌, ℕ, Bool, true, false, ◌%◌, ◌^◌, List, [], ◌∷◌, ◌++◌, codes, filter, flat_map, length, map, sum_by, Option, Some, None}
+use Rattle.std.specs.Prelude.{◌≡◌, ℕ, Bool, true, false, ◌%◌, ◌^◌, List, [], ◌∷◌, ◌++◌, codes, filter, flat_map, fold, length, map, sum_by, Option, Some, None}
 use Rattle.std.specs.Fmt.{decimal}
 use Rattle.std.specs.List.{range_with_len}
 use Rattle.labelled_disk.specs.FilesOn.{files_on}
@@ -12,6 +12,7 @@ use Rattle.flat_machine.specs.declared.call.Reply.{Reply}
 use Rattle.flat_machine.specs.declared.call.Reply.TheVariants as reply
 use Rattle.flat_machine.specs.After.{AllowsAll}
 use Rattle.flat_machine.specs.Machine.{Machine}
+use Rattle.flat_machine.specs.Next.{next}
 use Rattle.flat_machine.specs.Start.{opened}
 use Rattle.trace_maker.specs.Calls.{call_of}
 use Rattle.volume_root.specs.Sound.{Sound}
@@ -35,13 +36,28 @@ drawn_calls seed calls = map (call_of seed) (range_with_len 0 calls)
 abbrev pub empty_volume : ℕ → Machine
 empty_volume sectors = opened 1 1 (capacity sectors)
 
--- A trial on a new volume of so many sectors gets these replies to its drawn calls: the machine allows each of them where it
--- stands, behind allowed replies to the first calls.
-pub record IsTrial (sectors seed calls : ℕ) (replies : List Reply) : Type 0 where
+-- the machine after these calls
+abbrev pub after_calls : Machine → List Call → Machine
+after_calls m calls = fold next m calls
+
+-- These are the replies to calls in a row, each allowed where its call stands; and what is said of the machine after the calls
+-- is so.
+pub record HasAnswered (m : Machine) (calls : List Call) (replies : List Reply) (now : Machine → Type 0) : Type 0 where
+  pub count : length replies ≡ length calls
+  pub allowed : AllowsAll m (map Some calls) replies
+  pub stands : now (after_calls m calls)
+
+-- A trial that begins with this machine gets these replies to its drawn calls: the machine allows each of them where it stands,
+-- behind allowed replies to the first calls.
+pub record IsTrialOf (m : Machine) (seed calls : ℕ) (replies : List Reply) : Type 0 where
   pub before : List Reply
   pub before_count : length before ≡ length first_calls
   pub count : length replies ≡ calls
-  pub allowed : AllowsAll (empty_volume sectors) (map Some (first_calls ++ drawn_calls seed calls)) (before ++ replies)
+  pub allowed : AllowsAll m (map Some (first_calls ++ drawn_calls seed calls)) (before ++ replies)
+
+-- a trial on a new volume of so many sectors
+abbrev pub IsTrial : ℕ → ℕ → ℕ → List Reply → Type 0
+IsTrial sectors seed calls replies = IsTrialOf (empty_volume sectors) seed calls replies
 
 -- the call was refused
 abbrev pub is_refused : Reply → Bool

@@ -1,6 +1,5 @@
 //! A trial: drawn calls are carried out in a session on a new volume, and what came of them is told in one line.
-ghost use Rattle.std.specs.Prelude.{◌≡◌, ◌≢◌, ◌↔◌, ◌⊎◌, ◌+◌, ◌<◌, ◌≤◌, ℕ, List, Some, length, true, IfOk, IfErr, OnOk, Err};
-ghost use Rattle.std.specs.Prelude.{slice_get};
+ghost use Rattle.std.specs.Prelude.{◌≡◌, ◌≢◌, ◌↔◌, ◌⊎◌, ◌<◌, ◌≤◌, ◌++◌, ℕ, List, Some, true, false, slice_get, IfOk, IfErr, OnOk, Err};
 ghost use Rattle.std.specs.Io.KnownBytes.{Appends};
 ghost use Rattle.labelled_disk.specs.declared.evidence.Evidence.{Evidence};
 ghost use Rattle.labelled_disk.specs.declared.evidence.Halt.TheVariants as halt;
@@ -8,13 +7,18 @@ ghost use Rattle.labelled_disk.specs.Sectors.{Sector};
 ghost use Rattle.labelled_disk.specs.Calls.{OnlyReads, Rose};
 ghost use Rattle.labelled_disk.specs.Layout.{IsCount};
 ghost use Rattle.flat_machine.specs.declared.call.Reply.{Reply};
+ghost use Rattle.flat_machine.specs.After.{ends_trace};
+ghost use Rattle.flat_machine.specs.Form.{IsInForm};
 ghost use Rattle.flat_machine.specs.Machine.{Machine};
+ghost use Rattle.swapper_kernel.specs.Goes.{Went};
 ghost use Rattle.volume_root.specs.Later.{IsLater};
 ghost use Rattle.trace_io.specs.Stream.{IsFrontOf};
+ghost use Rattle.pilot_engine.specs.Closing.{HasShut};
 ghost use Rattle.running_words.specs.Session.{IsOpen};
 ghost use Rattle.running_words.specs.Running.{Runs};
+ghost use Rattle.pilot_top.specs.Counting.{AreOf};
 ghost use Rattle.pilot_top.specs.Last.{last_line, Puts};
-ghost use Rattle.pilot_top.specs.Trial.{HasNoFile, IsTrial, first_calls, trial_line};
+ghost use Rattle.pilot_top.specs.Trial.{HasAnswered, HasNoFile, IsTrial, IsTrialOf, after_calls, drawn_calls, first_calls, trial_line};
 
 use crate::Status;
 use crate::closing::close;
@@ -32,7 +36,12 @@ use trace_maker::TraceMaker;
 const FIRST_FILE: u64 = 0x1_0000_0001;
 
 // One of the calls that make four files, four spaces, and a window of each space on its file.
-fn first_call(index: u32) -> Call {
+fn first_call(index: u32) -> Call
+    requires { index < 12 }
+    ensures here { slice_get first_calls index ≡ Some result }
+    ensures in_form { IsInForm result }
+    ensures more { ends_trace result ≡ false }
+{
     match index {
         0..=3 => Call::Create { pages: 16, kind: 0 },
         4..=7 => Call::MakeSpace {
@@ -50,7 +59,19 @@ fn first_call(index: u32) -> Call {
 }
 
 // Makes the files, the spaces and the windows.
-fn prepare<D: Disk, A: Allocator>(session: &mut SessionOver<D, A>) -> Result<(), Halt> {
+fn prepare<D: Disk, A: Allocator>(session: &mut SessionOver<D, A>) -> Result<(), Halt>
+    requires size { (D.state session.old.core.filer.swapper.under).sectors ≡ session.old.core.filer.swapper.layout.sectors }
+    requires opened { IsOpen session.old.core.filer.swapper.layout session.old.volume }
+    requires running { session.old.running ≡ true }
+    ensures answered { (m : Machine) → Runs session.old.core session.old.volume m
+        → OnOk result ((replies : List Reply) × HasAnswered m first_calls replies (Runs session.new.core session.new.volume)) }
+    ensures sound { (m : Machine) → Runs session.old.core session.old.volume m → IfErr result (λ e. e ≡ halt.Disk) }
+    ensures counted { result ≡ Err halt.Disk → Rose (D.state session.old.core.filer.swapper.under).faults (D.state session.new.core.filer.swapper.under).faults }
+    ensures went { Went (D.state session.old.core.filer.swapper.under) (D.state session.new.core.filer.swapper.under) }
+    ensures layout { session.new.core.filer.swapper.layout ≡ session.old.core.filer.swapper.layout }
+    ensures open_still { IsOpen session.new.core.filer.swapper.layout session.new.volume }
+    ensures goes_on { OnOk result (session.new.running ≡ true) }
+{
     for index in 0..12 {
         match session.step(&first_call(index)) {
             Ok(_) => (),
@@ -65,7 +86,20 @@ fn count_calls<D: Disk, A: Allocator>(
     session: &mut SessionOver<D, A>,
     seed: u32,
     calls: u32,
-) -> Result<Counts, Halt> {
+) -> Result<Counts, Halt>
+    requires size { (D.state session.old.core.filer.swapper.under).sectors ≡ session.old.core.filer.swapper.layout.sectors }
+    requires opened { IsOpen session.old.core.filer.swapper.layout session.old.volume }
+    requires running { session.old.running ≡ true }
+    ensures answered { (m : Machine) → Runs session.old.core session.old.volume m
+        → IfOk result (λ counts. (replies : List Reply) × AreOf counts replies
+        × HasAnswered m (drawn_calls seed calls) replies (Runs session.new.core session.new.volume)) }
+    ensures sound { (m : Machine) → Runs session.old.core session.old.volume m → IfErr result (λ e. e ≡ halt.Disk) }
+    ensures counted { result ≡ Err halt.Disk → Rose (D.state session.old.core.filer.swapper.under).faults (D.state session.new.core.filer.swapper.under).faults }
+    ensures went { Went (D.state session.old.core.filer.swapper.under) (D.state session.new.core.filer.swapper.under) }
+    ensures layout { session.new.core.filer.swapper.layout ≡ session.old.core.filer.swapper.layout }
+    ensures open_still { IsOpen session.new.core.filer.swapper.layout session.new.volume }
+    ensures goes_on { OnOk result (session.new.running ≡ true) }
+{
     let mut maker = TraceMaker::new(seed);
     let mut counts = Counts::none();
     for _ in 0..calls {
@@ -82,20 +116,65 @@ fn try_calls<D: Disk, A: Allocator>(
     session: &mut SessionOver<D, A>,
     seed: u32,
     calls: u32,
-) -> Result<Counts, Halt> {
+) -> Result<Counts, Halt>
+    requires size { (D.state session.old.core.filer.swapper.under).sectors ≡ session.old.core.filer.swapper.layout.sectors }
+    requires opened { IsOpen session.old.core.filer.swapper.layout session.old.volume }
+    requires running { session.old.running ≡ true }
+    ensures answered { (m : Machine) → Runs session.old.core session.old.volume m
+        → IfOk result (λ counts. (replies : List Reply) × AreOf counts replies × IsTrialOf m seed calls replies
+        × Runs session.new.core session.new.volume (after_calls m (first_calls ++ drawn_calls seed calls))) }
+    ensures sound { (m : Machine) → Runs session.old.core session.old.volume m → IfErr result (λ e. e ≡ halt.Disk) }
+    ensures counted { result ≡ Err halt.Disk → Rose (D.state session.old.core.filer.swapper.under).faults (D.state session.new.core.filer.swapper.under).faults }
+    ensures went { Went (D.state session.old.core.filer.swapper.under) (D.state session.new.core.filer.swapper.under) }
+    ensures layout { session.new.core.filer.swapper.layout ≡ session.old.core.filer.swapper.layout }
+    ensures open_still { IsOpen session.new.core.filer.swapper.layout session.new.volume }
+    ensures goes_on { OnOk result (session.new.running ≡ true) }
+{
     match prepare(session) {
-        Ok(()) => count_calls(session, seed, calls),
+        Ok(()) => (),
+        Err(halt) => return Err(halt),
+    }
+    match count_calls(session, seed, calls) {
+        Ok(counts) => Ok(counts),
         Err(halt) => Err(halt),
     }
 }
 
-// Carries a trial out in a session on a new volume, ends the session, and then tells what came of it.
+// Carries a trial out in a session, ends the session, and then tells what came of it.
 fn try_session<D: Disk, A: Allocator, K: Sink>(
     session: SessionOver<D, A>,
     seed: u32,
     calls: u32,
     sink: &mut K,
-) -> (Status, D) {
+) -> (Status, D)
+    requires size { (D.state session.core.filer.swapper.under).sectors ≡ session.core.filer.swapper.layout.sectors }
+    requires opened { IsOpen session.core.filer.swapper.layout session.volume }
+    requires running { session.running ≡ true }
+    ensures ends { (result.0 ≡ Status.Done) ⊎ (result.0 ≡ Status.StreamFault)
+        ⊎ (result.0 ≡ Status.DiskFault) ⊎ (result.0 ≡ Status.Damaged) }
+    ensures line { (m : Machine) → Runs session.core session.volume m → result.0 ≡ Status.Done
+        → (replies : List Reply) × IsTrialOf m seed calls replies
+        × Appends (K.took sink.old) (K.took sink.new) (trial_line calls replies) }
+    ensures part_of_line { (m : Machine) → Runs session.core session.volume m → result.0 ≡ Status.StreamFault
+        → (replies : List Reply) × IsTrialOf m seed calls replies
+        × (front : List ℕ) × IsFrontOf front (trial_line calls replies)
+        × Appends (K.took sink.old) (K.took sink.new) front }
+    ensures left { (m : Machine) → Runs session.core session.volume m
+        → (result.0 ≡ Status.Done) ⊎ (result.0 ≡ Status.StreamFault)
+        → HasShut (after_calls m (first_calls ++ drawn_calls seed calls)) (D.state result.1) }
+    ensures sound { (m : Machine) → Runs session.core session.volume m → result.0 ≢ Status.Damaged }
+    ensures disk_cause { result.0 ≡ Status.DiskFault
+        → Rose (D.state session.core.filer.swapper.under).faults (D.state result.1).faults }
+    ensures disk_line { result.0 ≡ Status.DiskFault
+        → Puts (Rose (K.faults sink.old) (K.faults sink.new)) (K.took sink.old) (K.took sink.new)
+        (last_line Cause.DiskFault) }
+    ensures stream_cause { result.0 ≡ Status.StreamFault
+        → Rose (K.faults sink.old) (K.faults sink.new) }
+    ensures damage_line { result.0 ≡ Status.Damaged → (e : Evidence)
+        × Puts (Rose (K.faults sink.old) (K.faults sink.new)) (K.took sink.old) (K.took sink.new)
+        (last_line (Cause.Damaged e)) }
+    ensures went { Went (D.state session.core.filer.swapper.under) (D.state result.1) }
+{
     let mut session = session;
     let counts = match try_calls(&mut session, seed, calls) {
         Ok(counts) => counts,

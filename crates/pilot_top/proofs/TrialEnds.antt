@@ -1,0 +1,57 @@
+-- How a trial ends: its line, and the volume that is left.
+use Rattle.std.proofs.Common.{◌≡◌, inl, inr, ℕ, true, false, Bool, List, [], ◌∷◌, ◌++◌, map, filter, Option, Some, refl, sym, ap, subst}
+use Rattle.std.specs.Io.KnownBytes.{Appends}
+use Rattle.labelled_disk.specs.declared.evidence.Evidence.{Evidence}
+use Rattle.labelled_disk.specs.declared.evidence.Halt.TheVariants as halt
+use Rattle.labelled_disk.specs.declared.layout.RootFault.TheVariants as fault
+use Rattle.labelled_disk.specs.FilesOn.{files_on}
+use Rattle.labelled_disk.specs.State.{DiskState}
+use Rattle.flat_machine.specs.File.{File}
+use Rattle.flat_machine.specs.Machine.{Machine}
+use Rattle.flat_machine.specs.Settled.{Agrees, settled_file}
+use Rattle.trace_io.specs.Stream.{AppendsFront, IsFrontOf}
+use Rattle.pilot_engine.specs.Closing.{HasShut}
+use Rattle.pilot_engine.specs.declared.fault.StartFault.{StartFault}
+use Rattle.pilot_engine.specs.declared.fault.StartFault.TheVariants as start_fault
+use Rattle.pilot_top.specs.Last.{last_line, Puts}
+use Rattle.pilot_top.specs.Stopping.{StopsAs}
+use Rattle.pilot_top.specs.Trial.{HasNoFile}
+use Rattle.pilot_top.specs.declared.last.Cause.TheVariants as cause
+use Rattle.pilot_top.specs.declared.status.Status.{Status}
+use Rattle.pilot_top.specs.declared.status.Status.TheVariants as status
+
+-- a text that was put where nothing had been
+pub line_told : {K : Type 0} (took : K → Option (List ℕ)) (k l : K) (w : Option (List ℕ)) (text line : List ℕ) → l ≡ k → text ≡ line → Appends (took l) w text → Appends (took k) w line
+line_told took k l w text line same is put = subst (λ (t : List ℕ). Appends (took k) w t) is (subst (λ x. Appends (took x) w text) same put)
+
+-- or a front of it
+pub front_told : {K : Type 0} (took : K → Option (List ℕ)) (k l : K) (w : Option (List ℕ)) (text line : List ℕ) → l ≡ k → text ≡ line → AppendsFront (took l) w text
+    → (front : List ℕ) × IsFrontOf front line × Appends (took k) w front
+front_told took k l w text line same is put = (put.0, subst (λ (t : List ℕ). IsFrontOf put.0 t) is put.1, subst (λ x. Appends (took x) w put.0) same put.2)
+
+-- what is told of damage where no session started
+pub refused_damage : {K : Type 0} (f : StartFault) (s : Status) (old new : K) (took : K → Option (List ℕ)) (failed : Type 0) → StopsAs f s old new (Puts failed (took old) (took new)) → s ≡ status.Damaged
+    → (e : Evidence) × Puts failed (took old) (took new) (last_line (cause.Damaged e))
+refused_damage (start_fault.Root fault.Disk) s old new took failed stops is = absurd (cc (stops.0, is))
+refused_damage (start_fault.Root (fault.NotVolume what)) s old new took failed stops is = absurd (cc (stops.0, is))
+refused_damage (start_fault.Root fault.Unclean) s old new took failed stops is = absurd (cc (stops.0, is))
+refused_damage (start_fault.Root (fault.Version v)) s old new took failed stops is = absurd (cc (stops.0, is))
+refused_damage (start_fault.Root (fault.BadCount n)) s old new took failed stops is = absurd (cc (stops.0, is))
+refused_damage start_fault.NoMemory s old new took failed stops is = absurd (cc (stops.0, is))
+refused_damage (start_fault.Halt halt.Disk) s old new took failed stops is = absurd (cc (stops.0, is))
+refused_damage (start_fault.Halt (halt.Damaged e)) s old new took failed stops is = (e, stops.1)
+
+-- files that agree with none are none
+none_agree : (fs : List File) → Agrees fs [] → fs ≡ []
+none_agree [] agrees = refl
+none_agree (f ∷ fs) agrees = absurd agrees
+
+-- where no file of the machine is permanent, the volume that was closed has none
+pub left_empty : (m : Machine) (disk : DiskState) → filter (λ (f : File). f.permanent) m.files ≡ [] → HasShut m disk → HasNoFile disk
+left_empty m disk none shut = record {
+  sectors = shut.tells.sectors;
+  told = shut.tells.told;
+  sound = shut.tells.shut.sound;
+  no_files = none_agree (files_on shut.tells.sectors) (subst (λ (fs : List File). Agrees (files_on shut.tells.sectors) (map (settled_file []) (filter (λ (f : File). f.permanent) fs))) none shut.tells.shut.told.agrees);
+  synced = shut.synced;
+}

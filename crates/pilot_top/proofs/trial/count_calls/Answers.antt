@@ -1,0 +1,41 @@
+use Rattle.std.proofs.Common.{◌≡◌, ℕ, suc, ◌+◌, List, [], ◌∷◌, ◌++◌, sym, ◌∙◌, ap, subst, arith}
+use Rattle.flat_machine.specs.declared.call.Reply.{Reply}
+use Rattle.swapper_kernel.specs.GoesLaws.{went_then}
+use Rattle.trace_maker.specs.Maker.{IsAt}
+use Rattle.running_words.specs.Running.{Runs}
+use Rattle.pilot_top.specs.Trial.{HasAnswered, after_calls, drawn_calls}
+use Rattle.pilot_top.proofs.TrialLemmas.{drawn_more, one_answered}
+use Rattle.pilot_top.proofs.trial.count_calls.Goals as goal
+
+pub returns-in-Err-clause-sound : goal.returns-in-Err-clause-sound
+returns-in-Err-clause-sound g c = λ m stands. c.in-Err.ensures.sound (after_calls m (drawn_calls c.args.seed c.loop.counter)) (c.loop.invariant.answered m stands).2.stands
+
+pub loop-preserved : goal.loop-preserved
+loop-preserved g c =
+    let i = c.loop.invariant in
+    let went = c.step.ensures.wrote.makes.went in
+    let k = c.loop.counter in
+    let seed = c.args.seed in
+    record {
+      answered = λ m stands.
+          let so = i.answered m stands in (
+            so.0 ++ c.in-Ok.reply ∷ [],
+            c.add.ensures.more so.0 so.1,
+            one_answered m (drawn_calls seed k) (drawn_calls seed (k + 1)) so.0 (Runs c.loop.session.core c.loop.session.volume) (Runs c.step.new.self.core c.step.new.self.volume) c.next_call.result c.in-Ok.reply
+                (drawn_more seed k c.next_call.result (c.next_call.ensures.call seed k i.drawn)) so.2 (λ n is. let done = c.in-Ok.ensures.carried n is in (done.allowed, done.runs)),
+          );
+      drawn = subst (λ (n : ℕ). IsAt c.next_call.new.self seed n) (let on : suc k ≡ k + 1 = omega arith in on) (c.next_call.ensures.next seed k i.drawn);
+      errors = omega (arith, c.add.ensures.one, i.errors);
+      loaded = omega (arith, c.add.ensures.few, i.loaded);
+      went = went_then i.went went;
+      layout = c.step.ensures.layout ∙ i.layout;
+      size = went.sectors ∙ i.size ∙ ap (λ l. l.sectors) (sym c.step.ensures.layout);
+      opened = c.step.ensures.open_still;
+      running = c.in-Ok.ensures.goes_on;
+    }
+
+pub returns-clause-answered : goal.returns-clause-answered
+returns-clause-answered g c = λ m stands.
+    let so = c.loop.invariant.answered m stands in
+    let end : c.loop.counter ≡ c.args.calls = omega (arith, c.loop-test.false, c.loop.auto.counter-end) in
+    (so.0, so.1, subst (λ (n : ℕ). HasAnswered m (drawn_calls c.args.seed n) so.0 (Runs c.loop.session.core c.loop.session.volume)) end so.2)

@@ -1,0 +1,69 @@
+use Rattle.std.proofs.Common.{rules, ◌≡◌, inl, inr, ◌++◌, Option, Some, None, ◌∙◌, ap}
+use Rattle.pilot_top.specs.Trial.{after_calls, drawn_calls, first_calls, trial_line}
+use Rattle.pilot_top.specs.declared.status.Status.{Status}
+use Rattle.pilot_top.proofs.CloseLemmas.{damage_told, not_closed}
+use Rattle.pilot_top.proofs.ExitLemmas.{halt_not_damaged, halt_not_done, halt_not_stream}
+use Rattle.pilot_top.proofs.TrialEnds.{line_told, front_told}
+use Rattle.pilot_top.proofs.trial.try_session.Goals as goal
+
+-- a call stopped the session
+pub returns-in-Err-clause-line : goal.returns-in-Err-clause-line
+returns-in-Err-clause-line g c = λ m stands done. absurd (halt_not_done c.in-Err.halt c.stop.result c.stop.ensures.status done)
+
+pub returns-in-Err-clause-part_of_line : goal.returns-in-Err-clause-part_of_line
+returns-in-Err-clause-part_of_line g c = λ m stands failed. absurd (halt_not_stream c.in-Err.halt c.stop.result c.stop.ensures.status failed)
+
+pub returns-in-Err-clause-left : goal.returns-in-Err-clause-left
+returns-in-Err-clause-left g c = λ m stands ends. elim ends [
+  | inl done ↦ absurd (halt_not_done c.in-Err.halt c.stop.result c.stop.ensures.status done)
+  | inr failed ↦ absurd (halt_not_stream c.in-Err.halt c.stop.result c.stop.ensures.status failed)
+]
+
+pub returns-in-Err-clause-sound : goal.returns-in-Err-clause-sound
+returns-in-Err-clause-sound g c = λ m stands damaged. absurd (halt_not_damaged c.in-Err.halt c.stop.result c.stop.ensures.status (c.in-Err.ensures.sound m stands) damaged)
+
+pub returns-in-Err-clause-damage_line : goal.returns-in-Err-clause-damage_line
+returns-in-Err-clause-damage_line g c = λ damaged. damage_told c.in-Err.halt c.stop.result _ _ _ c.stop.ensures.status (ap (λ (s : Status). Some s) damaged) c.stop.ensures.line
+
+-- the end of the session failed
+pub returns-in-Some-clause-line : goal.returns-in-Some-clause-line
+returns-in-Some-clause-line g c = λ m stands done. absurd (not_closed c.close-stopped.result.0 c.in-Some.status c.in-Some.is c.close-stopped.ensures.ends (inl done))
+
+pub returns-in-Some-clause-part_of_line : goal.returns-in-Some-clause-part_of_line
+returns-in-Some-clause-part_of_line g c = λ m stands failed. absurd (not_closed c.close-stopped.result.0 c.in-Some.status c.in-Some.is c.close-stopped.ensures.ends (inr failed))
+
+pub returns-in-Some-clause-left : goal.returns-in-Some-clause-left
+returns-in-Some-clause-left g c = λ m stands ends. absurd (not_closed c.close-stopped.result.0 c.in-Some.status c.in-Some.is c.close-stopped.ensures.ends ends)
+
+pub returns-in-Some-clause-sound : goal.returns-in-Some-clause-sound
+returns-in-Some-clause-sound g c = λ m stands damaged.
+    c.close-stopped.ensures.sound (after_calls m (first_calls ++ drawn_calls c.args.seed c.args.calls)) (c.in-Ok.ensures.answered m stands).3 (c.in-Some.is ∙ ap (λ (s : Status). Some s) damaged)
+
+-- the line was put
+pub returns-in-Ok-put-clause-line : goal.returns-in-Ok-put-clause-line
+returns-in-Ok-put-clause-line g c =
+    let none : ◌≡◌ {A = Option Status} c.close-stopped.result.0 None = search rules in
+    let quiet = c.close-stopped.ensures.quiet none in
+    λ m stands done.
+    let so = c.in-Ok.ensures.answered m stands in
+    (so.0, so.2, line_told g.K.Sink.took c.args.sink.now c.close-stopped.new.sink _ c.deref.result.now (trial_line c.args.calls so.0) quiet (c.deref.ensures.0 ∙ c.line.ensures so.0 so.1) c.in-Ok-put.ensures.ok)
+
+pub returns-in-Ok-put-clause-left : goal.returns-in-Ok-put-clause-left
+returns-in-Ok-put-clause-left g c =
+    let none : ◌≡◌ {A = Option Status} c.close-stopped.result.0 None = search rules in
+    λ m stands ends. c.close-stopped.ensures.closed (after_calls m (first_calls ++ drawn_calls c.args.seed c.args.calls)) (c.in-Ok.ensures.answered m stands).3 none
+
+-- the sink failed on it
+pub returns-in-Err-put-clause-part_of_line : goal.returns-in-Err-put-clause-part_of_line
+returns-in-Err-put-clause-part_of_line g c =
+    let none : ◌≡◌ {A = Option Status} c.close-stopped.result.0 None = search rules in
+    let quiet = c.close-stopped.ensures.quiet none in
+    λ m stands failed.
+    let so = c.in-Ok.ensures.answered m stands in
+    let front = front_told g.K.Sink.took c.args.sink.now c.close-stopped.new.sink _ c.deref.result.now (trial_line c.args.calls so.0) quiet (c.deref.ensures.0 ∙ c.line.ensures so.0 so.1) c.in-Err-put.ensures.err in
+    (so.0, so.2, front.0, front.1, front.2)
+
+pub returns-in-Err-put-clause-left : goal.returns-in-Err-put-clause-left
+returns-in-Err-put-clause-left g c =
+    let none : ◌≡◌ {A = Option Status} c.close-stopped.result.0 None = search rules in
+    λ m stands ends. c.close-stopped.ensures.closed (after_calls m (first_calls ++ drawn_calls c.args.seed c.args.calls)) (c.in-Ok.ensures.answered m stands).3 none
