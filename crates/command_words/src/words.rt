@@ -86,6 +86,7 @@ pub fn command_of(machine: Global, words: &[String]) -> Result<Command, Refused>
     ensures range { IfOk result IsInRange }
     ensures usage { result ≡ Err Refused.Usage → IsNoCommand words.now }
     ensures unknown { ((c : Command) → ¬ Names words.now c) → result ≡ Err Refused.Usage }
+    ensures memory { result ≡ Err Refused.NoMemory → (c : Command) × Names words.now c }
 {
     let Some(word) = words.first() else {
         return Err(Refused::Usage);

@@ -8,6 +8,7 @@ use Rattle.flat_machine.specs.Machine.{Machine}
 use Rattle.pilot_engine.specs.Closing.{HasShut}
 use Rattle.pilot_top.specs.Headline.{IsLeftOpen, Run}
 use Rattle.pilot_top.specs.Moments.{Lawfully, Moments}
+use Rattle.pilot_top.specs.Trial.{HasNoFile}
 use Rattle.pilot_top.specs.declared.status.Status.{Status}
 use Rattle.pilot_top.specs.declared.status.Status.TheVariants as status
 
@@ -25,6 +26,10 @@ module _ {D : Type 0} (state : D → DiskState) (x y : D) (same : x ≡ y) where
     tells = record { sectors = shut.tells.sectors; told = shut.tells.told; shut = shut.tells.shut };
     synced = shut.synced;
   })
+
+  -- there is a sound volume without a file
+  pub no_file_behind : (n : ℕ) → HasNoFile (lent_state n (state y)) → HasNoFile (state x)
+  no_file_behind n left = rw same (record { sectors = left.sectors; told = left.told; sound = left.sound; no_files = left.no_files; synced = left.synced })
 
   -- and is left open
   pub open_behind : IsLeftOpen (state y) → IsLeftOpen (state x)

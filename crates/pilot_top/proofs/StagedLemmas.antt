@@ -145,6 +145,14 @@ from_start d {a} sound told keeps = along_throughout (IsMoment (start d) []) 0 0
       ];
     }
 
+-- nothing is done
+pub from_nothing : (d : List Sector) {a : DiskState} → a.contents ≡ Some d → Sound d → Moments (start d) [] a a
+from_nothing d {a} told sound = along_none (IsMoment (start d) []) 0 0 (record { contents = refl; writes = refl }) (λ e there. subst (IsMoment (start d) [] 0 0) (same_Some d e (sym told ∙ there)) (record {
+  within = omega arith;
+  told = record { agrees = (start_agrees d).1; right = sound.labels };
+  honest = λ set. sound;
+}))
+
 -- a call is carried out, or stops among its steps
 pub from_step : (m : Machine) (call : Call) {a b : DiskState} → Passes m call a b → Moments m (Some call ∷ []) a b
 from_step m call passes = record {

@@ -16,3 +16,8 @@ is_done status.NotOpened disk source sink is_short on_disk on_stream on_long sou
 is_done status.Damaged disk source sink is_short on_disk on_stream on_long sound other short no_disk no_source no_sink = absurd (sound.1 refl)
 is_done status.Usage disk source sink is_short on_disk on_stream on_long sound other short no_disk no_source no_sink = absurd (other.0 refl)
 is_done status.Unfit disk source sink is_short on_disk on_stream on_long sound other short no_disk no_source no_sink = absurd (other.1 refl)
+
+-- a refusal, where there may be no memory for the words
+pub with_memory : (s : Status) → (s ≡ status.NotOpened) ⊎ (s ≡ status.DiskFault) → (s ≡ status.NotOpened) ⊎ (s ≡ status.DiskFault) ⊎ (s ≡ status.NoMemory)
+with_memory s (inl opened) = inl opened
+with_memory s (inr disk) = inr (inl disk)

@@ -20,14 +20,14 @@ use Rattle.pilot_top.specs.declared.last.Cause.TheVariants as cause
 use Rattle.pilot_top.specs.declared.status.Status.{Status}
 use Rattle.pilot_top.specs.declared.status.Status.TheVariants as status
 
--- a text that was put behind what the sink had before
-pub line_told : (u v w : Option (List ℕ)) (text line : List ℕ) → v ≡ u → text ≡ line → Appends v w text → Appends u w line
-line_told u v w text line same is put = subst (λ (t : List ℕ). Appends u w t) is (subst (λ (x : Option (List ℕ)). Appends x w text) same put)
+-- a text that was put where nothing had been
+pub line_told : {K : Type 0} (took : K → Option (List ℕ)) (k l : K) (w : Option (List ℕ)) (text line : List ℕ) → l ≡ k → text ≡ line → Appends (took l) w text → Appends (took k) w line
+line_told took k l w text line same is put = subst (λ (t : List ℕ). Appends (took k) w t) is (subst (λ x. Appends (took x) w text) same put)
 
 -- or a front of it
-pub front_told : (u v w : Option (List ℕ)) (text line : List ℕ) → v ≡ u → text ≡ line → AppendsFront v w text → (front : List ℕ) × IsFrontOf front line × Appends u w front
-front_told u v w text line same is put =
-    (put.0, subst (λ (t : List ℕ). IsFrontOf put.0 t) is put.1, subst (λ (x : Option (List ℕ)). Appends x w put.0) same put.2)
+pub front_told : {K : Type 0} (took : K → Option (List ℕ)) (k l : K) (w : Option (List ℕ)) (text line : List ℕ) → l ≡ k → text ≡ line → AppendsFront (took l) w text
+    → (front : List ℕ) × IsFrontOf front line × Appends (took k) w front
+front_told took k l w text line same is put = (put.0, subst (λ (t : List ℕ). IsFrontOf put.0 t) is put.1, subst (λ x. Appends (took x) w put.0) same put.2)
 
 -- what is told of damage where no session started
 pub refused_damage : {K : Type 0} (f : StartFault) (s : Status) (old new : K) (took : K → Option (List ℕ)) (failed : Type 0) → StopsAs f s old new (Puts failed (took old) (took new)) → s ≡ status.Damaged

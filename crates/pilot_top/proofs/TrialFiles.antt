@@ -12,7 +12,8 @@ use Rattle.flat_machine.specs.File.{File}
 use Rattle.flat_machine.specs.Machine.{Machine}
 use Rattle.flat_machine.specs.Next.{change, change_file, new_file, next, store_byte, store_bytes, with_byte, without_shown_within}
 use Rattle.flat_machine.specs.Refusal.{refusal}
-use Rattle.flat_machine.specs.Space.{Space, space_at}
+use Rattle.flat_machine.specs.declared.space.Space.{Space}
+use Rattle.flat_machine.specs.Space.{space_at}
 use Rattle.trace_maker.specs.Calls.{address_by, advice_by, bytes_by, call_by, call_of, count_by, space_by}
 use Rattle.trace_maker.specs.Drawn.{value}
 use Rattle.pilot_top.specs.Trial.{after_calls, drawn_calls, empty_volume, first_calls}
@@ -95,11 +96,11 @@ first_kept = (create, (create, (create, (create, (space, (space, (space, (space,
 
 none_permanent : (files : List File) → AreTemporary files → filter (λ (f : File). f.permanent) files ≡ []
 none_permanent [] temps = refl
-none_permanent (f ∷ fs) temps = out f.permanent temps.0
+none_permanent (f ∷ fs) temps = out f.permanent temps.0 (none_permanent fs temps.1)
   where
-    out : (b : Bool) → b ≡ false → (if b then f ∷ filter (λ (g : File). g.permanent) fs else filter (λ (g : File). g.permanent) fs) ≡ []
-    out true is = absurd (cc is)
-    out false is = none_permanent fs temps.1
+    out : (b : Bool) → b ≡ false → filter (λ (g : File). g.permanent) fs ≡ [] → (if b then f ∷ filter (λ (g : File). g.permanent) fs else filter (λ (g : File). g.permanent) fs) ≡ []
+    out true is none = absurd (cc is)
+    out false is none = none
 
 -- a trial leaves no permanent file
 pub none_left : (sectors seed calls : ℕ) → filter (λ (f : File). f.permanent) (after_calls (empty_volume sectors) (first_calls ++ drawn_calls seed calls)).files ≡ []

@@ -43,17 +43,17 @@ fn plain_words_mean_what_they_say(rt: HostRuntime) -> Result<(), Fail> {
         (&["format"], format(1, 1)),
         (&["format", "--serial", "7"], format(7, 1)),
         (&["format", "--counter", "5"], format(1, 5)),
-        (
-            &["format", "--counter", "5", "--serial", "7"],
-            format(7, 5),
-        ),
+        (&["format", "--counter", "5", "--serial", "7"], format(7, 5)),
         (
             &["format", "--serial", "4294967295", "--counter", "1"],
             format(4_294_967_295, 1),
         ),
         (&["scavenge"], Ok(Command::Scavenge)),
         (&["trial"], trial(0, 1000, 64)),
-        (&["trial", "--seed", "4294967295"], trial(4_294_967_295, 1000, 64)),
+        (
+            &["trial", "--seed", "4294967295"],
+            trial(4_294_967_295, 1000, 64),
+        ),
         (&["trial", "--calls", "1000000"], trial(0, 1_000_000, 64)),
         (&["trial", "--calls", "0"], trial(0, 0, 64)),
         (&["trial", "--frames", "24"], trial(0, 1000, 24)),

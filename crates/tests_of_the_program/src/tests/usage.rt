@@ -7,7 +7,7 @@ use std::test::Fail;
 
 #[test]
 fn words_that_are_no_command(rt: HostRuntime) -> Result<(), Fail> {
-    let cases: [&[&str]; 26] = [
+    let cases: [&[&str]; 29] = [
         &[],
         &["fly"],
         &["run", "run"],
@@ -15,13 +15,16 @@ fn words_that_are_no_command(rt: HostRuntime) -> Result<(), Fail> {
         &["run", "--frames"],
         &["run", "--frames", "23"],
         &["run", "--frames", "4097"],
-        &["run", "--frames", "+24"],
+        &["run", "--frames", "-24"],
         &["run", "--frames", ""],
         &["run", "--frames", "24", "--frames", "24"],
         &["run", "--frames", "24", "25"],
         &["run", "--frame", "24"],
         &["--frames", "24", "run"],
+        &["run", "--queue", "0"],
         &["scavenge", "run"],
+        &["trial", "--calls", "1000001"],
+        &["trial", "--serial", "7"],
         &["scavenge", "--frames", "24"],
         &["Format"],
         &["format", "7"],
@@ -29,7 +32,7 @@ fn words_that_are_no_command(rt: HostRuntime) -> Result<(), Fail> {
         &["format", "--serial"],
         &["format", "--serial", "0"],
         &["format", "--serial", "4294967296"],
-        &["format", "--serial", "+7"],
+        &["format", "--serial", "-7"],
         &["format", "--serial", "0x7"],
         &["format", "--serial", "1", "--serial", "2"],
         &["format", "--serial", "7", "--counter", "0"],

@@ -29,3 +29,15 @@ trial_of-requires c = record { named = first_named c.args.words.now c.first.resu
 pub returns-in-trial-clause-unknown : goal.returns-in-trial-clause-unknown
 returns-in-trial-clause-unknown c none =
     absurd (none (command.Trial 0 1000 64) (first_named c.args.words.now c.first.result c.in-Some.word c.as_str.result.now _ c.first.ensures.value c.in-Some.is c.as_str.ensures.value c.in-trial.is))
+
+pub returns-in-run-clause-memory : goal.returns-in-run-clause-memory
+returns-in-run-clause-memory c is = (command.Run 64, first_named c.args.words.now c.first.result c.in-Some.word c.as_str.result.now _ c.first.ensures.value c.in-Some.is c.as_str.ensures.value c.in-run.is)
+
+pub returns-in-format-clause-memory : goal.returns-in-format-clause-memory
+returns-in-format-clause-memory c is = (command.Format 1 1, first_named c.args.words.now c.first.result c.in-Some.word c.as_str.result.now _ c.first.ensures.value c.in-Some.is c.as_str.ensures.value c.in-format.is)
+
+pub returns-in-scavenge-clause-memory : goal.returns-in-scavenge-clause-memory
+returns-in-scavenge-clause-memory c is = (command.Scavenge, first_named c.args.words.now c.first.result c.in-Some.word c.as_str.result.now _ c.first.ensures.value c.in-Some.is c.as_str.ensures.value c.in-scavenge.is)
+
+pub returns-in-trial-clause-memory : goal.returns-in-trial-clause-memory
+returns-in-trial-clause-memory c is = (command.Trial 0 1000 64, first_named c.args.words.now c.first.result c.in-Some.word c.as_str.result.now _ c.first.ensures.value c.in-Some.is c.as_str.ensures.value c.in-trial.is)

@@ -18,8 +18,7 @@ loop-preserved g c =
     let seed = c.args.seed in
     record {
       answered = λ m stands.
-          let so = i.answered m stands in
-          (
+          let so = i.answered m stands in (
             so.0 ++ c.in-Ok.reply ∷ [],
             c.add.ensures.more so.0 so.1,
             one_answered m (drawn_calls seed k) (drawn_calls seed (k + 1)) so.0 (Runs c.loop.session.core c.loop.session.volume) (Runs c.step.new.self.core c.step.new.self.volume) c.next_call.result c.in-Ok.reply

@@ -16,8 +16,7 @@ loop-index-preserved g c =
     let went = c.step.ensures.wrote.makes.went in
     record {
       answered = λ m stands.
-          let so = i.answered m stands in
-          (
+          let so = i.answered m stands in (
             so.0 ++ c.in-Ok.field-0 ∷ [],
             one_answered m (take c.loop-index.index first_calls) (take (c.loop-index.index + 1) first_calls) so.0 (Runs c.loop-index.session.core c.loop-index.session.volume) (Runs c.step.new.self.core c.step.new.self.volume) c.first_call.result
                 c.in-Ok.field-0 (first_more c.loop-index.index c.first_call.result c.first_call.ensures.here) so.1 (λ n is. let done = c.in-Ok.ensures.carried n is in (done.allowed, done.runs)),

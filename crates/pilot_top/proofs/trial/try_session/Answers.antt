@@ -46,7 +46,7 @@ returns-in-Ok-put-clause-line g c =
     let quiet = c.close-stopped.ensures.quiet none in
     λ m stands done.
     let so = c.in-Ok.ensures.answered m stands in
-    (so.0, so.2, line_told _ _ _ c.deref.result.now (trial_line c.args.calls so.0) (ap (λ k. g.K.Sink.took k) quiet) (c.deref.ensures.0 ∙ c.line.ensures so.0 so.1) c.in-Ok-put.ensures.ok)
+    (so.0, so.2, line_told g.K.Sink.took c.args.sink.now c.close-stopped.new.sink _ c.deref.result.now (trial_line c.args.calls so.0) quiet (c.deref.ensures.0 ∙ c.line.ensures so.0 so.1) c.in-Ok-put.ensures.ok)
 
 pub returns-in-Ok-put-clause-left : goal.returns-in-Ok-put-clause-left
 returns-in-Ok-put-clause-left g c =
@@ -60,7 +60,8 @@ returns-in-Err-put-clause-part_of_line g c =
     let quiet = c.close-stopped.ensures.quiet none in
     λ m stands failed.
     let so = c.in-Ok.ensures.answered m stands in
-    (so.0, so.2, front_told _ _ _ c.deref.result.now (trial_line c.args.calls so.0) (ap (λ k. g.K.Sink.took k) quiet) (c.deref.ensures.0 ∙ c.line.ensures so.0 so.1) c.in-Err-put.ensures.err)
+    let front = front_told g.K.Sink.took c.args.sink.now c.close-stopped.new.sink _ c.deref.result.now (trial_line c.args.calls so.0) quiet (c.deref.ensures.0 ∙ c.line.ensures so.0 so.1) c.in-Err-put.ensures.err in
+    (so.0, so.2, front.0, front.1, front.2)
 
 pub returns-in-Err-put-clause-left : goal.returns-in-Err-put-clause-left
 returns-in-Err-put-clause-left g c =
