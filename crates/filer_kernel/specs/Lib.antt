@@ -8,6 +8,7 @@ pub mod Halted
 pub mod Triples
 pub mod Causes
 pub mod Evidence
+pub mod EvidenceLaws
 pub mod Tables
 pub mod PlaceLaws
 pub mod TableLaws

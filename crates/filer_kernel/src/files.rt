@@ -87,6 +87,7 @@ impl<D: Disk, A: Allocator> FilerOver<D, A> {
         ensures size { (m : List Sector) (named : Triples) → Stands (D.state self.old.swapper.under) self.old.swapper.pool m → MapIs self.old.swapper.layout named m → IfOk result (IsSize named id) }
         ensures sound { (m : List Sector) (named : Triples) → Stands (D.state self.old.swapper.under) self.old.swapper.pool m → MapIs self.old.swapper.layout named m → AreNamed m (IsMapHome FileMapPages self.old.swapper.layout) → IfErr result (λ e. e ≡ halt.Disk) }
         ensures same { (m : List Sector) (named : Triples) → Stands (D.state self.old.swapper.under) self.old.swapper.pool m → MapIs self.old.swapper.layout named m → Stands (D.state self.new.swapper.under) self.new.swapper.pool m }
+        ensures same_bytes { (b : List ℕ) → Tells FileMapPages (D.state self.old.swapper.under) self.old.swapper.pool self.old.swapper.layout b → Tells FileMapPages (D.state self.new.swapper.under) self.new.swapper.pool self.old.swapper.layout b }
         ensures right { (m : List Sector) (named : Triples) → Stands (D.state self.old.swapper.under) self.old.swapper.pool m → MapIs self.old.swapper.layout named m → IfErr result IsFaultOrMismatch }
         ensures cause { IfErr result (MapHalts self.old.swapper.layout (D.state self.old.swapper.under) self.old.swapper.pool (D.state self.new.swapper.under)) }
         ensures beside { Beside FileMapPages (D.state self.old.swapper.under) self.old.swapper.pool self.old.swapper.layout (D.state self.new.swapper.under) self.new.swapper.pool self.new.swapper.layout }

@@ -124,6 +124,7 @@ pub fn make_page<D: Disk, A: Allocator>(
         ⊎ ((d : List Sector) → (D.state swapper.old.under).contents ≡ Some d → HasOne free_ones d sector)) }
     ensures sound { (m : List Sector) → Stands (D.state swapper.old.under) swapper.old.pool m → HasOne free_ones m sector → IfErr result (λ e. e ≡ halt.Disk) }
     ensures cause { IfErr result (HasCause (IsTaken sector (D.state swapper.old.under)) (D.state swapper.old.under) (D.state swapper.new.under)) }
+    ensures so { IfErr result (HasCause (IsTaken sector (D.state swapper.new.under)) (D.state swapper.old.under) (D.state swapper.new.under)) }
     ensures frames { swapper.new.pool ≡ swapper.old.pool }
     ensures layout { swapper.new.layout ≡ swapper.old.layout }
     ensures cost { (D.state swapper.new.under).transfers ≤ (D.state swapper.old.under).transfers + 2 }
@@ -162,6 +163,7 @@ pub fn free_page<D: Disk, A: Allocator>(
         ⊎ ((d : List Sector) → (D.state swapper.old.under).contents ≡ Some d → HasOne (ones_of wanted) d sector)) }
     ensures sound { (m : List Sector) → Stands (D.state swapper.old.under) swapper.old.pool m → HasOne (ones_of wanted) m sector → IfErr result (λ e. e ≡ halt.Disk) }
     ensures cause { IfErr result (HasCause (IsNotOf sector wanted (D.state swapper.old.under)) (D.state swapper.old.under) (D.state swapper.new.under)) }
+    ensures so { IfErr result (HasCause (IsNotOf sector wanted (D.state swapper.new.under)) (D.state swapper.old.under) (D.state swapper.new.under)) }
     ensures frames { swapper.new.pool ≡ swapper.old.pool }
     ensures layout { swapper.new.layout ≡ swapper.old.layout }
     ensures cost { (D.state swapper.new.under).transfers ≤ (D.state swapper.old.under).transfers + 2 }
@@ -202,6 +204,7 @@ pub fn mark_leader<D: Disk, A: Allocator>(
         ⊎ ((d : List Sector) → (D.state swapper.old.under).contents ≡ Some d → HasOne (ones_of (record { id = id; page = leader_page })) d sector)) }
     ensures sound { (m : List Sector) → Stands (D.state swapper.old.under) swapper.old.pool m → HasOne (ones_of (record { id = id; page = leader_page })) m sector → IfErr result (λ e. e ≡ halt.Disk) }
     ensures cause { IfErr result (HasCause (IsNotOf sector (record { id = id; page = leader_page }) (D.state swapper.old.under)) (D.state swapper.old.under) (D.state swapper.new.under)) }
+    ensures so { IfErr result (HasCause (IsNotOf sector (record { id = id; page = leader_page }) (D.state swapper.new.under)) (D.state swapper.old.under) (D.state swapper.new.under)) }
     ensures frames { swapper.new.pool ≡ swapper.old.pool }
     ensures layout { swapper.new.layout ≡ swapper.old.layout }
     ensures cost { (D.state swapper.new.under).transfers ≤ (D.state swapper.old.under).transfers + 2 }

@@ -32,6 +32,7 @@ pub fn make_pages<D: Disk, A: Allocator>(
     ensures stopped { OnErr result (MadeSome (growth id kind page (range_with_len sector pages)) (D.state swapper.old.under) swapper.old.pool (D.state swapper.new.under)) }
     ensures sound { (m : List Sector) → Stands (D.state swapper.old.under) swapper.old.pool m → AreUncovered swapper.old.pool sector pages → HaveOnes (λ k. free_ones) m sector pages → IfErr result (λ e. e ≡ halt.Disk) }
     ensures cause { IfErr result (HasCause (IsOneTaken sector pages (D.state swapper.old.under)) (D.state swapper.old.under) (D.state swapper.new.under)) }
+    ensures so { IfErr result (HasCause (IsOneTaken sector pages (D.state swapper.new.under)) (D.state swapper.old.under) (D.state swapper.new.under)) }
     ensures frames { swapper.new.pool ≡ swapper.old.pool }
     ensures layout { swapper.new.layout ≡ swapper.old.layout }
     ensures cost { (D.state swapper.new.under).transfers ≤ (D.state swapper.old.under).transfers + 2 * pages }
@@ -71,6 +72,7 @@ pub fn free_pages_up<D: Disk, A: Allocator>(
     ensures named { OnErr result (NamedSome (λ k. sector + k) (λ k. ones_of (record { id = id; page = page + k })) (freeing (range_with_len sector pages)) (D.state swapper.old.under) swapper.old.pool (D.state swapper.new.under)) }
     ensures sound { (m : List Sector) → Stands (D.state swapper.old.under) swapper.old.pool m → AreUncovered swapper.old.pool sector pages → HaveOnes (λ k. ones_of (record { id = id; page = page + k })) m sector pages → IfErr result (λ e. e ≡ halt.Disk) }
     ensures cause { IfErr result (HasCause (IsOneNotOf sector pages (λ k. record { id = id; page = page + k }) (D.state swapper.old.under)) (D.state swapper.old.under) (D.state swapper.new.under)) }
+    ensures so { IfErr result (HasCause (IsOneNotOf sector pages (λ k. record { id = id; page = page + k }) (D.state swapper.new.under)) (D.state swapper.old.under) (D.state swapper.new.under)) }
     ensures frames { swapper.new.pool ≡ swapper.old.pool }
     ensures layout { swapper.new.layout ≡ swapper.old.layout }
     ensures cost { (D.state swapper.new.under).transfers ≤ (D.state swapper.old.under).transfers + 2 * pages }
@@ -104,6 +106,7 @@ pub fn free_pages_down<D: Disk, A: Allocator>(
     ensures named { OnErr result (NamedSome (λ k. sector + (pages - (k + 1))) (λ k. ones_of (record { id = id; page = page + (pages - (k + 1)) })) (freeing (map (λ k. sector + (pages - (k + 1))) (range_with_len 0 pages))) (D.state swapper.old.under) swapper.old.pool (D.state swapper.new.under)) }
     ensures sound { (m : List Sector) → Stands (D.state swapper.old.under) swapper.old.pool m → AreUncovered swapper.old.pool sector pages → HaveOnes (λ k. ones_of (record { id = id; page = page + k })) m sector pages → IfErr result (λ e. e ≡ halt.Disk) }
     ensures cause { IfErr result (HasCause (IsOneNotOf sector pages (λ k. record { id = id; page = page + k }) (D.state swapper.old.under)) (D.state swapper.old.under) (D.state swapper.new.under)) }
+    ensures so { IfErr result (HasCause (IsOneNotOf sector pages (λ k. record { id = id; page = page + k }) (D.state swapper.new.under)) (D.state swapper.old.under) (D.state swapper.new.under)) }
     ensures frames { swapper.new.pool ≡ swapper.old.pool }
     ensures layout { swapper.new.layout ≡ swapper.old.layout }
     ensures cost { (D.state swapper.new.under).transfers ≤ (D.state swapper.old.under).transfers + 2 * pages }

@@ -68,3 +68,11 @@ returns-clause-were g c = λ d told k below.
     let one = c.loop-k.invariant.found d told i less in
     let back : c.args.pages - (i + 1) ≡ k = turned k c.args.pages below in
     rw back at one
+
+pub returns-in-Err-clause-so : goal.returns-in-Err-clause-so
+returns-in-Err-clause-so g c =
+    let below : c.loop-k.k < c.args.pages = search rules in
+    let last : (c.args.pages - (c.loop-k.k + 1)) < c.args.pages = omega (arith, below) in
+    let new = g.D.Disk.state c.free_page.new.swapper.under in
+    cause_before (λ k. c.args.sector + (c.args.pages - (k + 1))) _ _ _ _ _ _ _ _ _ c.loop-k.k c.loop-k.invariant (apart c.args.sector c.args.pages c.loop-k.k below) (IsNotOf (c.args.sector + (c.args.pages - (c.loop-k.k + 1))) (record { id = c.args.id; page = c.args.page + (c.args.pages - (c.loop-k.k + 1)) }) new) (IsOneNotOf c.args.sector c.args.pages (λ k. record { id = c.args.id; page = c.args.page + k }) new) new c.in-Err.halt
+    (λ evidence is. ((c.args.pages - (c.loop-k.k + 1)), last, is)) c.in-Err.ensures.so

@@ -57,3 +57,10 @@ pub returns-clause-were : goal.returns-clause-were
 returns-clause-were g c = λ d told k below.
     let all : c.loop-k.k ≡ c.args.pages = search rules in
     c.loop-k.invariant.found d told k (omega (arith, all, below))
+
+pub returns-in-Err-clause-so : goal.returns-in-Err-clause-so
+returns-in-Err-clause-so g c =
+    let below : c.loop-k.k < c.args.pages = search rules in
+    let new = g.D.Disk.state c.free_page.new.swapper.under in
+    cause_before (λ k. c.args.sector + k) _ _ _ _ _ _ _ _ _ c.loop-k.k c.loop-k.invariant (apart c.args.sector c.loop-k.k) (IsNotOf (c.args.sector + c.loop-k.k) (record { id = c.args.id; page = c.args.page + c.loop-k.k }) new) (IsOneNotOf c.args.sector c.args.pages (λ k. record { id = c.args.id; page = c.args.page + k }) new) new c.in-Err.halt
+    (λ evidence is. (c.loop-k.k, below, is)) c.in-Err.ensures.so

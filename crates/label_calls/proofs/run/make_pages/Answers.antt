@@ -50,3 +50,11 @@ returns-clause-made g c =
     let all : c.loop-k.k ≡ c.args.pages = search rules in
     let so_far = rw all at c.loop-k.invariant in
     run_is (λ k. c.args.sector + k) (λ k. write.Whole (c.args.sector + k) (page_label c.args.id c.args.kind (c.args.page + k)) zero_bytes) _ c.args.sector c.args.pages _ _ _ _ _ _ _ (all_are c.args.id c.args.kind c.args.page c.args.sector c.args.pages) so_far
+
+pub returns-in-Err-clause-so : goal.returns-in-Err-clause-so
+returns-in-Err-clause-so g c =
+    let below : c.loop-k.k < c.args.pages = search rules in
+    let old = g.D.Disk.state c.args.swapper.now.under in
+    let new = g.D.Disk.state c.make_page.new.swapper.under in
+    cause_before (λ k. c.args.sector + k) _ _ _ _ _ _ _ _ _ c.loop-k.k c.loop-k.invariant (apart c.args.sector c.loop-k.k) (IsTaken (c.args.sector + c.loop-k.k) new) (IsOneTaken c.args.sector c.args.pages new) new c.in-Err.halt
+    (λ evidence is. (c.loop-k.k, below, is)) c.in-Err.ensures.so

@@ -5,11 +5,12 @@ use Rattle.file_map.specs.Cause.{IsOwn}
 use Rattle.file_map.specs.FileMap.{Triples, IsSize}
 use Rattle.swapper_kernel.specs.declared.manager.Manager.TheVariants.{FileMap}
 use Rattle.swapper_kernel.specs.Stands.{Stands}
+use Rattle.swapper_kernel.specs.Window.{Tells}
 use Rattle.filer_kernel.specs.Causes.{MapHalts}
 use Rattle.filer_kernel.specs.Triples.{MapIs}
 use Rattle.filer_kernel.proofs.Lent.{lent}
 use Rattle.filer_kernel.proofs.MapLemmas.{stays_shown}
-use Rattle.filer_kernel.proofs.FileLemmas.{IsWindowCause, map_told, names_told, cause_here, map_halts, map_sound, map_right, match_halted}
+use Rattle.filer_kernel.proofs.FileLemmas.{IsWindowCause, map_told, names_told, cause_here, map_halts, map_sound, map_right, match_halted, told_at}
 use Rattle.filer_kernel.proofs.filer.FilerOver.size.Given as given
 use Rattle.filer_kernel.proofs.filer.FilerOver.size.Goals as goal
 
@@ -49,3 +50,12 @@ returns-clause-cause g c =
     let halts : IfErr c.halted.result (MapHalts c.args.self.now.swapper.layout (g.D.Disk.state c.args.self.now.swapper.under) c.args.self.now.swapper.pool (g.D.Disk.state c.size.new.self.mem.swapper.now.under)) =
     rw c.halted.ensures (map_halts c.size.result _ c.args.self.now.swapper.layout (g.D.Disk.state c.args.self.now.swapper.under) _ c.args.self.now.swapper.pool of c.requires.sectors (cause g c)) in
     search (rules, halts)
+
+pub returns-clause-same_bytes : goal.returns-clause-same_bytes
+returns-clause-same_bytes g c = λ b tells.
+    let x = c.args.self.now.swapper.layout in
+    let mem = c.size.new.self.mem in
+    let which = rw (c.over-map.ensures.memory, c.window0.ensures.which) at c.size.ensures.kept.1 in
+    let kept = rw (c.over-map.ensures.memory, c.window0.ensures.value, c.window0.ensures.which) at c.size.ensures.kept.2 in
+    lent (λ d s. Tells FileMap d s x b) _ (g.D.Disk.state mem.swapper.now.under) _ mem.swapper.now.pool (search rules) (search rules)
+    (told_at which kept.layout b (c.size.ensures.same_bytes b (rw (c.over-map.ensures.memory, c.window0.ensures.value, c.window0.ensures.which) tells)))
