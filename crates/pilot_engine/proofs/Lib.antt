@@ -35,3 +35,5 @@ pub mod AttributeLemmas
 pub mod SettledWider
 pub mod AnonymousLemmas
 pub mod NewWindow
+pub mod ShutLemmas
+pub mod UnsetLemmas
