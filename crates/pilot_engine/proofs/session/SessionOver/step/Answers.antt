@@ -35,3 +35,9 @@ returns-else-is_err-clause-forced g c = λ m told free r. c.answer-answer.ensure
 
 pub returns-else-is_err-clause-advised : goal.returns-else-is_err-clause-advised
 returns-else-is_err-clause-advised g c = λ m free r. c.answer-answer.ensures.advised m free r
+
+pub returns-then-is_err-clause-idle : goal.returns-then-is_err-clause-idle
+returns-then-is_err-clause-idle g c = λ m r resident. c.answer-answer.ensures.idle m r resident
+
+pub returns-else-is_err-clause-idle : goal.returns-else-is_err-clause-idle
+returns-else-is_err-clause-idle g c = λ m r resident. c.answer-answer.ensures.idle m r resident
