@@ -1,5 +1,6 @@
 -- The pages of a file down to one, freed in a loop over runs.
 use Rattle.std.proofs.Common.{◌≡◌, ℕ, ◌+◌, ◌-◌, ◌*◌, ◌<◌, ◌≤◌, List, [], refl, sym, ◌∙◌, ap, subst, arith}
+use Rattle.labelled_disk.specs.declared.evidence.Halt.{Halt}
 use Rattle.labelled_disk.specs.declared.layout.Layout.{Layout}
 use Rattle.labelled_disk.specs.Sectors.{Sector}
 use Rattle.labelled_disk.specs.State.{DiskState}
@@ -8,10 +9,13 @@ use Rattle.file_map.specs.FileMap.{Triples}
 use Rattle.flat_machine.specs.declared.space.Space.{Space}
 use Rattle.swapper_kernel.specs.GoesLaws.{makes_nothing}
 use Rattle.filer_kernel.specs.declared.cached.CachedRuns.{CachedRuns}
+use Rattle.filer_kernel.specs.Cached.{runs_of}
 use Rattle.session_words.specs.Volume.{volume_page}
 use Rattle.file_manager.specs.Freeing.{MayFree, MakesFree}
 use Rattle.file_manager.specs.Shrinking.{FreedDown, StoppedDown}
+use Rattle.file_manager.specs.Grounds.{IsUnframed, FreeHalts, KeepsMap}
 use Rattle.file_manager.proofs.FreedRun.{makes_free_then}
+use Rattle.file_manager.proofs.Keeping.{keeps_none, keeps_then, free_halts_before}
 use Rattle.file_manager.proofs.FreedUpTo.{cost_then}
 use Rattle.file_manager.proofs.DownRun.{freed_down_then, freed_down_none, broken_then}
 
@@ -22,6 +26,7 @@ pub record IsFreedDownTo (id from end page : ℕ) (d0 : DiskState) (s0 : Slots) 
   pub size : d.sectors ≡ later.sectors
   pub cost : d.transfers ≤ d0.transfers + (end - page) * (16 + 4 * layout.vam)
   pub makes : MakesFree (end - page) d0 s0 d s
+  pub keeps : KeepsMap (IsUnframed s0 id) layout id d0 s0 (runs_of layout.sectors kept) d s (runs_of layout.sectors runs)
   pub told : (named : Triples) (spaces : List Space) (m : List Sector) → MayFree d0 s0 layout kept named spaces id from end m → FreedDown layout named spaces id from (end - page) end d0 s0 d s runs
 
 down_cost : (t0 t u from page end v : ℕ) → page ≤ end → from < page → t ≤ t0 + (end - page) * (16 + 4 * v) → u ≤ t + (14 + 2 * (page - from) + 4 * v) → u ≤ t0 + (end - from) * (16 + 4 * v)
@@ -40,15 +45,17 @@ down_none id from end d0 s0 layout kept order size =
       size = size;
       cost = omega arith;
       makes = subst (λ (n : ℕ). MakesFree n d0 s0 d0 s0) z (record { sectors = []; long = refl; makes = makes_nothing volume_page d0 s0 });
+      keeps = keeps_none (IsUnframed s0 id) layout id d0 s0 (runs_of layout.sectors kept) (λ none. none);
       told = λ named spaces m may. subst (λ (n : ℕ). FreedDown layout named spaces id from n end d0 s0 d0 s0 kept) z (freed_down_none m may);
     }
 
 -- and a run more
 pub down_then : {id from end page pages : ℕ} {d0 d e : DiskState} {s0 s t : Slots} {layout later last : Layout} {kept runs more : CachedRuns} → IsFreedDownTo id from end page d0 s0 layout kept d s later runs
     → from < page → (1 ≤ pages) × (pages ≤ page - from) → last ≡ later → e.transfers ≤ d.transfers + (14 + 2 * pages + 4 * later.vam) → MakesFree pages d s e t
+    → KeepsMap (IsUnframed s id) later id d s (runs_of later.sectors runs) e t (runs_of later.sectors more)
     → ((named : Triples) (spaces : List Space) (m : List Sector) → MayFree d s later runs named spaces id from page m → FreedDown later named spaces id from pages page d s e t more)
     → IsFreedDownTo id from end (page - pages) d0 s0 layout kept e t last more
-down_then {id = id} {from = from} {end = end} {page = page} {pages = pages} {d0 = d0} {d = d} {e = e} {s0 = s0} {s = s} {t = t} {layout = layout} {later = later} {last = last} {kept = kept} {runs = runs} {more = more} h under some same cost makes told =
+down_then {id = id} {from = from} {end = end} {page = page} {pages = pages} {d0 = d0} {d = d} {e = e} {s0 = s0} {s = s} {t = t} {layout = layout} {later = later} {last = last} {kept = kept} {runs = runs} {more = more} h under some same cost makes keeps told =
     let few = some.1 in
     let below = h.below in
     let z : end - page + pages ≡ end - (page - pages) = omega (arith, below, few) in
@@ -61,6 +68,7 @@ down_then {id = id} {from = from} {end = end} {page = page} {pages = pages} {d0 
       size = makes.makes.went.sectors ∙ h.size ∙ ap (λ (l : Layout). l.sectors) (sym same);
       cost = subst (λ (n : ℕ). e.transfers ≤ d0.transfers + n * (16 + 4 * layout.vam)) z (cost_then d0.transfers d.transfers e.transfers (end - page) pages layout.vam some.0 h.cost (subst (λ (n : ℕ). e.transfers ≤ d.transfers + (14 + 2 * pages + 4 * n)) v cost));
       makes = subst (λ (n : ℕ). MakesFree n d0 s0 e t) z (makes_free_then h.makes makes);
+      keeps = keeps_then h.keeps (subst (λ (l : Layout). KeepsMap (IsUnframed s id) l id d s (runs_of l.sectors runs) e t (runs_of l.sectors more)) h.same_layout keeps);
       told = λ named spaces m may.
           let first = h.told named spaces m may in
           let rest : MayFree d s layout runs named spaces id from page first.memory = subst (λ (n : ℕ). MayFree d s layout runs named spaces id from n first.memory) y first.rest in
@@ -107,3 +115,11 @@ module _ {id from end page : ℕ} {d0 d : DiskState} {s0 s : Slots} {layout late
       let z : end - page + (page - from) ≡ end - from = omega (arith, above, below) in
       subst (λ (n : ℕ). StoppedDown named id n end d0 s0 e t) z
       (broken_then first (subst (λ (n : ℕ). StoppedDown named id (page - from) n d s e t) y (stopped named spaces rest.0 rest.1)))
+
+  -- why it stopped
+  pub down_halts : d0.sectors ≡ layout.sectors → from < page → (e : DiskState) (halt : Halt) → FreeHalts (IsUnframed s id) later (runs_of later.sectors runs) id (λ p. p ≡ page - 1) d s e halt
+      → FreeHalts (IsUnframed s0 id) layout (runs_of layout.sectors kept) id (λ p. (from ≤ p) × (p < end)) d0 s0 e halt
+  down_halts size under e halt why =
+      let below = h.below in
+      free_halts_before h.keeps (λ p. p ≡ page - 1) (λ p. (from ≤ p) × (p < end)) (λ p same. (omega (arith, under, same), omega (arith, under, below, same))) size e halt
+      (subst (λ (l : Layout). FreeHalts (IsUnframed s id) l (runs_of l.sectors runs) id (λ p. p ≡ page - 1) d s e halt) h.same_layout why)

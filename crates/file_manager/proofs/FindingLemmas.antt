@@ -26,14 +26,14 @@ use Rattle.swapper_kernel.specs.Goes.{Makes, Pages, no_page}
 use Rattle.swapper_kernel.specs.GoesLaws.{makes_then, makes_wider}
 use Rattle.swapper_kernel.specs.HaltLaws.{label_before, rose_wider}
 use Rattle.swapper_kernel.specs.Halts.{HasCause}
-use Rattle.swapper_kernel.specs.Homes.{Brings}
+use Rattle.swapper_kernel.specs.Homes.{Brings, home_at}
 use Rattle.swapper_kernel.specs.Maps.{IsMapHome}
 use Rattle.swapper_kernel.specs.Stands.{Stands, labels_of}
 use Rattle.swapper_kernel.specs.Window.{Tells, Beside}
 use Rattle.filer_kernel.specs.declared.cached.CachedRuns.{CachedRuns}
 use Rattle.filer_kernel.specs.Cached.{runs_of}
 use Rattle.label_calls.specs.Labels.{IsNotOf}
-use Rattle.filer_kernel.specs.Causes.{MapShows, MapEvidence, MapHalts}
+use Rattle.filer_kernel.specs.Causes.{MapShows, MapEvidence, MapHalts, IsRunHome}
 use Rattle.session_words.specs.FrameLaws.{HasFrames}
 use Rattle.session_words.specs.Volume.{volume_page}
 use Rattle.session_words.specs.Parts.{Shape, Shapes, IsLeader, IsTriple, is_owned}
@@ -123,14 +123,14 @@ module _ (layout : Layout) {pages : Pages} {a b : DiskState} {s t : Slots} (make
     evidence_before (Missing id page) h = absurd h
 
     -- a halt of a search that comes after reading
-    pub map_halts_before : (id : ℕ) (c : DiskState) (e : Halt) → MapHalts layout b t c e → FileHalts layout id a s c e
-    map_halts_before id c Disk h = rose_wider a.faults b.faults c.faults c.faults makes.went.faults (omega arith) h
-    map_halts_before id c (Damaged e) h = inl (evidence_before e h)
+    pub map_halts_before : (kept : List Run) (id : ℕ) (c : DiskState) (e : Halt) → MapHalts layout b t c e → FileHalts layout kept id a s c e
+    map_halts_before kept id c Disk h = rose_wider a.faults b.faults c.faults c.faults makes.went.faults (omega arith) h
+    map_halts_before kept id c (Damaged e) h = inl (evidence_before e h)
 
   -- another label than the leader's
-  pub no_leader_before : (id sector : ℕ) → layout.first ≤ sector → sector < layout.sectors → (c : DiskState) (e : Halt) → HasCause (IsNotOf sector (record { id = id; page = leader_page }) b) b c e → FileHalts layout id a s c e
-  no_leader_before id sector above inside c Disk h = rose_wider a.faults b.faults c.faults c.faults makes.went.faults (omega arith) h
-  no_leader_before id sector above inside c (Damaged e) h = inr (record { sector = sector; is_data = above; inside = inside; other = earlier e h })
+  pub no_leader_before : (kept : List Run) (id sector : ℕ) → layout.first ≤ sector → sector < layout.sectors → IsRunHome layout a s kept (home_at sector (record { id = id; page = leader_page })) → (c : DiskState) (e : Halt) → HasCause (IsNotOf sector (record { id = id; page = leader_page }) b) b c e → FileHalts layout kept id a s c e
+  no_leader_before kept id sector above inside given c Disk h = rose_wider a.faults b.faults c.faults c.faults makes.went.faults (omega arith) h
+  no_leader_before kept id sector above inside given c (Damaged e) h = inr (record { sector = sector; is_data = above; inside = inside; other = earlier e h; by_run = given })
     where
       earlier : (e : Evidence) → IsNotOf sector (record { id = id; page = leader_page }) b e → IsNotOf sector (record { id = id; page = leader_page }) a e
       earlier (Mismatch k wanted found) h = (h.0, h.1, label_before makes.wrote sector found h.2, h.3)
@@ -138,9 +138,9 @@ module _ (layout : Layout) {pages : Pages} {a b : DiskState} {s t : Slots} (make
       earlier (Missing i page) h = absurd h
 
 -- a halt of the search for the leader
-pub leader_halts : (layout : Layout) (id : ℕ) (a c : DiskState) (s : Slots) (e : Halt) → MapHalts layout a s c e → FileHalts layout id a s c e
-leader_halts layout id a c s Disk h = h
-leader_halts layout id a c s (Damaged e) h = inl h
+pub leader_halts : (layout : Layout) (kept : List Run) (id : ℕ) (a c : DiskState) (s : Slots) (e : Halt) → MapHalts layout a s c e → FileHalts layout kept id a s c e
+leader_halts layout kept id a c s Disk h = h
+leader_halts layout kept id a c s (Damaged e) h = inl h
 
 -- ---- A label that is read.
 

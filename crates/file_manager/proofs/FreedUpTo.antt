@@ -1,5 +1,6 @@
 -- The pages of a file up to one, freed in a loop over runs.
 use Rattle.std.proofs.Common.{◌≡◌, ℕ, zero, suc, ◌+◌, ◌-◌, ◌*◌, ◌<◌, ◌≤◌, List, [], refl, sym, ◌∙◌, ap, subst, arith}
+use Rattle.labelled_disk.specs.declared.evidence.Halt.{Halt}
 use Rattle.labelled_disk.specs.declared.layout.Layout.{Layout}
 use Rattle.labelled_disk.specs.Sectors.{Sector}
 use Rattle.labelled_disk.specs.State.{DiskState}
@@ -8,9 +9,12 @@ use Rattle.file_map.specs.FileMap.{Triples}
 use Rattle.flat_machine.specs.declared.space.Space.{Space}
 use Rattle.swapper_kernel.specs.GoesLaws.{makes_nothing}
 use Rattle.filer_kernel.specs.declared.cached.CachedRuns.{CachedRuns}
+use Rattle.filer_kernel.specs.Cached.{runs_of}
 use Rattle.session_words.specs.Volume.{volume_page}
 use Rattle.file_manager.specs.Freeing.{MayFree, Freed, MakesFree}
+use Rattle.file_manager.specs.Grounds.{IsUnframed, FreeHalts, KeepsMap}
 use Rattle.file_manager.proofs.FreedRun.{freed_then, freed_none, makes_free_then}
+use Rattle.file_manager.proofs.Keeping.{keeps_none, keeps_then, free_halts_before}
 
 pub record IsFreedTo (id from end page : ℕ) (d0 : DiskState) (s0 : Slots) (layout : Layout) (kept : CachedRuns) (d : DiskState) (s : Slots) (later : Layout) (runs : CachedRuns) : Type 0 where
   pub above : from ≤ page
@@ -19,6 +23,7 @@ pub record IsFreedTo (id from end page : ℕ) (d0 : DiskState) (s0 : Slots) (lay
   pub size : d.sectors ≡ later.sectors
   pub cost : d.transfers ≤ d0.transfers + (page - from) * (16 + 4 * layout.vam)
   pub makes : MakesFree (page - from) d0 s0 d s
+  pub keeps : KeepsMap (IsUnframed s0 id) layout id d0 s0 (runs_of layout.sectors kept) d s (runs_of layout.sectors runs)
   pub told : (named : Triples) (spaces : List Space) (m : List Sector) → MayFree d0 s0 layout kept named spaces id from end m → Freed layout named spaces id from (page - from) end d0 s0 d s runs
 
 -- what a run costs is at most so much a page
@@ -46,15 +51,17 @@ to_none id from end d0 s0 layout kept order size =
       size = size;
       cost = omega arith;
       makes = subst (λ (n : ℕ). MakesFree n d0 s0 d0 s0) z (record { sectors = []; long = refl; makes = makes_nothing volume_page d0 s0 });
+      keeps = keeps_none (IsUnframed s0 id) layout id d0 s0 (runs_of layout.sectors kept) (λ none. none);
       told = λ named spaces m may. subst (λ (n : ℕ). Freed layout named spaces id from n end d0 s0 d0 s0 kept) z (freed_none m may);
     }
 
 -- and a run more
 pub to_then : {id from end page pages : ℕ} {d0 d e : DiskState} {s0 s t : Slots} {layout later last : Layout} {kept runs more : CachedRuns} → IsFreedTo id from end page d0 s0 layout kept d s later runs
     → page < end → (1 ≤ pages) × (pages ≤ end - page) → last ≡ later → e.transfers ≤ d.transfers + (14 + 2 * pages + 4 * later.vam) → MakesFree pages d s e t
+    → KeepsMap (IsUnframed s id) later id d s (runs_of later.sectors runs) e t (runs_of later.sectors more)
     → ((named : Triples) (spaces : List Space) (m : List Sector) → MayFree d s later runs named spaces id page (page + (end - page)) m → Freed later named spaces id page pages (page + (end - page)) d s e t more)
     → IsFreedTo id from end (page + pages) d0 s0 layout kept e t last more
-to_then {id = id} {from = from} {end = end} {page = page} {pages = pages} {d0 = d0} {d = d} {e = e} {s0 = s0} {s = s} {t = t} {layout = layout} {later = later} {last = last} {kept = kept} {runs = runs} {more = more} h under some same cost makes told =
+to_then {id = id} {from = from} {end = end} {page = page} {pages = pages} {d0 = d0} {d = d} {e = e} {s0 = s0} {s = s} {t = t} {layout = layout} {later = later} {last = last} {kept = kept} {runs = runs} {more = more} h under some same cost makes keeps told =
     let few = some.1 in
     let whole : page + (end - page) ≡ end = omega (arith, under) in
     let above = h.above in
@@ -68,6 +75,7 @@ to_then {id = id} {from = from} {end = end} {page = page} {pages = pages} {d0 = 
       size = makes.makes.went.sectors ∙ h.size ∙ ap (λ (l : Layout). l.sectors) (sym same);
       cost = subst (λ (n : ℕ). e.transfers ≤ d0.transfers + n * (16 + 4 * layout.vam)) z (cost_then d0.transfers d.transfers e.transfers (page - from) pages layout.vam some.0 h.cost (subst (λ (n : ℕ). e.transfers ≤ d.transfers + (14 + 2 * pages + 4 * n)) v cost));
       makes = subst (λ (n : ℕ). MakesFree n d0 s0 e t) z (makes_free_then h.makes makes);
+      keeps = keeps_then h.keeps (subst (λ (l : Layout). KeepsMap (IsUnframed s id) l id d s (runs_of l.sectors runs) e t (runs_of l.sectors more)) h.same_layout keeps);
       told = λ named spaces m may.
           let first = h.told named spaces m may in
           let rest : MayFree d s layout runs named spaces id page end first.memory = subst (λ (n : ℕ). MayFree d s layout runs named spaces id n end first.memory) y first.rest in
@@ -104,3 +112,11 @@ module _ {id from end page : ℕ} {d0 d : DiskState} {s0 s : Slots} {layout late
   to_stopped_cost e below here =
       let v : later.vam ≡ layout.vam = ap (λ (l : Layout). l.vam) h.same_layout in
       to_cost d0.transfers d.transfers e.transfers from page end layout.vam h.above below h.cost (subst (λ (n : ℕ). e.transfers ≤ d.transfers + (14 + 2 * (end - page) + 4 * n)) v here)
+
+  -- a stop behind them
+  pub to_halts : d0.sectors ≡ layout.sectors → page < end → (e : DiskState) (halt : Halt) → FreeHalts (IsUnframed s id) later (runs_of later.sectors runs) id (λ p. p ≡ page) d s e halt
+      → FreeHalts (IsUnframed s0 id) layout (runs_of layout.sectors kept) id (λ p. (from ≤ p) × (p < end)) d0 s0 e halt
+  to_halts size under e halt why =
+      let above = h.above in
+      free_halts_before h.keeps (λ p. p ≡ page) (λ p. (from ≤ p) × (p < end)) (λ p same. (omega (arith, above, same), omega (arith, under, same))) size e halt
+      (subst (λ (l : Layout). FreeHalts (IsUnframed s id) l (runs_of l.sectors runs) id (λ p. p ≡ page) d s e halt) h.same_layout why)

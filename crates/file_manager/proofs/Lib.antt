@@ -36,3 +36,10 @@ pub mod DownTo
 pub mod CutSteps
 pub mod ShrinkLemmas
 pub mod SizeSteps
+pub mod SoLemmas
+pub mod Keeping
+pub mod RunCauses
+pub mod CutCauses
+pub mod MakeStops
+pub mod ResizeStops
+pub mod Forgotten

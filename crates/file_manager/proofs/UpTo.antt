@@ -12,10 +12,10 @@ use Rattle.labelled_disk.specs.State.{DiskState}
 use Rattle.frame_pool.specs.Frames.{Slots}
 use Rattle.file_map.specs.declared.run.Run.{Run}
 use Rattle.flat_machine.specs.declared.space.Space.{Space}
-use Rattle.swapper_kernel.specs.Homes.{IsLayout}
+use Rattle.swapper_kernel.specs.Homes.{IsLayout, Brings}
 use Rattle.swapper_kernel.specs.Goes.{Makes}
 use Rattle.swapper_kernel.specs.GoesLaws.{makes_nothing, makes_then}
-use Rattle.swapper_kernel.specs.HaltLaws.{brings_itself}
+use Rattle.swapper_kernel.specs.HaltLaws.{brings_itself, brings_then}
 use Rattle.filer_kernel.specs.declared.cached.CachedRuns.{CachedRuns}
 use Rattle.filer_kernel.specs.Cached.{runs_of}
 use Rattle.session_words.specs.Parts.{Shape, Shapes}
@@ -23,6 +23,7 @@ use Rattle.session_words.specs.GrowLaws.{Grows}
 use Rattle.session_words.specs.Volume.{volume_page}
 use Rattle.file_manager.specs.Book.{Books, Leads, AreTrue}
 use Rattle.file_manager.specs.Making.{AreUnowned, ShowsNoFree, MayGrow, GrownBy, MakesAll, MakesSome, IsRunFor, free_count, sectors_of}
+use Rattle.file_manager.specs.Grounds.{IsMapsHome}
 use Rattle.file_manager.proofs.GrowSteps.{growth_append, grows_none}
 use Rattle.file_manager.proofs.RunLeads.{one_memory}
 use Rattle.file_manager.proofs.UpLemmas.{after, books_then, unowned_then, some_then, run_then, longer}
@@ -36,6 +37,7 @@ pub record IsUpTo (id kind from end page : ℕ) (d0 : DiskState) (s0 : Slots) (l
   pub size : d.sectors ≡ later.sectors
   pub cost : d.transfers ≤ d0.transfers + (page - from) * (8 * layout.vam + 100)
   pub makes : MakesAll id kind from (page - from) d0 s0 d s
+  pub come : Brings (IsMapsHome layout) s0 s
   pub told : (x : List Sector) (shapes : Shapes) (spaces : List Space) (f : Shape) → MayGrow d0 s0 layout kept shapes spaces id f end x → f.size ≡ from → GrownBy id kind from (page - from) d0 s0 layout d s kept
 
 -- what a run costs is at most so much a page
@@ -61,6 +63,7 @@ up_none id kind from end d0 s0 layout kept order size = record {
   size = size;
   cost = omega arith;
   makes = record { sectors = []; long = omega arith; makes = makes_nothing volume_page d0 s0 };
+  come = brings_itself (IsMapsHome layout) s0;
   told = λ x shapes spaces f may is. record {
     sectors = [];
     long = omega arith;
@@ -81,8 +84,8 @@ module _ (id kind from end page : ℕ) (d0 : DiskState) (s0 : Slots) (layout : L
   pub up_more : (run : Run) (d2 : DiskState) (s2 : Slots) (l2 : Layout) (r2 : CachedRuns) → page < end → IsRunFor later.sectors id page (end - page) run → Makes volume_page (growth id kind page (sectors_of run)) d s d2 s2
       → ((x : List Sector) (shapes : Shapes) (spaces : List Space) → Books d s later runs shapes spaces x → ShowsNoFree spaces → AreUnowned shapes id page (end - page) → 1 ≤ free_count later x
       → Leads (Grows id kind page (sectors_of run)) (growth id kind page (sectors_of run)) d s later d2 s2 r2)
-      → l2 ≡ later → r2 ≡ runs → d2.transfers ≤ d.transfers + (8 * later.vam + 2 * run.pages + 98) → IsUpTo id kind from end (page + run.pages) d0 s0 layout kept d2 s2 l2 r2
-  up_more run d2 s2 l2 r2 below for_it makes made same_layout same_runs cost =
+      → l2 ≡ later → r2 ≡ runs → d2.transfers ≤ d.transfers + (8 * later.vam + 2 * run.pages + 98) → Brings (IsMapsHome later) s s2 → IsUpTo id kind from end (page + run.pages) d0 s0 layout kept d2 s2 l2 r2
+  up_more run d2 s2 l2 r2 below for_it makes made same_layout same_runs cost come =
       let few = for_it.few in
       let above = up.above in
       let all = up.makes in
@@ -103,6 +106,7 @@ module _ (id kind from end page : ℕ) (d0 : DiskState) (s0 : Slots) (layout : L
           makes = subst (λ (ws : List DiskWrite). Makes volume_page ws d0 s0 d2 s2) (sym (growth_append id kind from all.sectors (sectors_of run)))
               (makes_then all.makes (subst (λ (n : ℕ). Makes volume_page (growth id kind n (sectors_of run)) d s d2 s2) (sym so_far) makes));
         };
+        come = brings_then up.come (subst (λ (l : Layout). Brings (IsMapsHome l) s s2) up.same_layout come);
         told = λ x shapes spaces f may size.
             let g = up.told x shapes spaces f may size in
             let at = reached f g.sectors size g.long in

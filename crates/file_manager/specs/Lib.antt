@@ -12,3 +12,4 @@ pub mod Shrinking
 pub mod Resizing
 pub mod Tables
 pub mod Causes
+pub mod Grounds

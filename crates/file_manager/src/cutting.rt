@@ -15,6 +15,8 @@ ghost use Rattle.swapper_kernel.specs.Window.{Beside};
 ghost use Rattle.filer_kernel.specs.Becomes.{Becomes};
 ghost use Rattle.filer_kernel.specs.Cached.{runs_of};
 ghost use Rattle.filer_kernel.specs.Triples.{MapIs};
+ghost use Rattle.file_manager.specs.Grounds.{ShrinkHalts, IsUnframed};
+ghost use Rattle.filer_kernel.specs.Evidence.{ShowsSo};
 ghost use Rattle.session_words.specs.Parts.{Shape, Shapes, IsTriple};
 ghost use Rattle.file_manager.specs.Freeing.{MakesFree, MakesSomeFree};
 ghost use Rattle.file_manager.specs.Shrinking.{MayShrink, ShrunkBy, ShrunkSome, IsLeaderAlone, cut_triples};
@@ -45,6 +47,8 @@ fn cut_to<D: Disk, A: Allocator>(
     ensures sound { (m : List Sector) (named : Triples) → Stands (D.state filer.old.swapper.under) filer.old.swapper.pool m → MapIs filer.old.swapper.layout named m → AreNamed m (IsMapHome FileMapPages filer.old.swapper.layout)
         → AreOnce named → IsLeaderAlone named id leader → IfErr result (λ e. e ≡ halt.Disk) }
     ensures runs { (n : ℕ) → runs_of n filer.new.runs ≡ filter (λ r. not (r.id == id)) (runs_of n filer.old.runs) }
+    ensures cause { IfErr result (ShrinkHalts (IsUnframed filer.old.swapper.pool id) filer.old.swapper.layout (runs_of filer.old.swapper.layout.sectors filer.old.runs) id from (λ p. ⊥) (D.state filer.old.swapper.under) filer.old.swapper.pool (D.state filer.new.swapper.under) filer.new.swapper.pool) }
+    ensures so { IfErr result (ShowsSo (D.state filer.new.swapper.under)) }
     ensures counted { IfErr result (λ e. e ≡ halt.Disk → Rose (D.state filer.old.swapper.under).faults (D.state filer.new.swapper.under).faults) }
     ensures beside { Beside FileMapPages (D.state filer.old.swapper.under) filer.old.swapper.pool filer.old.swapper.layout (D.state filer.new.swapper.under) filer.new.swapper.pool filer.new.swapper.layout }
     ensures cost { (D.state filer.new.swapper.under).transfers ≤ (D.state filer.old.swapper.under).transfers + (100 + 102 * most_records filer.old.swapper.layout.sectors) }
@@ -86,6 +90,8 @@ pub(crate) fn shrink<D: Disk, A: Allocator>(
         → OnOk result (ShrunkBy id pages size x (D.state filer.old.swapper.under) filer.old.swapper.pool filer.old.swapper.layout (D.state filer.new.swapper.under) filer.new.swapper.pool filer.new.runs) }
     ensures sound { (x : List Sector) (shapes : Shapes) (spaces : List Space) (f : Shape) → MayShrink (D.state filer.old.swapper.under) filer.old.swapper.pool filer.old.swapper.layout filer.old.runs shapes spaces id f pages x
         → f.size ≡ size → IsTriple (labels_of x) id leader_page leader → IfErr result (λ e. e ≡ halt.Disk) }
+    ensures cause { IfErr result (ShrinkHalts (IsUnframed filer.old.swapper.pool id) filer.old.swapper.layout (runs_of filer.old.swapper.layout.sectors filer.old.runs) id pages (λ p. (pages ≤ p) × (p < size)) (D.state filer.old.swapper.under) filer.old.swapper.pool (D.state filer.new.swapper.under) filer.new.swapper.pool) }
+    ensures so { IfErr result (ShowsSo (D.state filer.new.swapper.under)) }
     ensures counted { IfErr result (λ e. e ≡ halt.Disk → Rose (D.state filer.old.swapper.under).faults (D.state filer.new.swapper.under).faults) }
     ensures broken { (x : List Sector) (shapes : Shapes) (spaces : List Space) (f : Shape) → MayShrink (D.state filer.old.swapper.under) filer.old.swapper.pool filer.old.swapper.layout filer.old.runs shapes spaces id f pages x
         → f.size ≡ size → IsTriple (labels_of x) id leader_page leader

@@ -7,6 +7,9 @@ ghost use Rattle.file_map.specs.FileMap.{most_records};
 ghost use Rattle.flat_machine.specs.declared.space.Space.{Space};
 ghost use Rattle.session_words.specs.FrameLaws.{is_shown};
 ghost use Rattle.session_words.specs.Parts.{Shape, Shapes};
+ghost use Rattle.file_manager.specs.Grounds.{DeleteHalts};
+ghost use Rattle.filer_kernel.specs.Cached.{runs_of};
+ghost use Rattle.filer_kernel.specs.Evidence.{ShowsSo};
 ghost use Rattle.file_manager.specs.Book.{Books};
 ghost use Rattle.file_manager.specs.Deleting.{DeletedBy, DeletesFirst, MakesOneFree};
 ghost use Rattle.file_manager.specs.Freeing.{MakesSomeFree};
@@ -42,6 +45,8 @@ pub fn delete<D: Disk, A: Allocator>(
     ensures less { volume.new.used ≤ volume.old.used }
     ensures makes { OnOk result (MakesOneFree (D.state filer.old.swapper.under) filer.old.swapper.pool (D.state filer.new.swapper.under) filer.new.swapper.pool) }
     ensures stopped { OnErr result (MakesSomeFree (D.state filer.old.swapper.under) filer.old.swapper.pool (D.state filer.new.swapper.under) filer.new.swapper.pool) }
+    ensures cause { IfErr result (DeleteHalts filer.old.swapper.layout (runs_of filer.old.swapper.layout.sectors filer.old.runs) id (D.state filer.old.swapper.under) filer.old.swapper.pool (D.state filer.new.swapper.under)) }
+    ensures so { IfErr result (ShowsSo (D.state filer.new.swapper.under)) }
     ensures counted { result ≡ Err halt.Disk → Rose (D.state filer.old.swapper.under).faults (D.state filer.new.swapper.under).faults }
     ensures layout { filer.new.swapper.layout ≡ filer.old.swapper.layout }
     ensures cost { (D.state filer.new.swapper.under).transfers ≤ (D.state filer.old.swapper.under).transfers + (14 + 2 ^ 32 * (16 + 4 * filer.old.swapper.layout.vam) + 2 * (1 + 51 * most_records filer.old.swapper.layout.sectors)) }

@@ -9,14 +9,17 @@ ghost use Rattle.alloc_map.specs.Runs.{IsDataRun};
 ghost use Rattle.flat_machine.specs.declared.space.Space.{Space};
 ghost use Rattle.swapper_kernel.specs.declared.manager.Manager.TheVariants.{AllocationMap};
 ghost use Rattle.swapper_kernel.specs.Maps.{IsMapHome};
-ghost use Rattle.swapper_kernel.specs.Homes.{AreNamed};
+ghost use Rattle.swapper_kernel.specs.Homes.{AreNamed, Brings};
 ghost use Rattle.swapper_kernel.specs.Goes.{Makes};
 ghost use Rattle.swapper_kernel.specs.Stands.{Stands};
 ghost use Rattle.swapper_kernel.specs.Window.{Beside};
 ghost use Rattle.label_calls.specs.Labels.{free_ones};
-ghost use Rattle.label_calls.specs.Runs.{AreOfFile, AreUncovered, HaveOnes, RelabelsRun, MadeSome};
+ghost use Rattle.label_calls.specs.Runs.{AreOfFile, AreUncovered, HaveOnes, RelabelsRun, MadeSome, IsOneTaken};
 ghost use Rattle.filer_kernel.specs.Becomes.{Becomes};
 ghost use Rattle.filer_kernel.specs.Marks.{Marks, BitsAre, marked, IsLowestRun};
+ghost use Rattle.file_manager.specs.Grounds.{IsMapsHome, MakeHalts};
+ghost use Rattle.swapper_kernel.specs.Halts.{HasCause};
+ghost use Rattle.filer_kernel.specs.Evidence.{ShowsSo};
 ghost use Rattle.session_words.specs.Parts.{Shape, Shapes};
 ghost use Rattle.session_words.specs.GrowLaws.{Grows};
 ghost use Rattle.session_words.specs.Volume.{volume_page};
@@ -47,6 +50,8 @@ fn take_run<D: Disk, A: Allocator>(
         → IfOk result (λ run. Becomes AllocationMap filer.old.swapper.layout m (BitsAre filer.old.swapper.layout (marked true run.0 run.1 marks)) (D.state filer.new.swapper.under) filer.new.swapper.pool) }
     ensures sound { (m : List Sector) (marks : Marks) (k : ℕ) → Stands (D.state filer.old.swapper.under) filer.old.swapper.pool m → BitsAre filer.old.swapper.layout marks m → AreNamed m (IsMapHome AllocationMap filer.old.swapper.layout)
         → filer.old.swapper.layout.first ≤ k → k < filer.old.swapper.layout.sectors → marks k ≡ false → IfErr result (λ e. e ≡ halt.Disk) }
+    ensures cause { IfErr result (MakeHalts filer.old.swapper.layout (D.state filer.old.swapper.under) filer.old.swapper.pool (D.state filer.new.swapper.under) filer.new.swapper.pool) }
+    ensures so { IfErr result (ShowsSo (D.state filer.new.swapper.under)) }
     ensures counted { result ≡ Err halt.Disk → Rose (D.state filer.old.swapper.under).faults (D.state filer.new.swapper.under).faults }
     ensures form { IfOk result (IsDataRun filer.old.swapper.layout.first filer.old.swapper.layout.sectors most) }
     ensures kept { Beside AllocationMap (D.state filer.old.swapper.under) filer.old.swapper.pool filer.old.swapper.layout (D.state filer.new.swapper.under) filer.new.swapper.pool filer.new.swapper.layout }
@@ -78,6 +83,8 @@ fn label_run<D: Disk, A: Allocator>(
     ensures stopped { OnErr result (MadeSome (growth run.id kind run.first (sectors_of run)) (D.state filer.old.swapper.under) filer.old.swapper.pool (D.state filer.new.swapper.under)) }
     ensures sound { (m : List Sector) → Stands (D.state filer.old.swapper.under) filer.old.swapper.pool m → AreUncovered filer.old.swapper.pool run.sector run.pages
         → HaveOnes (λ k. free_ones) m run.sector run.pages → IfErr result (λ e. e ≡ halt.Disk) }
+    ensures cause { IfErr result (HasCause (IsOneTaken run.sector run.pages (D.state filer.old.swapper.under)) (D.state filer.old.swapper.under) (D.state filer.new.swapper.under)) }
+    ensures so { IfErr result (ShowsSo (D.state filer.new.swapper.under)) }
     ensures counted { result ≡ Err halt.Disk → Rose (D.state filer.old.swapper.under).faults (D.state filer.new.swapper.under).faults }
     ensures frames { filer.new.swapper.pool ≡ filer.old.swapper.pool }
     ensures layout { filer.new.swapper.layout ≡ filer.old.swapper.layout }
@@ -115,6 +122,9 @@ pub(crate) fn make_run<D: Disk, A: Allocator>(
     ensures made { (tables : ℕ) (x : List Sector) (shapes : Shapes) (spaces : List Space) → BooksUpto tables (D.state filer.old.swapper.under) filer.old.swapper.pool filer.old.swapper.layout filer.old.runs shapes spaces x → ShowsNoFree spaces
         → AreUnownedUpto tables shapes id page most → 1 ≤ free_count filer.old.swapper.layout x
         → IfOk result (λ run. Leads (Grows id kind page (sectors_of run)) (growth id kind page (sectors_of run)) (D.state filer.old.swapper.under) filer.old.swapper.pool filer.old.swapper.layout (D.state filer.new.swapper.under) filer.new.swapper.pool filer.new.runs) }
+    ensures cause { IfErr result (MakeHalts filer.old.swapper.layout (D.state filer.old.swapper.under) filer.old.swapper.pool (D.state filer.new.swapper.under) filer.new.swapper.pool) }
+    ensures come { Brings (IsMapsHome filer.old.swapper.layout) filer.old.swapper.pool filer.new.swapper.pool }
+    ensures so { IfErr result (ShowsSo (D.state filer.new.swapper.under)) }
     ensures counted { result ≡ Err halt.Disk → Rose (D.state filer.old.swapper.under).faults (D.state filer.new.swapper.under).faults }
     ensures form { IfOk result (IsRunFor filer.old.swapper.layout.sectors id page most) }
     ensures sound { (tables : ℕ) (x : List Sector) (shapes : Shapes) (spaces : List Space) → BooksUpto tables (D.state filer.old.swapper.under) filer.old.swapper.pool filer.old.swapper.layout filer.old.runs shapes spaces x → ShowsNoFree spaces
@@ -170,6 +180,9 @@ pub(crate) fn make_up<D: Disk, A: Allocator>(
         → OnErr result (GrewSome id kind from (end - from) x (D.state filer.old.swapper.under) filer.old.swapper.pool (D.state filer.new.swapper.under) filer.new.swapper.pool) }
     ensures makes { OnOk result (MakesAll id kind from (end - from) (D.state filer.old.swapper.under) filer.old.swapper.pool (D.state filer.new.swapper.under) filer.new.swapper.pool) }
     ensures stopped { OnErr result (MakesSome id kind from (end - from) (D.state filer.old.swapper.under) filer.old.swapper.pool (D.state filer.new.swapper.under) filer.new.swapper.pool) }
+    ensures cause { IfErr result (MakeHalts filer.old.swapper.layout (D.state filer.old.swapper.under) filer.old.swapper.pool (D.state filer.new.swapper.under) filer.new.swapper.pool) }
+    ensures come { Brings (IsMapsHome filer.old.swapper.layout) filer.old.swapper.pool filer.new.swapper.pool }
+    ensures so { IfErr result (ShowsSo (D.state filer.new.swapper.under)) }
     ensures counted { result ≡ Err halt.Disk → Rose (D.state filer.old.swapper.under).faults (D.state filer.new.swapper.under).faults }
     ensures layout { filer.new.swapper.layout ≡ filer.old.swapper.layout }
     ensures runs { filer.new.runs ≡ filer.old.runs }

@@ -14,6 +14,8 @@ ghost use Rattle.session_words.specs.Parts.{Shapes};
 ghost use Rattle.session_words.specs.Volume.{volume_page};
 ghost use Rattle.filer_kernel.specs.Cached.{runs_of};
 ghost use Rattle.filer_kernel.specs.Causes.{MapHalts, IsRunHome};
+ghost use Rattle.file_manager.specs.Grounds.{KeepsMap, IsUnframed};
+ghost use Rattle.filer_kernel.specs.Evidence.{ShowsSo};
 ghost use Rattle.file_manager.specs.Answer.{IsLeaderOf};
 ghost use Rattle.file_manager.specs.Book.{Books, BringsOwn};
 ghost use Rattle.file_manager.specs.Causes.{NamesNone};
@@ -44,6 +46,8 @@ pub(crate) fn leader_of<D: Disk, A: Allocator>(
     ensures makes { Makes volume_page [] (D.state filer.old.swapper.under) filer.old.swapper.pool (D.state filer.new.swapper.under) filer.new.swapper.pool }
     ensures brings { BringsOwn filer.old.swapper.pool filer.new.swapper.pool }
     ensures cause { IfErr result (MapHalts filer.old.swapper.layout (D.state filer.old.swapper.under) filer.old.swapper.pool (D.state filer.new.swapper.under)) }
+    ensures keeps { KeepsMap (IsUnframed filer.old.swapper.pool id) filer.old.swapper.layout id (D.state filer.old.swapper.under) filer.old.swapper.pool (runs_of filer.old.swapper.layout.sectors filer.old.runs) (D.state filer.new.swapper.under) filer.new.swapper.pool (runs_of filer.old.swapper.layout.sectors filer.new.runs) }
+    ensures so { IfErr result (ShowsSo (D.state filer.new.swapper.under)) }
     ensures counted { result ≡ Err halt.Disk → Rose (D.state filer.old.swapper.under).faults (D.state filer.new.swapper.under).faults }
     ensures layout { filer.new.swapper.layout ≡ filer.old.swapper.layout }
     ensures cost { (D.state filer.new.swapper.under).transfers ≤ (D.state filer.old.swapper.under).transfers + 14 }

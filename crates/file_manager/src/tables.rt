@@ -1,5 +1,5 @@
 //! The pages of the space tables, which a session makes at its start and frees at its close.
-ghost use Rattle.std.specs.Prelude.{◌≡◌, ℕ, ◌+◌, ◌*◌, ◌≤◌, List, [], IfErr, OnErr, OnOk, Err};
+ghost use Rattle.std.specs.Prelude.{◌≡◌, ℕ, ◌+◌, ◌*◌, ◌≤◌, List, [], IfErr, OnErr, OnOk, Err, ◌<◌};
 ghost use Rattle.labelled_disk.specs.declared.evidence.Halt.TheVariants as halt;
 ghost use Rattle.labelled_disk.specs.Calls.{Rose};
 ghost use Rattle.labelled_disk.specs.Sectors.{Sector, AreSectors};
@@ -10,6 +10,9 @@ ghost use Rattle.swapper_kernel.specs.Differs.{Differs, of_run};
 ghost use Rattle.swapper_kernel.specs.Goes.{Goes, no_page};
 ghost use Rattle.swapper_kernel.specs.Stands.{Stands};
 ghost use Rattle.session_words.specs.Parts.{Shapes};
+ghost use Rattle.file_manager.specs.Grounds.{AreTables, CutFileHalts, MakeHalts};
+ghost use Rattle.filer_kernel.specs.Cached.{runs_of};
+ghost use Rattle.filer_kernel.specs.Evidence.{ShowsSo};
 ghost use Rattle.file_manager.specs.Book.{Books};
 ghost use Rattle.file_manager.specs.Freeing.{MakesFree, MakesSomeFree};
 ghost use Rattle.file_manager.specs.Making.{MakesAll, MakesSome};
@@ -34,6 +37,8 @@ pub fn make_tables<D: Disk, A: Allocator>(filer: &mut FilerOver<D, A>) -> Result
         → IfErr result (λ e. e ≡ halt.Disk) }
     ensures makes { OnOk result (MakesAll 3 0 0 96 (D.state filer.old.swapper.under) filer.old.swapper.pool (D.state filer.new.swapper.under) filer.new.swapper.pool) }
     ensures stopped { OnErr result (MakesSome 3 0 0 96 (D.state filer.old.swapper.under) filer.old.swapper.pool (D.state filer.new.swapper.under) filer.new.swapper.pool) }
+    ensures cause { IfErr result (MakeHalts filer.old.swapper.layout (D.state filer.old.swapper.under) filer.old.swapper.pool (D.state filer.new.swapper.under) filer.new.swapper.pool) }
+    ensures so { IfErr result (ShowsSo (D.state filer.new.swapper.under)) }
     ensures counted { result ≡ Err halt.Disk → Rose (D.state filer.old.swapper.under).faults (D.state filer.new.swapper.under).faults }
     ensures layout { filer.new.swapper.layout ≡ filer.old.swapper.layout }
     ensures runs { filer.new.runs ≡ filer.old.runs }
@@ -76,6 +81,8 @@ pub fn free_tables<D: Disk, A: Allocator>(filer: &mut FilerOver<D, A>) -> Result
         → OnErr result (EndedSome x (D.state filer.old.swapper.under) filer.old.swapper.pool (D.state filer.new.swapper.under) filer.new.swapper.pool) }
     ensures makes { OnOk result (MakesFree 96 (D.state filer.old.swapper.under) filer.old.swapper.pool (D.state filer.new.swapper.under) filer.new.swapper.pool) }
     ensures stopped { OnErr result (MakesSomeFree (D.state filer.old.swapper.under) filer.old.swapper.pool (D.state filer.new.swapper.under) filer.new.swapper.pool) }
+    ensures cause { IfErr result (CutFileHalts (AreTables filer.old.swapper.pool) filer.old.swapper.layout (runs_of filer.old.swapper.layout.sectors filer.old.runs) 3 0 (λ page. page < 96) (D.state filer.old.swapper.under) filer.old.swapper.pool (D.state filer.new.swapper.under)) }
+    ensures so { IfErr result (ShowsSo (D.state filer.new.swapper.under)) }
     ensures counted { result ≡ Err halt.Disk → Rose (D.state filer.old.swapper.under).faults (D.state filer.new.swapper.under).faults }
     ensures layout { filer.new.swapper.layout ≡ filer.old.swapper.layout }
     ensures cost { (D.state filer.new.swapper.under).transfers ≤ (D.state filer.old.swapper.under).transfers + (96 * (16 + 4 * filer.old.swapper.layout.vam) + 2 * (1 + 51 * most_records filer.old.swapper.layout.sectors)) }

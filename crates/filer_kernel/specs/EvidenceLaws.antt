@@ -44,7 +44,7 @@ shows_so_after wrote Disk is = tt
 shows_so_after wrote (Damaged e) is = so_after wrote e is
 
 -- evidence that is so of the disk as a call found it, where the call wrote no label
-pub so_of_cause : {pages : Pages} (shown : Evidence → Type 0) {a b c d : DiskState} {s : Slots} → Wrote pages [] a s b → ((e : Evidence) → shown e → IsSo a e) → (halt : Halt) → HasCause shown c d halt → ShowsSo b halt
+pub so_of_cause : {pages : Pages} (shown : Evidence → Type 0) {a b : DiskState} {s : Slots} → Wrote pages [] a s b → ((e : Evidence) → shown e → IsSo a e) → (halt : Halt) → HasCause shown a b halt → ShowsSo b halt
 so_of_cause shown wrote all Disk is = tt
 so_of_cause shown wrote all (Damaged e) is = so_after wrote e (all e is)
 

@@ -12,6 +12,11 @@ use Rattle.filer_kernel.specs.PlaceLaws.{data_first}
 use Rattle.file_manager.specs.Shrinking.{leader_run}
 use Rattle.file_manager.proofs.CountedLemmas.{rose_of, rose_after}
 use Rattle.file_manager.proofs.CutSteps.{leader_in_form, few_left, leader_new, once_left, others_left}
+use Rattle.filer_kernel.specs.EvidenceLaws.{so_of_add, so_of_cut}
+use Rattle.file_manager.proofs.Keeping.{keeps_none}
+use Rattle.file_manager.proofs.CutCauses.{cut_halts_behind, shrink_of_cut, shrink_of_add}
+use Rattle.filer_kernel.specs.Cached.{runs_of}
+use Rattle.file_manager.specs.Grounds.{IsUnframed}
 use Rattle.file_manager.proofs.cutting.cut_to.Goals as goal
 
 pub returns-in-Err-clause-sound : goal.returns-in-Err-clause-sound
@@ -65,3 +70,25 @@ returns-clause-runs g c = λ n. rw (c.frames_of.ensures.same, c.add.ensures.runs
 
 pub returns-clause-beside : goal.returns-clause-beside
 returns-clause-beside g c = rw c.frames_of.ensures.same (beside_then refl c.cut.ensures.beside c.add.ensures.beside)
+
+pub returns-in-Err-clause-so : goal.returns-in-Err-clause-so
+returns-in-Err-clause-so g c = so_of_cut c.cut.ensures.beside.goes.makes c.in-Err.halt c.args.filer.now.swapper.layout c.in-Err.ensures.cause
+
+pub returns-in-Err-add-clause-so : goal.returns-in-Err-add-clause-so
+returns-in-Err-add-clause-so g c = so_of_add c.add.ensures.beside.goes.makes c.in-Err-add.halt c.cut.new.self.swapper.layout c.in-Err-add.ensures.cause
+
+pub returns-in-Err-clause-cause : goal.returns-in-Err-clause-cause
+returns-in-Err-clause-cause g c =
+    let layout = c.args.filer.now.swapper.layout in
+    let old = (g.D.Disk.state c.args.filer.now.swapper.under) in
+    let pool = c.args.filer.now.swapper.pool in
+    let kept = runs_of layout.sectors c.args.filer.now.runs in
+    let new = (g.D.Disk.state c.cut.new.self.swapper.under) in
+    shrink_of_cut (IsUnframed pool c.args.id) layout kept c.args.id c.args.from (λ p. ⊥) old new pool c.cut.new.self.swapper.pool c.in-Err.halt
+    (cut_halts_behind (keeps_none (IsUnframed pool c.args.id) layout c.args.id old pool kept (λ none. none)) c.args.from (λ p. ⊥) new c.cut.new.self.swapper.pool c.in-Err.halt c.in-Err.ensures.begun c.in-Err.ensures.cause)
+
+pub returns-in-Err-add-clause-cause : goal.returns-in-Err-add-clause-cause
+returns-in-Err-add-clause-cause g c =
+    let layout = c.args.filer.now.swapper.layout in
+    let lay = c.cut.ensures.beside.layout in
+    shrink_of_add (IsUnframed c.args.filer.now.swapper.pool c.args.id) (runs_of layout.sectors c.args.filer.now.runs) c.args.id c.args.from (λ p. ⊥) c.cut.ensures.beside (rw lay at c.add.ensures.beside) c.in-Err-add.halt (rw lay at c.in-Err-add.ensures.cause)

@@ -2,6 +2,10 @@ use Rattle.swapper_kernel.specs.declared.manager.Manager.TheVariants.{FileMap}
 use Rattle.file_manager.proofs.CountedLemmas.{rose_after}
 use Rattle.file_manager.proofs.FreedRun.{all_stop}
 use Rattle.file_manager.proofs.ShrinkLemmas.{may_free, leader_is_alone, named_apart, shrunk_by, stopped_in, stopped_cut, makes_cut}
+use Rattle.file_manager.proofs.CutCauses.{shrink_of_free, shrink_halts_behind}
+use Rattle.filer_kernel.specs.Cached.{runs_of}
+use Rattle.file_manager.specs.Grounds.{IsUnframed}
+use Rattle.std.proofs.Common.{◌≤◌, ◌<◌}
 use Rattle.file_manager.proofs.cutting.shrink.Goals as goal
 
 pub returns-in-Err-clause-sound : goal.returns-in-Err-clause-sound
@@ -54,3 +58,16 @@ returns-clause-shrunk g c = λ x shapes spaces f may size t.
 
 pub returns-clause-makes : goal.returns-clause-makes
 returns-clause-makes g c = makes_cut c.in-Ok.ensures.makes c.cut_to.ensures.beside
+
+pub returns-in-Err-clause-cause : goal.returns-in-Err-clause-cause
+returns-in-Err-clause-cause g c =
+    let layout = c.args.filer.now.swapper.layout in
+    let old = (g.D.Disk.state c.args.filer.now.swapper.under) in
+    let pool = c.args.filer.now.swapper.pool in
+    let kept = runs_of layout.sectors c.args.filer.now.runs in
+    shrink_of_free (IsUnframed pool c.args.id) layout kept c.args.id c.args.pages (λ p. (c.args.pages ≤ p) × (p < c.args.size)) old (g.D.Disk.state c.free_down.new.filer.swapper.under) pool c.free_down.new.filer.swapper.pool c.in-Err.halt c.in-Err.ensures.cause
+
+pub returns-in-Err-cut_to-clause-cause : goal.returns-in-Err-cut_to-clause-cause
+returns-in-Err-cut_to-clause-cause g c =
+    shrink_halts_behind c.in-Ok.ensures.keeps c.in-Ok.ensures.makes.makes c.requires.sectors c.args.pages (λ p. ⊥) (λ p. (c.args.pages ≤ p) × (p < c.args.size)) (λ p none. absurd none) (g.D.Disk.state c.cut_to.new.filer.swapper.under) c.cut_to.new.filer.swapper.pool c.in-Err-cut_to.halt
+    (rw c.in-Ok.ensures.layout at c.in-Err-cut_to.ensures.cause)

@@ -1,4 +1,4 @@
-use Rattle.std.proofs.Common.{◌≡◌, ◌+◌, ◌*◌, inl, ◌∙◌, arith}
+use Rattle.std.proofs.Common.{◌≡◌, ◌+◌, ◌*◌, inl, ◌∙◌, arith, ◌⊎◌, ◌<◌, inr, ap, subst}
 use Rattle.swapper_kernel.specs.declared.manager.Manager.TheVariants.{FileMap}
 use Rattle.file_map.specs.FileMap.{most_records}
 use Rattle.swapper_kernel.specs.FormLaws.{memory_in_form}
@@ -6,6 +6,13 @@ use Rattle.file_manager.proofs.BookLemmas.{map_is, map_named}
 use Rattle.file_manager.proofs.FreedRun.{map_makes, map_stops}
 use Rattle.file_manager.proofs.DeletedFile.{may_free, size_is, deletes_first, deletes_all, deleted_by, delete_makes, delete_stops, free_stops, told_cost, sized_cost}
 use Rattle.file_manager.proofs.Faults.{counted, counted_then}
+use Rattle.filer_kernel.specs.EvidenceLaws.{so_of_map, so_of_cut}
+use Rattle.file_manager.proofs.Keeping.{keeps_none, keeps_read, keeps_then, search_halts_behind, free_halts_before}
+use Rattle.file_manager.proofs.CutCauses.{cut_of_free, cut_halts_behind}
+use Rattle.labelled_disk.specs.Label.{leader_page}
+use Rattle.filer_kernel.specs.Cached.{runs_of}
+use Rattle.filer_kernel.specs.Triples.{IsOneOf}
+use Rattle.file_manager.specs.Grounds.{IsUnframed, IsPageOf}
 use Rattle.file_manager.proofs.deleting.delete.Goals as goal
 
 pub returns-in-Err-clause-sound : goal.returns-in-Err-clause-sound
@@ -200,3 +207,47 @@ returns-clause-cost_sized g c = λ x shapes spaces f books found hidden.
     let lay : c.free_all.new.filer.swapper.layout ≡ layout = c.in-Ok-free_all.ensures.layout ∙ c.size.ensures.beside.layout in
     let three = (rw lay at c.cut.ensures.cost_sized) freed.memory b.named c.in-Ok.pages freed.rest.stands freed.rest.map asked in
     rw c.frames_of-volume.ensures.same (sized_cost (g.D.Disk.state c.args.filer.now.swapper.under).transfers (g.D.Disk.state c.size.new.self.swapper.under).transfers (g.D.Disk.state c.free_all.new.filer.swapper.under).transfers (g.D.Disk.state c.cut.new.self.swapper.under).transfers f.size c.in-Ok.pages (16 + 4 * layout.vam) size c.size.ensures.cost two three)
+
+pub returns-in-Err-clause-so : goal.returns-in-Err-clause-so
+returns-in-Err-clause-so g c = so_of_map c.size.ensures.beside.goes.makes c.in-Err.halt c.args.filer.now.swapper.layout c.in-Err.ensures.cause
+
+pub returns-in-Err-cut-clause-so : goal.returns-in-Err-cut-clause-so
+returns-in-Err-cut-clause-so g c = so_of_cut c.cut.ensures.beside.goes.makes c.in-Err-cut.halt c.free_all.new.filer.swapper.layout c.in-Err-cut.ensures.cause
+
+pub returns-in-Err-clause-cause : goal.returns-in-Err-clause-cause
+returns-in-Err-clause-cause g c =
+    let layout = c.args.filer.now.swapper.layout in
+    let old = (g.D.Disk.state c.args.filer.now.swapper.under) in
+    let pool = c.args.filer.now.swapper.pool in
+    let kept = runs_of layout.sectors c.args.filer.now.runs in
+    let pages = IsPageOf layout old pool c.args.id in
+    let new = (g.D.Disk.state c.size.new.self.swapper.under) in
+    cut_of_free (IsUnframed pool c.args.id) layout kept c.args.id 0 pages old new pool c.in-Err.halt
+    (search_halts_behind (keeps_none (IsUnframed pool c.args.id) layout c.args.id old pool kept (λ none. none)) pages new c.in-Err.halt c.in-Err.ensures.cause)
+
+pub returns-in-Err-free_all-clause-cause : goal.returns-in-Err-free_all-clause-cause
+returns-in-Err-free_all-clause-cause g c =
+    let layout = c.args.filer.now.swapper.layout in
+    let old = (g.D.Disk.state c.args.filer.now.swapper.under) in
+    let pool = c.args.filer.now.swapper.pool in
+    let kept = runs_of layout.sectors c.args.filer.now.runs in
+    let pages = IsPageOf layout old pool c.args.id in
+    let same : runs_of layout.sectors c.size.new.self.runs ≡ kept = ap (runs_of layout.sectors) c.size.ensures.runs in
+    let keep = keeps_read (inr c.requires.client) c.size.ensures.beside c.size.ensures.same_bytes (λ r one. inl (subst (IsOneOf r) same one)) in
+    let new = (g.D.Disk.state c.free_all.new.filer.swapper.under) in
+    cut_of_free (IsUnframed pool c.args.id) layout kept c.args.id 0 pages old new pool c.in-Err-free_all.halt
+    (free_halts_before keep (λ p. (p ≡ leader_page) ⊎ (p < c.in-Ok.pages)) pages (λ p h. elim h [ inl leads ↦ inl leads | inr below ↦ inr (λ m named stands map. (c.in-Ok.pages, c.in-Ok.ensures.size m named stands map, below)) ]) c.requires.size
+    new c.in-Err-free_all.halt (rw c.size.ensures.beside.layout at c.in-Err-free_all.ensures.cause))
+
+pub returns-in-Err-cut-clause-cause : goal.returns-in-Err-cut-clause-cause
+returns-in-Err-cut-clause-cause g c =
+    let layout = c.args.filer.now.swapper.layout in
+    let old = (g.D.Disk.state c.args.filer.now.swapper.under) in
+    let pool = c.args.filer.now.swapper.pool in
+    let kept = runs_of layout.sectors c.args.filer.now.runs in
+    let pages = IsPageOf layout old pool c.args.id in
+    let same : runs_of layout.sectors c.size.new.self.runs ≡ kept = ap (runs_of layout.sectors) c.size.ensures.runs in
+    let keep = keeps_read (inr c.requires.client) c.size.ensures.beside c.size.ensures.same_bytes (λ r one. inl (subst (IsOneOf r) same one)) in
+    let lay : c.free_all.new.filer.swapper.layout ≡ layout = c.in-Ok-free_all.ensures.layout ∙ c.size.ensures.beside.layout in
+    cut_halts_behind (keeps_then keep (rw c.size.ensures.beside.layout at c.in-Ok-free_all.ensures.keeps)) 0 pages (g.D.Disk.state c.cut.new.self.swapper.under) c.cut.new.self.swapper.pool c.in-Err-cut.halt
+    (rw lay at c.in-Err-cut.ensures.begun) (rw lay at c.in-Err-cut.ensures.cause)

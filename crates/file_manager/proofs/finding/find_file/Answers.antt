@@ -1,19 +1,23 @@
-use Rattle.std.proofs.Common.{◌≡◌, ◌≤◌, ◌<◌, ℕ, Option, sym, ◌∙◌, ap, subst, rules, arith}
+use Rattle.std.proofs.Common.{◌≡◌, ◌≤◌, ◌<◌, ℕ, Option, sym, ◌∙◌, ap, subst, rules, arith, inl, inr}
 use Rattle.std.specs.Prelude.{IfSome}
 use Rattle.labelled_disk.specs.declared.layout.Layout.{Layout}
 use Rattle.swapper_kernel.specs.declared.manager.Manager.TheVariants.{FileMap}
 use Rattle.swapper_kernel.specs.GoesLaws.{makes_then}
 use Rattle.swapper_kernel.specs.HaltLaws.{brings_then}
-use Rattle.swapper_kernel.specs.Homes.{IsLayout}
+use Rattle.swapper_kernel.specs.Homes.{IsLayout, home_at}
+use Rattle.labelled_disk.specs.Label.{leader_page}
+use Rattle.filer_kernel.specs.Causes.{IsRunHome}
 use Rattle.swapper_kernel.specs.Stands.{labels_of}
 use Rattle.filer_kernel.specs.declared.cached.CachedRuns.{CachedRuns}
 use Rattle.filer_kernel.specs.Cached.{runs_of}
-use Rattle.filer_kernel.specs.Triples.{AreOf}
+use Rattle.filer_kernel.specs.Triples.{AreOf, IsOneOf}
 use Rattle.file_manager.specs.Answer.{IsLeaderOf}
 use Rattle.file_manager.proofs.BookLemmas.{map_is, kept_are, map_named, own_maps, books_stay}
 use Rattle.file_manager.proofs.FreedRun.{map_makes, map_brings}
 use Rattle.file_manager.proofs.MarkLemmas.{leader_one}
 use Rattle.file_manager.proofs.FindingLemmas.{shape_by_leader, leader_halts, no_leader_before, map_halts_before, books_read, read_makes, read_map_brings, read_bytes, read_brings}
+use Rattle.filer_kernel.specs.EvidenceLaws.{so_of_map}
+use Rattle.file_manager.proofs.Keeping.{keeps_read, keeps_look, keeps_then}
 use Rattle.file_manager.proofs.finding.find_file.Goals as goal
 
 pub returns-in-Ok-None-clause-told : goal.returns-in-Ok-None-clause-told
@@ -23,7 +27,7 @@ pub returns-in-Err-clause-told : goal.returns-in-Err-clause-told
 returns-in-Err-clause-told g c = λ x shapes spaces books. c.in-Err.ensures.told x shapes spaces books
 
 pub returns-in-Err-clause-cause : goal.returns-in-Err-clause-cause
-returns-in-Err-clause-cause g c = leader_halts _ c.args.id (g.D.Disk.state c.args.filer.now.swapper.under) (g.D.Disk.state c.leader_of.new.filer.swapper.under) _ _ c.in-Err.ensures.cause
+returns-in-Err-clause-cause g c = leader_halts _ (runs_of c.args.filer.now.swapper.layout.sectors c.args.filer.now.runs) c.args.id (g.D.Disk.state c.args.filer.now.swapper.under) (g.D.Disk.state c.leader_of.new.filer.swapper.under) _ _ c.in-Err.ensures.cause
 
 pub leader_label-requires : goal.leader_label-requires
 leader_label-requires g c =
@@ -51,7 +55,11 @@ returns-in-Err-leader_label-clause-brings g c = read_brings c.leader_of.ensures.
 pub returns-in-Err-leader_label-clause-cause : goal.returns-in-Err-leader_label-clause-cause
 returns-in-Err-leader_label-clause-cause g c =
     let at = subst (λ (o : Option ℕ). IfSome o (λ sector. (c.args.filer.now.swapper.layout.first ≤ sector) × (sector < c.args.filer.now.swapper.layout.sectors))) c.in-Ok-Some.field-0-is c.in-Ok-Some.ensures.place in
-    no_leader_before c.args.filer.now.swapper.layout c.leader_of.ensures.makes c.args.id c.in-Ok-Some.sector at.0 at.1 (g.D.Disk.state c.leader_label.new.filer.swapper.under) _ c.in-Err-leader_label.ensures.cause
+    let layout = c.args.filer.now.swapper.layout in
+    let kept = runs_of layout.sectors c.args.filer.now.runs in
+    let old = g.D.Disk.state c.args.filer.now.swapper.under in
+    let given = subst (λ (o : Option ℕ). IfSome o (λ sector. IsRunHome layout old c.args.filer.now.swapper.pool kept (home_at sector (record { id = c.args.id; page = leader_page })))) c.in-Ok-Some.field-0-is c.in-Ok-Some.ensures.given in
+    no_leader_before layout c.leader_of.ensures.makes kept c.args.id c.in-Ok-Some.sector at.0 at.1 given (g.D.Disk.state c.leader_label.new.filer.swapper.under) _ c.in-Err-leader_label.ensures.cause
 
 pub size-requires : goal.size-requires
 size-requires g c =
@@ -124,7 +132,40 @@ returns-in-Err-size-clause-cause g c =
     let told = c.leader_label.ensures.same in
     let read = c.leader_label.ensures.makes in
     let frames = c.leader_label.ensures.frames in
-    map_halts_before layout (read_makes beside told read frames) (read_map_brings beside told read frames) (read_bytes beside told read frames c.leader_of.ensures.same_bytes) c.args.id (g.D.Disk.state c.size.new.self.swapper.under) _ (rw lay at c.in-Err-size.ensures.cause)
+    map_halts_before layout (read_makes beside told read frames) (read_map_brings beside told read frames) (read_bytes beside told read frames c.leader_of.ensures.same_bytes) (runs_of layout.sectors c.args.filer.now.runs) c.args.id (g.D.Disk.state c.size.new.self.swapper.under) _ (rw lay at c.in-Err-size.ensures.cause)
 
 pub returns-in-Ok-None-clause-missing : goal.returns-in-Ok-None-clause-missing
 returns-in-Ok-None-clause-missing g c none = c.in-Ok-None.ensures.missing (search rules)
+
+pub returns-in-Err-size-clause-so : goal.returns-in-Err-size-clause-so
+returns-in-Err-size-clause-so g c = so_of_map c.size.ensures.beside.goes.makes c.in-Err-size.halt c.leader_label.new.filer.swapper.layout c.in-Err-size.ensures.cause
+
+pub returns-in-Err-clause-keeps : goal.returns-in-Err-clause-keeps
+returns-in-Err-clause-keeps g c = c.leader_of.ensures.keeps
+
+pub returns-in-Ok-None-clause-keeps : goal.returns-in-Ok-None-clause-keeps
+returns-in-Ok-None-clause-keeps g c = c.leader_of.ensures.keeps
+
+pub returns-in-Err-leader_label-clause-keeps : goal.returns-in-Err-leader_label-clause-keeps
+returns-in-Err-leader_label-clause-keeps g c =
+    let layout = c.args.filer.now.swapper.layout in
+    let look = keeps_look c.leader_label.ensures.same c.leader_label.ensures.makes c.leader_label.ensures.frames (ap (runs_of layout.sectors) c.leader_label.ensures.runs) in
+    keeps_then c.leader_of.ensures.keeps look
+
+pub returns-in-Ok-size-clause-keeps : goal.returns-in-Ok-size-clause-keeps
+returns-in-Ok-size-clause-keeps g c =
+    let layout = c.args.filer.now.swapper.layout in
+    let look = keeps_look c.leader_label.ensures.same c.leader_label.ensures.makes c.leader_label.ensures.frames (ap (runs_of layout.sectors) c.leader_label.ensures.runs) in
+    let keep = keeps_then c.leader_of.ensures.keeps look in
+    let lay : c.leader_label.new.filer.swapper.layout ≡ layout = c.leader_label.ensures.layout ∙ c.leader_of.ensures.layout in
+    let same : runs_of layout.sectors c.size.new.self.runs ≡ runs_of layout.sectors c.leader_label.new.filer.runs = ap (runs_of layout.sectors) c.size.ensures.runs in
+    keeps_then keep (keeps_read (inr c.requires.client) (rw lay at c.size.ensures.beside) (rw lay at c.size.ensures.same_bytes) (λ r one. inl (subst (IsOneOf r) same one)))
+
+pub returns-in-Err-size-clause-keeps : goal.returns-in-Err-size-clause-keeps
+returns-in-Err-size-clause-keeps g c =
+    let layout = c.args.filer.now.swapper.layout in
+    let look = keeps_look c.leader_label.ensures.same c.leader_label.ensures.makes c.leader_label.ensures.frames (ap (runs_of layout.sectors) c.leader_label.ensures.runs) in
+    let keep = keeps_then c.leader_of.ensures.keeps look in
+    let lay : c.leader_label.new.filer.swapper.layout ≡ layout = c.leader_label.ensures.layout ∙ c.leader_of.ensures.layout in
+    let same : runs_of layout.sectors c.size.new.self.runs ≡ runs_of layout.sectors c.leader_label.new.filer.runs = ap (runs_of layout.sectors) c.size.ensures.runs in
+    keeps_then keep (keeps_read (inr c.requires.client) (rw lay at c.size.ensures.beside) (rw lay at c.size.ensures.same_bytes) (λ r one. inl (subst (IsOneOf r) same one)))

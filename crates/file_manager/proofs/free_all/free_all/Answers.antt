@@ -1,9 +1,12 @@
-use Rattle.std.proofs.Common.{arith, ◌≤◌}
+use Rattle.std.proofs.Common.{arith, ◌≤◌, ◌≡◌, ◌⊎◌, ◌<◌, inl, inr}
 use Rattle.labelled_disk.specs.Label.{leader_page}
 use Rattle.file_manager.proofs.FreedRun.{stops_then}
 use Rattle.file_manager.proofs.AllFreed.{may_rest, all_freed, all_made, one_page}
 use Rattle.file_manager.proofs.StoppedFree.{leader_some, pages_some}
 use Rattle.file_manager.proofs.Faults.{counted_then}
+use Rattle.file_manager.proofs.Keeping.{keeps_none, keeps_then, free_halts_before}
+use Rattle.filer_kernel.specs.Cached.{runs_of}
+use Rattle.file_manager.specs.Grounds.{IsUnframed}
 use Rattle.file_manager.proofs.free_all.free_all.Goals as goal
 
 pub returns-in-Err-clause-sound : goal.returns-in-Err-clause-sound
@@ -44,3 +47,18 @@ returns-in-Err-free_up-clause-first g c = λ named spaces m all.
 
 pub returns-in-Err-free_up-clause-counted : goal.returns-in-Err-free_up-clause-counted
 returns-in-Err-free_up-clause-counted g c = counted_then _ _ _ c.in-Ok.ensures.makes.makes.went.faults c.in-Err-free_up.ensures.counted
+
+pub returns-in-Err-clause-cause : goal.returns-in-Err-clause-cause
+returns-in-Err-clause-cause g c =
+    let layout = c.args.filer.now.swapper.layout in
+    let pool = c.args.filer.now.swapper.pool in
+    free_halts_before (keeps_none (IsUnframed pool c.args.id) layout c.args.id (g.D.Disk.state c.args.filer.now.swapper.under) pool (runs_of layout.sectors c.args.filer.now.runs) (λ none. none)) (λ p. p ≡ leader_page) (λ p. (p ≡ leader_page) ⊎ (p < c.args.pages)) (λ p same. inl same) c.requires.size
+    (g.D.Disk.state c.free_run.new.filer.swapper.under) c.in-Err.halt c.in-Err.ensures.cause
+
+pub returns-in-Err-free_up-clause-cause : goal.returns-in-Err-free_up-clause-cause
+returns-in-Err-free_up-clause-cause g c =
+    free_halts_before c.in-Ok.ensures.keeps (λ p. (0 ≤ p) × (p < c.args.pages)) (λ p. (p ≡ leader_page) ⊎ (p < c.args.pages)) (λ p below. inr below.1) c.requires.size
+    (g.D.Disk.state c.free_up.new.filer.swapper.under) c.in-Err-free_up.halt (rw c.in-Ok.ensures.layout at c.in-Err-free_up.ensures.cause)
+
+pub returns-in-Ok-free_up-clause-keeps : goal.returns-in-Ok-free_up-clause-keeps
+returns-in-Ok-free_up-clause-keeps g c = keeps_then c.in-Ok.ensures.keeps (rw c.in-Ok.ensures.layout at c.in-Ok-free_up.ensures.keeps)

@@ -1,5 +1,6 @@
 use Rattle.std.proofs.Common.{arith}
 use Rattle.file_manager.proofs.Faults.{counted}
+use Rattle.file_manager.proofs.SoLemmas.{so_of_taken}
 use Rattle.file_manager.proofs.growth.label_run.Goals as goal
 
 pub returns-in-Err-clause-sound : goal.returns-in-Err-clause-sound
@@ -7,3 +8,11 @@ returns-in-Err-clause-sound g c = λ m stands free ones. (rw (c.swapper_over-swa
 
 pub returns-in-Err-clause-counted : goal.returns-in-Err-clause-counted
 returns-in-Err-clause-counted g c = counted _ _ (g.D.Disk.state c.args.filer.now.swapper.under) (g.D.Disk.state c.make_pages.new.swapper.under) _ (omega arith) (rw (c.swapper_over-swapper.ensures.value) at c.in-Err.ensures.cause)
+
+pub returns-in-Err-clause-so : goal.returns-in-Err-clause-so
+returns-in-Err-clause-so g c =
+    let new = g.D.Disk.state c.make_pages.new.swapper.under in
+    so_of_taken new c.args.run.sector c.args.run.pages (g.D.Disk.state c.args.filer.now.swapper.under) new c.in-Err.halt (rw c.swapper_over-swapper.ensures.value at c.in-Err.ensures.so)
+
+pub returns-in-Err-clause-cause : goal.returns-in-Err-clause-cause
+returns-in-Err-clause-cause g c = rw c.swapper_over-swapper.ensures.value at c.in-Err.ensures.cause

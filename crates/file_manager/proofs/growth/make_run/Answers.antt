@@ -10,6 +10,13 @@ use Rattle.file_manager.proofs.RunStages.{one_free, marks_shown, bits_shown, map
 use Rattle.file_manager.proofs.RunLeads.{above_maps, fewer_of_file, map_makes, added_makes, stopped_labels, stopped_behind, run_in_form, none_over, ones_free, labelled, map_then, named_then, run_leads, row_was_free}
 use Rattle.file_manager.proofs.GrowBroken.{none_grew, labels_grew, all_grew}
 use Rattle.file_manager.proofs.Faults.{counted, counted_then}
+use Rattle.filer_kernel.specs.EvidenceLaws.{so_of_add}
+use Rattle.file_manager.proofs.MakeStops.{maps_come, labels_there, make_halts_before, label_halts, added_halts}
+use Rattle.swapper_kernel.specs.HaltLaws.{brings_then}
+use Rattle.swapper_kernel.specs.Homes.{Brings}
+use Rattle.frame_pool.specs.Frames.{Slots}
+use Rattle.swapper_kernel.specs.GoesLaws.{makes_then}
+use Rattle.file_manager.specs.Grounds.{IsMapsHome}
 use Rattle.file_manager.proofs.growth.make_run.Goals as goal
 
 pub returns-in-Err-clause-sound : goal.returns-in-Err-clause-sound
@@ -153,3 +160,43 @@ returns-in-Err-add-clause-counted g c =
     let first = c.in-Ok.ensures.kept.goes.makes.went.faults in
     let second = c.in-Ok-label_run.ensures.made.makes.went.faults in
     counted _ _ (g.D.Disk.state c.label_run.new.filer.swapper.under) (g.D.Disk.state c.add.new.self.swapper.under) _ (omega (arith, first, second)) c.in-Err-add.ensures.cause
+
+pub returns-in-Err-add-clause-so : goal.returns-in-Err-add-clause-so
+returns-in-Err-add-clause-so g c = so_of_add c.add.ensures.beside.goes.makes c.in-Err-add.halt c.label_run.new.filer.swapper.layout c.in-Err-add.ensures.cause
+
+pub returns-in-Err-label_run-clause-cause : goal.returns-in-Err-label_run-clause-cause
+returns-in-Err-label_run-clause-cause g c =
+    let layout = c.args.filer.now.swapper.layout in
+    let form = c.in-Ok.ensures.form in
+    let lay = c.in-Ok.ensures.kept.layout in
+    make_halts_before (map_makes c.in-Ok.ensures.kept) (maps_come c.in-Ok.ensures.kept) (g.D.Disk.state c.label_run.new.filer.swapper.under) c.label_run.new.filer.swapper.pool c.in-Err-label_run.halt
+    (label_halts layout (g.D.Disk.state c.take_run.new.filer.swapper.under) (g.D.Disk.state c.label_run.new.filer.swapper.under) c.take_run.new.filer.swapper.pool c.label_run.new.filer.swapper.pool c.in-Ok.taken.0 c.in-Ok.taken.1 form.above form.inside c.in-Err-label_run.halt c.in-Err-label_run.ensures.cause)
+
+pub returns-in-Err-add-clause-cause : goal.returns-in-Err-add-clause-cause
+returns-in-Err-add-clause-cause g c =
+    let layout = c.args.filer.now.swapper.layout in
+    let form = c.in-Ok.ensures.form in
+    let lay : c.label_run.new.filer.swapper.layout ≡ layout = c.in-Ok-label_run.ensures.layout ∙ c.in-Ok.ensures.kept.layout in
+    let frames = c.in-Ok-label_run.ensures.frames in
+    let come = subst (λ (s : Slots). Brings (IsMapsHome layout) c.args.filer.now.swapper.pool s) (sym frames) (maps_come c.in-Ok.ensures.kept) in
+    let made = labels_there frames c.in-Ok-label_run.ensures.made.makes in
+    make_halts_before (makes_then (map_makes c.in-Ok.ensures.kept) made) come (g.D.Disk.state c.add.new.self.swapper.under) c.add.new.self.swapper.pool c.in-Err-add.halt (added_halts (rw lay at c.add.ensures.beside) c.in-Err-add.halt (rw lay at c.in-Err-add.ensures.cause))
+
+pub returns-in-Err-clause-come : goal.returns-in-Err-clause-come
+returns-in-Err-clause-come g c = maps_come c.in-Err.ensures.kept
+
+pub returns-in-Err-label_run-clause-come : goal.returns-in-Err-label_run-clause-come
+returns-in-Err-label_run-clause-come g c = subst (λ (s : Slots). Brings (IsMapsHome c.args.filer.now.swapper.layout) c.args.filer.now.swapper.pool s) (sym c.in-Err-label_run.ensures.frames) (maps_come c.in-Ok.ensures.kept)
+
+pub returns-in-Err-add-clause-come : goal.returns-in-Err-add-clause-come
+returns-in-Err-add-clause-come g c =
+    let layout = c.args.filer.now.swapper.layout in
+    let lay : c.label_run.new.filer.swapper.layout ≡ layout = c.in-Ok-label_run.ensures.layout ∙ c.in-Ok.ensures.kept.layout in
+    brings_then (subst (λ (s : Slots). Brings (IsMapsHome layout) c.args.filer.now.swapper.pool s) (sym c.in-Ok-label_run.ensures.frames) (maps_come c.in-Ok.ensures.kept)) (maps_come (rw lay at c.in-Err-add.ensures.beside))
+
+pub returns-clause-come : goal.returns-clause-come
+returns-clause-come g c =
+    let layout = c.args.filer.now.swapper.layout in
+    let lay : c.label_run.new.filer.swapper.layout ≡ layout = c.in-Ok-label_run.ensures.layout ∙ c.in-Ok.ensures.kept.layout in
+    rw c.frames_of.ensures.same
+    (brings_then (subst (λ (s : Slots). Brings (IsMapsHome layout) c.args.filer.now.swapper.pool s) (sym c.in-Ok-label_run.ensures.frames) (maps_come c.in-Ok.ensures.kept)) (maps_come (rw lay at c.in-Ok-add.ensures.beside)))

@@ -1,4 +1,4 @@
-use Rattle.std.proofs.Common.{◌≡◌, true, Option, refl, subst, rules, arith}
+use Rattle.std.proofs.Common.{◌≡◌, true, Option, refl, subst, rules, arith, inr}
 use Rattle.std.specs.Prelude.{IfSome}
 use Rattle.file_map.specs.declared.run.Run.{Run}
 use Rattle.labelled_disk.specs.Label.{leader_page}
@@ -10,6 +10,8 @@ use Rattle.filer_kernel.specs.Cached.{runs_of}
 use Rattle.filer_kernel.specs.Causes.{IsGiven}
 use Rattle.file_manager.proofs.BookLemmas.{map_is, kept_are, map_named, own_maps, books_stay, no_leader, run_place}
 use Rattle.file_manager.proofs.Faults.{counted}
+use Rattle.filer_kernel.specs.EvidenceLaws.{so_of_map}
+use Rattle.file_manager.proofs.Keeping.{keeps_read}
 use Rattle.file_manager.proofs.leader.leader_of.Goals as goal
 
 pub returns-in-Ok-Some-clause-told : goal.returns-in-Ok-Some-clause-told
@@ -79,3 +81,15 @@ returns-in-Ok-Some-clause-given g c =
 
 pub returns-in-Ok-None-clause-missing : goal.returns-in-Ok-None-clause-missing
 returns-in-Ok-None-clause-missing g c = λ is m named stands map. c.find.ensures.nowhere m named stands map (search rules)
+
+pub returns-in-Err-clause-so : goal.returns-in-Err-clause-so
+returns-in-Err-clause-so g c = so_of_map c.find.ensures.beside.goes.makes c.in-Err.halt c.args.filer.now.swapper.layout c.in-Err.ensures.cause
+
+pub returns-in-Err-clause-keeps : goal.returns-in-Err-clause-keeps
+returns-in-Err-clause-keeps g c = keeps_read (inr c.requires.client) c.find.ensures.beside c.find.ensures.same_bytes c.find.ensures.runs_given
+
+pub returns-in-Ok-None-clause-keeps : goal.returns-in-Ok-None-clause-keeps
+returns-in-Ok-None-clause-keeps g c = keeps_read (inr c.requires.client) c.find.ensures.beside c.find.ensures.same_bytes c.find.ensures.runs_given
+
+pub returns-in-Ok-Some-clause-keeps : goal.returns-in-Ok-Some-clause-keeps
+returns-in-Ok-Some-clause-keeps g c = keeps_read (inr c.requires.client) c.find.ensures.beside c.find.ensures.same_bytes c.find.ensures.runs_given

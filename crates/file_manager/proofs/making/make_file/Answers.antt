@@ -5,6 +5,7 @@ use Rattle.file_manager.specs.Making.{sectors_of}
 use Rattle.file_manager.proofs.CreateBroken.{leader_broken, pages_broken}
 use Rattle.file_manager.proofs.LeaderLemmas.{one_sector, unowned_file, led_by, file_made, file_sound, creates_all, stopped_leader, stopped_pages}
 use Rattle.file_manager.proofs.Faults.{counted_then}
+use Rattle.file_manager.proofs.MakeStops.{make_halts_before}
 use Rattle.file_manager.proofs.making.make_file.Goals as goal
 
 pub returns-in-Err-clause-sound : goal.returns-in-Err-clause-sound
@@ -60,3 +61,7 @@ returns-in-Err-make_up-clause-broken g c = λ x shapes spaces may.
     let leads = led_by c.args.id c.args.kind c.in-Ok._run.sector (sectors_of c.in-Ok._run) one c.in-Ok.ensures.runs first in
     pages_broken c.args.filer.now.swapper.layout c.args.filer.now.swapper.accepted c.args.filer.now.runs shapes spaces x _ _ c.args.id c.args.kind c.args.pages c.requires.of_file may c.in-Ok._run.sector _ _ leads _ _
     (rw (c.in-Ok.ensures.layout, c.in-Ok.ensures.runs) at c.in-Err-make_up.ensures.broken)
+
+pub returns-in-Err-make_up-clause-cause : goal.returns-in-Err-make_up-clause-cause
+returns-in-Err-make_up-clause-cause g c =
+    make_halts_before c.in-Ok.ensures.makes c.make_run.ensures.come (g.D.Disk.state c.make_up.new.filer.swapper.under) c.make_up.new.filer.swapper.pool c.in-Err-make_up.halt (rw c.in-Ok.ensures.layout at c.in-Err-make_up.ensures.cause)

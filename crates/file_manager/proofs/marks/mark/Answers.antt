@@ -13,6 +13,7 @@ use Rattle.file_manager.proofs.MarkLemmas.{marked_after, stopped_makes, leader_o
 use Rattle.file_manager.proofs.MarkStops.{marks_first}
 use Rattle.file_manager.proofs.CauseLemmas.{search_halts, label_halts}
 use Rattle.file_manager.proofs.Faults.{counted, no_fault}
+use Rattle.file_manager.proofs.SoLemmas.{so_of_other}
 use Rattle.file_manager.proofs.marks.mark.Goals as goal
 
 pub returns-in-Ok-None-clause-sound : goal.returns-in-Ok-None-clause-sound
@@ -80,3 +81,9 @@ returns-in-Err-mark_leader-clause-cause g c =
     let kept = runs_of layout.sectors c.args.filer.now.runs in
     let given = subst (λ (o : Option ℕ). IfSome o (λ sector. IsRunHome layout old c.args.filer.now.swapper.pool kept (home_at sector (record { id = c.args.id; page = leader_page })))) c.in-Ok-Some.field-0-is c.in-Ok-Some.ensures.given in
     label_halts layout kept c.args.id old c.args.filer.now.swapper.pool (g.D.Disk.state c.leader_of.new.filer.swapper.under) (g.D.Disk.state c.mark_leader.new.swapper.under) c.leader_of.new.filer.swapper.pool c.in-Ok-Some.sector c.leader_of.ensures.makes given c.in-Err-mark_leader.halt (rw c.swapper_over-swapper.ensures.value at c.in-Err-mark_leader.ensures.cause)
+
+pub returns-in-Ok-None-clause-so : goal.returns-in-Ok-None-clause-so
+returns-in-Ok-None-clause-so g c = inr c.requires.client
+
+pub returns-in-Err-mark_leader-clause-so : goal.returns-in-Err-mark_leader-clause-so
+returns-in-Err-mark_leader-clause-so g c = so_of_other (g.D.Disk.state c.mark_leader.new.swapper.under) c.in-Ok-Some.sector (record { id = c.args.id; page = leader_page }) (g.D.Disk.state c.leader_of.new.filer.swapper.under) (g.D.Disk.state c.mark_leader.new.swapper.under) c.in-Err-mark_leader.halt (rw c.swapper_over-swapper.ensures.value at c.in-Err-mark_leader.ensures.so)

@@ -7,6 +7,7 @@ use Rattle.filer_kernel.specs.Triples.{AreOf}
 use Rattle.file_manager.proofs.BookLemmas.{map_is, kept_are, map_named, own_maps, books_stay}
 use Rattle.file_manager.proofs.NextLemmas.{next_is}
 use Rattle.file_manager.proofs.Faults.{counted}
+use Rattle.filer_kernel.specs.EvidenceLaws.{so_of_map}
 use Rattle.file_manager.proofs.order.next.Goals as goal
 
 pub returns-in-Ok-clause-told : goal.returns-in-Ok-clause-told
@@ -39,3 +40,6 @@ returns-in-Err-clause-same g c = λ x shapes spaces books.
 
 pub returns-in-Err-clause-counted : goal.returns-in-Err-clause-counted
 returns-in-Err-clause-counted g c = counted _ _ (g.D.Disk.state c.args.filer.now.swapper.under) (g.D.Disk.state c.next_file.new.self.swapper.under) _ (omega arith) c.in-Err.ensures.cause
+
+pub returns-in-Err-clause-so : goal.returns-in-Err-clause-so
+returns-in-Err-clause-so g c = so_of_map c.next_file.ensures.beside.goes.makes c.in-Err.halt c.args.filer.now.swapper.layout c.in-Err.ensures.cause

@@ -8,6 +8,11 @@ use Rattle.filer_kernel.specs.PlaceLaws.{data_first}
 use Rattle.file_manager.proofs.FreedRun.{none_over, ones, labelled, named_then, run_freed, run_makes, run_stops, all_stop, map_stops}
 use Rattle.file_manager.proofs.StoppedFree.{some_none, some_labels, some_run}
 use Rattle.file_manager.proofs.Faults.{counted, counted_then}
+use Rattle.filer_kernel.specs.EvidenceLaws.{so_of_halts}
+use Rattle.file_manager.proofs.RunCauses.{at_labels, at_marks, run_kept}
+use Rattle.file_manager.specs.Freeing.{run_sectors}
+use Rattle.file_manager.proofs.FreedSectors.{row_has}
+use Rattle.file_manager.specs.Grounds.{IsUnframed, KeepsMap}
 use Rattle.file_manager.proofs.release.free_run.Goals as goal
 
 pub returns-in-Err-clause-sound : goal.returns-in-Err-clause-sound
@@ -102,3 +107,38 @@ returns-in-Err-give-clause-counted g c =
     let first = c.part_of.ensures.beside.goes.makes.went.faults in
     let second = c.in-Ok-free_labels.ensures.freed.makes.went.faults in
     counted _ _ (g.D.Disk.state c.free_labels.new.filer.swapper.under) (g.D.Disk.state c.give.new.self.swapper.under) _ (omega (arith, first, second)) c.in-Err-give.ensures.cause
+
+pub returns-in-Err-clause-so : goal.returns-in-Err-clause-so
+returns-in-Err-clause-so g c = c.in-Err.ensures.so c.requires.of_file
+
+pub returns-in-Err-give-clause-so : goal.returns-in-Err-give-clause-so
+returns-in-Err-give-clause-so g c = so_of_halts c.in-Err-give.ensures.kept.goes.makes c.in-Err-give.halt _ c.in-Err-give.ensures.cause
+
+pub returns-in-Err-free_labels-clause-cause : goal.returns-in-Err-free_labels-clause-cause
+returns-in-Err-free_labels-clause-cause g c =
+    let layout = c.args.filer.now.swapper.layout in
+    let form = c.in-Ok.ensures.form in
+    let keep = c.part_of.ensures.keeps c.requires.of_file in
+    at_labels c.args.filer.now.swapper.accepted c.requires.of_file c.in-Ok.run' form.form form.same_id keep (λ p. p ≡ c.args.page) c.in-Ok.ensures.homes (g.D.Disk.state c.free_labels.new.filer.swapper.under) c.in-Err-free_labels.halt c.in-Err-free_labels.ensures.cause
+
+pub returns-in-Err-give-clause-cause : goal.returns-in-Err-give-clause-cause
+returns-in-Err-give-clause-cause g c =
+    let layout = c.args.filer.now.swapper.layout in
+    let form = c.in-Ok.ensures.form in
+    let keep = c.part_of.ensures.keeps c.requires.of_file in
+    let frames = c.in-Ok-free_labels.ensures.frames in
+    let lay : c.free_labels.new.filer.swapper.layout ≡ layout = c.in-Ok-free_labels.ensures.layout ∙ c.part_of.ensures.beside.layout in
+    at_marks c.args.filer.now.swapper.accepted c.requires.of_file c.in-Ok.run' form.form form.same_id keep (run_sectors c.in-Ok.run') (λ j k at. let r = row_has c.in-Ok.run'.sector c.in-Ok.run'.pages j k at in (j, r.0, r.1)) c.in-Ok-free_labels.ensures.freed c.in-Ok-free_labels.ensures.were (λ p. p ≡ c.args.page) (g.D.Disk.state c.give.new.self.swapper.under) c.in-Err-give.halt (rw (frames, lay) at c.in-Err-give.ensures.cause)
+
+pub returns-clause-keeps : goal.returns-clause-keeps
+returns-clause-keeps g c =
+    let layout = c.args.filer.now.swapper.layout in
+    let form = c.in-Ok.ensures.form in
+    let keep = c.part_of.ensures.keeps c.requires.of_file in
+    let frames = c.in-Ok-free_labels.ensures.frames in
+    let lay : c.free_labels.new.filer.swapper.layout ≡ layout = c.in-Ok-free_labels.ensures.layout ∙ c.part_of.ensures.beside.layout in
+    let old = g.D.Disk.state c.args.filer.now.swapper.under in
+    let pool = c.args.filer.now.swapper.pool in
+    let same_runs : c.give.new.self.runs ≡ c.part_of.new.filer.runs = c.in-Ok-give.ensures.runs ∙ c.in-Ok-free_labels.ensures.runs in
+    subst (λ (r : CachedRuns). KeepsMap (IsUnframed pool c.args.id) layout c.args.id old pool (runs_of layout.sectors c.args.filer.now.runs) (g.D.Disk.state c.give.new.self.swapper.under) c.give.new.self.swapper.pool (runs_of layout.sectors r)) (sym same_runs)
+    (run_kept c.args.filer.now.swapper.accepted c.requires.of_file c.in-Ok.run' form.form form.same_id keep (run_sectors c.in-Ok.run') (λ j k at. let r = row_has c.in-Ok.run'.sector c.in-Ok.run'.pages j k at in (j, r.0, r.1)) c.in-Ok-free_labels.ensures.freed c.in-Ok-free_labels.ensures.were (rw (frames, lay) at c.in-Ok-give.ensures.kept))

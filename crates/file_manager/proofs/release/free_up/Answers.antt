@@ -1,6 +1,6 @@
 use Rattle.std.proofs.Common.{rules, ◌≡◌, ◌<◌}
 use Rattle.file_manager.proofs.FreedRun.{stops_then}
-use Rattle.file_manager.proofs.FreedUpTo.{to_none, to_then, to_rest, to_all, to_made, to_spent, to_stopped_cost}
+use Rattle.file_manager.proofs.FreedUpTo.{to_none, to_then, to_rest, to_all, to_made, to_spent, to_stopped_cost, to_halts}
 use Rattle.file_manager.proofs.StoppedFree.{some_then}
 use Rattle.file_manager.proofs.Faults.{counted_then}
 use Rattle.file_manager.proofs.release.free_up.Goals as goal
@@ -11,7 +11,7 @@ loop-page-init g c = to_none _ _ _ _ _ _ _ c.requires.order c.requires.size
 pub loop-page-preserved : goal.loop-page-preserved
 loop-page-preserved g c =
     let below : c.loop-page.page < c.args.end = search rules in
-    to_then c.loop-page.invariant below c.in-Ok.ensures.some c.in-Ok.ensures.layout c.in-Ok.ensures.spent c.in-Ok.ensures.makes c.in-Ok.ensures.freed
+    to_then c.loop-page.invariant below c.in-Ok.ensures.some c.in-Ok.ensures.layout c.in-Ok.ensures.spent c.in-Ok.ensures.makes c.in-Ok.ensures.keeps c.in-Ok.ensures.freed
 
 pub returns-in-Err-clause-sound : goal.returns-in-Err-clause-sound
 returns-in-Err-clause-sound g c = λ named spaces m may.
@@ -50,3 +50,11 @@ returns-in-Err-clause-first g c = λ named spaces m may.
 
 pub returns-in-Err-clause-counted : goal.returns-in-Err-clause-counted
 returns-in-Err-clause-counted g c = counted_then _ _ _ c.loop-page.invariant.makes.makes.went.faults c.in-Err.ensures.counted
+
+pub returns-in-Err-clause-cause : goal.returns-in-Err-clause-cause
+returns-in-Err-clause-cause g c =
+    let below : c.loop-page.page < c.args.end = search rules in
+    to_halts c.loop-page.invariant c.requires.size below (g.D.Disk.state c.free_run.new.filer.swapper.under) c.in-Err.halt c.in-Err.ensures.cause
+
+pub returns-clause-keeps : goal.returns-clause-keeps
+returns-clause-keeps g c = c.loop-page.invariant.keeps

@@ -1,8 +1,17 @@
-use Rattle.std.proofs.Common.{◌≤◌, ◌-◌, sym, ◌∙◌, subst, rules, arith}
+use Rattle.std.proofs.Common.{◌≤◌, ◌-◌, sym, ◌∙◌, subst, rules, arith, ◌≡◌, refl, true, Option}
 use Rattle.std.proofs.lemmas.Bool.{true≢false}
 use Rattle.file_map.specs.FileMap.{IsFound}
 use Rattle.file_manager.proofs.FreedRun.{run_part}
 use Rattle.file_manager.proofs.Faults.{counted, no_fault}
+use Rattle.filer_kernel.specs.EvidenceLaws.{so_of_map}
+use Rattle.filer_kernel.specs.Cached.{runs_of}
+use Rattle.file_manager.proofs.Keeping.{keeps_none, keeps_read, search_halts_behind}
+use Rattle.file_manager.proofs.RunCauses.{part_homes}
+use Rattle.std.specs.Prelude.{IfSome}
+use Rattle.file_map.specs.declared.run.Run.{Run}
+use Rattle.file_map.specs.Run.{holds}
+use Rattle.filer_kernel.specs.Causes.{IsGiven}
+use Rattle.file_manager.specs.Grounds.{IsUnframed}
 use Rattle.file_manager.proofs.release.part_of.Goals as goal
 
 pub returns-in-Ok-Some-clause-named : goal.returns-in-Ok-Some-clause-named
@@ -24,3 +33,41 @@ returns-in-Ok-None-clause-counted g c = no_fault
 
 pub returns-in-Err-clause-counted : goal.returns-in-Err-clause-counted
 returns-in-Err-clause-counted g c = counted _ _ (g.D.Disk.state c.args.filer.now.swapper.under) (g.D.Disk.state c.find.new.self.swapper.under) _ (omega arith) c.in-Err.ensures.cause
+
+pub returns-in-Err-clause-so : goal.returns-in-Err-clause-so
+returns-in-Err-clause-so g c = λ of_file. so_of_map c.find.ensures.beside.goes.makes c.in-Err.halt c.args.filer.now.swapper.layout c.in-Err.ensures.cause
+
+pub returns-in-Ok-None-clause-so : goal.returns-in-Ok-None-clause-so
+returns-in-Ok-None-clause-so g c = λ of_file. of_file
+
+pub returns-in-Err-clause-cause : goal.returns-in-Err-clause-cause
+returns-in-Err-clause-cause g c =
+    let layout = c.args.filer.now.swapper.layout in
+    let old = g.D.Disk.state c.args.filer.now.swapper.under in
+    let pool = c.args.filer.now.swapper.pool in
+    let kept = runs_of layout.sectors c.args.filer.now.runs in
+    let new = g.D.Disk.state c.find.new.self.swapper.under in
+    search_halts_behind (keeps_none (IsUnframed pool c.args.id) layout c.args.id old pool kept (λ none. none)) (λ p. p ≡ c.args.page) new c.in-Err.halt c.in-Err.ensures.cause
+
+pub returns-in-Ok-None-clause-cause : goal.returns-in-Ok-None-clause-cause
+returns-in-Ok-None-clause-cause g c = (refl, refl, λ none m named stands map. c.find.ensures.nowhere m named stands map (search rules))
+
+pub returns-in-Ok-Some-clause-homes : goal.returns-in-Ok-Some-clause-homes
+returns-in-Ok-Some-clause-homes g c =
+    let layout = c.args.filer.now.swapper.layout in
+    let old = g.D.Disk.state c.args.filer.now.swapper.under in
+    let pool = c.args.filer.now.swapper.pool in
+    let kept = runs_of layout.sectors c.args.filer.now.runs in
+    let is_given = subst (λ (o : Option Run). IfSome o (λ run. IsGiven layout old pool kept run)) c.in-Ok-Some.field-0-is c.in-Ok-Some.ensures.given in
+    let held = subst (λ (o : Option Run). IfSome o (λ run. holds run c.args.id c.args.page ≡ true)) c.in-Ok-Some.field-0-is c.in-Ok-Some.ensures.holds in
+    let few : c.min-pages.result ≤ c.in-Ok-Some.run'.pages - (c.args.page - c.in-Ok-Some.run'.first) = search rules in
+    part_homes layout old pool kept c.in-Ok-Some.run' is_given c.args.id c.args.page c.min-pages.result held few
+
+pub returns-in-Err-clause-keeps : goal.returns-in-Err-clause-keeps
+returns-in-Err-clause-keeps g c = λ of_file. keeps_read of_file c.find.ensures.beside c.find.ensures.same_bytes c.find.ensures.runs_given
+
+pub returns-in-Ok-None-clause-keeps : goal.returns-in-Ok-None-clause-keeps
+returns-in-Ok-None-clause-keeps g c = λ of_file. keeps_read of_file c.find.ensures.beside c.find.ensures.same_bytes c.find.ensures.runs_given
+
+pub returns-in-Ok-Some-clause-keeps : goal.returns-in-Ok-Some-clause-keeps
+returns-in-Ok-Some-clause-keeps g c = λ of_file. keeps_read of_file c.find.ensures.beside c.find.ensures.same_bytes c.find.ensures.runs_given

@@ -1,4 +1,4 @@
-use Rattle.std.proofs.Common.{◌≡◌, ◌+◌, ◌-◌, ◌*◌, ◌<◌, ◌≤◌, sym, ◌∙◌, ap, subst, arith, rules}
+use Rattle.std.proofs.Common.{◌≡◌, inr, ℕ, ◌+◌, ◌-◌, ◌*◌, ◌<◌, ◌≤◌, sym, ◌∙◌, ap, subst, arith, rules, inl, refl}
 use Rattle.std.proofs.lemmas.Option.{none-some}
 use Rattle.file_map.specs.FileMap.{most_records}
 use Rattle.swapper_kernel.specs.Stands.{labels_of}
@@ -8,6 +8,10 @@ use Rattle.file_manager.proofs.CountedLemmas.{of_answer, rose_after}
 use Rattle.file_manager.proofs.Faults.{counted, counted_then, no_fault}
 use Rattle.file_manager.proofs.NextLemmas.{file_id}
 use Rattle.file_manager.proofs.SizeSteps.{shape_is, may_grow_now, may_shrink_now, grown_told, shrunk_told, grew_told, some_told, grew_none, some_none, grown_makes, grown_stops, shrunk_makes, shrunk_stops, none_resized, room_grown, room_shrunk, grow_cost, shrink_cost}
+use Rattle.file_manager.proofs.ResizeStops.{resize_of_file, resize_of_make, resize_of_shrink}
+use Rattle.file_manager.proofs.MakeStops.{make_halts_before}
+use Rattle.file_manager.proofs.CutCauses.{shrink_halts_behind}
+use Rattle.filer_kernel.specs.Cached.{runs_of}
 use Rattle.file_manager.proofs.resizing.set_size.Goals as goal
 
 pub find_file-requires-clause-client : goal.find_file-requires-clause-client
@@ -280,3 +284,36 @@ returns-in-Ok-clause-room g c = λ within. room_grown c.args.volume.now c.grow.n
 
 pub returns-in-Ok-shrink-clause-room : goal.returns-in-Ok-shrink-clause-room
 returns-in-Ok-shrink-clause-room g c = room_shrunk c.args.volume.now c.shrink.new.volume (c.in-Ok-Some.file.pages - c.args.pages) c.in-Ok-shrink.ensures.used
+
+pub returns-in-Ok-None-clause-so : goal.returns-in-Ok-None-clause-so
+returns-in-Ok-None-clause-so g c = inr (file_id c.args.id c.requires.of_file)
+
+pub returns-in-Err-clause-cause : goal.returns-in-Err-clause-cause
+returns-in-Err-clause-cause g c =
+    let layout = c.args.filer.now.swapper.layout in
+    let old = (g.D.Disk.state c.args.filer.now.swapper.under) in
+    let pool = c.args.filer.now.swapper.pool in
+    let kept = runs_of layout.sectors c.args.filer.now.runs in
+    resize_of_file layout kept c.args.id c.args.pages old (g.D.Disk.state c.find_file.new.filer.swapper.under) pool c.find_file.new.filer.swapper.pool c.in-Err.halt c.in-Err.ensures.cause
+
+pub returns-in-Ok-None-clause-cause : goal.returns-in-Ok-None-clause-cause
+returns-in-Ok-None-clause-cause g c = inl (refl, refl, c.find_file.ensures.missing (search rules))
+
+pub returns-in-Err-grow-clause-cause : goal.returns-in-Err-grow-clause-cause
+returns-in-Err-grow-clause-cause g c =
+    let layout = c.args.filer.now.swapper.layout in
+    let old = (g.D.Disk.state c.args.filer.now.swapper.under) in
+    let pool = c.args.filer.now.swapper.pool in
+    let kept = runs_of layout.sectors c.args.filer.now.runs in
+    resize_of_make layout kept c.args.id c.args.pages old (g.D.Disk.state c.grow.new.filer.swapper.under) pool c.grow.new.filer.swapper.pool c.in-Err-grow.halt
+    (make_halts_before c.find_file.ensures.makes c.find_file.ensures.keeps.brings (g.D.Disk.state c.grow.new.filer.swapper.under) c.grow.new.filer.swapper.pool c.in-Err-grow.halt (rw c.find_file.ensures.layout at c.in-Err-grow.ensures.cause))
+
+pub returns-in-Err-shrink-clause-cause : goal.returns-in-Err-shrink-clause-cause
+returns-in-Err-shrink-clause-cause g c =
+    let layout = c.args.filer.now.swapper.layout in
+    let old = (g.D.Disk.state c.args.filer.now.swapper.under) in
+    let pool = c.args.filer.now.swapper.pool in
+    let kept = runs_of layout.sectors c.args.filer.now.runs in
+    let pages = λ (p : ℕ). (c.args.pages ≤ p) × (p < c.in-Ok-Some.file.pages) in
+    resize_of_shrink layout kept c.args.id c.args.pages old (g.D.Disk.state c.shrink.new.filer.swapper.under) pool c.shrink.new.filer.swapper.pool c.in-Ok-Some.file.pages c.in-Err-shrink.halt
+    (shrink_halts_behind c.find_file.ensures.keeps c.find_file.ensures.makes c.requires.sectors c.args.pages pages pages (λ p own. own) (g.D.Disk.state c.shrink.new.filer.swapper.under) c.shrink.new.filer.swapper.pool c.in-Err-shrink.halt (rw c.find_file.ensures.layout at c.in-Err-shrink.ensures.cause))

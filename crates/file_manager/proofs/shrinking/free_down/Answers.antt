@@ -1,6 +1,6 @@
 use Rattle.std.proofs.Common.{rules, ◌≡◌, ◌<◌}
 use Rattle.file_manager.proofs.FreedRun.{stops_then}
-use Rattle.file_manager.proofs.DownTo.{down_none, down_then, down_rest, down_freed, down_made, down_spent, down_stopped_cost, down_broken_off}
+use Rattle.file_manager.proofs.DownTo.{down_none, down_then, down_rest, down_freed, down_made, down_spent, down_stopped_cost, down_broken_off, down_halts}
 use Rattle.file_manager.proofs.shrinking.free_down.Goals as goal
 
 pub loop-page-init : goal.loop-page-init
@@ -9,7 +9,7 @@ loop-page-init g c = down_none _ _ _ _ _ _ _ c.requires.order c.requires.size
 pub loop-page-preserved : goal.loop-page-preserved
 loop-page-preserved g c =
     let below : c.args.from < c.loop-page.page = search rules in
-    down_then c.loop-page.invariant below c.in-Ok.ensures.some c.in-Ok.ensures.layout c.in-Ok.ensures.spent c.in-Ok.ensures.makes c.in-Ok.ensures.freed
+    down_then c.loop-page.invariant below c.in-Ok.ensures.some c.in-Ok.ensures.layout c.in-Ok.ensures.spent c.in-Ok.ensures.makes c.in-Ok.ensures.keeps c.in-Ok.ensures.freed
 
 pub returns-in-Err-clause-sound : goal.returns-in-Err-clause-sound
 returns-in-Err-clause-sound g c = λ named spaces m may.
@@ -41,3 +41,11 @@ pub returns-clause-cost : goal.returns-clause-cost
 returns-clause-cost g c =
     let all : c.loop-page.page ≡ c.args.from = search rules in
     down_spent c.loop-page.invariant all
+
+pub returns-in-Err-clause-cause : goal.returns-in-Err-clause-cause
+returns-in-Err-clause-cause g c =
+    let below : c.args.from < c.loop-page.page = search rules in
+    down_halts c.loop-page.invariant c.requires.size below (g.D.Disk.state c.free_last.new.filer.swapper.under) c.in-Err.halt c.in-Err.ensures.cause
+
+pub returns-clause-keeps : goal.returns-clause-keeps
+returns-clause-keeps g c = c.loop-page.invariant.keeps

@@ -1,4 +1,4 @@
-use Rattle.std.proofs.Common.{◌≡◌, ◌-◌, sym, ◌∙◌, ap, subst, arith}
+use Rattle.std.proofs.Common.{◌≡◌, inr, ◌-◌, sym, ◌∙◌, ap, subst, arith}
 use Rattle.labelled_disk.specs.declared.layout.Layout.{Layout}
 use Rattle.swapper_kernel.specs.declared.manager.Manager.TheVariants.{AllocationMap, FileMap}
 use Rattle.filer_kernel.specs.declared.cached.CachedRuns.{CachedRuns}
@@ -7,6 +7,11 @@ use Rattle.filer_kernel.specs.Triples.{AreOf}
 use Rattle.filer_kernel.specs.PlaceLaws.{data_first}
 use Rattle.file_manager.proofs.FreedRun.{all_stop, map_stops}
 use Rattle.file_manager.proofs.DownRun.{none_over, ones, labelled, named_then, is_named, few_pages, run_freed, down_makes, down_stops, down_broken, none_broken, all_broken}
+use Rattle.filer_kernel.specs.EvidenceLaws.{so_of_halts}
+use Rattle.file_manager.proofs.RunCauses.{at_labels, at_marks, run_kept}
+use Rattle.file_manager.specs.Shrinking.{run_down}
+use Rattle.file_manager.proofs.DownLemmas.{down_has}
+use Rattle.file_manager.specs.Grounds.{IsUnframed, KeepsMap}
 use Rattle.file_manager.proofs.shrinking.free_last.Goals as goal
 
 pub returns-in-Err-clause-sound : goal.returns-in-Err-clause-sound
@@ -113,3 +118,38 @@ returns-clause-some g c =
 
 pub returns-clause-makes : goal.returns-clause-makes
 returns-clause-makes g c = down_makes c.in-Ok.run' c.last_part.ensures.beside c.in-Ok-free_labels_down.ensures.frames c.in-Ok-free_labels_down.ensures.freed c.in-Ok-give.ensures.kept
+
+pub returns-in-Err-clause-so : goal.returns-in-Err-clause-so
+returns-in-Err-clause-so g c = c.in-Err.ensures.so (inr c.requires.of_file)
+
+pub returns-in-Err-give-clause-so : goal.returns-in-Err-give-clause-so
+returns-in-Err-give-clause-so g c = so_of_halts c.in-Err-give.ensures.kept.goes.makes c.in-Err-give.halt _ c.in-Err-give.ensures.cause
+
+pub returns-in-Err-free_labels_down-clause-cause : goal.returns-in-Err-free_labels_down-clause-cause
+returns-in-Err-free_labels_down-clause-cause g c =
+    let layout = c.args.filer.now.swapper.layout in
+    let form = c.in-Ok.ensures.form in
+    let keep = c.last_part.ensures.keeps (inr c.requires.of_file) in
+    at_labels c.args.filer.now.swapper.accepted (inr c.requires.of_file) c.in-Ok.run' form.form form.same_id keep (λ p. p ≡ c.args.end - 1) c.in-Ok.ensures.homes (g.D.Disk.state c.free_labels_down.new.filer.swapper.under) c.in-Err-free_labels_down.halt c.in-Err-free_labels_down.ensures.cause
+
+pub returns-in-Err-give-clause-cause : goal.returns-in-Err-give-clause-cause
+returns-in-Err-give-clause-cause g c =
+    let layout = c.args.filer.now.swapper.layout in
+    let form = c.in-Ok.ensures.form in
+    let keep = c.last_part.ensures.keeps (inr c.requires.of_file) in
+    let frames = c.in-Ok-free_labels_down.ensures.frames in
+    let lay : c.free_labels_down.new.filer.swapper.layout ≡ layout = c.in-Ok-free_labels_down.ensures.layout ∙ c.last_part.ensures.beside.layout in
+    at_marks c.args.filer.now.swapper.accepted (inr c.requires.of_file) c.in-Ok.run' form.form form.same_id keep (run_down c.in-Ok.run') (down_has c.in-Ok.run') c.in-Ok-free_labels_down.ensures.freed c.in-Ok-free_labels_down.ensures.were (λ p. p ≡ c.args.end - 1) (g.D.Disk.state c.give.new.self.swapper.under) c.in-Err-give.halt (rw (frames, lay) at c.in-Err-give.ensures.cause)
+
+pub returns-clause-keeps : goal.returns-clause-keeps
+returns-clause-keeps g c =
+    let layout = c.args.filer.now.swapper.layout in
+    let form = c.in-Ok.ensures.form in
+    let keep = c.last_part.ensures.keeps (inr c.requires.of_file) in
+    let frames = c.in-Ok-free_labels_down.ensures.frames in
+    let lay : c.free_labels_down.new.filer.swapper.layout ≡ layout = c.in-Ok-free_labels_down.ensures.layout ∙ c.last_part.ensures.beside.layout in
+    let old = g.D.Disk.state c.args.filer.now.swapper.under in
+    let pool = c.args.filer.now.swapper.pool in
+    let same_runs : c.give.new.self.runs ≡ c.last_part.new.filer.runs = c.in-Ok-give.ensures.runs ∙ c.in-Ok-free_labels_down.ensures.runs in
+    subst (λ (r : CachedRuns). KeepsMap (IsUnframed pool c.args.id) layout c.args.id old pool (runs_of layout.sectors c.args.filer.now.runs) (g.D.Disk.state c.give.new.self.swapper.under) c.give.new.self.swapper.pool (runs_of layout.sectors r)) (sym same_runs)
+    (run_kept c.args.filer.now.swapper.accepted (inr c.requires.of_file) c.in-Ok.run' form.form form.same_id keep (run_down c.in-Ok.run') (down_has c.in-Ok.run') c.in-Ok-free_labels_down.ensures.freed c.in-Ok-free_labels_down.ensures.were (rw (frames, lay) at c.in-Ok-give.ensures.kept))

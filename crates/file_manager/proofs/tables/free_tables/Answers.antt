@@ -1,9 +1,15 @@
-use Rattle.std.proofs.Common.{◌≡◌, ◌∙◌, arith}
+use Rattle.std.proofs.Common.{◌≡◌, ◌∙◌, arith, ap, ◌≤◌, ◌<◌}
 use Rattle.swapper_kernel.specs.FormLaws.{memory_in_form}
 use Rattle.swapper_kernel.specs.declared.manager.Manager.TheVariants.{FileMap}
 use Rattle.file_manager.proofs.FreedRun.{all_stop}
 use Rattle.file_manager.proofs.TablesFreed.{bare, tables_all, tables_may, tables_some, tables_ended, forgot_freed, forgot_some, freed_cut}
 use Rattle.file_manager.proofs.Faults.{counted, counted_then}
+use Rattle.filer_kernel.specs.EvidenceLaws.{so_of_cut}
+use Rattle.file_manager.proofs.Forgotten.{keeps_forgotten}
+use Rattle.file_manager.proofs.Keeping.{keeps_then, free_halts_before}
+use Rattle.file_manager.proofs.CutCauses.{cut_of_free, cut_halts_behind}
+use Rattle.filer_kernel.specs.Cached.{runs_of}
+use Rattle.file_manager.specs.Grounds.{AreTables}
 use Rattle.file_manager.proofs.tables.free_tables.Goals as goal
 
 pub returns-in-Err-clause-sound : goal.returns-in-Err-clause-sound
@@ -77,3 +83,30 @@ returns-in-Err-cut-clause-first g c = λ x shapes spaces books.
     let m = bare layout is kept shapes spaces x _ _ books _ _ f.gone f.left f.goes f.form in
     let h = (rw (f.layout, f.runs) at c.in-Ok.ensures.freed) books.booked.named spaces m.0 may in
     tables_all layout is kept shapes spaces x _ _ books _ _ f.gone f.left f.goes f.form _ _ _ _ _ _ _ h c.in-Err-cut.ensures.beside
+
+pub returns-in-Err-cut-clause-so : goal.returns-in-Err-cut-clause-so
+returns-in-Err-cut-clause-so g c = so_of_cut c.cut.ensures.beside.goes.makes c.in-Err-cut.halt c.free_up.new.filer.swapper.layout c.in-Err-cut.ensures.cause
+
+pub returns-in-Err-clause-cause : goal.returns-in-Err-clause-cause
+returns-in-Err-clause-cause g c =
+    let layout = c.args.filer.now.swapper.layout in
+    let old = (g.D.Disk.state c.args.filer.now.swapper.under) in
+    let pool = c.args.filer.now.swapper.pool in
+    let kept = runs_of layout.sectors c.args.filer.now.runs in
+    let f = c.forget_tables.ensures in
+    let keep = keeps_forgotten kept c.args.filer.now.swapper.accepted c.args.filer.now.swapper.placed f.gone f.left f.goes (ap g.D.Disk.state f.under) in
+    let new = (g.D.Disk.state c.free_up.new.filer.swapper.under) in
+    cut_of_free (AreTables pool) layout kept 3 0 (λ page. page < 96) old new pool c.in-Err.halt
+    (free_halts_before keep (λ p. (0 ≤ p) × (p < 96)) (λ page. page < 96) (λ p own. own.1) c.requires.size new c.in-Err.halt (rw (f.layout, f.runs) at c.in-Err.ensures.cause))
+
+pub returns-in-Err-cut-clause-cause : goal.returns-in-Err-cut-clause-cause
+returns-in-Err-cut-clause-cause g c =
+    let layout = c.args.filer.now.swapper.layout in
+    let old = (g.D.Disk.state c.args.filer.now.swapper.under) in
+    let pool = c.args.filer.now.swapper.pool in
+    let kept = runs_of layout.sectors c.args.filer.now.runs in
+    let f = c.forget_tables.ensures in
+    let keep = keeps_forgotten kept c.args.filer.now.swapper.accepted c.args.filer.now.swapper.placed f.gone f.left f.goes (ap g.D.Disk.state f.under) in
+    let lay : c.free_up.new.filer.swapper.layout ≡ layout = c.in-Ok.ensures.layout ∙ f.layout in
+    cut_halts_behind (keeps_then keep (rw (f.layout, f.runs) at c.in-Ok.ensures.keeps)) 0 (λ page. page < 96) (g.D.Disk.state c.cut.new.self.swapper.under) c.cut.new.self.swapper.pool c.in-Err-cut.halt
+    (rw lay at c.in-Err-cut.ensures.begun) (rw lay at c.in-Err-cut.ensures.cause)

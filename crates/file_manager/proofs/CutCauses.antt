@@ -1,0 +1,94 @@
+-- Why a call that cuts a file out of the map stops the session.
+use Rattle.std.proofs.Common.{◌≡◌, ◌⊎◌, inl, inr, ℕ, List, [], ◌++◌, arith}
+use Rattle.labelled_disk.specs.declared.disk.DiskWrite.{DiskWrite}
+use Rattle.labelled_disk.specs.declared.evidence.Evidence.{Evidence}
+use Rattle.labelled_disk.specs.declared.evidence.Evidence.TheVariants.{Mismatch, Malformed, Missing}
+use Rattle.labelled_disk.specs.declared.evidence.Halt.{Halt}
+use Rattle.labelled_disk.specs.declared.evidence.Halt.TheVariants.{Disk, Damaged}
+use Rattle.labelled_disk.specs.declared.layout.Layout.{Layout}
+use Rattle.labelled_disk.specs.State.{DiskState}
+use Rattle.frame_pool.specs.Frames.{Slots}
+use Rattle.file_map.specs.declared.run.Run.{Run}
+use Rattle.file_map.specs.Run.{run_bytes}
+use Rattle.file_map.specs.Entries.{Entry}
+use Rattle.file_map.specs.Cause.{IsToCut}
+use Rattle.swapper_kernel.specs.declared.manager.Manager.TheVariants.{FileMap}
+use Rattle.swapper_kernel.specs.Goes.{Makes}
+use Rattle.swapper_kernel.specs.GoesLaws.{makes_then}
+use Rattle.swapper_kernel.specs.HaltLaws.{brings_then, rose_wider}
+use Rattle.swapper_kernel.specs.Homes.{home_at}
+use Rattle.swapper_kernel.specs.Window.{Beside}
+use Rattle.filer_kernel.specs.Causes.{MapShows, MapEvidence, MapHalts, AddHalts, CutEvidence, CutHalts}
+use Rattle.session_words.specs.Volume.{volume_page}
+use Rattle.file_manager.specs.Grounds.{IsUnframed, FreeEvidence, FreeHalts, TakesOut, CutFileHalts, PutsBack, ShrinkHalts, KeepsMap}
+use Rattle.file_manager.proofs.FreedRun.{map_makes}
+use Rattle.file_manager.proofs.MakeStops.{maps_come, beside_here}
+use Rattle.file_manager.proofs.Keeping.{shown, free_before, search_before}
+
+-- ---- The file is cut out of the map.
+
+module _ {given : Type 0} {layout : Layout} {id : ℕ} {a b : DiskState} {s t : Slots} {kept runs : List Run} (keep : KeepsMap given layout id a s kept b t runs) (from : ℕ) (pages : ℕ → Type 0) where
+  taken_out : (e : Evidence) (c : DiskState) (u : Slots) → MapEvidence layout b t e ⊎ IsToCut id from (MapShows layout b t) → CutEvidence layout b t c u e → FreeEvidence given layout kept id pages a s e ⊎ TakesOut given layout id from a s e
+  taken_out (Mismatch sector wanted found) c u begun why = elim why.reason [
+    | inl held ↦ elim (keep.brings.homes (home_at sector wanted) held) [ inl was ↦ inl (inl was) | inr own ↦ inl (inr (inl own)) ]
+    | inr own ↦ inl (inr (inl (FileMap, own)))
+  ]
+  taken_out (Malformed window page) c u begun why = elim begun [
+    | inl broken ↦ inl (search_before keep (Malformed window page) pages broken)
+    | inr cut ↦ inr (why.0, λ g. record { run = cut.run; page = cut.page; shown = shown keep g (Entry cut.page (run_bytes cut.run)) cut.shown; of_file = cut.of_file; behind = cut.behind })
+  ]
+  taken_out (Missing missing page) c u begun why = absurd why
+
+  pub cut_halts_behind : (c : DiskState) (u : Slots) (halt : Halt) → MapHalts layout b t c halt ⊎ IsToCut id from (MapShows layout b t) → CutHalts layout b t c u halt → CutFileHalts given layout kept id from pages a s c halt
+  cut_halts_behind c u Disk begun why = rose_wider a.faults b.faults c.faults c.faults keep.faults (omega arith) why
+  cut_halts_behind c u (Damaged e) begun why = taken_out e c u begun why
+
+-- what stops before the file is cut
+pub cut_of_free : (given : Type 0) (layout : Layout) (kept : List Run) (id from : ℕ) (pages : ℕ → Type 0) (a c : DiskState) (s : Slots) (halt : Halt) → FreeHalts given layout kept id pages a s c halt → CutFileHalts given layout kept id from pages a s c halt
+cut_of_free given layout kept id from pages a c s Disk is = is
+cut_of_free given layout kept id from pages a c s (Damaged e) is = inl is
+
+-- ---- A file that gets fewer pages.
+
+module _ {given : Type 0} {layout : Layout} {id : ℕ} {a b : DiskState} {s t : Slots} {kept runs : List Run} {run : List DiskWrite} (keep : KeepsMap given layout id a s kept b t runs) (makes : Makes volume_page run a s b t) (size : a.sectors ≡ layout.sectors)
+    (from : ℕ) (pages more : ℕ → Type 0) (all : (page : ℕ) → pages page → more page) (c : DiskState) (u : Slots) where
+  out_before : (e : Evidence) → TakesOut (IsUnframed t id) layout id from b t e → TakesOut given layout id from a s e
+  out_before (Mismatch sector wanted found) is = absurd is
+  out_before (Malformed window page) is = (is.0, λ g. let cut = is.1 (keep.unframed g) in record { run = cut.run; page = cut.page; shown = shown keep g (Entry cut.page (run_bytes cut.run)) cut.shown; of_file = cut.of_file; behind = cut.behind })
+  out_before (Missing missing page) is = absurd is
+
+  back_before : (e : Evidence) → PutsBack layout b t c u e → PutsBack layout a s c u e
+  back_before (Mismatch sector wanted found) is = absurd is
+  back_before (Malformed window page) is = (is.0, record { disk = is.1.disk; slots = is.1.slots; run = run ++ is.1.run; since = makes_then makes is.1.since; come = brings_then keep.brings is.1.come; until = is.1.until; held = is.1.held })
+  back_before (Missing missing page) is = absurd is
+
+  -- the halt of a call that shrinks the file, behind them
+  pub shrink_halts_behind : (halt : Halt) → ShrinkHalts (IsUnframed t id) layout runs id from pages b t c u halt → ShrinkHalts given layout kept id from more a s c u halt
+  shrink_halts_behind Disk is = rose_wider a.faults b.faults c.faults c.faults keep.faults (omega arith) is
+  shrink_halts_behind (Damaged e) is = elim is [
+    | inl free ↦ inl (free_before keep pages more all size e free)
+    | inr (inl out) ↦ inr (inl (out_before e out))
+    | inr (inr back) ↦ inr (inr (back_before e back))
+  ]
+
+-- it stops where pages are freed
+pub shrink_of_free : (given : Type 0) (layout : Layout) (kept : List Run) (id from : ℕ) (pages : ℕ → Type 0) (a c : DiskState) (s u : Slots) (halt : Halt) → FreeHalts given layout kept id pages a s c halt → ShrinkHalts given layout kept id from pages a s c u halt
+shrink_of_free given layout kept id from pages a c s u Disk is = is
+shrink_of_free given layout kept id from pages a c s u (Damaged e) is = inl is
+
+-- where the file is cut
+pub shrink_of_cut : (given : Type 0) (layout : Layout) (kept : List Run) (id from : ℕ) (pages : ℕ → Type 0) (a c : DiskState) (s u : Slots) (halt : Halt) → CutFileHalts given layout kept id from pages a s c halt → ShrinkHalts given layout kept id from pages a s c u halt
+shrink_of_cut given layout kept id from pages a c s u Disk is = is
+shrink_of_cut given layout kept id from pages a c s u (Damaged e) is = elim is [ inl free ↦ inl free | inr out ↦ inr (inl out) ]
+
+-- and where the leader is put in again
+pub shrink_of_add : (given : Type 0) {layout later last : Layout} (kept : List Run) (id from : ℕ) (pages : ℕ → Type 0) {a b c : DiskState} {s t u : Slots} → Beside FileMap a s layout b t later → Beside FileMap b t layout c u last → (halt : Halt)
+    → AddHalts layout b t c halt → ShrinkHalts given layout kept id from pages a s c u halt
+shrink_of_add given kept id from pages {a = a} {b = b} {c = c} first second Disk is = rose_wider a.faults b.faults c.faults c.faults first.goes.makes.went.faults (omega arith) is
+shrink_of_add given kept id from pages first second (Damaged (Mismatch sector wanted found)) is = elim is.reason [
+  | inl held ↦ elim (first.brings.homes (home_at sector wanted) held) [ inl was ↦ inl (inl was) | inr own ↦ inl (inr (inl (FileMap, own))) ]
+  | inr own ↦ inl (inr (inl (FileMap, own)))
+]
+shrink_of_add given kept id from pages {b = b} {t = t} first second (Damaged (Malformed window page)) is =
+    inr (inr (is.0, record { disk = b; slots = t; run = []; since = map_makes first; come = maps_come first; until = beside_here second; held = is.1 }))
+shrink_of_add given kept id from pages first second (Damaged (Missing missing page)) is = absurd is

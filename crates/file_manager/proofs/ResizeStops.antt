@@ -1,0 +1,64 @@
+-- Why a call that gives a file another size stops the session.
+use Rattle.std.proofs.Common.{◌≡◌, ◌⊎◌, inl, inr, ℕ, ◌<◌, ◌≤◌, List, sym, ◌∙◌, ap, subst}
+use Rattle.labelled_disk.specs.declared.evidence.Evidence.{Evidence}
+use Rattle.labelled_disk.specs.declared.evidence.Evidence.TheVariants.{Mismatch, Malformed, Missing}
+use Rattle.labelled_disk.specs.declared.evidence.Halt.{Halt}
+use Rattle.labelled_disk.specs.declared.evidence.Halt.TheVariants.{Disk, Damaged}
+use Rattle.labelled_disk.specs.declared.label.Wanted.{Wanted}
+use Rattle.labelled_disk.specs.declared.layout.Layout.{Layout}
+use Rattle.labelled_disk.specs.Label.{leader_page, names}
+use Rattle.labelled_disk.specs.State.{DiskState, HasLabel}
+use Rattle.frame_pool.specs.Frames.{Slots}
+use Rattle.file_map.specs.declared.run.Run.{Run}
+use Rattle.swapper_kernel.specs.Homes.{home_at}
+use Rattle.filer_kernel.specs.Causes.{MapEvidence, IsRunHome}
+use Rattle.file_manager.specs.Causes.{LeaderEvidence}
+use Rattle.file_manager.specs.Finding.{IsNoLeader, FileHalts}
+use Rattle.file_manager.specs.Grounds.{IsUnframed, FreeEvidence, TakesOut, PutsBack, MakeEvidence, MakeHalts, ShrinkHalts, ResizeHalts}
+
+module _ (layout : Layout) (kept : List Run) (id pages : ℕ) (a c : DiskState) (s u : Slots) where
+  searched : (e : Evidence) → MapEvidence layout a s e → LeaderEvidence layout kept id a s e
+  searched (Mismatch sector wanted found) is = record { there = is.there; other = is.other; reason = inl is.reason }
+  searched (Malformed window page) is = is
+  searched (Missing missing page) is = absurd is
+
+  no_leader : (e : Evidence) → IsNoLeader layout kept id a s e → LeaderEvidence layout kept id a s e
+  no_leader (Mismatch place wanted found) is =
+      let at = is.other.0 in
+      let page = is.other.1 in
+      record {
+        there = subst (λ (k : ℕ). HasLabel a k found) (sym at) is.other.2;
+        other = ap (names found) page ∙ is.other.3;
+        reason = inr (ap (home_at place) page, subst (λ (w : Wanted). IsRunHome layout a s kept (home_at place w)) (sym page) (subst (λ (k : ℕ). IsRunHome layout a s kept (home_at k (record { id = id; page = leader_page }))) (sym at) is.by_run));
+      }
+  no_leader (Malformed window page) is = absurd is.other
+  no_leader (Missing missing page) is = absurd is.other
+
+  -- where the file is looked up
+  pub resize_of_file : (halt : Halt) → FileHalts layout kept id a s c halt → ResizeHalts layout kept id pages a s c u halt
+  resize_of_file Disk is = is
+  resize_of_file (Damaged e) is = elim is [ inl map ↦ inl (searched e map) | inr other ↦ inl (no_leader e other) ]
+
+  -- where pages are made
+  pub resize_of_make : (halt : Halt) → MakeHalts layout a s c u halt → ResizeHalts layout kept id pages a s c u halt
+  resize_of_make Disk is = is
+  resize_of_make (Damaged e) is = inr (inl is)
+
+  fewer : (size : ℕ) (e : Evidence) → FreeEvidence (IsUnframed s id) layout kept id (λ p. (pages ≤ p) × (p < size)) a s e → FreeEvidence (IsUnframed s id) layout kept id (λ p. pages ≤ p) a s e
+  fewer size (Mismatch sector wanted found) is = is
+  fewer size (Malformed window page) is = is
+  fewer size (Missing missing page) is = (is.0, is.1.0, is.2)
+
+  put_back : (e : Evidence) → PutsBack layout a s c u e → MakeEvidence layout a s c u e
+  put_back (Mismatch sector wanted found) is = absurd is
+  put_back (Malformed window page) is = is
+  put_back (Missing missing page) is = absurd is
+
+  -- where pages are freed
+  pub resize_of_shrink : (size : ℕ) (halt : Halt) → ShrinkHalts (IsUnframed s id) layout kept id pages (λ p. (pages ≤ p) × (p < size)) a s c u halt → ResizeHalts layout kept id pages a s c u halt
+  resize_of_shrink size Disk is = is
+  resize_of_shrink size (Damaged e) is = elim is [
+    | inl free ↦ inr (inr (inl (fewer size e free)))
+    | inr (inl out) ↦ inr (inr (inr out))
+    | inr (inr back) ↦ inr (inl (put_back e back))
+  ]

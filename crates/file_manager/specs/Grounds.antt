@@ -1,0 +1,152 @@
+-- Why the calls that free and make pages of files stop the session: what was wanted in a sector, and what the maps said.
+use Rattle.std.specs.Prelude.{◌≡◌, ◌⊎◌, ℕ, ◌<◌, ◌≤◌, true, List}
+use Rattle.labelled_disk.specs.declared.disk.DiskWrite.{DiskWrite}
+use Rattle.labelled_disk.specs.declared.evidence.Evidence.{Evidence}
+use Rattle.labelled_disk.specs.declared.evidence.Evidence.TheVariants.{Mismatch, Malformed, Missing}
+use Rattle.labelled_disk.specs.declared.evidence.Halt.{Halt}
+use Rattle.labelled_disk.specs.declared.layout.Layout.{Layout}
+use Rattle.labelled_disk.specs.Label.{leader_page}
+use Rattle.labelled_disk.specs.Sectors.{Sector}
+use Rattle.labelled_disk.specs.State.{DiskState}
+use Rattle.frame_pool.specs.declared.home.Home.{Home}
+use Rattle.frame_pool.specs.Frames.{Slots}
+use Rattle.file_map.specs.declared.run.Run.{Run}
+use Rattle.file_map.specs.FileMap.{Triples, IsSize}
+use Rattle.file_map.specs.Cause.{IsBroken, IsMost, IsToCut}
+use Rattle.swapper_kernel.specs.declared.manager.Manager.{Manager}
+use Rattle.swapper_kernel.specs.declared.manager.Manager.TheVariants.{AllocationMap, FileMap}
+use Rattle.swapper_kernel.specs.Maps.{IsMapHome}
+use Rattle.swapper_kernel.specs.Homes.{Homes, Brings, home_at}
+use Rattle.swapper_kernel.specs.Halts.{HasCause, held_or}
+use Rattle.swapper_kernel.specs.Stands.{Stands}
+use Rattle.swapper_kernel.specs.Goes.{Makes}
+use Rattle.swapper_kernel.specs.Window.{Tells, Beside}
+use Rattle.label_calls.specs.Labels.{nobody}
+use Rattle.filer_kernel.specs.Causes.{MapShows, MapCounts, IsGiven, IsRunHome}
+use Rattle.filer_kernel.specs.Marks.{Marks, BitsAre, AreAll}
+use Rattle.filer_kernel.specs.Triples.{MapIs, IsOneOf}
+use Rattle.session_words.specs.FrameLaws.{IsThere}
+use Rattle.session_words.specs.Volume.{volume_page}
+use Rattle.file_manager.specs.Causes.{NamesNone, LeaderEvidence}
+
+-- a page of either map, where the layout has it
+abbrev pub IsMapsHome : Layout → Homes
+IsMapsHome layout home = (which : Manager) × IsMapHome which layout home
+
+-- no frame has a page of the file
+abbrev pub IsUnframed : Slots → ℕ → Type 0
+IsUnframed slots id = (page : ℕ) → IsThere slots id page → ⊥
+
+-- frames have none but the 96 pages of the space tables
+abbrev pub AreTables : Slots → Type 0
+AreTables slots = (page : ℕ) → IsThere slots 3 page → page < 96
+
+-- ---- Pages that are freed. What the file map said at the start is known where something is given.
+
+-- a page of the file on a data sector, where a run that was kept, or a record of the map, has it
+pub record IsOwnHome (given : Type 0) (layout : Layout) (kept : List Run) (id : ℕ) (disk : DiskState) (slots : Slots) (home : Home) : Type 0 where
+  pub of_file : home.id ≡ id
+  pub from : layout.first ≤ home.sector
+  pub below : home.sector < layout.sectors
+  pub by_run : given → IsRunHome layout disk slots kept home
+
+-- The evidence is a label in a home of a map, of a frame, or of a page of the file; or a page of the map that broke its form;
+-- or one of these pages of the file, of which the map had no record.
+abbrev pub FreeEvidence : Type 0 → Layout → List Run → ℕ → (ℕ → Type 0) → DiskState → Slots → Evidence → Type 0
+FreeEvidence given layout kept id pages disk slots (Mismatch sector wanted found) = held_or slots (λ home. IsMapsHome layout home ⊎ IsOwnHome given layout kept id disk slots home) (home_at sector wanted)
+FreeEvidence given layout kept id pages disk slots (Malformed window page) = (window ≡ 2) × (given → IsBroken layout.sectors (MapShows layout disk slots) page)
+FreeEvidence given layout kept id pages disk slots (Missing missing page) = (missing ≡ id) × pages page × (given → NamesNone layout disk slots id page)
+
+-- the evidence is a page of the map, of which a record of the file, or a part of one, was to be taken out
+abbrev pub TakesOut : Type 0 → Layout → ℕ → ℕ → DiskState → Slots → Evidence → Type 0
+TakesOut given layout id from disk slots (Mismatch sector wanted found) = ⊥
+TakesOut given layout id from disk slots (Malformed window page) = (window ≡ 2) × (given → IsToCut id from (MapShows layout disk slots))
+TakesOut given layout id from disk slots (Missing missing page) = ⊥
+
+-- the page is below the size of the file that the map tells
+abbrev pub IsBelowSize : Layout → DiskState → Slots → ℕ → ℕ → Type 0
+IsBelowSize layout disk slots id page = (m : List Sector) (named : Triples) → Stands disk slots m → MapIs layout named m → (size : ℕ) × IsSize named id size × (page < size)
+
+-- the halt of a call that frees these pages of a file
+abbrev pub FreeHalts : Type 0 → Layout → List Run → ℕ → (ℕ → Type 0) → DiskState → Slots → DiskState → Halt → Type 0
+FreeHalts given layout kept id pages old before new halt = HasCause (FreeEvidence given layout kept id pages old before) old new halt
+
+-- the halt of a call that frees these pages, and takes the file from page `from` on out of the map
+abbrev pub CutFileHalts : Type 0 → Layout → List Run → ℕ → ℕ → (ℕ → Type 0) → DiskState → Slots → DiskState → Halt → Type 0
+CutFileHalts given layout kept id from pages old before new halt =
+    HasCause (λ evidence. FreeEvidence given layout kept id pages old before evidence ⊎ TakesOut given layout id from old before evidence) old new halt
+
+-- the leader, or a page below the size
+abbrev pub IsPageOf : Layout → DiskState → Slots → ℕ → ℕ → Type 0
+IsPageOf layout disk slots id page = (page ≡ leader_page) ⊎ IsBelowSize layout disk slots id page
+
+-- the halt of a call that deletes a file; what the map said is known where no frame had a page of it
+abbrev pub DeleteHalts : Layout → List Run → ℕ → DiskState → Slots → DiskState → Halt → Type 0
+DeleteHalts layout kept id old before new halt = CutFileHalts (IsUnframed before id) layout kept id 0 (IsPageOf layout old before id) old before new halt
+
+-- What calls on a file leave: pages of the maps alone came into frames; and where something is given, the bytes of the file
+-- map are told as they were, no frame has a page of the file, and runs that are kept were kept or are records of the map.
+pub record KeepsMap (given : Type 0) (layout : Layout) (id : ℕ) (old : DiskState) (before : Slots) (kept : List Run) (new : DiskState) (after : Slots) (runs : List Run) : Type 0 where
+  pub faults : old.faults ≤ new.faults
+  pub brings : Brings (IsMapsHome layout) before after
+  pub unframed : given → IsUnframed after id
+  pub told : given → (b : List ℕ) → Tells FileMap old before layout b → Tells FileMap new after layout b
+  pub runs_given : given → (r : Run) → IsOneOf r runs → IsGiven layout old before kept r
+
+-- ---- Pages that are made.
+
+-- As disk and frames were when the last accesses to a map began, P held.
+pub record HeldOnce (which : Manager) (layout : Layout) (P : DiskState → Slots → Type 0) (old : DiskState) (before : Slots) (new : DiskState) (after : Slots) : Type 0 where
+  pub disk : DiskState
+  pub slots : Slots
+  pub run : List DiskWrite
+  pub since : Makes volume_page run old before disk slots
+  pub come : Brings (IsMapsHome layout) before slots
+  pub until : Beside which disk slots layout new after layout
+  pub held : P disk slots
+
+-- the page of the map breaks its form, or it is page 0 and the map has as many records as it may
+abbrev pub IsBrokenOrFull : Layout → ℕ → DiskState → Slots → Type 0
+IsBrokenOrFull layout page disk slots = IsBroken layout.sectors (MapShows layout disk slots) page ⊎ ((page ≡ 0) × IsMost layout.sectors (MapCounts layout disk slots))
+
+-- no data sector is free
+abbrev pub HasNoRoom : Layout → DiskState → Slots → Type 0
+HasNoRoom layout disk slots = (m : List Sector) (marks : Marks) → Stands disk slots m → BitsAre layout marks m → AreAll true marks layout.first layout.sectors
+
+-- a data sector, where nobody's page is wanted
+pub record IsToBeFree (layout : Layout) (home : Home) : Type 0 where
+  pub free : home ≡ home_at home.sector nobody
+  pub from : layout.first ≤ home.sector
+  pub below : home.sector < layout.sectors
+
+-- The evidence is a label in a home of a map or of a frame, or one of a data sector that was to be free; or a page of the
+-- map; or a page of the space tables, where no data sector is free.
+abbrev pub MakeEvidence : Layout → DiskState → Slots → DiskState → Slots → Evidence → Type 0
+MakeEvidence layout old before new after (Mismatch sector wanted found) = held_or before (λ home. IsMapsHome layout home ⊎ IsToBeFree layout home) (home_at sector wanted)
+MakeEvidence layout old before new after (Malformed window page) = (window ≡ 2) × HeldOnce FileMap layout (IsBrokenOrFull layout page) old before new after
+MakeEvidence layout old before new after (Missing id page) = (id ≡ 3) × (page ≡ 0) × HeldOnce AllocationMap layout (HasNoRoom layout) old before new after
+
+-- the halt of a call that makes pages
+abbrev pub MakeHalts : Layout → DiskState → Slots → DiskState → Slots → Halt → Type 0
+MakeHalts layout old before new after halt = HasCause (MakeEvidence layout old before new after) old new halt
+
+-- ---- Another size.
+
+-- the evidence is a page of the map, as the last accesses to it found it
+abbrev pub PutsBack : Layout → DiskState → Slots → DiskState → Slots → Evidence → Type 0
+PutsBack layout old before new after (Mismatch sector wanted found) = ⊥
+PutsBack layout old before new after (Malformed window page) = (window ≡ 2) × HeldOnce FileMap layout (IsBrokenOrFull layout page) old before new after
+PutsBack layout old before new after (Missing id page) = ⊥
+
+-- The halt of a call that frees these pages of a file, takes it from page `from` on out of the map, and puts its leader in
+-- again.
+abbrev pub ShrinkHalts : Type 0 → Layout → List Run → ℕ → ℕ → (ℕ → Type 0) → DiskState → Slots → DiskState → Slots → Halt → Type 0
+ShrinkHalts given layout kept id from pages old before new after halt =
+    HasCause (λ evidence. FreeEvidence given layout kept id pages old before evidence ⊎ (TakesOut given layout id from old before evidence ⊎ PutsBack layout old before new after evidence)) old new halt
+
+-- The halt of a call that gives a file so many pages: it has no leader; or pages could not be made; or as where those from the
+-- new size on are freed.
+abbrev pub ResizeHalts : Layout → List Run → ℕ → ℕ → DiskState → Slots → DiskState → Slots → Halt → Type 0
+ResizeHalts layout kept id pages old before new after halt =
+    HasCause (λ evidence. LeaderEvidence layout kept id old before evidence ⊎ (MakeEvidence layout old before new after evidence
+    ⊎ (FreeEvidence (IsUnframed before id) layout kept id (λ page. pages ≤ page) old before evidence ⊎ TakesOut (IsUnframed before id) layout id pages old before evidence))) old new halt
