@@ -1,6 +1,6 @@
 -- Pages of a range that may be stored to are given up, one interval after the other.
 use Rattle.std.proofs.Common.{◌≡◌, inl, inr, ◌≤◌, ◌<◌, ℕ, ◌+◌, ◌*◌, List, [], refl, sym, ◌∙◌, ap, subst, arith}
-use Rattle.std.specs.Prelude.{None}
+use Rattle.std.specs.Prelude.{None, Some, find}
 use Rattle.std.proofs.lemmas.Bool.{cases_lt}
 use Rattle.std.proofs.lemmas.Option.{none-some}
 use Rattle.labelled_disk.specs.declared.evidence.Halt.{Halt}
@@ -21,6 +21,8 @@ use Rattle.swapper_kernel.specs.Stands.{Stands}
 use Rattle.session_words.specs.CellLaws.{Kills, is_killed}
 use Rattle.session_words.specs.Volume.{volume_page}
 use Rattle.session_words.proofs.FoundLemmas.{above_reserved}
+use Rattle.descriptor_cache.specs.Pages.{has_page}
+use Rattle.fault_core.specs.Kept.{AreFound}
 use Rattle.fault_core.specs.Kill.{AreWritableSo, BreaksWithin, LeavesCore, is_absent}
 use Rattle.fault_core.specs.Range.{IsNextPart}
 use Rattle.fault_core.specs.Reach.{BringsOwn, ReachHalts}
@@ -72,6 +74,7 @@ pub record IsKilling (v : View) (kept : List Interval) (count first pages stop :
   pub intervals : later ≡ count
   pub gone : (m : List Sector) (named : Triples) (ss : List Space) → Told v kept count m named ss → AreWritableSo (is_absent w.slots) ss first page
   pub ahead : (m : List Sector) (named : Triples) (ss : List Space) (t : Told v kept count m named ss) → IsAhead t.tables.xs count stop page k
+  pub idle : AreFound kept first (first + pages) → (w.disk ≡ v.disk) × (now ≡ kept)
   pub cost : w.disk.transfers ≤ v.disk.transfers + k * 196
 
 pub killing_none : (v : View) (kept : List Interval) (count first pages stop : ℕ) → v.disk.sectors ≡ v.layout.sectors → IsKilling v kept count first pages stop v kept count first 0
@@ -84,6 +87,7 @@ killing_none v kept count first pages stop size = record {
   intervals = refl;
   gone = λ m named ss told p from below. absurd (omega (arith, from, below));
   ahead = λ m named ss told. inr (omega arith, λ j x here held. omega arith);
+  idle = λ found. (refl, refl);
   cost = omega arith;
 }
 
@@ -94,6 +98,12 @@ module _ {v : View} {kept : List Interval} {count first pages stop : ℕ} {w : V
 
   pub killing_sound : (m : List Sector) (named : Triples) (ss : List Space) (e : Halt) → Told v kept count m named ss → ((n : List Sector) (named : Triples) (ss : List Space) → Told w now later n named ss → e ≡ halt.Disk) → e ≡ halt.Disk
   killing_sound m named ss e told sound = let n = told_now m named ss told in sound n.0 named ss n.1
+
+  -- the interval that has the page was kept, and is
+  pub killing_found : page < first + pages → AreFound kept first (first + pages) → (y : Interval) × (find (has_page page) now ≡ Some y)
+  killing_found below found =
+      let one = found page h.from below in
+      (one.0, ap (find (has_page page)) (h.idle found).1 ∙ one.1)
 
   module _ (x : View) (after : List Interval) (last : ℕ) (upto : stop ≤ first + pages)
       (left : (m : List Sector) (named : Triples) (ss : List Space) (range : Space) → Told w now later m named ss → range.first ≤ page → stop ≤ range.first + range.pages → LeavesKilled w m named ss range x after last) where
@@ -108,8 +118,9 @@ module _ {v : View} {kept : List Interval} {count first pages stop : ℕ} {w : V
     pub killing_more : (next : ℕ) → page < stop → page < next → Touches no_page w x → BringsOwn w.slots x.slots → last ≡ later
         → ((m : List Sector) (named : Triples) (ss : List Space) → Told w now later m named ss → AreWritableSo (is_absent x.slots) ss page next)
         → ((m : List Sector) (named : Triples) (ss : List Space) → Told w now later m named ss → IsNextPart ss page stop next)
+        → ((y : Interval) → find (has_page page) now ≡ Some y → (x.disk ≡ w.disk) × (after ≡ now))
         → x.disk.transfers ≤ w.disk.transfers + 196 → IsKilling v kept count first pages stop x after last next (k + 1)
-    killing_more next inside more touches came intervals gone part cost = record {
+    killing_more next inside more touches came intervals gone part idle cost = record {
       from = let from = h.from in omega (arith, from, more);
       size = touches.goes.makes.went.sectors ∙ h.size ∙ ap (λ l. l.sectors) (sym touches.layout);
       touches = touches_then v w is h.touches x touches;
@@ -123,6 +134,11 @@ module _ {v : View} {kept : List Interval} {count first pages stop : ℕ} {w : V
       ahead = λ m named ss told.
           let n = told_now m named ss told in
           ahead_next ss told.tables.xs count stop page k next (tables_are told.tables) told.tables.counted inside (h.ahead m named ss told) (part n.0 named ss n.1);
+      idle = λ found.
+          let was = h.idle found in
+          let one = killing_found (omega (arith, inside, upto)) found in
+          let step = idle one.0 one.1 in
+          (step.0 ∙ was.0, step.1 ∙ was.1);
       cost = let was = h.cost in omega (arith, was, cost);
     }
 

@@ -1,6 +1,8 @@
 pub mod BeforeLemmas
 pub mod ReachLemmas
 pub mod TurnLemmas
+pub mod EvidenceLemmas
+pub mod YieldLemmas
 mod FindLemmas
 mod UnitLemmas
 mod KeptLemmas

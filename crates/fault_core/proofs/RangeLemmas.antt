@@ -20,9 +20,11 @@ use Rattle.space_tables.specs.Stored.{TellSpaces}
 use Rattle.fault_core.specs.declared.range.Way.{Way}
 use Rattle.descriptor_cache.specs.Pages.{has_page}
 use Rattle.frame_pool.specs.Frames.{Slots}
-use Rattle.fault_core.specs.Range.{AreAtRest, BreaksSome, IsNextPart, LeavesFrames}
+use Rattle.fault_core.specs.declared.range.Way.TheVariants.{Force}
+use Rattle.fault_core.specs.Kill.{BreaksWithin}
+use Rattle.fault_core.specs.Range.{AreAtRest, IsNextPart, LeavesFrames}
 use Rattle.fault_core.specs.Unit.{file_page}
-use Rattle.fault_core.specs.Reach.{Reaches, ReachHalts, BringsOwn}
+use Rattle.fault_core.specs.Reach.{Reaches, ReachHalts, BringsOwn, StayOrYield}
 use Rattle.fault_core.specs.Told.{BreaksTables, Told}
 use Rattle.fault_core.specs.View.{View}
 use Rattle.fault_core.proofs.AccessLemmas.{breaks_before}
@@ -31,6 +33,7 @@ use Rattle.fault_core.proofs.KeptLemmas.{find_is}
 use Rattle.fault_core.proofs.ReachLemmas.{reaches_itself, reaches_then, halts_before}
 use Rattle.fault_core.proofs.RestLemmas.{rests_stay, rest_then, rest_nowhere, leaves_same}
 use Rattle.fault_core.proofs.ShowLemmas.{none_past}
+use Rattle.fault_core.proofs.YieldLemmas.{yield_itself, yield_then}
 
 -- all was passed, or each interval that has the page has at least so many before it
 abbrev pub IsAhead : List Interval → ℕ → ℕ → ℕ → ℕ → Type 0
@@ -97,6 +100,7 @@ pub record IsResting (v : View) (kept : List Interval) (count : ℕ) (way : Way)
   pub size : w.disk.sectors ≡ w.layout.sectors
   pub reaches : Reaches v w
   pub came : BringsOwn v.slots w.slots
+  pub stay : way ≡ Force → StayOrYield v.slots w.slots
   pub from : first ≤ page
   pub same_count : still ≡ count
   pub cost : w.disk.transfers ≤ v.disk.transfers + k * (196 + length v.slots)
@@ -108,6 +112,7 @@ resting_none v kept count way first stop size = record {
   size = size;
   reaches = reaches_itself v;
   came = brings_itself (λ home. (1 ≤ home.id) × (home.id ≤ 3)) v.slots;
+  stay = λ is. yield_itself v.slots;
   from = omega arith;
   same_count = refl;
   cost = omega arith;
@@ -151,12 +156,13 @@ module _ {v : View} {kept : List Interval} {count : ℕ} {way : Way} {first stop
       → ((m : List Sector) (named : Triples) (ss : List Space) → Told w now still m named ss → IsNextPart ss page stop next)
       → ((m : List Sector) (named : Triples) (ss : List Space) → Told w now still m named ss → Told x later left m named ss)
       → ((y : Interval) → find (has_page page) now ≡ Some y → stop ≤ y.first + y.pages → LeavesFrames way y.id (file_page y page) (stop - page) w.slots x.slots)
-      → ((y : Interval) → find (has_page page) now ≡ Some y → stop ≤ y.first + y.pages → next ≡ stop)
+      → ((y : Interval) → find (has_page page) now ≡ Some y → stop ≤ y.first + y.pages → next ≡ stop) → (way ≡ Force → StayOrYield w.slots x.slots)
       → Reaches w x → BringsOwn w.slots x.slots → left ≡ still → x.disk.transfers ≤ w.disk.transfers + (196 + length w.slots) → IsResting v kept count way first stop x later left next (k + 1)
-  resting_more x later left next below further rest part same frames all next_reaches came same_left cost = record {
+  resting_more x later left next below further rest part same frames all stay next_reaches came same_left cost = record {
     size = next_reaches.goes.makes.went.sectors ∙ h.size ∙ ap (λ l. l.sectors) (sym next_reaches.layout);
     reaches = reaches_then v w is h.reaches x next_reaches;
     came = brings_then h.came came;
+    stay = λ forced. yield_then (h.stay forced) (stay forced);
     from = let front = h.from in omega (arith, front, further);
     same_count = same_left ∙ h.same_count;
     cost = more_cost k (length v.slots) (length w.slots) w.disk.transfers x.disk.transfers v.disk.transfers h.reaches.goes.makes.count h.cost cost;
@@ -175,8 +181,10 @@ module _ {v : View} {kept : List Interval} {count : ℕ} {way : Way} {first stop
         );
   }
 
-  pub resting_halt : (x : View) (e : Halt) → ReachHalts (BreaksTables w still page) w x e → ReachHalts (BreaksSome v count) v x e
-  resting_halt x e halts = halts_before v w is h.reaches (BreaksTables w still page) (BreaksSome v count) (λ broken breaks. (page, breaks_before v w h.reaches count still page broken h.same_count breaks)) x x (omega arith) e halts
+  pub resting_halt : (to : ℕ) → page < to → (x : View) (e : Halt) → ReachHalts (BreaksTables w still page) w x e → ReachHalts (BreaksWithin v count first to) v x e
+  resting_halt to below x e halts =
+      halts_before v w is h.reaches (BreaksTables w still page) (BreaksWithin v count first to)
+      (λ broken breaks. record { asked = page; from = h.from; below = below; breaks = breaks_before v w h.reaches count still page broken h.same_count breaks }) x x (omega arith) e halts
 
   pub resting_stopped : (x : View) → Reaches w x → Reaches v x
   resting_stopped x next = reaches_then v w is h.reaches x next

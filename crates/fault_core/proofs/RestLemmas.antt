@@ -21,13 +21,14 @@ use Rattle.space_tables.specs.Stored.{TellSpaces}
 use Rattle.fault_core.specs.declared.range.Way.{Way}
 use Rattle.fault_core.specs.declared.range.Way.TheVariants.{Force, LetGo}
 use Rattle.fault_core.specs.Range.{AreAtRest, IsAtRest, LeavesFrames}
-use Rattle.fault_core.specs.Reach.{Reaches, BringsOwn}
+use Rattle.fault_core.specs.Reach.{Reaches, BringsOwn, StayOrYield}
 use Rattle.fault_core.specs.Told.{IsIntervalOf, Told}
 use Rattle.fault_core.specs.Unit.{file_page}
 use Rattle.fault_core.specs.View.{View}
 use Rattle.fault_core.proofs.ReachLemmas.{reaches_itself}
 use Rattle.fault_core.proofs.ShowLemmas.{none_past, shown_is, shown_none}
 use Rattle.fault_core.proofs.TurnLemmas.{reaches_brought}
+use Rattle.fault_core.proofs.YieldLemmas.{stay_yields, yield_then}
 
 -- frames are written out, or given up
 pub rest_reaches : (v x : View) → Swaps v.disk v.slots x.disk x.slots → ((i : ℕ) (f : Frame) → Has x.slots i f → (g : Frame) × Has v.slots i g × (g.home ≡ f.home) × (g.bytes ≡ f.bytes)) → x.layout ≡ v.layout → x.runs ≡ v.runs → Reaches v x
@@ -110,3 +111,7 @@ pub part_leaves : (way : Way) (x y : Interval) (page next end : ℕ) (s t u : Sl
 part_leaves way x y page next end s t u same all slots left =
     subst (λ (z : Interval). LeavesFrames way z.id (file_page z page) (end - page) s u) (sym same)
     (subst (λ (n : ℕ). LeavesFrames way x.id (file_page x page) (n - page) s u) all (subst (λ (b : Slots). LeavesFrames way x.id (file_page x page) (next - page) b u) slots left))
+
+-- pages of the volume's own came, and frames of a run were written out
+pub run_yields : (way : Way) (id first pages : ℕ) (s t u : Slots) → StayOrYield s t → LeavesFrames way id first pages t u → way ≡ Force → StayOrYield s u
+run_yields way id first pages s t u come leaves forced = yield_then come (stay_yields (subst (λ (w : Way). LeavesFrames w id first pages t u) forced leaves))

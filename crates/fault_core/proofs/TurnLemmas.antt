@@ -46,7 +46,7 @@ reaches_tables v w h same = record {
   told = same;
 }
 
-map_id : (layout : Layout) (home : Home) → IsMapHome FileMap layout home → (1 ≤ home.id) × (home.id ≤ 3)
+pub map_id : (layout : Layout) (home : Home) → IsMapHome FileMap layout home → (1 ≤ home.id) × (home.id ≤ 3)
 map_id layout home map =
     let two : home.id ≡ 2 = ap (λ (h : Home). h.id) map.2 in
     (omega (arith, two), omega (arith, two))

@@ -1,9 +1,10 @@
 -- The intervals that are kept.
-use Rattle.std.specs.Prelude.{◌≡◌, ◌≢◌, ℕ, ◌+◌, ◌^◌, ◌≤◌, List, Some, slice_get}
+use Rattle.std.specs.Prelude.{◌≡◌, ◌≢◌, ℕ, ◌+◌, ◌^◌, ◌<◌, ◌≤◌, List, Some, find, slice_get}
 use Rattle.std.proofs.Math.Nat.{ℕ_set}
 use Rattle.std.specs.Coded.{le_prop}
 use Rattle.swap_units.specs.declared.interval.Interval.{Interval}
 use Rattle.swap_units.specs.Unit.{Holds}
+use Rattle.descriptor_cache.specs.Pages.{has_page}
 
 -- the interval is one of these
 abbrev pub IsKept : List Interval → Interval → Type 0
@@ -30,3 +31,7 @@ are_formed_once kept = hlevel formed_once
 -- no two different ones share a page
 abbrev pub AreApart : List Interval → Type 0
 AreApart kept = (x y : Interval) (page : ℕ) → IsKept kept x → IsKept kept y → Holds x page → Holds y page → x ≡ y
+
+-- each page from the one up to the other is one of an interval that is kept: no table is asked for it
+abbrev pub AreFound : List Interval → ℕ → ℕ → Type 0
+AreFound kept from to = (page : ℕ) → from ≤ page → page < to → (x : Interval) × (find (has_page page) kept ≡ Some x)

@@ -5,7 +5,7 @@ use Rattle.labelled_disk.specs.declared.evidence.Evidence.TheVariants.{Mismatch,
 use Rattle.labelled_disk.specs.declared.evidence.Halt.{Halt}
 use Rattle.labelled_disk.specs.Sectors.{Sector}
 use Rattle.frame_pool.specs.declared.home.Home.{Home}
-use Rattle.frame_pool.specs.Frames.{Slots}
+use Rattle.frame_pool.specs.Frames.{Frame, Slots, Has}
 use Rattle.file_map.specs.declared.run.Run.{Run}
 use Rattle.file_map.specs.FileMap.{Triples, IsNowhere}
 use Rattle.file_map.specs.Cause.{IsBroken}
@@ -59,3 +59,11 @@ no_break page = ⊥
 -- pages of the maps and of the space tables alone came into frames
 abbrev pub BringsOwn : Slots → Slots → Type 0
 BringsOwn before after = Brings (λ home. (1 ≤ home.id) × (home.id ≤ 3)) before after
+
+-- a page of the maps, or of the space tables
+abbrev pub IsOwn : Home → Type 0
+IsOwn home = (1 ≤ home.id) × (home.id ≤ 3)
+
+-- each frame stays where it is, with its bytes, or its slot has a page of the maps or of the space tables afterwards
+abbrev pub StayOrYield : Slots → Slots → Type 0
+StayOrYield before after = (i : ℕ) (f : Frame) → Has before i f → (g : Frame) × Has after i g × (((g.home ≡ f.home) × (g.bytes ≡ f.bytes)) ⊎ IsOwn g.home)

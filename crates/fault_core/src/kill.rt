@@ -1,5 +1,5 @@
 //! Pages of a range that may be stored to are given up without a write: their bytes are those of the disk again.
-ghost use Rattle.std.specs.Prelude.{◌≡◌, ◌≤◌, ◌<◌, ◌+◌, ◌*◌, ℕ, false, List, [], IfOk, IfErr, OnOk};
+ghost use Rattle.std.specs.Prelude.{◌≡◌, ◌≤◌, ◌<◌, ◌+◌, ◌*◌, ℕ, false, List, [], Some, IfOk, IfErr, IsOk, OnOk, find};
 ghost use Rattle.labelled_disk.specs.declared.evidence.Halt.TheVariants as halt;
 ghost use Rattle.labelled_disk.specs.Sectors.{Sector};
 ghost use Rattle.file_map.specs.FileMap.{Triples};
@@ -10,6 +10,9 @@ ghost use Rattle.swapper_kernel.specs.Goes.{Goes, no_page};
 ghost use Rattle.swapper_kernel.specs.Stands.{Stands};
 ghost use Rattle.session_words.specs.CellLaws.{Kills, is_killed};
 ghost use Rattle.session_words.specs.Volume.{volume_page};
+ghost use Rattle.swap_units.specs.declared.interval.Interval.{Interval as IntervalIs};
+ghost use Rattle.descriptor_cache.specs.Pages.{has_page};
+ghost use Rattle.fault_core.specs.Kept.{AreFound};
 ghost use Rattle.fault_core.specs.Kill.{AreWritableSo, BreaksWithin, LeavesCore, ShowsPart, is_absent, may_store, of_part};
 ghost use Rattle.fault_core.specs.Moves.{Leaves};
 ghost use Rattle.fault_core.specs.Range.{IsNextPart};
@@ -74,6 +77,7 @@ impl<D: Disk, A: Allocator> CoreOver<D, A> {
         ensures touches { Touches no_page (state self.old) (state self.new) }
         ensures came { BringsOwn self.old.filer.swapper.pool self.new.filer.swapper.pool }
         ensures intervals { self.new.intervals ≡ self.old.intervals }
+        ensures idle { (x : IntervalIs) → find (has_page page) (kept self.old) ≡ Some x → IsOk result × (D.state self.new.filer.swapper.under ≡ D.state self.old.filer.swapper.under) × (kept self.new ≡ kept self.old) }
         ensures cost { (D.state self.new.filer.swapper.under).transfers ≤ (D.state self.old.filer.swapper.under).transfers + 196 }
     {
         let (x, next) = match self.part_at(page, end) {
@@ -88,7 +92,8 @@ impl<D: Disk, A: Allocator> CoreOver<D, A> {
     }
 
     /// Gives up the frames of the pages that windows show in a range of pages of the root and let stores through. What is
-    /// dirty is lost: the bytes of these pages are those of the disk.
+    /// dirty is lost: the bytes of these pages are those of the disk. Where intervals that are kept have the range, no sector is
+    /// read or written.
     pub fn kill(&mut self, first: u32, pages: u32) -> Result<(), Halt>
         requires size { (D.state self.old.filer.swapper.under).sectors ≡ self.old.filer.swapper.layout.sectors }
         ensures gone { (m : List Sector) (named : Triples) (ss : List Space) → Knows self.old m named ss → OnOk result (AreWritableSo (is_absent self.new.filer.swapper.pool) ss first (first + pages)) }
@@ -100,6 +105,7 @@ impl<D: Disk, A: Allocator> CoreOver<D, A> {
         ensures touches { Touches no_page (state self.old) (state self.new) }
         ensures came { BringsOwn self.old.filer.swapper.pool self.new.filer.swapper.pool }
         ensures intervals { self.new.intervals ≡ self.old.intervals }
+        ensures idle { AreFound (kept self.old) first (first + pages) → IsOk result × (D.state self.new.filer.swapper.under ≡ D.state self.old.filer.swapper.under) × (kept self.new ≡ kept self.old) }
         ensures cost { (D.state self.new.filer.swapper.under).transfers ≤ (D.state self.old.filer.swapper.under).transfers + (self.old.intervals + 1) * 196 }
     {
         let end = end_of(first, pages);

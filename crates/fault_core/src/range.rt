@@ -8,10 +8,11 @@ ghost use Rattle.fault_core.specs.declared.range.Way.TheVariants as way_is;
 ghost use Rattle.force_calls.specs.Run.{OnlyRun, Stay};
 ghost use Rattle.swap_units.specs.declared.interval.Interval.{Interval as IntervalIs};
 ghost use Rattle.descriptor_cache.specs.Pages.{has_page};
-ghost use Rattle.fault_core.specs.Range.{AreAtRest, BreaksSome, IsAtRest, IsNextPart, LeavesFrames};
+ghost use Rattle.fault_core.specs.Kill.{BreaksWithin};
+ghost use Rattle.fault_core.specs.Range.{AreAtRest, IsAtRest, IsNextPart, LeavesFrames};
 ghost use Rattle.fault_core.specs.Unit.{file_page};
 ghost use Rattle.fault_core.specs.View.{view_of};
-ghost use Rattle.fault_core.specs.Reach.{Reaches, ReachHalts, BringsOwn, no_break};
+ghost use Rattle.fault_core.specs.Reach.{Reaches, ReachHalts, BringsOwn, StayOrYield, no_break};
 ghost use Rattle.fault_core.specs.Told.{BreaksTables, Known};
 
 use crate::CoreOver;
@@ -104,6 +105,7 @@ impl<D: Disk, A: Allocator> CoreOver<D, A> {
         ensures same { (m : List Sector) (named : Triples) (ss : List Space) → Knows self.old m named ss → Knows self.new m named ss }
         ensures reaches { Reaches (state self.old) (state self.new) }
         ensures came { BringsOwn self.old.filer.swapper.pool self.new.filer.swapper.pool }
+        ensures stay { way ≡ way_is.Force → StayOrYield self.old.filer.swapper.pool self.new.filer.swapper.pool }
         ensures frames { (x : IntervalIs) → find (has_page page) (kept self.old) ≡ Some x → end ≤ x.first + x.pages → LeavesFrames way x.id (file_page x page) (end - page) self.old.filer.swapper.pool self.new.filer.swapper.pool }
         ensures all { (x : IntervalIs) → find (has_page page) (kept self.old) ≡ Some x → end ≤ x.first + x.pages → IfOk result (λ next. next ≡ end) }
         ensures intervals { self.new.intervals ≡ self.old.intervals }
@@ -134,11 +136,12 @@ impl<D: Disk, A: Allocator> CoreOver<D, A> {
     fn rest_range(&mut self, way: Way, first: u32, pages: u32) -> Result<(), Halt>
         requires size { (D.state self.old.filer.swapper.under).sectors ≡ self.old.filer.swapper.layout.sectors }
         ensures rest { (m : List Sector) (named : Triples) (ss : List Space) → Knows self.old m named ss → OnOk result (AreAtRest way ss self.new.filer.swapper.pool first (first + pages)) }
-        ensures cause { IfErr result (ReachHalts (BreaksSome (state self.old) self.old.intervals) (state self.old) (state self.new)) }
+        ensures cause { IfErr result (ReachHalts (BreaksWithin (state self.old) self.old.intervals first (first + pages)) (state self.old) (state self.new)) }
         ensures sound { (m : List Sector) (named : Triples) (ss : List Space) → Knows self.old m named ss → IfErr result (λ e. e ≡ halt.Disk) }
         ensures same { (m : List Sector) (named : Triples) (ss : List Space) → Knows self.old m named ss → Knows self.new m named ss }
         ensures reaches { Reaches (state self.old) (state self.new) }
         ensures came { BringsOwn self.old.filer.swapper.pool self.new.filer.swapper.pool }
+        ensures stay { way ≡ way_is.Force → StayOrYield self.old.filer.swapper.pool self.new.filer.swapper.pool }
         ensures frames { (x : IntervalIs) → find (has_page first) (kept self.old) ≡ Some x → first + pages ≤ x.first + x.pages → LeavesFrames way x.id (file_page x first) pages self.old.filer.swapper.pool self.new.filer.swapper.pool }
         ensures intervals { self.new.intervals ≡ self.old.intervals }
         ensures cost { (D.state self.new.filer.swapper.under).transfers ≤ (D.state self.old.filer.swapper.under).transfers + (self.old.intervals + 1) * (196 + length self.old.filer.swapper.pool) }
@@ -157,17 +160,19 @@ impl<D: Disk, A: Allocator> CoreOver<D, A> {
         Ok(())
     }
 
-    /// Writes out the dirty frames of the pages that windows show in a range of pages of the root. Where an interval that is kept
-    /// has all of it, no table is asked, and each frame stays.
+    /// Writes out the dirty frames of the pages that windows show in a range of pages of the root. Each frame stays, but where the
+    /// page of the tables or of the map that is asked takes its slot. Where an interval that is kept has all of the range, no table
+    /// is asked, and each frame stays.
     pub fn force(&mut self, first: u32, pages: u32) -> Result<(), Halt>
         requires size { (D.state self.old.filer.swapper.under).sectors ≡ self.old.filer.swapper.layout.sectors }
         ensures clean { (m : List Sector) (named : Triples) (ss : List Space) → Knows self.old m named ss → OnOk result (AreAtRest way_is.Force ss self.new.filer.swapper.pool first (first + pages)) }
-        ensures cause { IfErr result (ReachHalts (BreaksSome (state self.old) self.old.intervals) (state self.old) (state self.new)) }
+        ensures cause { IfErr result (ReachHalts (BreaksWithin (state self.old) self.old.intervals first (first + pages)) (state self.old) (state self.new)) }
         ensures sound { (m : List Sector) (named : Triples) (ss : List Space) → Knows self.old m named ss → IfErr result (λ e. e ≡ halt.Disk) }
         ensures same { (m : List Sector) (named : Triples) (ss : List Space) → Knows self.old m named ss → Knows self.new m named ss }
         ensures reaches { Reaches (state self.old) (state self.new) }
         ensures came { BringsOwn self.old.filer.swapper.pool self.new.filer.swapper.pool }
-        ensures stay { (x : IntervalIs) → find (has_page first) (kept self.old) ≡ Some x → first + pages ≤ x.first + x.pages → Stay self.old.filer.swapper.pool self.new.filer.swapper.pool }
+        ensures stay { StayOrYield self.old.filer.swapper.pool self.new.filer.swapper.pool }
+        ensures still { (x : IntervalIs) → find (has_page first) (kept self.old) ≡ Some x → first + pages ≤ x.first + x.pages → Stay self.old.filer.swapper.pool self.new.filer.swapper.pool }
         ensures intervals { self.new.intervals ≡ self.old.intervals }
         ensures cost { (D.state self.new.filer.swapper.under).transfers ≤ (D.state self.old.filer.swapper.under).transfers + (self.old.intervals + 1) * (196 + length self.old.filer.swapper.pool) }
     {
@@ -179,7 +184,7 @@ impl<D: Disk, A: Allocator> CoreOver<D, A> {
     pub fn let_go(&mut self, first: u32, pages: u32) -> Result<(), Halt>
         requires size { (D.state self.old.filer.swapper.under).sectors ≡ self.old.filer.swapper.layout.sectors }
         ensures gone { (m : List Sector) (named : Triples) (ss : List Space) → Knows self.old m named ss → OnOk result (AreAtRest way_is.LetGo ss self.new.filer.swapper.pool first (first + pages)) }
-        ensures cause { IfErr result (ReachHalts (BreaksSome (state self.old) self.old.intervals) (state self.old) (state self.new)) }
+        ensures cause { IfErr result (ReachHalts (BreaksWithin (state self.old) self.old.intervals first (first + pages)) (state self.old) (state self.new)) }
         ensures sound { (m : List Sector) (named : Triples) (ss : List Space) → Knows self.old m named ss → IfErr result (λ e. e ≡ halt.Disk) }
         ensures same { (m : List Sector) (named : Triples) (ss : List Space) → Knows self.old m named ss → Knows self.new m named ss }
         ensures reaches { Reaches (state self.old) (state self.new) }

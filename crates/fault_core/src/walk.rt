@@ -1,11 +1,13 @@
 //! A range of pages of the root, interval by interval.
-ghost use Rattle.std.specs.Prelude.{◌≡◌, ◌≤◌, ◌<◌, ◌+◌, ℕ, List, IfOk, IfErr};
+ghost use Rattle.std.specs.Prelude.{◌≡◌, ◌≤◌, ◌<◌, ◌+◌, ℕ, List, Some, IfOk, IfErr, IsOk, find};
 ghost use Rattle.labelled_disk.specs.declared.evidence.Halt.TheVariants as halt;
 ghost use Rattle.labelled_disk.specs.Sectors.{Sector};
 ghost use Rattle.file_map.specs.FileMap.{Triples};
 ghost use Rattle.flat_machine.specs.declared.space.Space.{Space};
 ghost use Rattle.flat_machine.specs.Space.{root_pages};
+ghost use Rattle.swap_units.specs.declared.interval.Interval.{Interval as IntervalIs};
 ghost use Rattle.swap_units.specs.Unit.{Holds};
+ghost use Rattle.descriptor_cache.specs.Pages.{has_page};
 ghost use Rattle.space_tables.specs.SpaceTables.{IsIntervalAt};
 ghost use Rattle.fault_core.specs.Kill.{IsPart};
 ghost use Rattle.fault_core.specs.Kept.{IsFormed};
@@ -48,6 +50,7 @@ impl<D: Disk, A: Allocator> CoreOver<D, A> {
         ensures reaches { Reaches (state self.old) (state self.new) }
         ensures came { BringsOwn self.old.filer.swapper.pool self.new.filer.swapper.pool }
         ensures intervals { self.new.intervals ≡ self.old.intervals }
+        ensures idle { (x : IntervalIs) → find (has_page page) (kept self.old) ≡ Some x → IsOk result × (self.new.filer ≡ self.old.filer) × (kept self.new ≡ kept self.old) }
         ensures cost { (D.state self.new.filer.swapper.under).transfers ≤ (D.state self.old.filer.swapper.under).transfers + 196 }
     {
         match self.describe(page) {

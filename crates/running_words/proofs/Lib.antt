@@ -7,4 +7,5 @@ pub mod JoinedLemmas
 pub mod KnownLemmas
 pub mod LaterLemmas
 pub mod ChangedLemmas
+pub mod ApartLemmas
 pub mod RunningLemmas

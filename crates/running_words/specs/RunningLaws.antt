@@ -22,6 +22,7 @@ use Rattle.session_words.specs.Parts.{DirtyAreLoose}
 use Rattle.session_words.specs.StandsFor.{StandsFor}
 use Rattle.session_words.specs.Volume.{volume_page}
 use Rattle.file_manager.specs.declared.volume.Volume.{Volume}
+use Rattle.fault_core.specs.Kept.{AreApart}
 use Rattle.fault_core.specs.Reach.{Reaches, BringsOwn}
 use Rattle.fault_core.specs.Told.{Told}
 use Rattle.fault_core.specs.View.{View, TablesAre}
@@ -38,6 +39,8 @@ pub record RunningLaws : Type 0 where
   -- what a core knows of the memory, by the machine that it stands for
   pub known : (v : View) (kept : List Interval) (count : ℕ) (volume : Volume) (m : Machine) → IsWhole v → (r : IsRunning v kept count volume m)
       → Told v kept count r.session.stands.memory r.session.stands.is.named m.spaces
+  -- no two different intervals that it keeps share a page
+  pub apart : (v : View) (kept : List Interval) (count : ℕ) (volume : Volume) (m : Machine) → IsRunning v kept count volume m → AreApart kept
   -- pages were found and brought in, and the same is known
   pub asked : (v w : View) (kept later : List Interval) (count : ℕ) (volume : Volume) (m : Machine) → IsWhole v → (r : IsRunning v kept count volume m) → Reaches v w → BringsKnown m.spaces v.slots w.slots
       → Told w later count r.session.stands.memory r.session.stands.is.named m.spaces → IsRunning w later count volume m

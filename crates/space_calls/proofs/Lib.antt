@@ -16,6 +16,8 @@ mod LoadLemmas
 mod MovedLemmas
 mod StoreLemmas
 mod RangeLemmas
+mod EvidenceOfFiles
+mod WindowHalts
 pub mod BareLemmas
 pub mod TakenMachine
 pub mod AwayLemmas

@@ -42,6 +42,13 @@ module _ (ss : List Space) (space : ℕ) where
       free : no_space ss space ≡ None
       free = rw there refl
 
+  -- what is so of the space's pages is so of the run
+  pub of_run : (s : Space) (run : ℕ × ℕ) (P : ℕ → ℕ → Type 0) → IsSpaceRun ss space run → space_at ss space ≡ Some s → P s.first (s.first + s.pages) → P run.0 (run.0 + run.1)
+  of_run s run P found there is =
+      let same : found.0 ≡ s = same_Some found.0 s (sym found.1 ∙ there) in
+      let pages : run ≡ (s.first, s.pages) = found.2 ∙ (λ i. ((same i).first, (same i).pages)) in
+      subst (λ (q : ℕ × ℕ). P q.0 (q.0 + q.1)) (sym pages) is
+
   -- what is so of the run is so of the space's pages
   pub of_space : (s : Space) (run : ℕ × ℕ) (P : ℕ → ℕ → Type 0) → IsSpaceRun ss space run → space_at ss space ≡ Some s → P run.0 (run.0 + run.1) → P s.first (s.first + s.pages)
   of_space s run P found there is =
@@ -69,7 +76,7 @@ module _ (v w : View) (is : IsLayout v.layout) (space : ℕ) where
   asked_halt count e halts = halts_before v v is (reaches_itself v) (TablesBreak v (λ b page. BreaksSlot b page space)) (BreaksRange v count space) (λ page breaks. inl breaks) w w (omega arith) e halts
 
   module _ (reaches : Reaches v w) (count now : ℕ) (same : now ≡ count) (z : View) where
-    some_before : (page : ℕ) → BreaksSome w now page → BreaksSome v count page
+    pub some_before : (page : ℕ) → BreaksSome w now page → BreaksSome v count page
     some_before page (asked, breaks) = (
       asked,
       record {
@@ -79,9 +86,6 @@ module _ (v w : View) (is : IsLayout v.layout) (space : ℕ) where
     )
 
     -- a page could not be looked up
-    pub range_halt : (e : Halt) → ReachHalts (BreaksSome w now) w z e → ReachHalts (BreaksRange v count space) v z e
-    range_halt e halts = halts_before v w is reaches (BreaksSome w now) (BreaksRange v count space) (λ page breaks. inr (some_before page breaks)) z z (omega arith) e halts
-
     pub within_halt : (first to : ℕ) (e : Halt) → ReachHalts (BreaksWithin w now first to) w z e → ReachHalts (BreaksRange v count space) v z e
     within_halt first to e halts =
         halts_before v w is reaches (BreaksWithin w now first to) (BreaksRange v count space) (λ page breaks. inr (some_before page (breaks.asked, breaks.breaks))) z z (omega arith) e halts

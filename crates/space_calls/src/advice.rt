@@ -9,11 +9,14 @@ ghost use Rattle.flat_machine.specs.Space.{space_at};
 ghost use Rattle.session_words.specs.Volume.{volume_page};
 ghost use Rattle.file_manager.specs.declared.volume.Volume.{Volume};
 ghost use Rattle.fault_core.specs.Activate.{AreBrought, IsActive};
-ghost use Rattle.fault_core.specs.Core.{kept};
+ghost use Rattle.fault_core.specs.Core.{kept, state};
+ghost use Rattle.fault_core.specs.Reach.{ReachHalts};
 ghost use Rattle.running_words.specs.Bound.{CostsOther};
 ghost use Rattle.running_words.specs.Running.{Carried, Runs};
 ghost use Rattle.running_words.specs.Session.{WroteIn};
 ghost use Rattle.running_words.specs.Stages.{Passes};
+ghost use Rattle.filer_kernel.specs.Evidence.{ShowsSo};
+ghost use Rattle.space_calls.specs.Ranges.{BreaksRange};
 
 use fault_core::CoreOver;
 use flat_machine::Reply;
@@ -28,6 +31,8 @@ pub fn activate<D: Disk, A: Allocator>(core: &mut CoreOver<D, A>, space: u32) ->
     ensures sound { (volume : Volume) (m : Machine) → Runs core.old volume m → IfErr result (λ e. e ≡ halt.Disk) }
     ensures passes { (volume : Volume) (m : Machine) → Runs core.old volume m → Passes m (call.Activate space) (D.state core.old.filer.swapper.under) (D.state core.new.filer.swapper.under) }
     ensures counted { result ≡ Err halt.Disk → Rose (D.state core.old.filer.swapper.under).faults (D.state core.new.filer.swapper.under).faults }
+    ensures cause { IfErr result (ReachHalts (BreaksRange (state core.old) core.old.intervals space) (state core.old) (state core.new)) }
+    ensures so { IfErr result (ShowsSo (D.state core.new.filer.swapper.under)) }
     ensures wrote { WroteIn (volume_page) (D.state core.old.filer.swapper.under) core.old.filer.swapper.pool (D.state core.new.filer.swapper.under) core.new.filer.swapper.pool }
     ensures layout { core.new.filer.swapper.layout ≡ core.old.filer.swapper.layout }
     ensures cost { CostsOther (D.state core.old.filer.swapper.under) (D.state core.new.filer.swapper.under) }

@@ -15,8 +15,9 @@ ghost use Rattle.running_words.specs.Stages.{Passes};
 ghost use Rattle.flat_machine.specs.Space.{space_at};
 ghost use Rattle.fault_core.specs.Kill.{AreWritableSo, is_absent};
 ghost use Rattle.fault_core.specs.Range.{AreClean, AreGone};
-ghost use Rattle.fault_core.specs.Core.{state, Knows};
-ghost use Rattle.fault_core.specs.Reach.{ReachHalts};
+ghost use Rattle.fault_core.specs.Core.{kept, state, Knows};
+ghost use Rattle.fault_core.specs.Kept.{AreFound};
+ghost use Rattle.fault_core.specs.Reach.{ReachHalts, StayOrYield};
 ghost use Rattle.flat_machine.specs.declared.call.Reply.TheVariants as reply;
 ghost use Rattle.space_tables.specs.Form.{BreaksSlot};
 ghost use Rattle.space_calls.specs.Ranges.{BreaksRange};
@@ -24,6 +25,7 @@ ghost use Rattle.labelled_disk.specs.Sectors.{Sector};
 ghost use Rattle.file_map.specs.FileMap.{Triples};
 ghost use Rattle.projection_laws.specs.Tests.{no_space};
 ghost use Rattle.table_calls.specs.Answers.{Asked, TablesBreak, Tells};
+ghost use Rattle.filer_kernel.specs.Evidence.{ShowsSo};
 
 use crate::framing::frame_count;
 use crate::settle::settle;
@@ -43,6 +45,7 @@ fn range_of<D: Disk, A: Allocator>(
     ensures counted { result ≡ Err halt.Disk → Rose (D.state core.old.filer.swapper.under).faults (D.state core.new.filer.swapper.under).faults }
     ensures sound { (m : List Sector) (named : Triples) (ss : List Space) → Knows core.old m named ss → IfErr result (λ e. e ≡ halt.Disk) }
     ensures cause { IfErr result (ReachHalts (TablesBreak (state core.old) (λ b page. BreaksSlot b page space)) (state core.old) (state core.new)) }
+    ensures so { IfErr result (ShowsSo (D.state core.new.filer.swapper.under)) }
     ensures asked { Asked core.old core.new }
     ensures frames { length core.old.filer.swapper.pool ≤ 4096 }
     ensures cost { (D.state core.new.filer.swapper.under).transfers ≤ (D.state core.old.filer.swapper.under).transfers + 28 }
@@ -66,6 +69,7 @@ pub fn deactivate<D: Disk, A: Allocator>(
     ensures cost { CostsOther (D.state core.old.filer.swapper.under) (D.state core.new.filer.swapper.under) }
     ensures gone { (volume : Volume) (m : Machine) (s : Space) → Runs core.old volume m → space_at m.spaces space ≡ Some s → OnOk result (AreGone m.spaces core.new.filer.swapper.pool s.first (s.first + s.pages)) }
     ensures cause { IfErr result (ReachHalts (BreaksRange (state core.old) core.old.intervals space) (state core.old) (state core.new)) }
+    ensures so { IfErr result (ShowsSo (D.state core.new.filer.swapper.under)) }
 {
     let (first, pages) = match range_of(core, space) {
         Ok(Ok(found)) => found,
@@ -79,7 +83,8 @@ pub fn deactivate<D: Disk, A: Allocator>(
     Ok(Reply::Done)
 }
 
-/// Gives up the frames of the pages of a space that may be stored to, without a write.
+/// Gives up the frames of the pages of a space that may be stored to. What is dirty of them is lost: where intervals that are kept have
+/// all of them, no table is asked but for where the space lies.
 pub fn kill<D: Disk, A: Allocator>(core: &mut CoreOver<D, A>, space: u32) -> Result<Reply, Halt>
     requires size { (D.state core.old.filer.swapper.under).sectors ≡ core.old.filer.swapper.layout.sectors }
     ensures carried { (volume : Volume) (m : Machine) → Runs core.old volume m → IfOk result (Carried m (call.Kill space) core.new volume) }
@@ -91,6 +96,8 @@ pub fn kill<D: Disk, A: Allocator>(core: &mut CoreOver<D, A>, space: u32) -> Res
     ensures cost { CostsOther (D.state core.old.filer.swapper.under) (D.state core.new.filer.swapper.under) }
     ensures gone { (volume : Volume) (m : Machine) (s : Space) → Runs core.old volume m → space_at m.spaces space ≡ Some s → OnOk result (AreWritableSo (is_absent core.new.filer.swapper.pool) m.spaces s.first (s.first + s.pages)) }
     ensures cause { IfErr result (ReachHalts (BreaksRange (state core.old) core.old.intervals space) (state core.old) (state core.new)) }
+    ensures so { IfErr result (ShowsSo (D.state core.new.filer.swapper.under)) }
+    ensures idle { (volume : Volume) (m : Machine) (s : Space) → Runs core.old volume m → space_at m.spaces space ≡ Some s → AreFound (kept core.old) s.first (s.first + s.pages) → (D.state core.new.filer.swapper.under).transfers ≤ (D.state core.old.filer.swapper.under).transfers + 28 }
     ensures short { (D.state core.new.filer.swapper.under).transfers ≤ (D.state core.old.filer.swapper.under).transfers + (28 + (core.old.intervals + 1) * 196) }
 {
     let (first, pages) = match range_of(core, space) {
@@ -105,7 +112,8 @@ pub fn kill<D: Disk, A: Allocator>(core: &mut CoreOver<D, A>, space: u32) -> Res
     Ok(Reply::Done)
 }
 
-/// Makes the files hold what the pages of a space hold: what is dirty of them is written out, and all of it is on the medium.
+/// Makes the files hold what the pages of a space hold: what is dirty of them is written out, and all of it is on the medium. The
+/// frames stay, but where pages of the tables and of the map, which are asked, take their slots.
 pub fn force_out<D: Disk, A: Allocator>(
     core: &mut CoreOver<D, A>,
     space: u32,
@@ -121,6 +129,8 @@ pub fn force_out<D: Disk, A: Allocator>(
     ensures clean { (volume : Volume) (m : Machine) (s : Space) → Runs core.old volume m → space_at m.spaces space ≡ Some s → OnOk result (AreClean m.spaces core.new.filer.swapper.pool s.first (s.first + s.pages)) }
     ensures synced { (volume : Volume) (m : Machine) → Runs core.old volume m → refusal m (call.ForceOut space) ≡ None → OnOk result ((D.state core.new.filer.swapper.under).synced ≡ true) }
     ensures cause { IfErr result (ReachHalts (BreaksRange (state core.old) core.old.intervals space) (state core.old) (state core.new)) }
+    ensures so { IfErr result (ShowsSo (D.state core.new.filer.swapper.under)) }
+    ensures stay { StayOrYield core.old.filer.swapper.pool core.new.filer.swapper.pool }
     ensures settled { IfOk result (λ answer. answer ≡ reply.Done → (D.state core.new.filer.swapper.under).synced ≡ true) }
 {
     let (first, pages) = match range_of(core, space) {

@@ -12,10 +12,10 @@ ghost use Rattle.running_words.specs.Session.{WroteIn};
 ghost use Rattle.running_words.specs.Stages.{Passes};
 ghost use Rattle.fault_core.specs.Access.{BreaksFor, last_page};
 ghost use Rattle.fault_core.specs.Core.{kept, state};
-ghost use Rattle.fault_core.specs.Kept.{AreApart};
 ghost use Rattle.fault_core.specs.Reach.{ReachHalts};
 ghost use Rattle.fault_core.specs.Unit.{IsReady};
 ghost use Rattle.running_words.specs.Stages.{client_or_own};
+ghost use Rattle.filer_kernel.specs.Evidence.{ShowsSo};
 
 use fault_core::{Access, CoreOver};
 use flat_machine::{Piece, Refusal, Reply};
@@ -52,7 +52,8 @@ pub fn load<D: Disk, A: Allocator>(
     ensures cost { (D.state core.new.filer.swapper.under).transfers ≤ (D.state core.old.filer.swapper.under).transfers + 1680 }
     ensures ready { (volume : Volume) (m : Machine) → Runs core.old volume m → refusal m (call.Load address count) ≡ None → OnOk result (IsReady (kept core.new) core.new.filer.swapper.pool (last_page address count)) }
     ensures cause { IfErr result (ReachHalts (BreaksFor (state core.old) core.old.intervals address count) (state core.old) (state core.new)) }
-    ensures idle { IsReady (kept core.old) core.old.filer.swapper.pool (address / 512) → IsReady (kept core.old) core.old.filer.swapper.pool (last_page address count) → AreApart (kept core.old)
+    ensures so { IfErr result (ShowsSo (D.state core.new.filer.swapper.under)) }
+    ensures idle { (volume : Volume) (m : Machine) → Runs core.old volume m → IsReady (kept core.old) core.old.filer.swapper.pool (address / 512) → IsReady (kept core.old) core.old.filer.swapper.pool (last_page address count)
         → IsOk result × (core.new.filer ≡ core.old.filer) × (kept core.new ≡ kept core.old) }
 {
     let mut room = [0; 64];
@@ -83,7 +84,8 @@ pub fn store<D: Disk, A: Allocator>(
     ensures cost { (D.state core.new.filer.swapper.under).transfers ≤ (D.state core.old.filer.swapper.under).transfers + 1680 }
     ensures ready { (volume : Volume) (m : Machine) → Runs core.old volume m → refusal m (call.Store address bytes.now) ≡ None → OnOk result (IsReady (kept core.new) core.new.filer.swapper.pool (last_page address (length bytes.now))) }
     ensures cause { IfErr result (ReachHalts (BreaksFor (state core.old) core.old.intervals address (length bytes.now)) (state core.old) (state core.new)) }
-    ensures idle { IsReady (kept core.old) core.old.filer.swapper.pool (address / 512) → IsReady (kept core.old) core.old.filer.swapper.pool (last_page address (length bytes.now)) → AreApart (kept core.old)
+    ensures so { IfErr result (ShowsSo (D.state core.new.filer.swapper.under)) }
+    ensures idle { (volume : Volume) (m : Machine) → Runs core.old volume m → IsReady (kept core.old) core.old.filer.swapper.pool (address / 512) → IsReady (kept core.old) core.old.filer.swapper.pool (last_page address (length bytes.now))
         → IsOk result × (D.state core.new.filer.swapper.under ≡ D.state core.old.filer.swapper.under) × (kept core.new ≡ kept core.old) }
 {
     match core.store(address, bytes) {

@@ -7,6 +7,7 @@ ghost use Rattle.file_map.specs.FileMap.{Triples};
 ghost use Rattle.flat_machine.specs.declared.space.Space.{Space};
 ghost use Rattle.fault_core.specs.Core.{kept, state, Knows};
 ghost use Rattle.fault_core.specs.Reach.{Reaches};
+ghost use Rattle.filer_kernel.specs.Evidence.{ShowsSo};
 
 use fault_core::CoreOver;
 use labelled_disk::{Disk, Halt};
@@ -20,6 +21,7 @@ pub fn settle<D: Disk, A: Allocator>(core: &mut CoreOver<D, A>) -> Result<(), Ha
     ensures same { TellsSame (D.state core.old.filer.swapper.under) (D.state core.new.filer.swapper.under) }
     ensures fault { IfErr result (λ e. e ≡ halt.Disk) }
     ensures counted { OnErr result (Rose (D.state core.old.filer.swapper.under).faults (D.state core.new.filer.swapper.under).faults) }
+    ensures so { IfErr result (ShowsSo (D.state core.new.filer.swapper.under)) }
     ensures frames { core.new.filer.swapper.pool ≡ core.old.filer.swapper.pool }
     ensures layout { core.new.filer.swapper.layout ≡ core.old.filer.swapper.layout }
     ensures runs { core.new.filer.runs ≡ core.old.filer.runs }

@@ -10,6 +10,7 @@ use Rattle.fault_core.specs.Told.{Told}
 use Rattle.fault_core.specs.View.{View, TablesAre}
 use Rattle.fault_core.proofs.ToldLemmas.{told_after}
 use Rattle.fault_core.proofs.TurnLemmas.{reaches_tables, own_tables}
+use Rattle.fault_core.proofs.YieldLemmas.{tables_yield}
 use Rattle.table_calls.specs.Answers.{Asked}
 
 -- only what stands beside the tables may have changed of the state
@@ -23,6 +24,7 @@ asked old new beside same keeps count =
     record {
       reaches = reaches;
       came = own_tables (state old) new.filer.swapper.pool beside.brings;
+      stay = tables_yield (state old) (state new) beside;
       kept = keeps;
       intervals = count;
       same = λ m named ss knows. subst (λ (n : ℕ). Told (state new) (kept new) n m named ss) (sym count)

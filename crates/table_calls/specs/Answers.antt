@@ -13,7 +13,7 @@ use Rattle.space_tables.specs.declared.error.SpaceError.TheVariants.{Refused, Ma
 use Rattle.filer_kernel.specs.Tables.{BesideTables}
 use Rattle.fault_core.specs.declared.core_over.CoreOver.{CoreOver}
 use Rattle.fault_core.specs.Core.{kept, state, Knows}
-use Rattle.fault_core.specs.Reach.{Reaches, BringsOwn}
+use Rattle.fault_core.specs.Reach.{Reaches, BringsOwn, StayOrYield}
 use Rattle.fault_core.specs.View.{View, TablesAre}
 
 -- what the tables answered, where a refusal is told from a halt: a page that breaks its form is one of the space tables
@@ -51,6 +51,7 @@ module _ {D A : Type 0} {G : Ghosts D} where
   pub record Asked (old new : CoreOver D A G) : Type 0 where
     pub reaches : Reaches (state old) (state new)
     pub came : BringsOwn old.filer.swapper.pool new.filer.swapper.pool
+    pub stay : StayOrYield old.filer.swapper.pool new.filer.swapper.pool
     pub kept : kept new ≡ kept old
     pub intervals : new.intervals ≡ old.intervals
     pub same : (m : List Sector) (named : Triples) (spaces : List Space) → Knows old m named spaces → Knows new m named spaces

@@ -7,3 +7,5 @@ mod activated;
 mod calls;
 #[cfg(test)]
 mod faults;
+#[cfg(test)]
+mod rested;

@@ -6,6 +6,7 @@ use Rattle.fault_core.specs.View.{view_of, TablesAre}
 use Rattle.fault_core.proofs.ReachLemmas.{tables_of}
 use Rattle.fault_core.proofs.ToldLemmas.{spaces_in}
 use Rattle.fault_core.proofs.TurnLemmas.{reaches_tables, own_tables, tables_halt}
+use Rattle.fault_core.proofs.YieldLemmas.{yield_itself, tables_yield}
 use Rattle.fault_core.proofs.describe.look_up.Goals as goal
 
 pub returns-in-Ok-clause-reaches : goal.returns-in-Ok-clause-reaches
@@ -54,3 +55,17 @@ returns-in-Err-Mem-clause-reaches g c = reaches_tables (view_of c.args.filer.now
 
 pub returns-in-Err-Mem-clause-came : goal.returns-in-Err-Mem-clause-came
 returns-in-Err-Mem-clause-came g c = own_tables (view_of c.args.filer.now) c.ask.new.filer.swapper.pool c.ask.ensures.kept.brings
+
+-- ---- Frames stay, or give way.
+
+pub returns-then-page-ge-ROOT_PAGES-clause-stay : goal.returns-then-page-ge-ROOT_PAGES-clause-stay
+returns-then-page-ge-ROOT_PAGES-clause-stay g c = yield_itself c.args.filer.now.swapper.pool
+
+pub returns-in-Ok-clause-stay : goal.returns-in-Ok-clause-stay
+returns-in-Ok-clause-stay g c = tables_yield (view_of c.args.filer.now) (view_of c.ask.new.filer) c.ask.ensures.kept
+
+pub returns-in-Err-Malformed-clause-stay : goal.returns-in-Err-Malformed-clause-stay
+returns-in-Err-Malformed-clause-stay g c = tables_yield (view_of c.args.filer.now) (view_of c.ask.new.filer) c.ask.ensures.kept
+
+pub returns-in-Err-Mem-clause-stay : goal.returns-in-Err-Mem-clause-stay
+returns-in-Err-Mem-clause-stay g c = tables_yield (view_of c.args.filer.now) (view_of c.ask.new.filer) c.ask.ensures.kept

@@ -10,6 +10,8 @@ use Rattle.space_calls.proofs.AdviceLemmas.{activate_refused, activate_stays, ac
 use Rattle.space_calls.proofs.CameLemmas.{came_then, knows, still_runs, still_tells, wrote_so}
 use Rattle.space_calls.proofs.CarryLemmas.{allowed_done, allowed_refused}
 use Rattle.space_calls.proofs.RunLemmas.{reached_makes}
+use Rattle.fault_core.proofs.EvidenceLemmas.{shows_so}
+use Rattle.space_calls.proofs.RangeLemmas.{asked_halt, within_halt}
 use Rattle.space_calls.proofs.advice.activate.Goals as goal
 
 -- ---- It is refused.
@@ -118,3 +120,19 @@ returns-in-Err-activate-clause-passes g c = λ volume m runs.
 pub returns-in-Err-activate-clause-wrote : goal.returns-in-Err-activate-clause-wrote
 returns-in-Err-activate-clause-wrote g c =
     wrote_so (reached_makes (reaches_then (state c.args.core.now) (state c.bounds.new.core) c.args.core.now.filer.swapper.accepted c.bounds.ensures.asked.reaches (state c.activate.new.self) c.activate.ensures.reaches))
+
+-- ---- Why it failed.
+
+pub returns-in-Err-clause-cause : goal.returns-in-Err-clause-cause
+returns-in-Err-clause-cause g c = asked_halt (state c.args.core.now) (state c.bounds.new.core) c.args.core.now.filer.swapper.accepted c.args.space c.args.core.now.intervals c.in-Err.halt c.in-Err.ensures.cause
+
+pub returns-in-Err-activate-clause-cause : goal.returns-in-Err-activate-clause-cause
+returns-in-Err-activate-clause-cause g c =
+    let asked = c.bounds.ensures.asked in
+    within_halt (state c.args.core.now) (state c.bounds.new.core) c.args.core.now.filer.swapper.accepted c.args.space asked.reaches c.args.core.now.intervals c.bounds.new.core.intervals asked.intervals (state c.activate.new.self) _ _ c.in-Err-activate.halt c.in-Err-activate.ensures.cause
+
+pub returns-in-Err-clause-so : goal.returns-in-Err-clause-so
+returns-in-Err-clause-so g c = shows_so _ (state c.args.core.now) (state c.bounds.new.core) c.bounds.ensures.asked.reaches.goes.makes c.in-Err.halt c.in-Err.ensures.cause
+
+pub returns-in-Err-activate-clause-so : goal.returns-in-Err-activate-clause-so
+returns-in-Err-activate-clause-so g c = shows_so _ (state c.bounds.new.core) (state c.activate.new.self) c.activate.ensures.reaches.goes.makes c.in-Err-activate.halt c.in-Err-activate.ensures.cause

@@ -1,6 +1,8 @@
 use Rattle.std.proofs.Common.{◌∙◌, sym}
 use Rattle.space_calls.proofs.BareLemmas.{bare_core}
 use Rattle.space_calls.proofs.RunLemmas.{knows, reached_runs}
+use Rattle.fault_core.specs.Core.{state}
+use Rattle.fault_core.proofs.EvidenceLemmas.{shows_so}
 use Rattle.space_calls.proofs.bare.shows_nothing.Goals as goal
 
 pub returns-in-Ok-Some-clause-answer : goal.returns-in-Ok-Some-clause-answer
@@ -25,3 +27,8 @@ returns-in-Err-clause-runs g c = λ volume m r.
 
 pub returns-in-Err-clause-sound : goal.returns-in-Err-clause-sound
 returns-in-Err-clause-sound g c = λ volume m r. c.in-Err.ensures.sound _ _ m.spaces (knows c.args.core.now c.args.core.now.filer.swapper.accepted c.requires.size volume m r)
+
+-- ---- What its evidence says is so.
+
+pub returns-in-Err-clause-so : goal.returns-in-Err-clause-so
+returns-in-Err-clause-so g c = shows_so _ (state c.args.core.now) (state c.describe.new.self) c.describe.ensures.reaches.goes.makes c.in-Err.halt c.in-Err.ensures.cause

@@ -1,6 +1,8 @@
 use Rattle.space_calls.proofs.RunLemmas.{knows}
 use Rattle.space_calls.proofs.TableAnswers.{not_refused}
 use Rattle.space_calls.proofs.WindowLemmas.{window_given}
+use Rattle.fault_core.specs.Core.{state}
+use Rattle.fault_core.proofs.EvidenceLemmas.{shows_so}
 use Rattle.space_calls.proofs.mapping.give_window.Goals as goal
 
 pub returns-in-Err-clause-sound : goal.returns-in-Err-clause-sound
@@ -19,3 +21,8 @@ pub returns-in-Err-answer-clause-given : goal.returns-in-Err-answer-clause-given
 returns-in-Err-answer-clause-given g c = λ volume m x r may named bare fits is.
     let known = knows c.args.core.now c.args.core.now.filer.swapper.accepted c.requires.size volume m r in
     absurd (not_refused _ c.in-Ok.answer c.in-Err-answer.word c.in-Err-answer.is (c.in-Ok.ensures.done _ _ m.spaces x known may named fits))
+
+-- ---- What its evidence says is so.
+
+pub returns-in-Err-clause-so : goal.returns-in-Err-clause-so
+returns-in-Err-clause-so g c = shows_so _ (state c.args.core.now) (state c.set_window.new.core) c.set_window.ensures.retabled.beside.goes.makes c.in-Err.halt c.in-Err.ensures.cause

@@ -7,6 +7,8 @@ use Rattle.space_calls.specs.Naming.{IsNameable}
 use Rattle.space_calls.proofs.MapLemmas.{both_not, file_immutable, no_such_file, path_taken, root_given, space_missing, window_allowed, window_long}
 use Rattle.space_calls.proofs.RunLemmas.{asked_makes, asked_runs, knows, size_kept}
 use Rattle.space_calls.proofs.TableAnswers.{bounds_refused, bounds_told, map_refused, map_told}
+use Rattle.fault_core.specs.Core.{state}
+use Rattle.fault_core.proofs.EvidenceLemmas.{shows_so}
 use Rattle.space_calls.proofs.mapping.may_map.Goals as goal
 use Rattle.space_calls.proofs.mapping.may_map.Goals.{else-writable-via-then-writable+else-found, else-writable-via-else-writable}
 
@@ -238,3 +240,11 @@ returns-clause-answer g c = λ volume m r.
     let fits : c.args.page + s.pages ≤ c.in-Ok-Some.found.pages = omega (arith, inside, first, more, whole, count, long) in
     let mutable : c.args.writable && c.in-Ok-Some.found.immutable ≡ false = elim c.else-writable.branch [ else-writable-via-then-writable+else-found w ↦ both_not c.args.writable c.in-Ok-Some.found.immutable (inr w.if-found.false) | else-writable-via-else-writable w ↦ both_not c.args.writable c.in-Ok-Some.found.immutable (inl w.if-writable.false) ] in
     (window_allowed m c.args.space c.args.id c.args.page c.args.writable there c.if-space-eq0.false c.in-Ok-Some.found told free.0 s free.1.1 fits mutable, (s, free.1.1, omega (arith, fits, count, small)))
+
+-- ---- What its evidence says is so.
+
+pub returns-in-Err-clause-so : goal.returns-in-Err-clause-so
+returns-in-Err-clause-so g c = shows_so _ (state c.args.core.now) (state c.bounds.new.core) c.bounds.ensures.asked.reaches.goes.makes c.in-Err.halt c.in-Err.ensures.cause
+
+pub returns-in-Err-can_map-clause-so : goal.returns-in-Err-can_map-clause-so
+returns-in-Err-can_map-clause-so g c = shows_so _ (state c.named_file.new.core) (state c.can_map.new.core) c.can_map.ensures.asked.reaches.goes.makes c.in-Err-can_map.halt c.in-Err-can_map.ensures.cause

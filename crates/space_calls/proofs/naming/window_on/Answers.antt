@@ -2,6 +2,8 @@ use Rattle.std.proofs.Common.{◌≡◌, rules}
 use Rattle.swapper_kernel.specs.GoesLaws.{makes_then}
 use Rattle.space_calls.proofs.BareLemmas.{none_windowed}
 use Rattle.space_calls.proofs.RunLemmas.{knows, asked_runs, asked_makes}
+use Rattle.fault_core.specs.Core.{state}
+use Rattle.fault_core.proofs.EvidenceLemmas.{if_so}
 use Rattle.space_calls.proofs.naming.window_on.Goals as goal
 
 pub returns-in-Ok-true-clause-answer : goal.returns-in-Ok-true-clause-answer
@@ -24,3 +26,8 @@ returns-clause-sound g c =
 
 pub returns-clause-makes : goal.returns-clause-makes
 returns-clause-makes g c = makes_then c.shows_nothing.ensures.makes (asked_makes c.shows_nothing.new.core c.shows_file.new.core c.shows_file.ensures.asked)
+
+-- ---- What its evidence says is so.
+
+pub returns-clause-so : goal.returns-clause-so
+returns-clause-so g c = if_so c.shows_file.result _ (state c.shows_nothing.new.core) (state c.shows_file.new.core) c.shows_file.ensures.asked.reaches.goes.makes c.shows_file.ensures.cause

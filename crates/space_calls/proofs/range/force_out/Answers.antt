@@ -11,11 +11,13 @@ use Rattle.space_calls.specs.Ranges.{BreaksRange}
 use Rattle.space_calls.proofs.CarryLemmas.{allowed_done, allowed_refused, next_refused}
 use Rattle.space_calls.proofs.RunLemmas.{reached_makes}
 use Rattle.space_calls.proofs.CameLemmas.{came_own, came_then, knows, still_runs, still_tells, whole_after, whole_of, wrote_so}
-use Rattle.space_calls.proofs.RangeLemmas.{asked_halt, fault_halt, range_halt, found_run, found_word, never_refused, no_frame_came, of_space}
+use Rattle.space_calls.proofs.RangeLemmas.{asked_halt, fault_halt, within_halt, found_run, found_word, never_refused, no_frame_came, of_space}
 use Rattle.space_calls.proofs.RefusedCalls.{force_refused, force_there}
 use Rattle.space_calls.proofs.MovedLemmas.{force_runs}
 use Rattle.fault_core.specs.Range.{AreClean}
 use Rattle.frame_pool.specs.Frames.{Slots}
+use Rattle.fault_core.proofs.EvidenceLemmas.{shows_so}
+use Rattle.fault_core.proofs.YieldLemmas.{yield_same, yield_then}
 use Rattle.space_calls.proofs.range.force_out.Goals as goal
 
 -- ---- There is no such space.
@@ -144,9 +146,29 @@ returns-in-Err-clause-cause g c = asked_halt (state c.args.core.now) (state c.ra
 pub returns-in-Err-force-clause-cause : goal.returns-in-Err-force-clause-cause
 returns-in-Err-force-clause-cause g c =
     let asked = c.range_of.ensures.asked in
-    range_halt (state c.args.core.now) (state c.range_of.new.core) c.args.core.now.filer.swapper.accepted c.args.space asked.reaches c.args.core.now.intervals c.range_of.new.core.intervals asked.intervals (state c.force.new.self) c.in-Err-force.halt c.in-Err-force.ensures.cause
+    within_halt (state c.args.core.now) (state c.range_of.new.core) c.args.core.now.filer.swapper.accepted c.args.space asked.reaches c.args.core.now.intervals c.range_of.new.core.intervals asked.intervals (state c.force.new.self) _ _ c.in-Err-force.halt c.in-Err-force.ensures.cause
 
 pub returns-in-Err-settle-clause-cause : goal.returns-in-Err-settle-clause-cause
 returns-in-Err-settle-clause-cause g c =
     fault_halt (BreaksRange (state c.args.core.now) c.args.core.now.intervals c.args.space) (state c.args.core.now) (state c.force.new.self) (state c.settle.new.core) c.in-Err-settle.halt
     (makes_then (reached_makes c.range_of.ensures.asked.reaches) (reached_makes c.force.ensures.reaches)).went.faults c.in-Err-settle.ensures.fault c.in-Err-settle.ensures.counted
+
+pub returns-in-Err-force-clause-so : goal.returns-in-Err-force-clause-so
+returns-in-Err-force-clause-so g c = shows_so _ (state c.range_of.new.core) (state c.force.new.self) c.force.ensures.reaches.goes.makes c.in-Err-force.halt c.in-Err-force.ensures.cause
+
+-- ---- The frames stay, or give way.
+
+pub returns-in-Ok-Err-clause-stay : goal.returns-in-Ok-Err-clause-stay
+returns-in-Ok-Err-clause-stay g c = c.range_of.ensures.asked.stay
+
+pub returns-in-Err-clause-stay : goal.returns-in-Err-clause-stay
+returns-in-Err-clause-stay g c = c.range_of.ensures.asked.stay
+
+pub returns-in-Err-force-clause-stay : goal.returns-in-Err-force-clause-stay
+returns-in-Err-force-clause-stay g c = yield_then c.range_of.ensures.asked.stay c.force.ensures.stay
+
+pub returns-in-Ok-settle-clause-stay : goal.returns-in-Ok-settle-clause-stay
+returns-in-Ok-settle-clause-stay g c = yield_then (yield_then c.range_of.ensures.asked.stay c.force.ensures.stay) (yield_same c.force.new.self.filer.swapper.pool c.settle.new.core.filer.swapper.pool c.settle.ensures.frames)
+
+pub returns-in-Err-settle-clause-stay : goal.returns-in-Err-settle-clause-stay
+returns-in-Err-settle-clause-stay g c = yield_then (yield_then c.range_of.ensures.asked.stay c.force.ensures.stay) (yield_same c.force.new.self.filer.swapper.pool c.settle.new.core.filer.swapper.pool c.settle.ensures.frames)

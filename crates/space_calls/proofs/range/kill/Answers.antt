@@ -1,18 +1,21 @@
-use Rattle.std.proofs.Common.{sym, ap, subst, ℕ, refl}
+use Rattle.std.proofs.Common.{sym, ap, subst, ℕ, refl, ◌≡◌, ◌+◌, List, arith}
 use Rattle.flat_machine.specs.declared.call.Call.TheVariants as call
 use Rattle.flat_machine.specs.declared.call.Reply.TheVariants as reply
 use Rattle.flat_machine.specs.Machine.{Machine}
 use Rattle.swapper_kernel.specs.GoesLaws.{makes_then}
-use Rattle.fault_core.specs.Core.{state}
+use Rattle.fault_core.specs.Core.{state, kept}
 use Rattle.running_words.specs.Running.{Runs}
 use Rattle.running_words.proofs.RunningLemmas.{running_laws}
 use Rattle.space_calls.proofs.CarryLemmas.{allowed_done, allowed_refused, next_refused}
 use Rattle.space_calls.proofs.RunLemmas.{reached_makes}
 use Rattle.space_calls.proofs.CameLemmas.{came_own, knows, give_makes, still_runs, still_tells, whole_after, whole_of, wrote_so}
-use Rattle.space_calls.proofs.RangeLemmas.{asked_halt, within_halt, found_run, found_word, never_refused, of_space}
+use Rattle.space_calls.proofs.RangeLemmas.{asked_halt, within_halt, found_run, found_word, never_refused, of_space, of_run}
 use Rattle.space_calls.proofs.RefusedCalls.{kill_refused, kill_there}
 use Rattle.space_calls.proofs.MovedLemmas.{kill_runs}
 use Rattle.fault_core.specs.Kill.{AreWritableSo, is_absent}
+use Rattle.fault_core.proofs.EvidenceLemmas.{shows_so}
+use Rattle.fault_core.specs.Kept.{AreFound}
+use Rattle.swap_units.specs.declared.interval.Interval.{Interval}
 use Rattle.space_calls.proofs.range.kill.Goals as goal
 
 -- ---- There is no such space.
@@ -127,3 +130,36 @@ pub returns-in-Err-kill-clause-cause : goal.returns-in-Err-kill-clause-cause
 returns-in-Err-kill-clause-cause g c =
     let asked = c.range_of.ensures.asked in
     within_halt (state c.args.core.now) (state c.range_of.new.core) c.args.core.now.filer.swapper.accepted c.args.space asked.reaches c.args.core.now.intervals c.range_of.new.core.intervals asked.intervals (state c.kill.new.self) _ _ c.in-Err-kill.halt c.in-Err-kill.ensures.cause
+
+pub returns-in-Err-kill-clause-so : goal.returns-in-Err-kill-clause-so
+returns-in-Err-kill-clause-so g c = shows_so _ (state c.range_of.new.core) (state c.kill.new.self) c.kill.ensures.touches.goes.makes c.in-Err-kill.halt c.in-Err-kill.ensures.cause
+
+-- ---- No table was asked but for the space.
+
+pub returns-in-Ok-Err-clause-idle : goal.returns-in-Ok-Err-clause-idle
+returns-in-Ok-Err-clause-idle g c = λ volume m s r there found. c.range_of.ensures.cost
+
+pub returns-in-Err-clause-idle : goal.returns-in-Err-clause-idle
+returns-in-Err-clause-idle g c = λ volume m s r there found. c.range_of.ensures.cost
+
+pub returns-in-Err-kill-clause-idle : goal.returns-in-Err-kill-clause-idle
+returns-in-Err-kill-clause-idle g c = λ volume m s r there found.
+    let whole = whole_of c.args.core.now c.requires.size in
+    let told = knows running_laws whole r in
+    let run = found_run m.spaces c.args.space c.in-Ok-Ok.found c.in-Ok-Ok.field-0 c.in-Ok-Ok.field-0-is (c.in-Ok-Ok.ensures.answer r.session.stands.memory r.session.stands.is.named m.spaces told) in
+    let here = of_run m.spaces c.args.space s c.in-Ok-Ok.found (AreFound (kept c.args.core.now)) run.1 there found in
+    let e = c.in-Err-kill.ensures.idle (subst (λ (k : List Interval). AreFound k c.in-Ok-Ok.found.0 (c.in-Ok-Ok.found.0 + c.in-Ok-Ok.found.1)) (sym c.range_of.ensures.asked.kept) here) in
+    let same : (g.D.Disk.state c.kill.new.self.filer.swapper.under).transfers ≡ (g.D.Disk.state c.range_of.new.core.filer.swapper.under).transfers = λ i. (e.1 i).transfers in
+    let cost = c.range_of.ensures.cost in
+    omega (arith, same, cost)
+
+pub returns-clause-idle : goal.returns-clause-idle
+returns-clause-idle g c = λ volume m s r there found.
+    let whole = whole_of c.args.core.now c.requires.size in
+    let told = knows running_laws whole r in
+    let run = found_run m.spaces c.args.space c.in-Ok-Ok.found c.in-Ok-Ok.field-0 c.in-Ok-Ok.field-0-is (c.in-Ok-Ok.ensures.answer r.session.stands.memory r.session.stands.is.named m.spaces told) in
+    let here = of_run m.spaces c.args.space s c.in-Ok-Ok.found (AreFound (kept c.args.core.now)) run.1 there found in
+    let e = c.in-Ok.ensures.idle (subst (λ (k : List Interval). AreFound k c.in-Ok-Ok.found.0 (c.in-Ok-Ok.found.0 + c.in-Ok-Ok.found.1)) (sym c.range_of.ensures.asked.kept) here) in
+    let same : (g.D.Disk.state c.kill.new.self.filer.swapper.under).transfers ≡ (g.D.Disk.state c.range_of.new.core.filer.swapper.under).transfers = λ i. (e.1 i).transfers in
+    let cost = c.range_of.ensures.cost in
+    omega (arith, same, cost)

@@ -1,3 +1,5 @@
+use Rattle.fault_core.specs.Core.{state}
+use Rattle.fault_core.proofs.EvidenceLemmas.{if_so}
 use Rattle.space_calls.proofs.range.range_of.Goals as goal
 
 pub returns-clause-answer : goal.returns-clause-answer
@@ -8,3 +10,8 @@ returns-clause-sound g c = rw c.frame_count-frames.ensures.same at c.bounds.ensu
 
 pub returns-clause-cause : goal.returns-clause-cause
 returns-clause-cause g c = rw c.frame_count-frames.ensures.same at c.bounds.ensures.cause
+
+-- ---- What its evidence says is so.
+
+pub returns-clause-so : goal.returns-clause-so
+returns-clause-so g c = if_so c.bounds.result _ (state c.frame_count-frames.new.core) (state c.bounds.new.core) c.bounds.ensures.asked.reaches.goes.makes c.bounds.ensures.cause

@@ -11,6 +11,7 @@ use Rattle.running_words.proofs.RunningLemmas.{running_laws}
 use Rattle.space_calls.proofs.RunLemmas.{reached_makes}
 use Rattle.space_calls.proofs.CameLemmas.{Came, knows, still_tells, whole_of, wrote_so}
 use Rattle.space_calls.proofs.LoadLemmas.{load_carried, load_not_refused}
+use Rattle.fault_core.proofs.EvidenceLemmas.{shows_so}
 use Rattle.space_calls.proofs.reference.load.Goals as goal
 
 -- ---- The bytes were loaded.
@@ -106,28 +107,32 @@ returns-in-Err-clause-sound g c = λ volume m r.
 pub returns-in-Ok-Done-clause-idle : goal.returns-in-Ok-Done-clause-idle
 returns-in-Ok-Done-clause-idle g c =
     let long : length c.load.new.into ≡ c.args.count = search rules in
-    λ first last apart.
+    λ volume m r first last.
+    let apart = running_laws.apart (state c.args.core.now) (kept c.args.core.now) c.args.core.now.intervals volume m r in
     let two = c.in-Ok-Done.ensures.idle first (subst (λ (n : ℕ). IsReady (kept c.args.core.now) c.args.core.now.filer.swapper.pool (last_page c.args.address n)) (sym long ∙ c.load.ensures.width) last) apart in
     (refl, two.1, two.2)
 
 pub returns-in-Ok-NoMap-clause-idle : goal.returns-in-Ok-NoMap-clause-idle
 returns-in-Ok-NoMap-clause-idle g c =
     let long : length c.load.new.into ≡ c.args.count = search rules in
-    λ first last apart.
+    λ volume m r first last.
+    let apart = running_laws.apart (state c.args.core.now) (kept c.args.core.now) c.args.core.now.intervals volume m r in
     let two = c.in-Ok-NoMap.ensures.idle first (subst (λ (n : ℕ). IsReady (kept c.args.core.now) c.args.core.now.filer.swapper.pool (last_page c.args.address n)) (sym long ∙ c.load.ensures.width) last) apart in
     (refl, two.1, two.2)
 
 pub returns-in-Ok-ReadOnly-clause-idle : goal.returns-in-Ok-ReadOnly-clause-idle
 returns-in-Ok-ReadOnly-clause-idle g c =
     let long : length c.load.new.into ≡ c.args.count = search rules in
-    λ first last apart.
+    λ volume m r first last.
+    let apart = running_laws.apart (state c.args.core.now) (kept c.args.core.now) c.args.core.now.intervals volume m r in
     let two = c.in-Ok-ReadOnly.ensures.idle first (subst (λ (n : ℕ). IsReady (kept c.args.core.now) c.args.core.now.filer.swapper.pool (last_page c.args.address n)) (sym long ∙ c.load.ensures.width) last) apart in
     (refl, two.1, two.2)
 
 pub returns-in-Err-clause-idle : goal.returns-in-Err-clause-idle
 returns-in-Err-clause-idle g c =
     let long : length c.load.new.into ≡ c.args.count = search rules in
-    λ first last apart.
+    λ volume m r first last.
+    let apart = running_laws.apart (state c.args.core.now) (kept c.args.core.now) c.args.core.now.intervals volume m r in
     let two = c.in-Err.ensures.idle first (subst (λ (n : ℕ). IsReady (kept c.args.core.now) c.args.core.now.filer.swapper.pool (last_page c.args.address n)) (sym long ∙ c.load.ensures.width) last) apart in
     (two.0, two.1, two.2)
 
@@ -135,3 +140,6 @@ pub returns-in-Err-clause-cause : goal.returns-in-Err-clause-cause
 returns-in-Err-clause-cause g c =
     let long : length c.load.new.into ≡ c.args.count = search rules in
     subst (λ (n : ℕ). ReachHalts (BreaksFor (state c.args.core.now) c.args.core.now.intervals c.args.address n) (state c.args.core.now) (state c.load.new.self) c.in-Err.halt) (sym c.load.ensures.width ∙ long) c.in-Err.ensures.cause
+
+pub returns-in-Err-clause-so : goal.returns-in-Err-clause-so
+returns-in-Err-clause-so g c = shows_so _ (state c.args.core.now) (state c.load.new.self) c.load.ensures.reaches.goes.makes c.in-Err.halt c.in-Err.ensures.cause

@@ -11,6 +11,7 @@ use Rattle.running_words.proofs.RunningLemmas.{running_laws}
 use Rattle.space_calls.proofs.CameLemmas.{Came, knows, store_makes, whole_of, wrote_so}
 use Rattle.space_calls.proofs.MovedLemmas.{store_runs}
 use Rattle.space_calls.proofs.StoreLemmas.{are_bytes, other_than_done, refused_came, stays_where, store_allowed, store_not_refused, store_stays, store_tells, store_word}
+use Rattle.fault_core.proofs.EvidenceLemmas.{shows_so}
 use Rattle.space_calls.proofs.reference.store.Goals as goal
 
 -- ---- The bytes were stored.
@@ -133,10 +134,28 @@ pub returns-in-Err-clause-wrote : goal.returns-in-Err-clause-wrote
 returns-in-Err-clause-wrote g c = wrote_so (store_makes c.store.ensures.touches)
 
 pub returns-in-Ok-Done-clause-idle : goal.returns-in-Ok-Done-clause-idle
-returns-in-Ok-Done-clause-idle g c = λ first last apart. let two = c.in-Ok-Done.ensures.idle first last apart in (refl, two.1, two.2)
+returns-in-Ok-Done-clause-idle g c = λ volume m r first last.
+    let apart = running_laws.apart (state c.args.core.now) (kept c.args.core.now) c.args.core.now.intervals volume m r in
+    let two = c.in-Ok-Done.ensures.idle first last apart in
+    (refl, two.1, two.2)
 
 pub returns-in-Ok-NoMap-clause-idle : goal.returns-in-Ok-NoMap-clause-idle
-returns-in-Ok-NoMap-clause-idle g c = λ first last apart. let two = c.in-Ok-NoMap.ensures.idle first last apart in (refl, two.1, two.2)
+returns-in-Ok-NoMap-clause-idle g c = λ volume m r first last.
+    let apart = running_laws.apart (state c.args.core.now) (kept c.args.core.now) c.args.core.now.intervals volume m r in
+    let two = c.in-Ok-NoMap.ensures.idle first last apart in
+    (refl, two.1, two.2)
 
 pub returns-in-Ok-ReadOnly-clause-idle : goal.returns-in-Ok-ReadOnly-clause-idle
-returns-in-Ok-ReadOnly-clause-idle g c = λ first last apart. let two = c.in-Ok-ReadOnly.ensures.idle first last apart in (refl, two.1, two.2)
+returns-in-Ok-ReadOnly-clause-idle g c = λ volume m r first last.
+    let apart = running_laws.apart (state c.args.core.now) (kept c.args.core.now) c.args.core.now.intervals volume m r in
+    let two = c.in-Ok-ReadOnly.ensures.idle first last apart in
+    (refl, two.1, two.2)
+
+pub returns-in-Err-clause-so : goal.returns-in-Err-clause-so
+returns-in-Err-clause-so g c = shows_so _ (state c.args.core.now) (state c.store.new.self) c.store.ensures.touches.goes.makes c.in-Err.halt c.in-Err.ensures.cause
+
+pub returns-in-Err-clause-idle : goal.returns-in-Err-clause-idle
+returns-in-Err-clause-idle g c = λ volume m r first last.
+    let apart = running_laws.apart (state c.args.core.now) (kept c.args.core.now) c.args.core.now.intervals volume m r in
+    let two = c.in-Err.ensures.idle first last apart in
+    (two.0, two.1, two.2)

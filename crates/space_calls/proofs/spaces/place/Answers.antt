@@ -1,5 +1,7 @@
 use Rattle.space_calls.proofs.RunLemmas.{asked_makes, asked_runs, knows, nothing_labelled, quiet_passes}
 use Rattle.space_calls.proofs.SpaceLemmas.{place_refused, space_placed}
+use Rattle.fault_core.specs.Core.{state}
+use Rattle.fault_core.proofs.EvidenceLemmas.{shows_so}
 use Rattle.space_calls.proofs.spaces.place.Goals as goal
 
 pub returns-in-Ok-Ok-clause-carried : goal.returns-in-Ok-Ok-clause-carried
@@ -34,3 +36,8 @@ returns-in-Err-clause-passes g c = λ volume m r. quiet_passes c.args.core.now c
 
 pub returns-in-Err-clause-wrote : goal.returns-in-Err-clause-wrote
 returns-in-Err-clause-wrote g c = nothing_labelled (asked_makes _ _ c.place.ensures.asked)
+
+-- ---- What its evidence says is so.
+
+pub returns-in-Err-clause-so : goal.returns-in-Err-clause-so
+returns-in-Err-clause-so g c = shows_so _ (state c.args.core.now) (state c.place.new.core) c.place.ensures.asked.reaches.goes.makes c.in-Err.halt c.in-Err.ensures.cause

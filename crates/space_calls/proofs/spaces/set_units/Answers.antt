@@ -1,5 +1,7 @@
 use Rattle.space_calls.proofs.RunLemmas.{knows, nothing_labelled, quiet_passes, retabled_makes, retabled_then}
 use Rattle.space_calls.proofs.SpaceLemmas.{unit_refused, unit_set}
+use Rattle.fault_core.specs.Core.{state}
+use Rattle.fault_core.proofs.EvidenceLemmas.{shows_so}
 use Rattle.space_calls.proofs.spaces.set_units.Goals as goal
 
 pub returns-in-Err-clause-sound : goal.returns-in-Err-clause-sound
@@ -38,3 +40,8 @@ returns-in-Err-answer-clause-passes g c = λ volume m r.
 
 pub returns-in-Err-answer-clause-wrote : goal.returns-in-Err-answer-clause-wrote
 returns-in-Err-answer-clause-wrote g c = nothing_labelled (retabled_then _ _ _ c.set_unit.ensures.retabled c.frame_count-frames.ensures.same)
+
+-- ---- What its evidence says is so.
+
+pub returns-in-Err-clause-so : goal.returns-in-Err-clause-so
+returns-in-Err-clause-so g c = shows_so _ (state c.args.core.now) (state c.set_unit.new.core) c.set_unit.ensures.retabled.beside.goes.makes c.in-Err.halt c.in-Err.ensures.cause

@@ -1,4 +1,4 @@
-use Rattle.std.proofs.Common.{◌≡◌, Some, ◌∙◌}
+use Rattle.std.proofs.Common.{◌≡◌, Some, ◌∙◌, refl}
 use Rattle.flat_machine.specs.declared.space.Space.{Space}
 use Rattle.flat_machine.specs.Next.{without_window_of}
 use Rattle.space_tables.specs.declared.shown.Shown.{Shown}
@@ -9,6 +9,11 @@ use Rattle.space_calls.proofs.FileLemmas.{found_refused, found_told}
 use Rattle.space_calls.proofs.RunLemmas.{reached_makes, settled_runs, size_kept}
 use Rattle.space_calls.proofs.TableAnswers.{not_refused, was_done}
 use Rattle.space_calls.proofs.TakeLemmas.{gone_frames, gone_loose, handle_is, machine_left, may}
+use Rattle.fault_core.specs.Core.{state}
+use Rattle.fault_core.proofs.ReachLemmas.{reaches_itself, reaches_then}
+use Rattle.space_calls.specs.Ranges.{BreaksWindow}
+use Rattle.space_calls.proofs.RangeLemmas.{fault_halt}
+use Rattle.space_calls.proofs.WindowHalts.{slot_window, range_window, change_halt}
 use Rattle.space_calls.proofs.unmapping.take_window.Goals as goal
 
 pub returns-in-Ok-Err-clause-taken : goal.returns-in-Ok-Err-clause-taken
@@ -97,3 +102,28 @@ returns-in-Ok-settle-clause-makes g c = makes_then (makes_then (makes_then c.fin
 
 pub returns-in-Err-settle-clause-makes : goal.returns-in-Err-settle-clause-makes
 returns-in-Err-settle-clause-makes g c = makes_then (makes_then (makes_then c.find_window.ensures.makes c.let_range_go.ensures.makes) c.change_window.ensures.makes) (reached_makes c.settle.ensures.reaches)
+
+-- ---- Why it failed.
+
+pub returns-in-Err-clause-cause : goal.returns-in-Err-clause-cause
+returns-in-Err-clause-cause g c =
+    let v = state c.args.core.now in
+    slot_window v v c.args.core.now.filer.swapper.accepted c.args.space (reaches_itself v) c.args.core.now.intervals c.args.core.now.intervals refl (state c.find_window.new.core) c.in-Err.halt c.in-Err.ensures.cause
+
+pub returns-in-Err-let_range_go-clause-cause : goal.returns-in-Err-let_range_go-clause-cause
+returns-in-Err-let_range_go-clause-cause g c =
+    let w = c.find_window.new.core in
+    range_window (state c.args.core.now) (state w) c.args.core.now.filer.swapper.accepted c.args.space c.find_window.ensures.reaches c.args.core.now.intervals w.intervals c.find_window.ensures.intervals (state c.let_range_go.new.core) _ _ c.in-Err-let_range_go.halt c.in-Err-let_range_go.ensures.cause
+
+pub returns-in-Err-change_window-clause-cause : goal.returns-in-Err-change_window-clause-cause
+returns-in-Err-change_window-clause-cause g c =
+    let v = state c.args.core.now in
+    let w = c.let_range_go.new.core in
+    let is = c.args.core.now.filer.swapper.accepted in
+    change_halt v (state w) is c.args.space (reaches_then v (state c.find_window.new.core) is c.find_window.ensures.reaches (state w) c.let_range_go.ensures.reaches) c.args.core.now.intervals w.intervals
+    (c.let_range_go.ensures.intervals ∙ c.find_window.ensures.intervals) (state c.change_window.new.core) c.in-Err-change_window.halt c.in-Err-change_window.ensures.cause
+
+pub returns-in-Err-settle-clause-cause : goal.returns-in-Err-settle-clause-cause
+returns-in-Err-settle-clause-cause g c =
+    fault_halt (BreaksWindow (state c.args.core.now) c.args.core.now.intervals c.args.space) (state c.args.core.now) (state c.change_window.new.core) (state c.settle.new.core) c.in-Err-settle.halt
+    (makes_then (makes_then c.find_window.ensures.makes c.let_range_go.ensures.makes) c.change_window.ensures.makes).went.faults c.in-Err-settle.ensures.fault c.in-Err-settle.ensures.counted

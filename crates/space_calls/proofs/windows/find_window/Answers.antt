@@ -2,6 +2,11 @@ use Rattle.swapper_kernel.specs.GoesLaws.{makes_then}
 use Rattle.space_calls.proofs.FileLemmas.{window_found, window_lost}
 use Rattle.space_calls.proofs.RunLemmas.{asked_makes, asked_runs, knows, size_kept}
 use Rattle.space_calls.proofs.TableAnswers.{shown_refused}
+use Rattle.fault_core.specs.Core.{state}
+use Rattle.fault_core.proofs.EvidenceLemmas.{shows_so}
+use Rattle.std.proofs.Common.{◌∙◌}
+use Rattle.fault_core.proofs.ReachLemmas.{reaches_then}
+use Rattle.space_calls.proofs.WindowHalts.{slot_halt}
 use Rattle.space_calls.proofs.windows.find_window.Goals as goal
 
 pub returns-in-Ok-Err-clause-answer : goal.returns-in-Ok-Err-clause-answer
@@ -90,3 +95,47 @@ returns-in-Err-bounds-clause-runs g c = λ volume m r.
 
 pub returns-in-Err-bounds-clause-makes : goal.returns-in-Err-bounds-clause-makes
 returns-in-Err-bounds-clause-makes g c = makes_then (asked_makes _ _ c.shown.ensures.asked) (asked_makes _ _ c.bounds.ensures.asked)
+
+-- ---- What its evidence says is so.
+
+pub returns-in-Err-clause-so : goal.returns-in-Err-clause-so
+returns-in-Err-clause-so g c = shows_so _ (state c.args.core.now) (state c.shown.new.core) c.shown.ensures.asked.reaches.goes.makes c.in-Err.halt c.in-Err.ensures.cause
+
+pub returns-in-Err-bounds-clause-so : goal.returns-in-Err-bounds-clause-so
+returns-in-Err-bounds-clause-so g c = shows_so _ (state c.shown.new.core) (state c.bounds.new.core) c.bounds.ensures.asked.reaches.goes.makes c.in-Err-bounds.halt c.in-Err-bounds.ensures.cause
+
+-- ---- What was asked, and why it failed.
+
+pub returns-in-Err-bounds-clause-cause : goal.returns-in-Err-bounds-clause-cause
+returns-in-Err-bounds-clause-cause g c =
+    slot_halt (state c.args.core.now) (state c.shown.new.core) c.args.core.now.filer.swapper.accepted c.args.space c.shown.ensures.asked.reaches (state c.bounds.new.core) c.in-Err-bounds.halt c.in-Err-bounds.ensures.cause
+
+pub returns-in-Ok-Ok-bounds-clause-reaches : goal.returns-in-Ok-Ok-bounds-clause-reaches
+returns-in-Ok-Ok-bounds-clause-reaches g c = reaches_then (state c.args.core.now) (state c.shown.new.core) c.args.core.now.filer.swapper.accepted c.shown.ensures.asked.reaches (state c.bounds.new.core) c.bounds.ensures.asked.reaches
+
+pub returns-in-Ok-Err-bounds-clause-reaches : goal.returns-in-Ok-Err-bounds-clause-reaches
+returns-in-Ok-Err-bounds-clause-reaches g c = reaches_then (state c.args.core.now) (state c.shown.new.core) c.args.core.now.filer.swapper.accepted c.shown.ensures.asked.reaches (state c.bounds.new.core) c.bounds.ensures.asked.reaches
+
+pub returns-in-Err-bounds-clause-reaches : goal.returns-in-Err-bounds-clause-reaches
+returns-in-Err-bounds-clause-reaches g c = reaches_then (state c.args.core.now) (state c.shown.new.core) c.args.core.now.filer.swapper.accepted c.shown.ensures.asked.reaches (state c.bounds.new.core) c.bounds.ensures.asked.reaches
+
+pub returns-in-Ok-Ok-bounds-clause-intervals : goal.returns-in-Ok-Ok-bounds-clause-intervals
+returns-in-Ok-Ok-bounds-clause-intervals g c = c.bounds.ensures.asked.intervals ∙ c.shown.ensures.asked.intervals
+
+pub returns-in-Ok-Err-bounds-clause-intervals : goal.returns-in-Ok-Err-bounds-clause-intervals
+returns-in-Ok-Err-bounds-clause-intervals g c = c.bounds.ensures.asked.intervals ∙ c.shown.ensures.asked.intervals
+
+pub returns-in-Err-bounds-clause-intervals : goal.returns-in-Err-bounds-clause-intervals
+returns-in-Err-bounds-clause-intervals g c = c.bounds.ensures.asked.intervals ∙ c.shown.ensures.asked.intervals
+
+pub returns-in-Ok-Err-clause-reaches : goal.returns-in-Ok-Err-clause-reaches
+returns-in-Ok-Err-clause-reaches g c = c.shown.ensures.asked.reaches
+
+pub returns-in-Err-clause-reaches : goal.returns-in-Err-clause-reaches
+returns-in-Err-clause-reaches g c = c.shown.ensures.asked.reaches
+
+pub returns-in-Ok-Err-clause-intervals : goal.returns-in-Ok-Err-clause-intervals
+returns-in-Ok-Err-clause-intervals g c = c.shown.ensures.asked.intervals
+
+pub returns-in-Err-clause-intervals : goal.returns-in-Err-clause-intervals
+returns-in-Err-clause-intervals g c = c.shown.ensures.asked.intervals

@@ -1,4 +1,6 @@
 use Rattle.space_calls.proofs.RunLemmas.{knows, moved_reaches, moved_runs, moved_size, reached_runs}
+use Rattle.fault_core.specs.Core.{state}
+use Rattle.fault_core.proofs.EvidenceLemmas.{if_so}
 use Rattle.space_calls.proofs.windows.let_range_go.Goals as goal
 
 pub returns-clause-rest : goal.returns-clause-rest
@@ -30,3 +32,16 @@ returns-clause-sound g c = λ volume m r.
 
 pub returns-clause-makes : goal.returns-clause-makes
 returns-clause-makes g c = moved_reaches c.args.core.now c.frame_count-frames.new.core c.let_go.new.self c.frame_count-frames.ensures.same c.let_go.ensures.reaches
+
+-- ---- What its evidence says is so.
+
+pub returns-clause-so : goal.returns-clause-so
+returns-clause-so g c = if_so c.let_go.result _ (state c.frame_count-frames.new.core) (state c.let_go.new.self) c.let_go.ensures.reaches.goes.makes c.let_go.ensures.cause
+
+-- ---- What was asked, and why it failed.
+
+pub returns-clause-cause : goal.returns-clause-cause
+returns-clause-cause g c = rw c.frame_count-frames.ensures.same at c.let_go.ensures.cause
+
+pub returns-clause-reaches : goal.returns-clause-reaches
+returns-clause-reaches g c = rw c.frame_count-frames.ensures.same at c.let_go.ensures.reaches

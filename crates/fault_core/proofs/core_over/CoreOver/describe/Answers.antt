@@ -11,6 +11,7 @@ use Rattle.fault_core.specs.View.{view_of}
 use Rattle.fault_core.proofs.KeptLemmas.{kept_new, kept_before, formed_more, Looked, looked}
 use Rattle.fault_core.proofs.ReachLemmas.{reaches_itself}
 use Rattle.fault_core.proofs.ToldLemmas.{told_after, tables_told, interval_of, interval_at}
+use Rattle.fault_core.proofs.YieldLemmas.{yield_itself}
 use Rattle.fault_core.proofs.core_over.CoreOver.describe.Given as given
 use Rattle.fault_core.proofs.core_over.CoreOver.describe.Goals as goal
 
@@ -41,6 +42,9 @@ returns-in-Some-clause-same g c = λ m named ss knows.
 
 pub returns-in-Some-clause-reaches : goal.returns-in-Some-clause-reaches
 returns-in-Some-clause-reaches g c = reaches_itself (view_of c.args.self.now.filer)
+
+pub returns-in-Some-clause-stay : goal.returns-in-Some-clause-stay
+returns-in-Some-clause-stay g c = yield_itself c.args.self.now.filer.swapper.pool
 
 -- ---- The tables failed.
 

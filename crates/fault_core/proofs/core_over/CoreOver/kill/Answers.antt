@@ -2,7 +2,7 @@ use Rattle.std.proofs.Common.{◌<◌, ◌+◌, ◌∙◌, arith, refl}
 use Rattle.swapper_kernel.specs.HaltLaws.{brings_then}
 use Rattle.fault_core.specs.Core.{kept, state}
 use Rattle.fault_core.proofs.BeforeLemmas.{touches_then}
-use Rattle.fault_core.proofs.KillLemmas.{killing_none, killing_more, killing_left, killing_halt, killing_sound, killing_cost, killed_all, killed_cost, killed_goes, killed_known, killed_most, range_of}
+use Rattle.fault_core.proofs.KillLemmas.{killing_none, killing_more, killing_left, killing_halt, killing_sound, killing_cost, killing_found, killed_all, killed_cost, killed_goes, killed_known, killed_most, range_of}
 use Rattle.fault_core.proofs.core_over.CoreOver.kill.Goals as goal
 
 pub loop-part-init : goal.loop-part-init
@@ -14,7 +14,8 @@ kill_part-requires-clause-size g c = c.loop-part.invariant.size
 pub loop-part-preserved : goal.loop-part-preserved
 loop-part-preserved g c =
     killing_more c.args.self.now.filer.swapper.accepted c.loop-part.invariant (state c.kill_part.new.self) (kept c.kill_part.new.self) c.kill_part.new.self.intervals c.end_of-end.ensures.within c.kill_part.ensures.left
-    c.in-Ok.next c.if-page-end.false c.in-Ok.ensures.next.0 c.kill_part.ensures.touches c.kill_part.ensures.came c.kill_part.ensures.intervals c.in-Ok.ensures.gone c.in-Ok.ensures.part c.kill_part.ensures.cost
+    c.in-Ok.next c.if-page-end.false c.in-Ok.ensures.next.0 c.kill_part.ensures.touches c.kill_part.ensures.came c.kill_part.ensures.intervals c.in-Ok.ensures.gone c.in-Ok.ensures.part
+    (λ y found. let e = c.in-Ok.ensures.idle y found in (e.1, e.2)) c.kill_part.ensures.cost
 
 -- ---- A page could not be looked up.
 
@@ -102,3 +103,20 @@ returns-clause-intervals g c = c.loop-part.invariant.intervals
 
 pub returns-clause-cost : goal.returns-clause-cost
 returns-clause-cost g c = killed_cost c.args.self.now.filer.swapper.accepted c.loop-part.invariant (c.args.self.now.intervals + 1) c.loop-part.auto._part-end
+
+-- ---- No table was asked.
+
+pub returns-in-Err-clause-idle : goal.returns-in-Err-clause-idle
+returns-in-Err-clause-idle g c = λ found.
+    let upto = c.end_of-end.ensures.within in
+    let test = c.if-page-end.false in
+    let was = c.loop-part.invariant.idle found in
+    let one = killing_found c.args.self.now.filer.swapper.accepted c.loop-part.invariant (omega (arith, upto, test)) found in
+    let e = c.in-Err.ensures.idle one.0 one.1 in
+    (e.0, e.1 ∙ was.0, e.2 ∙ was.1)
+
+pub returns-then-page-end-clause-idle : goal.returns-then-page-end-clause-idle
+returns-then-page-end-clause-idle g c = λ found. let was = c.loop-part.invariant.idle found in (refl, was.0, was.1)
+
+pub returns-clause-idle : goal.returns-clause-idle
+returns-clause-idle g c = λ found. let was = c.loop-part.invariant.idle found in (refl, was.0, was.1)

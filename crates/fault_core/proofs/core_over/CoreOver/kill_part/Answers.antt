@@ -1,4 +1,4 @@
-use Rattle.std.proofs.Common.{◌≡◌, rules, true, false, subst, ap, ℕ, arith}
+use Rattle.std.proofs.Common.{◌≡◌, ◌∙◌, rules, true, false, refl, subst, ap, ℕ, arith}
 use Rattle.swapper_kernel.specs.Differs.{Differs}
 use Rattle.swapper_kernel.specs.DiffersLaws.{differs_itself}
 use Rattle.session_words.specs.CellLaws.{is_killed}
@@ -55,3 +55,16 @@ returns-clause-left g c = λ m named ss range knows from to.
 pub returns-clause-touches : goal.returns-clause-touches
 returns-clause-touches g c =
     touches_then (state c.args.self.now) (state c.part_at.new.self) c.args.self.now.filer.swapper.accepted (touches_of _ c.part_at.ensures.reaches) (view_of c.forget_shown.new.filer) c.forget_shown.ensures.touches
+
+-- ---- No table was asked.
+
+pub returns-in-Err-clause-idle : goal.returns-in-Err-clause-idle
+returns-in-Err-clause-idle g c = λ x found. let e = c.in-Err.ensures.idle x found in (e.0, (λ i. g.D.Disk.state (e.1 i).swapper.under), e.2)
+
+pub returns-then-not-may_store-clause-idle : goal.returns-then-not-may_store-clause-idle
+returns-then-not-may_store-clause-idle g c = λ x found. let e = c.in-Ok.ensures.idle x found in (refl, (λ i. g.D.Disk.state (e.1 i).swapper.under), e.2)
+
+pub returns-clause-idle : goal.returns-clause-idle
+returns-clause-idle g c = λ x found.
+    let e = c.in-Ok.ensures.idle x found in
+    (refl, (λ i. g.D.Disk.state (c.forget_shown.ensures.under i)) ∙ (λ i. g.D.Disk.state (e.1 i).swapper.under), e.2)

@@ -6,7 +6,7 @@ use Rattle.fault_core.specs.View.{view_of}
 use Rattle.fault_core.proofs.AccessLemmas.{at_of}
 use Rattle.fault_core.proofs.ReachLemmas.{reaches_then, halts_before}
 use Rattle.fault_core.proofs.KeptLemmas.{same_answer}
-use Rattle.fault_core.proofs.RestLemmas.{none_at_rest, bare_at_rest, run_at_rest, next_of, leaves_same, part_all, part_leaves}
+use Rattle.fault_core.proofs.RestLemmas.{run_yields, none_at_rest, bare_at_rest, run_at_rest, next_of, leaves_same, part_all, part_leaves}
 use Rattle.fault_core.proofs.ToldLemmas.{interval_of, told_after}
 use Rattle.fault_core.proofs.core_over.CoreOver.rest_part.Goals as goal
 
@@ -129,3 +129,20 @@ returns-in-Err-rest_run-clause-frames g c = λ y found inside.
     let same = same_answer c.describe.result y c.in-Ok-Some.x c.in-Ok-Some.field-0 idle.0 c.in-Ok-Some.is c.in-Ok-Some.field-0-is in
     part_leaves c.args.way c.in-Ok-Some.x y c.args.page c.min-next.result c.args.end c.args.self.now.filer.swapper.pool c.describe.new.self.filer.swapper.pool c.rest_run.new.filer.swapper.pool same
     (part_all c.in-Ok-Some.x y c.min-next.result c.args.end c.min-next.ensures same inside) (λ i. (idle.1 i).swapper.pool) c.rest_run.ensures.frames
+
+-- ---- Frames stay where they are forced.
+
+pub returns-in-Ok-None-clause-stay : goal.returns-in-Ok-None-clause-stay
+returns-in-Ok-None-clause-stay g c = λ forced. c.describe.ensures.stay
+
+pub returns-in-Err-clause-stay : goal.returns-in-Err-clause-stay
+returns-in-Err-clause-stay g c = λ forced. c.describe.ensures.stay
+
+pub returns-then-x-eq0-clause-stay : goal.returns-then-x-eq0-clause-stay
+returns-then-x-eq0-clause-stay g c = λ forced. c.describe.ensures.stay
+
+pub returns-in-Ok-clause-stay : goal.returns-in-Ok-clause-stay
+returns-in-Ok-clause-stay g c = run_yields c.args.way _ _ _ c.args.self.now.filer.swapper.pool c.describe.new.self.filer.swapper.pool c.rest_run.new.filer.swapper.pool c.describe.ensures.stay c.rest_run.ensures.frames
+
+pub returns-in-Err-rest_run-clause-stay : goal.returns-in-Err-rest_run-clause-stay
+returns-in-Err-rest_run-clause-stay g c = run_yields c.args.way _ _ _ c.args.self.now.filer.swapper.pool c.describe.new.self.filer.swapper.pool c.rest_run.new.filer.swapper.pool c.describe.ensures.stay c.rest_run.ensures.frames

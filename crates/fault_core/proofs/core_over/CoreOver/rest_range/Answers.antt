@@ -1,6 +1,7 @@
 use Rattle.std.proofs.Common.{◌∙◌, ◌+◌, ◌<◌, arith}
 use Rattle.swapper_kernel.specs.HaltLaws.{brings_then}
 use Rattle.fault_core.specs.Core.{kept, state}
+use Rattle.fault_core.proofs.YieldLemmas.{yield_then}
 use Rattle.fault_core.proofs.RangeLemmas.{resting_none, resting_more, resting_halt, resting_stopped, resting_done, resting_all, resting_cost, stopped_cost, frames_stopped, frames_done}
 use Rattle.fault_core.proofs.core_over.CoreOver.rest_range.Goals as goal
 
@@ -21,6 +22,9 @@ returns-then-page-end-clause-reaches g c = c.loop-part.invariant.reaches
 pub returns-then-page-end-clause-came : goal.returns-then-page-end-clause-came
 returns-then-page-end-clause-came g c = c.loop-part.invariant.came
 
+pub returns-then-page-end-clause-stay : goal.returns-then-page-end-clause-stay
+returns-then-page-end-clause-stay g c = c.loop-part.invariant.stay
+
 pub returns-then-page-end-clause-intervals : goal.returns-then-page-end-clause-intervals
 returns-then-page-end-clause-intervals g c = c.loop-part.invariant.same_count
 
@@ -40,13 +44,16 @@ loop-part-preserved g c =
     let new = c.rest_part.new.self in
     let further = c.in-Ok.ensures.further in
     resting_more c.args.self.now.filer.swapper.accepted c.loop-part.invariant (state new) (kept new) new.intervals c.in-Ok.next c.if-page-end.false further.0 c.in-Ok.ensures.rest c.in-Ok.ensures.part c.in-Ok.ensures.same
-    c.rest_part.ensures.frames c.in-Ok.ensures.all
+    c.rest_part.ensures.frames c.in-Ok.ensures.all c.rest_part.ensures.stay
     c.rest_part.ensures.reaches c.rest_part.ensures.came c.rest_part.ensures.intervals c.rest_part.ensures.cost
 
 -- ---- The disk failed.
 
 pub returns-in-Err-clause-cause : goal.returns-in-Err-clause-cause
-returns-in-Err-clause-cause g c = resting_halt c.args.self.now.filer.swapper.accepted c.loop-part.invariant (state c.rest_part.new.self) c.in-Err.halt c.in-Err.ensures.cause
+returns-in-Err-clause-cause g c =
+    let upto = c.end_of-end.ensures.within in
+    let test = c.if-page-end.false in
+    resting_halt c.args.self.now.filer.swapper.accepted c.loop-part.invariant (c.args.first + c.args.pages) (omega (arith, upto, test)) (state c.rest_part.new.self) c.in-Err.halt c.in-Err.ensures.cause
 
 pub returns-in-Err-clause-sound : goal.returns-in-Err-clause-sound
 returns-in-Err-clause-sound g c = λ m named ss knows. c.in-Err.ensures.sound m named ss (c.loop-part.invariant.told m named ss knows).0
@@ -59,6 +66,9 @@ returns-in-Err-clause-reaches g c = resting_stopped c.args.self.now.filer.swappe
 
 pub returns-in-Err-clause-came : goal.returns-in-Err-clause-came
 returns-in-Err-clause-came g c = brings_then c.loop-part.invariant.came c.rest_part.ensures.came
+
+pub returns-in-Err-clause-stay : goal.returns-in-Err-clause-stay
+returns-in-Err-clause-stay g c = λ forced. yield_then (c.loop-part.invariant.stay forced) (c.rest_part.ensures.stay forced)
 
 pub returns-in-Err-clause-intervals : goal.returns-in-Err-clause-intervals
 returns-in-Err-clause-intervals g c = c.rest_part.ensures.intervals ∙ c.loop-part.invariant.same_count
@@ -86,6 +96,9 @@ returns-clause-reaches g c = c.loop-part.invariant.reaches
 
 pub returns-clause-came : goal.returns-clause-came
 returns-clause-came g c = c.loop-part.invariant.came
+
+pub returns-clause-stay : goal.returns-clause-stay
+returns-clause-stay g c = c.loop-part.invariant.stay
 
 pub returns-clause-intervals : goal.returns-clause-intervals
 returns-clause-intervals g c = c.loop-part.invariant.same_count
