@@ -37,3 +37,5 @@ pub mod SettledWider
 pub mod AnonymousLemmas
 pub mod NewWindow
 pub mod OwnLemmas
+pub mod ShutLemmas
+pub mod UnsetLemmas

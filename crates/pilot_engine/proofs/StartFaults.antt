@@ -10,6 +10,7 @@ use Rattle.labelled_disk.specs.declared.layout.RootFault.TheVariants as fault
 use Rattle.labelled_disk.specs.Layout.{IsCount}
 use Rattle.labelled_disk.specs.Root.{root_page, page_in}
 use Rattle.labelled_disk.specs.Sectors.{Sector, AreSectors}
+use Rattle.labelled_disk.specs.State.{DiskState}
 use Rattle.frame_pool.specs.Frames.{Slots, Frame}
 use Rattle.volume_root.specs.declared.root.Root.{Root}
 use Rattle.volume_root.specs.Flag.{IsRefused}
@@ -19,7 +20,7 @@ use Rattle.volume_root.proofs.FlagLemmas.{sound_is_opened}
 use Rattle.file_manager.proofs.RunStages.{there_is}
 use Rattle.pilot_engine.specs.declared.fault.StartFault.{StartFault}
 use Rattle.pilot_engine.specs.declared.fault.StartFault.TheVariants.{Root as NoRoot, NoMemory, Halt as Halted}
-use Rattle.pilot_engine.specs.Opening.{IsBare, IsEarly, IsOutside, IsRightRefusal}
+use Rattle.pilot_engine.specs.Opening.{IsBare, IsEarly, IsOutside, IsRightRefusal, IsSoAtStart, LeavesOpenAtStart}
 
 -- empty slots have no frame
 pub bare_slots : (n : ℕ) (slots : Slots) → slots ≡ replicate n None → IsBare slots
@@ -101,3 +102,14 @@ early_outside d sectors sound (NoRoot why) early (inl disk) = disk
 early_outside d sectors sound (NoRoot why) early (inr refused) = absurd (sound_is_opened d sectors sound why refused)
 early_outside d sectors sound NoMemory early right = tt
 early_outside d sectors sound (Halted why) early right = absurd early
+
+-- before the first write nothing shows damage
+pub early_so : (disk : DiskState) (f : StartFault) → IsEarly f → IsSoAtStart disk f
+early_so disk (NoRoot why) early = tt
+early_so disk NoMemory early = tt
+early_so disk (Halted why) early = absurd early
+
+pub early_left : (disk : DiskState) (f : StartFault) → IsEarly f → LeavesOpenAtStart disk f
+early_left disk (NoRoot why) early = tt
+early_left disk NoMemory early = tt
+early_left disk (Halted why) early = absurd early

@@ -1,7 +1,7 @@
 -- What a start has written, exit by exit.
 use Rattle.std.proofs.Common.{◌≡◌, ◌⊎◌, inl, inr, ℕ, zero, suc, ◌<◌, ◌^◌, false, ◌++◌, List, [], ◌∷◌, length, Some, refl, sym, ◌∙◌, ap, append-nil, subst, arith}
 use Rattle.std.specs.Prelude.{option_map, slice_get}
-use Rattle.std.proofs.lemmas.Option.{same_Some}
+use Rattle.std.proofs.lemmas.Option.{none-some, same_Some}
 use Rattle.labelled_disk.specs.declared.disk.DiskWrite.{DiskWrite}
 use Rattle.labelled_disk.specs.declared.disk.DiskWrite.TheVariants.{Page}
 use Rattle.labelled_disk.specs.declared.label.Wanted.{Wanted}
@@ -20,7 +20,7 @@ use Rattle.frame_pool.specs.Frames.{Slots}
 use Rattle.label_calls.specs.Labels.{MayHaveWritten}
 use Rattle.swapper_kernel.specs.declared.manager.Manager.TheVariants.{AllocationMap}
 use Rattle.swapper_kernel.specs.Goes.{IsDirty, Makes, no_page}
-use Rattle.swapper_kernel.specs.GoesLaws.{makes_then, went_then, wrote_none}
+use Rattle.swapper_kernel.specs.GoesLaws.{makes_then, went_then}
 use Rattle.swapper_kernel.specs.Window.{Beside}
 use Rattle.session_words.specs.Volume.{volume_page}
 use Rattle.volume_root.specs.declared.root.Root.{Root}
@@ -60,7 +60,7 @@ module _ (root : Root) (a : DiskState) (s : Slots) (bare : IsBare s) where
   root_some (inr made) = record { sectors = []; few = omega arith; count = 1; makes = wider made; first = inr ([], alone made) }
 
   module _ {b : DiskState} (made : Makes no_page (root_write (in_use root) ∷ []) a s b s) where
-    first_made : Appended (root_write (in_use root) ∷ []) a b
+    pub first_made : Appended (root_write (in_use root) ∷ []) a b
     first_made = subst (λ (ws : List DiskWrite). Appended ws a b) (alone made) made.wrote.appended
 
     first_here : slice_get made.wrote.writes 0 ≡ Some (root_write (in_use root))
@@ -132,7 +132,15 @@ module _ {o a : DiskState} (reads : OnlyReads o a) where
     few = omega arith;
     count = 0;
     went = record { sectors = reads.sectors; lent = reads.lent; faults = reads.faults; transfers = reads.transfers };
-    wrote = wrote_none volume_page [] (record { contents = reads.contents; writes = reads.writes });
+    wrote = record {
+      writes = [];
+      appended = appended_none (record { contents = reads.contents; writes = reads.writes });
+      form = λ k w here. absurd (none-some w here);
+      lawful = λ d k w told here. absurd (none-some w here);
+      labels = refl;
+      of_dirty = λ k sector wanted bytes here. absurd (none-some (Page sector wanted bytes) here);
+    };
+    first = inl refl;
   }
 
   pub read_keeps : (d : List Sector) → LabelsRight d → KeepsFiles d o a
@@ -176,6 +184,7 @@ module _ {o a : DiskState} (reads : OnlyReads o a) where
             labels = w.labels;
             of_dirty = λ k sector wanted bytes here. elim (w.of_dirty k sector wanted bytes here) [ inl was ↦ absurd (bare was.slot was.frame was.has) | inr own ↦ inr own ];
           };
+          first = starts.first;
         }
 
     -- and the files at each moment of it

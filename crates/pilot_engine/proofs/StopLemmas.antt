@@ -50,7 +50,7 @@ use Rattle.running_words.proofs.StageLemmas.{begun, same_labels}
 -- Writes in a row.
 
 -- later moments begin where the earlier writes end
-later_moment : (d : List Sector) (first next : List DiskWrite) (j : ℕ) → moment d (first ++ next) (length first + j) ≡ moment (after_writes first d) next j
+pub later_moment : (d : List Sector) (first next : List DiskWrite) (j : ℕ) → moment d (first ++ next) (length first + j) ≡ moment (after_writes first d) next j
 later_moment d first next j = ap (λ (ws : List DiskWrite). after_writes ws d) (take_past first next j) ∙ sym (after_writes-append first (take j next) d)
 
 module _ (P : List Sector → Type 0) where

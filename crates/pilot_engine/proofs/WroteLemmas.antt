@@ -1,5 +1,5 @@
 -- What calls in a row have written.
-use Rattle.std.proofs.Common.{inl, inr, ℕ, ◌≤◌, List, [], ◌∷◌, ◌++◌, Result, refl, arith}
+use Rattle.std.proofs.Common.{inl, ℕ, ◌≤◌, List, [], ◌∷◌, ◌++◌, Result, refl, arith}
 use Rattle.labelled_disk.specs.declared.disk.DiskError.{DiskError}
 use Rattle.labelled_disk.specs.declared.disk.DiskWrite.{DiskWrite}
 use Rattle.labelled_disk.specs.Calls.{Rose, Settles}
@@ -7,13 +7,11 @@ use Rattle.labelled_disk.specs.Runs.{creation}
 use Rattle.labelled_disk.specs.State.{DiskState}
 use Rattle.frame_pool.specs.Frames.{Slots}
 use Rattle.swapper_kernel.specs.Goes.{Makes, Swaps}
-use Rattle.swapper_kernel.specs.GoesLaws.{makes_nothing, makes_then, makes_wider, swaps_wider, wrote_none}
-use Rattle.label_calls.specs.Labels.{MayHaveWritten}
+use Rattle.swapper_kernel.specs.GoesLaws.{makes_nothing, makes_then, swaps_wider, wrote_none}
 use Rattle.volume_root.specs.declared.root.Root.{Root}
 use Rattle.volume_root.specs.RootPage.{root_write}
 use Rattle.session_words.specs.Volume.{volume_page}
 use Rattle.file_manager.specs.Creating.{NewMade, NewSome, counted, next_id}
-use Rattle.pilot_engine.specs.Closing.{WroteAny, WroteOn}
 use Rattle.running_words.specs.Session.{AreOpen, Wrote}
 use Rattle.running_words.proofs.FlagLemmas.{append_open, creation_open, root_open, take_open}
 
@@ -32,9 +30,6 @@ wrote_then h k = record { labels = h.labels ++ k.labels; makes = makes_then h.ma
 
 pub wrote_swapping : {a b : DiskState} {s t : Slots} → Swaps a s b t → Wrote a s b t
 wrote_swapping swaps = wrote_by (swaps_wider volume_page swaps).makes tt
-
-pub wrote_on : {a b : DiskState} {s t : Slots} → Wrote a s b t → WroteOn s a b
-wrote_on h = record { labels = h.labels; went = h.makes.went; wrote = h.makes.wrote }
 
 -- a wait writes nothing
 pub wrote_settling : (old new : DiskState) (slots : Slots) (result : Result (Unit {0}) DiskError) → Settles old result new → Wrote old slots new slots
@@ -56,19 +51,6 @@ wrote_file root kind pages made = wrote_by made.makes (file_open root kind made.
 pub wrote_some : {a b : DiskState} {s t : Slots} (root : Root) (kind pages : ℕ) → NewSome root kind pages a s b t → Wrote a s b t
 wrote_some root kind pages some =
     wrote_by some.makes (take_open some.count (root_write (counted root) ∷ creation (next_id root) kind some.leader some.sectors) (file_open root kind some.leader some.sectors))
-
--- At a close, whose root has the clean flag 1.
-
-pub any_of : {a b : DiskState} {s t : Slots} → Wrote a s b t → WroteAny a s b t
-any_of h = record { labels = h.labels; makes = h.makes }
-
-pub any_then : {a b c : DiskState} {s t u : Slots} → WroteAny a s b t → WroteAny b t c u → WroteAny a s c u
-any_then h k = record { labels = h.labels ++ k.labels; makes = makes_then h.makes k.makes }
-
--- a root is written, or it isn't
-pub any_root : (old new : DiskState) (slots : Slots) (root : Root) → MayHaveWritten (root_write root) old slots new → WroteAny old slots new slots
-any_root old new slots root (inl none) = record { labels = _; makes = makes_wider volume_page (λ id page no. absurd no) none }
-any_root old new slots root (inr made) = record { labels = _; makes = makes_wider volume_page (λ id page no. absurd no) made }
 
 -- a fault that was counted behind other calls
 pub rose_behind : (a b c : ℕ) → a ≤ b → Rose b c → Rose a c

@@ -1,5 +1,5 @@
 -- A session's end: its temporary files go, then the pages of the space tables, and the volume is closed.
-use Rattle.std.specs.Prelude.{◌≡◌, ◌⊎◌, ℕ, ◌<◌, ◌≤◌, true, List, filter, length, Option, Some, None}
+use Rattle.std.specs.Prelude.{◌≡◌, ◌⊎◌, ℕ, ◌<◌, ◌≤◌, true, List, [], ◌∷◌, ◌++◌, filter, length, Option, Some, None}
 use Rattle.labelled_disk.specs.declared.disk.DiskWrite.{DiskWrite}
 use Rattle.labelled_disk.specs.declared.layout.Layout.{Layout}
 use Rattle.labelled_disk.specs.File.{File, file_at}
@@ -9,6 +9,7 @@ use Rattle.labelled_disk.specs.Root.{root_page, short_at, serial_of, counter_of}
 use Rattle.labelled_disk.specs.Sectors.{Sector}
 use Rattle.labelled_disk.specs.State.{DiskState}
 use Rattle.labelled_disk.specs.WriteRuns.{Appended}
+use Rattle.volume_root.specs.RootPage.{root_write}
 use Rattle.volume_root.specs.Sound.{Sound}
 use Rattle.volume_root.specs.declared.root.Root.{Root}
 use Rattle.frame_pool.specs.Frames.{Frame, Slots, Has}
@@ -26,7 +27,7 @@ use Rattle.session_words.specs.StandsFor.{TellsSettled}
 use Rattle.session_words.specs.Volume.{volume_page}
 use Rattle.file_manager.specs.declared.volume.Volume.{Volume}
 use Rattle.running_words.specs.Bound.{room_above}
-use Rattle.running_words.specs.Session.{IsAlone}
+use Rattle.running_words.specs.Session.{AreOpen, IsAlone}
 
 -- Each moment of the writes.
 
@@ -119,14 +120,20 @@ pub record HasShut (m : Machine) (disk : DiskState) : Type 0 where
   pub tells : TellsShut m disk
   pub synced : disk.synced ≡ true
 
--- over any contents: the writes of an end, whose root may set the clean flag, were lawful, each at its moment, and no page but
+-- none of these writes sets the clean flag, or the last alone, which is the root of a closed volume
+abbrev pub ShutLast : List DiskWrite → Type 0
+ShutLast writes = AreOpen writes ⊎ ((earlier : List DiskWrite) × (root : Root) × (writes ≡ earlier ++ root_write (closed_root root) ∷ []) × AreOpen earlier)
+
+-- over any contents: the writes of an end, whose last may set the clean flag, were lawful, each at its moment, and no page but
 -- those of the volume's own became dirty
 pub record WroteAny (old : DiskState) (before : Slots) (new : DiskState) (after : Slots) : Type 0 where
   pub labels : List DiskWrite
   pub makes : Makes volume_page labels old before new after
+  pub shut : ShutLast makes.wrote.writes
 
--- over any contents: the same disk later, and the writes were lawful, each at its moment
+-- over any contents: the same disk later, the writes were lawful, each at its moment, and none but the last sets the clean flag
 pub record WroteOn (before : Slots) (old new : DiskState) : Type 0 where
   pub labels : List DiskWrite
   pub went : Went old new
   pub wrote : Wrote volume_page labels old before new
+  pub shut : ShutLast wrote.writes

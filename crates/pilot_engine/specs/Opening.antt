@@ -1,6 +1,7 @@
 -- How a session starts.
 use Rattle.std.specs.Prelude.{◌≡◌, ◌⊎◌, ℕ, ◌+◌, ◌*◌, ◌≤◌, false, List, [], ◌∷◌, Some, length, take}
 use Rattle.labelled_disk.specs.declared.disk.DiskWrite.{DiskWrite}
+use Rattle.labelled_disk.specs.declared.evidence.Halt.{Halt}
 use Rattle.labelled_disk.specs.declared.evidence.Halt.TheVariants as halt
 use Rattle.labelled_disk.specs.declared.layout.RootFault.TheVariants as fault
 use Rattle.labelled_disk.specs.Layout.{vam}
@@ -14,6 +15,7 @@ use Rattle.labelled_disk.specs.WriteRuns.{Appended}
 use Rattle.frame_pool.specs.Frames.{Slots, Frame, Has}
 use Rattle.flat_machine.specs.Space.{root}
 use Rattle.swapper_kernel.specs.Goes.{Went, Wrote, Makes}
+use Rattle.filer_kernel.specs.Evidence.{ShowsSo}
 use Rattle.session_words.specs.Parts.{TablesMeaning}
 use Rattle.session_words.specs.Volume.{volume_page}
 use Rattle.volume_root.specs.declared.root.Root.{Root}
@@ -45,8 +47,8 @@ pub record StartsSome (root : Root) (old : DiskState) (before : Slots) (new : Di
   pub makes : Makes volume_page (take count (root_write (in_use root) ∷ growth 3 0 0 sectors)) old before new after
   pub first : BeginWith (root_write (in_use root)) makes.wrote.writes
 
--- Over any contents: the first of the writes of a start were made, with some root and in some sectors, each lawful at its
--- moment; and page bytes of the volume's own pages alone.
+-- Over any contents: the first of the writes of a start were made, with some root, which goes before all others, and in some
+-- sectors, each lawful at its moment; and page bytes of the volume's own pages alone.
 pub record WroteFirst (old new : DiskState) : Type 0 where
   pub root : Root
   pub sectors : List ℕ
@@ -54,6 +56,16 @@ pub record WroteFirst (old new : DiskState) : Type 0 where
   pub count : ℕ
   pub went : Went old new
   pub wrote : Wrote volume_page (take count (root_write (in_use root) ∷ growth 3 0 0 sectors)) old [] new
+  pub first : BeginWith (root_write (in_use root)) wrote.writes
+
+-- over any contents: the clean flag of the disk is 0
+abbrev pub IsUnset : DiskState → Type 0
+IsUnset disk = (d : List Sector) → disk.contents ≡ Some d → short_at (root_page d) 10 ≡ 0
+
+-- so it is where the halt shows damage
+abbrev pub LeavesOpen : DiskState → Halt → Type 0
+LeavesOpen disk halt.Disk = Unit {0}
+LeavesOpen disk (halt.Damaged evidence) = IsUnset disk
 
 -- at each moment of what was written there are the same permanent files, and all labels are right; and the clean flag is 0,
 -- or the disk is as it was
@@ -90,3 +102,15 @@ abbrev pub IsRightRefusal : List Sector → StartFault → Type 0
 IsRightRefusal d (NoRoot why) = (why ≡ fault.Disk) ⊎ IsRefused d why
 IsRightRefusal d NoMemory = Unit {0}
 IsRightRefusal d (Halted why) = Unit {0}
+
+-- what a session that did not start shows of the disk, as it was left, is so
+abbrev pub IsSoAtStart : DiskState → StartFault → Type 0
+IsSoAtStart disk (NoRoot why) = Unit {0}
+IsSoAtStart disk NoMemory = Unit {0}
+IsSoAtStart disk (Halted why) = ShowsSo disk why
+
+-- and where that is damage, the volume is left open
+abbrev pub LeavesOpenAtStart : DiskState → StartFault → Type 0
+LeavesOpenAtStart disk (NoRoot why) = Unit {0}
+LeavesOpenAtStart disk NoMemory = Unit {0}
+LeavesOpenAtStart disk (Halted why) = LeavesOpen disk why

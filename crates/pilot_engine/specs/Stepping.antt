@@ -1,7 +1,15 @@
 -- Kinds of calls.
-use Rattle.std.specs.Prelude.{ℕ, Bool, true, false, not, Option, Some, None}
+use Rattle.std.specs.Prelude.{ℕ, ◌/◌, Bool, true, false, not, List, length, Option, Some, None}
+use Rattle.labelled_disk.specs.declared.evidence.Halt.{Halt}
+use Rattle.frame_pool.specs.Frames.{Slots}
 use Rattle.flat_machine.specs.declared.call.Call.{Call}
 use Rattle.flat_machine.specs.declared.call.Call.TheVariants as call
+use Rattle.swap_units.specs.declared.interval.Interval.{Interval}
+use Rattle.fault_core.specs.Access.{BreaksFor, last_page}
+use Rattle.fault_core.specs.Reach.{ReachHalts}
+use Rattle.fault_core.specs.Unit.{IsReady}
+use Rattle.fault_core.specs.View.{View}
+use Rattle.space_calls.specs.Ranges.{BreaksRange}
 
 -- a call on spaces
 abbrev pub is_on_spaces : Call → Bool
@@ -35,3 +43,19 @@ relabels (call.SetSize id pages) = Some id
 relabels (call.MakePermanent id) = Some id
 relabels (call.MakeImmutable id) = Some id
 relabels other = None
+
+-- a load or a store whose first page and last page are ready
+abbrev pub IsResident : Call → List Interval → Slots → Type 0
+IsResident (call.Load address count) kept slots = IsReady kept slots (address / 512) × IsReady kept slots (last_page address count)
+IsResident (call.Store address bytes) kept slots = IsReady kept slots (address / 512) × IsReady kept slots (last_page address (length bytes))
+IsResident other kept slots = ⊥
+
+-- why a call on bytes, or on the pages of a space's range, stops the session; of other calls nothing is said here
+abbrev pub StepHalts : Call → ℕ → View → View → Halt → Type 0
+StepHalts (call.Load address count) intervals v w e = ReachHalts (BreaksFor v intervals address count) v w e
+StepHalts (call.Store address bytes) intervals v w e = ReachHalts (BreaksFor v intervals address (length bytes)) v w e
+StepHalts (call.Activate space) intervals v w e = ReachHalts (BreaksRange v intervals space) v w e
+StepHalts (call.Deactivate space) intervals v w e = ReachHalts (BreaksRange v intervals space) v w e
+StepHalts (call.Kill space) intervals v w e = ReachHalts (BreaksRange v intervals space) v w e
+StepHalts (call.ForceOut space) intervals v w e = ReachHalts (BreaksRange v intervals space) v w e
+StepHalts other intervals v w e = Unit {0}

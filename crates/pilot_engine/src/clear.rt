@@ -3,6 +3,7 @@ ghost use Rattle.std.specs.Prelude.{◌≡◌, ◌+◌, ◌*◌, ◌<◌, ◌≤
 ghost use Rattle.labelled_disk.specs.declared.evidence.Halt.TheVariants as halt;
 ghost use Rattle.labelled_disk.specs.Calls.{Rose};
 ghost use Rattle.labelled_disk.specs.File.{File, file_at, room_of};
+ghost use Rattle.filer_kernel.specs.Evidence.{ShowsSo};
 ghost use Rattle.flat_machine.specs.Machine.{Machine, used};
 ghost use Rattle.session_words.specs.Parts.{TablesMeaning};
 ghost use Rattle.running_words.specs.Bound.{delete_cost, visit_cost, room_above};
@@ -30,6 +31,7 @@ impl<D: Disk, A: Allocator> SessionOver<D, A> {
         ensures stops { (spaces_of : TablesMeaning) (m : Machine) → IsAlone spaces_of (D.state self.old.core.filer.swapper.under) self.old.core.filer.swapper.pool self.old.core.filer.swapper.layout self.old.core.filer.runs self.old.volume m
             → Throughout (IsOpenStop m) (D.state self.old.core.filer.swapper.under) (D.state self.new.core.filer.swapper.under) }
         ensures counted { result ≡ Err halt.Disk → Rose (D.state self.old.core.filer.swapper.under).faults (D.state self.new.core.filer.swapper.under).faults }
+        ensures so { IfErr result (ShowsSo (D.state self.new.core.filer.swapper.under)) }
         ensures wrote { Wrote (D.state self.old.core.filer.swapper.under) self.old.core.filer.swapper.pool (D.state self.new.core.filer.swapper.under) self.new.core.filer.swapper.pool }
         ensures open_still { IsOpen self.new.core.filer.swapper.layout self.new.volume }
         ensures layout { self.new.core.filer.swapper.layout ≡ self.old.core.filer.swapper.layout }
@@ -63,6 +65,7 @@ impl<D: Disk, A: Allocator> SessionOver<D, A> {
         ensures stops { (spaces_of : TablesMeaning) (m : Machine) → IsAlone spaces_of (D.state self.old.core.filer.swapper.under) self.old.core.filer.swapper.pool self.old.core.filer.swapper.layout self.old.core.filer.runs self.old.volume m
             → Throughout (IsOpenStop m) (D.state self.old.core.filer.swapper.under) (D.state self.new.core.filer.swapper.under) }
         ensures counted { result ≡ Err halt.Disk → Rose (D.state self.old.core.filer.swapper.under).faults (D.state self.new.core.filer.swapper.under).faults }
+        ensures so { IfErr result (ShowsSo (D.state self.new.core.filer.swapper.under)) }
         ensures wrote { Wrote (D.state self.old.core.filer.swapper.under) self.old.core.filer.swapper.pool (D.state self.new.core.filer.swapper.under) self.new.core.filer.swapper.pool }
         ensures open_still { IsOpen self.new.core.filer.swapper.layout self.new.volume }
         ensures layout { self.new.core.filer.swapper.layout ≡ self.old.core.filer.swapper.layout }
@@ -93,6 +96,7 @@ impl<D: Disk, A: Allocator> SessionOver<D, A> {
         ensures stops { (spaces_of : TablesMeaning) (m : Machine) → IsAlone spaces_of (D.state self.old.core.filer.swapper.under) self.old.core.filer.swapper.pool self.old.core.filer.swapper.layout self.old.core.filer.runs self.old.volume m
             → Throughout (IsOpenStop m) (D.state self.old.core.filer.swapper.under) (D.state self.new.core.filer.swapper.under) }
         ensures counted { result ≡ Err halt.Disk → Rose (D.state self.old.core.filer.swapper.under).faults (D.state self.new.core.filer.swapper.under).faults }
+        ensures so { IfErr result (ShowsSo (D.state self.new.core.filer.swapper.under)) }
         ensures wrote { Wrote (D.state self.old.core.filer.swapper.under) self.old.core.filer.swapper.pool (D.state self.new.core.filer.swapper.under) self.new.core.filer.swapper.pool }
         ensures open_still { IsOpen self.new.core.filer.swapper.layout self.new.volume }
         ensures layout { self.new.core.filer.swapper.layout ≡ self.old.core.filer.swapper.layout }

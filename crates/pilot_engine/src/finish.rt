@@ -3,6 +3,7 @@ ghost use Rattle.std.specs.Prelude.{◌≡◌, ℕ, ◌+◌, ◌*◌, ◌^◌, �
 ghost use Rattle.labelled_disk.specs.declared.evidence.Halt.TheVariants as halt;
 ghost use Rattle.labelled_disk.specs.Calls.{Rose, TellsSame};
 ghost use Rattle.labelled_disk.specs.Sectors.{Sector};
+ghost use Rattle.filer_kernel.specs.Evidence.{ShowsSo};
 ghost use Rattle.flat_machine.specs.Machine.{Machine};
 ghost use Rattle.flat_machine.specs.Space.{root};
 ghost use Rattle.swapper_kernel.specs.Goes.{IsDirty, Swaps};
@@ -13,7 +14,7 @@ ghost use Rattle.running_words.specs.Bound.{CostsOther, emptying_bound};
 ghost use Rattle.running_words.specs.Running.{Runs};
 ghost use Rattle.running_words.specs.Session.{IsOpen, IsAlone, Wrote};
 ghost use Rattle.pilot_engine.specs.Closing.{AreWritten, HasShut, IsEmptied, IsOpenStop, IsReady, IsStop, TellsShut, Throughout, WroteAny, WroteOn, closed_root};
-ghost use Rattle.pilot_engine.specs.Opening.{root_alone};
+ghost use Rattle.pilot_engine.specs.Opening.{IsUnset, LeavesOpen, root_alone};
 
 use crate::SessionOver;
 use crate::frames::look_at_frames;
@@ -59,6 +60,7 @@ impl<D: Disk, A: Allocator> SessionOver<D, A> {
         ensures sound { (m : Machine) → Runs self.old.core self.old.volume m → IfErr result (λ e. e ≡ halt.Disk) }
         ensures stops { (m : Machine) → Runs self.old.core self.old.volume m → Throughout (IsOpenStop m) (D.state self.old.core.filer.swapper.under) (D.state self.new.core.filer.swapper.under) }
         ensures counted { result ≡ Err halt.Disk → Rose (D.state self.old.core.filer.swapper.under).faults (D.state self.new.core.filer.swapper.under).faults }
+        ensures so { IfErr result (ShowsSo (D.state self.new.core.filer.swapper.under)) }
         ensures wrote { Wrote (D.state self.old.core.filer.swapper.under) self.old.core.filer.swapper.pool (D.state self.new.core.filer.swapper.under) self.new.core.filer.swapper.pool }
         ensures layout { self.new.core.filer.swapper.layout ≡ self.old.core.filer.swapper.layout }
         ensures open_still { IsOpen self.new.core.filer.swapper.layout self.new.volume }
@@ -80,6 +82,7 @@ impl<D: Disk, A: Allocator> SessionOver<D, A> {
         ensures sound { (m : Machine) → Runs self.old.core self.old.volume m → IfErr result (λ e. e ≡ halt.Disk) }
         ensures stops { (m : Machine) → Runs self.old.core self.old.volume m → Throughout (IsOpenStop m) (D.state self.old.core.filer.swapper.under) (D.state self.new.core.filer.swapper.under) }
         ensures counted { result ≡ Err halt.Disk → Rose (D.state self.old.core.filer.swapper.under).faults (D.state self.new.core.filer.swapper.under).faults }
+        ensures so { IfErr result (ShowsSo (D.state self.new.core.filer.swapper.under)) }
         ensures wrote { Wrote (D.state self.old.core.filer.swapper.under) self.old.core.filer.swapper.pool (D.state self.new.core.filer.swapper.under) self.new.core.filer.swapper.pool }
         ensures layout { self.new.core.filer.swapper.layout ≡ self.old.core.filer.swapper.layout }
         ensures open_still { IsOpen self.new.core.filer.swapper.layout self.new.volume }
@@ -104,6 +107,7 @@ impl<D: Disk, A: Allocator> SessionOver<D, A> {
         ensures stops { (spaces_of : TablesMeaning) (m : Machine) → IsAlone spaces_of (D.state self.old.core.filer.swapper.under) self.old.core.filer.swapper.pool self.old.core.filer.swapper.layout self.old.core.filer.runs self.old.volume m
             → Throughout (IsOpenStop m) (D.state self.old.core.filer.swapper.under) (D.state self.new.core.filer.swapper.under) }
         ensures counted { result ≡ Err halt.Disk → Rose (D.state self.old.core.filer.swapper.under).faults (D.state self.new.core.filer.swapper.under).faults }
+        ensures so { IfErr result (ShowsSo (D.state self.new.core.filer.swapper.under)) }
         ensures wrote { Wrote (D.state self.old.core.filer.swapper.under) self.old.core.filer.swapper.pool (D.state self.new.core.filer.swapper.under) self.new.core.filer.swapper.pool }
         ensures open_still { IsOpen self.new.core.filer.swapper.layout self.new.volume }
         ensures layout { self.new.core.filer.swapper.layout ≡ self.old.core.filer.swapper.layout }
@@ -126,6 +130,7 @@ impl<D: Disk, A: Allocator> SessionOver<D, A> {
         ensures clean { OnOk result ((page : ℕ) → IsDirty self.new.core.filer.swapper.pool (id_of which) page → ⊥) }
         ensures sound { (x : List Sector) → Stands (D.state self.old.core.filer.swapper.under) self.old.core.filer.swapper.pool x → IfErr result (λ e. e ≡ halt.Disk) }
         ensures counted { result ≡ Err halt.Disk → Rose (D.state self.old.core.filer.swapper.under).faults (D.state self.new.core.filer.swapper.under).faults }
+        ensures so { IfErr result (ShowsSo (D.state self.new.core.filer.swapper.under)) }
         ensures swaps { Swaps (D.state self.old.core.filer.swapper.under) self.old.core.filer.swapper.pool (D.state self.new.core.filer.swapper.under) self.new.core.filer.swapper.pool }
         ensures layout { self.new.core.filer.swapper.layout ≡ self.old.core.filer.swapper.layout }
         ensures volume { self.new.volume ≡ self.old.volume }
@@ -146,6 +151,7 @@ impl<D: Disk, A: Allocator> SessionOver<D, A> {
         ensures clean { OnOk result (AreWritten self.new.core.filer.swapper.pool) }
         ensures sound { (x : List Sector) → Stands (D.state self.old.core.filer.swapper.under) self.old.core.filer.swapper.pool x → IfErr result (λ e. e ≡ halt.Disk) }
         ensures counted { result ≡ Err halt.Disk → Rose (D.state self.old.core.filer.swapper.under).faults (D.state self.new.core.filer.swapper.under).faults }
+        ensures so { IfErr result (ShowsSo (D.state self.new.core.filer.swapper.under)) }
         ensures swaps { Swaps (D.state self.old.core.filer.swapper.under) self.old.core.filer.swapper.pool (D.state self.new.core.filer.swapper.under) self.new.core.filer.swapper.pool }
         ensures layout { self.new.core.filer.swapper.layout ≡ self.old.core.filer.swapper.layout }
         ensures volume { self.new.volume ≡ self.old.volume }
@@ -209,6 +215,8 @@ impl<D: Disk, A: Allocator> SessionOver<D, A> {
         ensures stops { (m : Machine) → Runs self.old.core self.old.volume m
             → Throughout (IsStop m) (D.state self.old.core.filer.swapper.under) (D.state self.new.core.filer.swapper.under) }
         ensures counted { result ≡ Err halt.Disk → Rose (D.state self.old.core.filer.swapper.under).faults (D.state self.new.core.filer.swapper.under).faults }
+        ensures so { IfErr result (ShowsSo (D.state self.new.core.filer.swapper.under)) }
+        ensures left_open { IsUnset (D.state self.old.core.filer.swapper.under) → IfErr result (LeavesOpen (D.state self.new.core.filer.swapper.under)) }
         ensures wrote { WroteAny (D.state self.old.core.filer.swapper.under) self.old.core.filer.swapper.pool (D.state self.new.core.filer.swapper.under) self.new.core.filer.swapper.pool }
         ensures cost { (m : Machine) → Runs self.old.core self.old.volume m
             → CostsOther (D.state self.old.core.filer.swapper.under) (D.state self.new.core.filer.swapper.under) }
@@ -262,6 +270,8 @@ impl<D: Disk, A: Allocator> SessionOver<D, A> {
         ensures stops { (m : Machine) → Runs self.core self.volume m
             → Throughout (IsStop m) (D.state self.core.filer.swapper.under) (D.state result.1) }
         ensures counted { result.0 ≡ Err halt.Disk → Rose (D.state self.core.filer.swapper.under).faults (D.state result.1).faults }
+        ensures so { IfErr result.0 (ShowsSo (D.state result.1)) }
+        ensures left_open { IsUnset (D.state self.core.filer.swapper.under) → IfErr result.0 (LeavesOpen (D.state result.1)) }
         ensures wrote { WroteOn self.core.filer.swapper.pool (D.state self.core.filer.swapper.under) (D.state result.1) }
         ensures cost { (m : Machine) → Runs self.core self.volume m
             → CostsOther (D.state self.core.filer.swapper.under) (D.state result.1) }

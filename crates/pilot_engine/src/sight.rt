@@ -2,6 +2,7 @@
 ghost use Rattle.std.specs.Prelude.{◌≡◌, ◌+◌, ◌≤◌, [], IfOk, IfErr, Err};
 ghost use Rattle.labelled_disk.specs.Calls.{Rose};
 ghost use Rattle.labelled_disk.specs.declared.evidence.Halt.TheVariants as halt;
+ghost use Rattle.filer_kernel.specs.Evidence.{ShowsSo};
 ghost use Rattle.flat_machine.specs.Machine.{Machine};
 ghost use Rattle.session_words.specs.Volume.{volume_page};
 ghost use Rattle.swapper_kernel.specs.Goes.{Makes};
@@ -30,6 +31,7 @@ impl<D: Disk, A: Allocator> SessionOver<D, A> {
         ensures runs { (m : Machine) → Runs self.old.core self.old.volume m → Runs self.new.core self.new.volume m }
         ensures sound { (m : Machine) → Runs self.old.core self.old.volume m → IfErr result (λ e. e ≡ halt.Disk) }
         ensures counted { result ≡ Err halt.Disk → Rose (D.state self.old.core.filer.swapper.under).faults (D.state self.new.core.filer.swapper.under).faults }
+        ensures so { IfErr result (ShowsSo (D.state self.new.core.filer.swapper.under)) }
         ensures makes { Makes volume_page [] (D.state self.old.core.filer.swapper.under) self.old.core.filer.swapper.pool (D.state self.new.core.filer.swapper.under) self.new.core.filer.swapper.pool }
         ensures layout { self.new.core.filer.swapper.layout ≡ self.old.core.filer.swapper.layout }
         ensures volume { self.new.volume ≡ self.old.volume }

@@ -1,7 +1,8 @@
 //! One call of a client on spaces.
-ghost use Rattle.std.specs.Prelude.{◌≡◌, ◌+◌, ◌≤◌, true, IfOk, IfErr, OnOk, Err, None};
+ghost use Rattle.std.specs.Prelude.{◌≡◌, ◌+◌, ◌≤◌, true, IfOk, IfErr, IsOk, OnOk, Err, None};
 ghost use Rattle.labelled_disk.specs.Calls.{Rose};
 ghost use Rattle.labelled_disk.specs.declared.evidence.Halt.TheVariants as halt;
+ghost use Rattle.filer_kernel.specs.Evidence.{ShowsSo};
 ghost use Rattle.flat_machine.specs.Form.{IsInForm};
 ghost use Rattle.flat_machine.specs.Machine.{Machine};
 ghost use Rattle.flat_machine.specs.References.{is_reference};
@@ -10,9 +11,9 @@ ghost use Rattle.running_words.specs.Bound.{CostsOther};
 ghost use Rattle.running_words.specs.Running.{Carried, Runs};
 ghost use Rattle.running_words.specs.Session.{IsOpen, WroteIn};
 ghost use Rattle.running_words.specs.Stages.{Passes, may_dirty};
-ghost use Rattle.fault_core.specs.Core.{kept};
+ghost use Rattle.fault_core.specs.Core.{kept, state};
 ghost use Rattle.pilot_engine.specs.Advised.{IsAdvised};
-ghost use Rattle.pilot_engine.specs.Stepping.{is_on_spaces, waits};
+ghost use Rattle.pilot_engine.specs.Stepping.{IsResident, StepHalts, is_on_spaces, waits};
 
 use crate::SessionOver;
 use flat_machine::{Call, Reply};
@@ -41,6 +42,8 @@ impl<D: Disk, A: Allocator> SessionOver<D, A> {
         ensures advised { (m : Machine) → refusal m call.now ≡ None → Runs self.old.core self.old.volume m
             → OnOk result (IsAdvised m.spaces call.now (kept self.new.core) self.new.core.filer.swapper.pool) }
         ensures counted { result ≡ Err halt.Disk → Rose (D.state self.old.core.filer.swapper.under).faults (D.state self.new.core.filer.swapper.under).faults }
+        ensures cause { IfErr result (StepHalts call.now self.old.core.intervals (state self.old.core) (state self.new.core)) }
+        ensures so { IfErr result (ShowsSo (D.state self.new.core.filer.swapper.under)) }
         ensures wrote { WroteIn (may_dirty call.now) (D.state self.old.core.filer.swapper.under) self.old.core.filer.swapper.pool (D.state self.new.core.filer.swapper.under) self.new.core.filer.swapper.pool }
         ensures open_still { IsOpen self.new.core.filer.swapper.layout self.new.volume }
         ensures layout { self.new.core.filer.swapper.layout ≡ self.old.core.filer.swapper.layout }
@@ -48,6 +51,8 @@ impl<D: Disk, A: Allocator> SessionOver<D, A> {
         ensures cost { (m : Machine) → Runs self.old.core self.old.volume m
             → CostsOther (D.state self.old.core.filer.swapper.under) (D.state self.new.core.filer.swapper.under) }
         ensures reference { is_reference call.now ≡ true → (D.state self.new.core.filer.swapper.under).transfers ≤ (D.state self.old.core.filer.swapper.under).transfers + 1680 }
+        ensures idle { (m : Machine) → Runs self.old.core self.old.volume m → IsResident call.now (kept self.old.core) self.old.core.filer.swapper.pool
+            → IsOk result × (D.state self.new.core.filer.swapper.under ≡ D.state self.old.core.filer.swapper.under) }
     {
         match call {
             Call::MakeSpace {

@@ -7,6 +7,7 @@ ghost use Rattle.labelled_disk.specs.Layout.{IsCount};
 ghost use Rattle.labelled_disk.specs.Moment.{written};
 ghost use Rattle.labelled_disk.specs.Root.{LabelsRight, root_page};
 ghost use Rattle.labelled_disk.specs.Sectors.{Sector};
+ghost use Rattle.filer_kernel.specs.Evidence.{ShowsSo};
 ghost use Rattle.fault_core.specs.View.{view_of};
 ghost use Rattle.filer_kernel.specs.Cached.{runs_of};
 ghost use Rattle.flat_machine.specs.Start.{start};
@@ -18,7 +19,7 @@ ghost use Rattle.volume_root.specs.RootPage.{IsValidRoot, root_in, root_write};
 ghost use Rattle.volume_root.specs.Sound.{Sound};
 ghost use Rattle.running_words.specs.Bound.{CostsOther};
 ghost use Rattle.pilot_engine.specs.declared.fault.StartFault.TheVariants as start_fault;
-ghost use Rattle.pilot_engine.specs.Opening.{root_alone, in_use, IsBare, StartsSome, WroteFirst, KeepsFiles, CostsStart, IsDiskFault, IsOutside, IsEarly, IsRightRefusal};
+ghost use Rattle.pilot_engine.specs.Opening.{root_alone, in_use, IsBare, StartsSome, WroteFirst, KeepsFiles, CostsStart, IsDiskFault, IsOutside, IsEarly, IsRightRefusal, IsUnset, LeavesOpen, IsSoAtStart, LeavesOpenAtStart};
 ghost use Rattle.running_words.specs.Running.{IsRunning, Runs};
 ghost use Rattle.running_words.specs.Session.{IsOpen, IsSession};
 
@@ -85,6 +86,7 @@ fn write_tables<D: Disk, A: Allocator>(filer: &mut FilerOver<D, A>) -> Result<()
         → IfErr result (λ e. e ≡ halt.Disk) }
     ensures makes { Makes volume_page [] (D.state filer.old.swapper.under) filer.old.swapper.pool (D.state filer.new.swapper.under) filer.new.swapper.pool }
     ensures counted { result ≡ Err halt.Disk → Rose (D.state filer.old.swapper.under).faults (D.state filer.new.swapper.under).faults }
+    ensures so { IfErr result (ShowsSo (D.state filer.new.swapper.under)) }
     ensures layout { filer.new.swapper.layout ≡ filer.old.swapper.layout }
     ensures cost { (D.state filer.new.swapper.under).transfers ≤ (D.state filer.old.swapper.under).transfers + 14392 }
 {
@@ -114,6 +116,8 @@ pub(crate) fn begin<D: Disk, A: Allocator>(
     ensures opened { IfOk result (IsOpen filer.new.swapper.layout) }
     ensures starts { StartsSome root (D.state filer.old.swapper.under) filer.old.swapper.pool (D.state filer.new.swapper.under) filer.new.swapper.pool }
     ensures counted { result ≡ Err halt.Disk → Rose (D.state filer.old.swapper.under).faults (D.state filer.new.swapper.under).faults }
+    ensures so { IfErr result (ShowsSo (D.state filer.new.swapper.under)) }
+    ensures left_open { MatchResult result (λ volume. IsUnset (D.state filer.new.swapper.under)) (LeavesOpen (D.state filer.new.swapper.under)) }
     ensures serial { root.serial < 2 ^ 32 }
     ensures counter { root.counter < 2 ^ 32 }
     ensures layout { filer.new.swapper.layout ≡ filer.old.swapper.layout }
@@ -204,11 +208,13 @@ impl<D: Disk, A: Allocator> SessionOver<D, A> {
         ensures sound { (d : List Sector) → (D.state disk).contents ≡ Some d → Sound d → IfErr result (λ e. IsOutside e.0) }
         ensures unwritten { IfErr result (λ e. IsEarly e.0 → OnlyReads (D.state disk) (D.state e.1)) }
         ensures counted { IfErr result (λ e. IsDiskFault e.0 → Rose (D.state disk).faults (D.state e.1).faults) }
+        ensures so { IfErr result (λ e. IsSoAtStart (D.state e.1) e.0) }
 
         // What was written, whether or not one starts.
         ensures moments { (d : List Sector) → (D.state disk).contents ≡ Some d → LabelsRight d
             → MatchResult result (λ s. KeepsFiles d (D.state disk) (D.state s.core.filer.swapper.under)) (λ e. KeepsFiles d (D.state disk) (D.state e.1)) }
         ensures wrote { MatchResult result (λ s. WroteFirst (D.state disk) (D.state s.core.filer.swapper.under)) (λ e. WroteFirst (D.state disk) (D.state e.1)) }
+        ensures left_open { MatchResult result (λ s. IsUnset (D.state s.core.filer.swapper.under)) (λ e. LeavesOpenAtStart (D.state e.1) e.0) }
         ensures cost { MatchResult result (λ s. CostsStart (D.state disk) (D.state s.core.filer.swapper.under)) (λ e. CostsStart (D.state disk) (D.state e.1)) }
         ensures bounded { MatchResult result (λ s. CostsOther (D.state disk) (D.state s.core.filer.swapper.under)) (λ e. CostsOther (D.state disk) (D.state e.1)) }
     {

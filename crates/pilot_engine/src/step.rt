@@ -1,7 +1,8 @@
 //! One call of a client.
-ghost use Rattle.std.specs.Prelude.{◌≡◌, ℕ, ◌+◌, ◌≤◌, true, false, IfOk, IfErr, OnOk, OnErr, Err, Some, None};
+ghost use Rattle.std.specs.Prelude.{◌≡◌, ℕ, ◌+◌, ◌≤◌, true, false, IfOk, IfErr, IsOk, OnOk, OnErr, Err, Some, None};
 ghost use Rattle.labelled_disk.specs.Calls.{Rose};
 ghost use Rattle.labelled_disk.specs.declared.evidence.Halt.TheVariants as halt;
+ghost use Rattle.filer_kernel.specs.Evidence.{ShowsSo};
 ghost use Rattle.flat_machine.specs.After.{ends_trace};
 ghost use Rattle.flat_machine.specs.Form.{IsInForm};
 ghost use Rattle.flat_machine.specs.Machine.{Machine};
@@ -12,9 +13,9 @@ ghost use Rattle.running_words.specs.Bound.{CostsOther};
 ghost use Rattle.running_words.specs.Running.{Carried, Runs};
 ghost use Rattle.running_words.specs.Session.{IsOpen, WroteIn};
 ghost use Rattle.running_words.specs.Stages.{Passes, may_dirty};
-ghost use Rattle.fault_core.specs.Core.{kept};
+ghost use Rattle.fault_core.specs.Core.{kept, state};
 ghost use Rattle.pilot_engine.specs.Advised.{IsAdvised};
-ghost use Rattle.pilot_engine.specs.Stepping.{relabels, waits};
+ghost use Rattle.pilot_engine.specs.Stepping.{IsResident, StepHalts, relabels, waits};
 
 use crate::SessionOver;
 use flat_machine::{Call, Reply};
@@ -48,6 +49,8 @@ impl<D: Disk, A: Allocator> SessionOver<D, A> {
         ensures advised { (m : Machine) → refusal m call.now ≡ None → Runs self.old.core self.old.volume m
             → OnOk result (IsAdvised m.spaces call.now (kept self.new.core) self.new.core.filer.swapper.pool) }
         ensures counted { result ≡ Err halt.Disk → Rose (D.state self.old.core.filer.swapper.under).faults (D.state self.new.core.filer.swapper.under).faults }
+        ensures cause { IfErr result (StepHalts call.now self.old.core.intervals (state self.old.core) (state self.new.core)) }
+        ensures so { IfErr result (ShowsSo (D.state self.new.core.filer.swapper.under)) }
         ensures wrote { WroteIn (may_dirty call.now) (D.state self.old.core.filer.swapper.under) self.old.core.filer.swapper.pool (D.state self.new.core.filer.swapper.under) self.new.core.filer.swapper.pool }
         ensures open_still { IsOpen self.new.core.filer.swapper.layout self.new.volume }
         ensures layout { self.new.core.filer.swapper.layout ≡ self.old.core.filer.swapper.layout }
@@ -57,6 +60,8 @@ impl<D: Disk, A: Allocator> SessionOver<D, A> {
             → CostsOther (D.state self.old.core.filer.swapper.under) (D.state self.new.core.filer.swapper.under) }
         ensures reference { is_reference call.now ≡ true → (D.state self.new.core.filer.swapper.under).transfers ≤ (D.state self.old.core.filer.swapper.under).transfers + 1680 }
         ensures own { (id : ℕ) → relabels call.now ≡ Some id → RelabelsOwn id (D.state self.old.core.filer.swapper.under) (D.state self.new.core.filer.swapper.under) }
+        ensures idle { (m : Machine) → Runs self.old.core self.old.volume m → IsResident call.now (kept self.old.core) self.old.core.filer.swapper.pool
+            → IsOk result × (D.state self.new.core.filer.swapper.under ≡ D.state self.old.core.filer.swapper.under) }
     {
         let answer = self.answer(call);
         if answer.is_err() {
@@ -81,6 +86,8 @@ impl<D: Disk, A: Allocator> SessionOver<D, A> {
         ensures advised { (m : Machine) → refusal m call.now ≡ None → Runs self.old.core self.old.volume m
             → OnOk result (IsAdvised m.spaces call.now (kept self.new.core) self.new.core.filer.swapper.pool) }
         ensures counted { result ≡ Err halt.Disk → Rose (D.state self.old.core.filer.swapper.under).faults (D.state self.new.core.filer.swapper.under).faults }
+        ensures cause { IfErr result (StepHalts call.now self.old.core.intervals (state self.old.core) (state self.new.core)) }
+        ensures so { IfErr result (ShowsSo (D.state self.new.core.filer.swapper.under)) }
         ensures wrote { WroteIn (may_dirty call.now) (D.state self.old.core.filer.swapper.under) self.old.core.filer.swapper.pool (D.state self.new.core.filer.swapper.under) self.new.core.filer.swapper.pool }
         ensures open_still { IsOpen self.new.core.filer.swapper.layout self.new.volume }
         ensures layout { self.new.core.filer.swapper.layout ≡ self.old.core.filer.swapper.layout }
@@ -89,6 +96,8 @@ impl<D: Disk, A: Allocator> SessionOver<D, A> {
             → CostsOther (D.state self.old.core.filer.swapper.under) (D.state self.new.core.filer.swapper.under) }
         ensures reference { is_reference call.now ≡ true → (D.state self.new.core.filer.swapper.under).transfers ≤ (D.state self.old.core.filer.swapper.under).transfers + 1680 }
         ensures own { (id : ℕ) → relabels call.now ≡ Some id → RelabelsOwn id (D.state self.old.core.filer.swapper.under) (D.state self.new.core.filer.swapper.under) }
+        ensures idle { (m : Machine) → Runs self.old.core self.old.volume m → IsResident call.now (kept self.old.core) self.old.core.filer.swapper.pool
+            → IsOk result × (D.state self.new.core.filer.swapper.under ≡ D.state self.old.core.filer.swapper.under) }
     {
         match call {
             Call::Create { pages, kind } => self.create(*pages, *kind),

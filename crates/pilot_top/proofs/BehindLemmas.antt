@@ -1,12 +1,15 @@
 -- What holds of the state behind a reference holds of the state.
-use Rattle.std.proofs.Common.{◌≡◌, ℕ, ◌≤◌, List, ◌∷◌, Option, ap, subst, drop}
+use Rattle.std.proofs.Common.{◌≡◌, ℕ, ◌≤◌, List, ◌∷◌, Option, sym, ap, subst, drop}
+use Rattle.labelled_disk.specs.declared.evidence.Evidence.{Evidence}
+use Rattle.labelled_disk.specs.declared.evidence.Evidence.TheVariants.{Mismatch, Malformed, Missing}
 use Rattle.labelled_disk.specs.Calls.{OnlyReads, Rose}
 use Rattle.labelled_disk.specs.State.{DiskState, lent_state}
 use Rattle.labelled_disk.specs.Sectors.{Sector}
 use Rattle.flat_machine.specs.After.{TraceLine}
 use Rattle.flat_machine.specs.Machine.{Machine}
 use Rattle.pilot_engine.specs.Closing.{HasShut}
-use Rattle.pilot_top.specs.Headline.{IsLeftOpen, Run}
+use Rattle.filer_kernel.specs.Evidence.{IsSo}
+use Rattle.pilot_top.specs.Headline.{AreToFirst, IsLeftOpen, Run, TellsDamage}
 use Rattle.pilot_top.specs.Moments.{Lawfully, Moments}
 use Rattle.pilot_top.specs.Trial.{HasNoFile}
 use Rattle.pilot_top.specs.declared.status.Status.{Status}
@@ -34,6 +37,23 @@ module _ {D : Type 0} (state : D → DiskState) (x y : D) (same : x ≡ y) where
   -- and is left open
   pub open_behind : IsLeftOpen (state y) → IsLeftOpen (state x)
   open_behind is = rw same is
+
+  -- what evidence says is so
+  so_behind : (n : ℕ) (e : Evidence) → IsSo (lent_state n (state y)) e → IsSo (state y) e
+  so_behind n (Mismatch sector wanted found) is = is
+  so_behind n (Malformed window page) is = is
+  so_behind n (Missing id page) is = is
+
+  -- what is told of damage
+  module _ {t : List ℕ} {took : Option (List ℕ)} {failed : Type 0} (n : ℕ) (told : TellsDamage t took failed (lent_state n (state y))) where
+    abbrev tells_there : TellsDamage t took failed (state y)
+    tells_there = record { replies = told.replies; evidence = told.evidence; so = so_behind n told.evidence told.so; left_open = told.left_open; written = told.written }
+
+    pub damage_behind : TellsDamage t took failed (state x)
+    damage_behind = subst (λ (z : D). TellsDamage t took failed (state z)) (sym same) tells_there
+
+    pub damage_lines_behind : (lines : List TraceLine) → AreToFirst told.replies lines → (there : TellsDamage t took failed (state x)) × AreToFirst there.replies lines
+    damage_lines_behind lines to_first = subst (λ (z : D). (there : TellsDamage t took failed (state z)) × AreToFirst there.replies lines) (sym same) (tells_there, to_first)
 
   -- and so many transfers were made
   pub spent_behind : (most : ℕ) → (state y).transfers ≤ most → (state x).transfers ≤ most
@@ -82,4 +102,5 @@ module _ {D : Type 0} (state : D → DiskState) (x y : D) (same : x ≡ y) where
       writes = on.writes;
       appended = record { contents = on.appended.contents; told = on.appended.told };
       lawful = on.lawful;
+      open_flag = on.open_flag;
     })

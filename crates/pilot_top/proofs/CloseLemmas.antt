@@ -12,7 +12,9 @@ use Rattle.frame_pool.specs.Frames.{Slots}
 use Rattle.filer_kernel.specs.declared.cached.CachedRuns.{CachedRuns}
 use Rattle.file_manager.specs.declared.volume.Volume.{Volume}
 use Rattle.flat_machine.specs.Machine.{Machine}
+use Rattle.filer_kernel.specs.Evidence.{IsSo, ShowsSo}
 use Rattle.pilot_engine.specs.Closing.{IsStop, Throughout}
+use Rattle.pilot_engine.specs.Opening.{IsUnset, LeavesOpen}
 use Rattle.swap_units.specs.declared.interval.Interval.{Interval}
 use Rattle.fault_core.specs.View.{View}
 use Rattle.running_words.specs.Running.{IsRunning}
@@ -40,10 +42,15 @@ pub not_damaged : (h : Halt) (s : Status) → h ≡ halt.Disk → s ≡ status_o
 not_damaged h s is same damaged = cc (ap status_of is, same, damaged)
 
 -- what is told of damage
-pub damage_told : (h : Halt) (s : Status) (failed : Type 0) (u v : Option (List ℕ)) → s ≡ status_of h → ◌≡◌ {A = Option Status} (Some s) (Some status.Damaged) → Puts failed u v (last_line (cause_of h))
-    → (e : Evidence) × Puts failed u v (last_line (cause.Damaged e))
-damage_told halt.Disk s failed u v same damaged puts = absurd (cc (same, damaged))
-damage_told (halt.Damaged evidence) s failed u v same damaged puts = (evidence, puts)
+pub damage_told : (h : Halt) (s : Status) (failed : Type 0) (u v : Option (List ℕ)) (disk : DiskState) → ShowsSo disk h → s ≡ status_of h → ◌≡◌ {A = Option Status} (Some s) (Some status.Damaged) → Puts failed u v (last_line (cause_of h))
+    → (e : Evidence) × IsSo disk e × Puts failed u v (last_line (cause.Damaged e))
+damage_told halt.Disk s failed u v disk so same damaged puts = absurd (cc (same, damaged))
+damage_told (halt.Damaged evidence) s failed u v disk so same damaged puts = (evidence, so, puts)
+
+-- a damaged volume is left open
+pub left_damaged : (h : Halt) (s : Status) (disk : DiskState) → LeavesOpen disk h → s ≡ status_of h → ◌≡◌ {A = Option Status} (Some s) (Some status.Damaged) → IsUnset disk
+left_damaged halt.Disk s disk left same damaged = absurd (cc (same, damaged))
+left_damaged (halt.Damaged evidence) s disk left same damaged = left
 
 -- a session whose end failed was not closed
 pub not_closed : (o : Option Status) (s : Status) → o ≡ Some s → (o ≡ None) ⊎ (o ≡ Some status.DiskFault) ⊎ (o ≡ Some status.Damaged) → (s ≡ status.Done) ⊎ (s ≡ status.StreamFault) → ⊥

@@ -24,7 +24,7 @@ use Rattle.pilot_top.specs.declared.status.Status.{Status}
 use Rattle.pilot_top.specs.declared.status.Status.TheVariants as status
 use Rattle.pilot_top.specs.declared.turn.End.{End}
 use Rattle.pilot_top.specs.declared.turn.End.TheVariants as end
-use Rattle.pilot_top.proofs.TopLemmas.{Going, done_all, Run-last, Run-disk, Run-write_fault, short_at_last, short_at_end, wrote_last, before_last}
+use Rattle.pilot_top.proofs.TopLemmas.{Going, done_all, Run-last, Run-disk, Run-write_fault, short_at_last, short_at_end, wrote_last, before_last, told_front}
 
 -- the reply to a line that ends the trace
 close_answers : (now later : Machine → Type 0) → Answers now later (Some call.Close) reply.Done
@@ -85,6 +85,13 @@ module _ (x : List ℕ) (b t u : Option (List ℕ)) (p : Progress) (first now : 
       let all = HasRead-end (Some x) b c p going.lines going.read ended.0 ended.1 ended.2 ended.3 in
       ap closes all.items_are ∙ none_close going.lines going.none_last
   End-closes end.Trace c q (inr ended) = let all = rw ended.0 at going.read.goes_on in ap closes all.0.items_are ∙ none_close going.lines going.none_last
+
+  -- the lines that were answered are the first of the trace
+  pub End-front : (how : End) (c : Option (List ℕ)) (q : Progress) → EndsTrace how b c p q → (more : List TraceLine) × (reading x ≡ going.lines ++ more)
+  End-front end.Close c q ended = told_front x b p going.lines going.read ended.0
+  End-front end.Halt c q ended = told_front x b p going.lines going.read ended.0
+  End-front end.Trace c q (inl ended) = told_front x b p going.lines going.read ended.0
+  End-front end.Trace c q (inr ended) = let all = rw ended.0 at going.read.goes_on in ([], all.0.items_are ∙ sym (append-nil going.lines))
 
   -- all lines were taken
   pub End-rest : (how : End) (c : Option (List ℕ)) (q : Progress) → EndsTrace how b c p q → c ≡ Some (rest_of x)

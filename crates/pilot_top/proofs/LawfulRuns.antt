@@ -1,5 +1,6 @@
 -- Runs of lawful writes, one after the other.
-use Rattle.std.proofs.Common.{◌≡◌, ◌⊎◌, inl, inr, ℕ, zero, suc, ◌+◌, ◌<◌, List, [], ◌∷◌, ◌++◌, length, Some, sym, ◌∙◌, ap, subst, arith}
+use Rattle.std.proofs.Common.{◌≡◌, ◌⊎◌, inl, inr, ℕ, zero, suc, ◌+◌, ◌-◌, ◌<◌, ◌≤◌, List, [], ◌∷◌, ◌++◌, length, Some, refl, sym, ◌∙◌, ap, subst, arith, append_assoc, length-append}
+use Rattle.std.proofs.lemmas.Bool.{cases_lt}
 use Rattle.std.specs.Prelude.{option_map, slice_get}
 use Rattle.std.proofs.lemmas.Option.{none-some}
 use Rattle.labelled_disk.specs.declared.disk.DiskWrite.{DiskWrite}
@@ -8,14 +9,20 @@ use Rattle.labelled_disk.specs.Lawful.{Lawful}
 use Rattle.labelled_disk.specs.Moment.{moment}
 use Rattle.labelled_disk.specs.Sectors.{Sector}
 use Rattle.labelled_disk.specs.State.{DiskState}
-use Rattle.labelled_disk.specs.WriteRuns.{after_writes}
+use Rattle.labelled_disk.specs.WriteRuns.{Appended, after_writes}
 use Rattle.labelled_disk.proofs.WriteRunLemmas.{appended_none, appended_then, moment-earlier}
+use Rattle.labelled_disk.specs.Root.{root_page, short_at}
+use Rattle.labelled_disk.specs.Runs.{growth}
 use Rattle.frame_pool.specs.Frames.{Slots}
-use Rattle.swapper_kernel.specs.Goes.{Pages, Wrote}
-use Rattle.pilot_engine.specs.Closing.{WroteOn}
-use Rattle.pilot_engine.specs.Opening.{WroteFirst}
-use Rattle.running_words.specs.Session.{WroteIn}
-use Rattle.pilot_top.specs.Moments.{Lawfully}
+use Rattle.swapper_kernel.specs.Goes.{Pages}
+use Rattle.running_words.specs.Session.{AreOpen, WroteIn}
+use Rattle.running_words.proofs.FlagLemmas.{append_open, growth_open, open_writes, root_open, rows_flag, take_open}
+use Rattle.volume_root.specs.RootPage.{root_write}
+use Rattle.pilot_engine.specs.Closing.{ShutLast, WroteOn, closed_root}
+use Rattle.pilot_engine.specs.Opening.{IsUnset, WroteFirst, in_use}
+use Rattle.pilot_engine.proofs.ShutLemmas.{writes_open}
+use Rattle.pilot_engine.proofs.UnsetLemmas.{begun_flag}
+use Rattle.pilot_top.specs.Moments.{Lawfully, Openly, ShutsLast}
 use Rattle.pilot_top.proofs.AlongLemmas.{moment_later}
 
 -- an element of two lists in a row
@@ -28,34 +35,110 @@ get_append (y ∷ xs) ys (suc k) x is = elim (get_append xs ys k x is) [
   | inr (j, past, here) ↦ inr (j, let z : suc k ≡ suc (length xs) + j = omega arith in z, here)
 ]
 
--- no write
-pub lawfully_none : {a b : DiskState} → TellsSame a b → Lawfully a b
-lawfully_none same = record { writes = []; appended = appended_none same; lawful = λ d k w told at. absurd (none-some w at) }
+-- an element of the first list is there in both
+get_front : {X : Type 0} (xs ys : List X) (k : ℕ) (x : X) → slice_get xs k ≡ Some x → slice_get (xs ++ ys) k ≡ Some x
+get_front [] ys k x is = absurd (none-some x is)
+get_front (y ∷ xs) ys zero x is = is
+get_front (y ∷ xs) ys (suc k) x is = get_front xs ys k x is
 
--- one run and then another
-pub lawfully_then : {a b c : DiskState} → Lawfully a b → Lawfully b c → Lawfully a c
-lawfully_then h k = record {
+-- each of some writes is lawful at its moment, where the disk tells its sectors
+abbrev AreLawful : List DiskWrite → DiskState → Type 0
+AreLawful writes old = (d : List Sector) (k : ℕ) (w : DiskWrite) → old.contents ≡ Some d → slice_get writes k ≡ Some w → Lawful (moment d writes k) w
+
+-- one list of writes and then another
+lawful_then : {a b : DiskState} (first next : List DiskWrite) → Appended first a b → AreLawful first a → AreLawful next b → AreLawful (first ++ next) a
+lawful_then first next appended early late d i w told at = elim (get_append first next i w at) [
+  | inl (below, here) ↦ subst (λ (now : List Sector). Lawful now w) (sym (moment-earlier d first next i (omega arith))) (early d i w told here)
+  | inr (j, past, here) ↦ subst (λ (now : List Sector). Lawful now w) (sym (ap (moment d (first ++ next)) past ∙ moment_later d first next j))
+      (late (after_writes first d) j w (appended.contents ∙ ap (option_map (after_writes first)) told) here)
+]
+
+-- no write
+pub openly_none : {a b : DiskState} → TellsSame a b → Openly a b
+openly_none same = record { writes = []; appended = appended_none same; lawful = λ d k w told at. absurd (none-some w at); opens = tt }
+
+-- one call and then another
+pub openly_then : {a b c : DiskState} → Openly a b → Openly b c → Openly a c
+openly_then h k = record {
   writes = h.writes ++ k.writes;
   appended = appended_then h.writes k.writes h.appended k.appended;
-  lawful = λ d i w told at. elim (get_append h.writes k.writes i w at) [
-    | inl (below, here) ↦ subst (λ (now : List Sector). Lawful now w) (sym (moment-earlier d h.writes k.writes i (omega arith))) (h.lawful d i w told here)
-    | inr (j, past, here) ↦ subst (λ (now : List Sector). Lawful now w) (sym (ap (moment d (h.writes ++ k.writes)) past ∙ moment_later d h.writes k.writes j))
-        (k.lawful (after_writes h.writes d) j w (h.appended.contents ∙ ap (option_map (after_writes h.writes)) told) here)
-  ];
+  lawful = lawful_then h.writes k.writes h.appended h.lawful k.lawful;
+  opens = append_open h.writes k.writes h.opens k.opens;
 }
 
--- what a session writes
-written_lawfully : {pages : Pages} {run : List DiskWrite} {old new : DiskState} {before : Slots} → Wrote pages run old before new → Lawfully old new
-written_lawfully wrote = record { writes = wrote.writes; appended = wrote.appended; lawful = wrote.lawful }
+-- what a call of a session writes
+pub called_openly : {pages : Pages} {old new : DiskState} {before after : Slots} → WroteIn pages old before new after → Openly old new
+called_openly wrote = record { writes = wrote.makes.wrote.writes; appended = wrote.makes.wrote.appended; lawful = wrote.makes.wrote.lawful; opens = writes_open wrote }
 
--- in a call
-pub called_lawfully : {pages : Pages} {old new : DiskState} {before after : Slots} → WroteIn pages old before new after → Lawfully old new
-called_lawfully wrote = written_lawfully wrote.makes.wrote
+-- no end, or one, behind calls
+pub openly_last : {a b : DiskState} → Openly a b → ShutsLast a b
+openly_last h = record { writes = h.writes; appended = h.appended; lawful = h.lawful; shut = inl h.opens }
 
--- at its end
-pub ended_lawfully : {old new : DiskState} {before : Slots} → WroteOn before old new → Lawfully old new
-ended_lawfully wrote = written_lawfully wrote.wrote
+shut_behind : (ws more : List DiskWrite) → AreOpen ws → ShutLast more → ShutLast (ws ++ more)
+shut_behind ws more opens (inl others) = inl (append_open ws more opens others)
+shut_behind ws more opens (inr (earlier, root, is, others)) =
+    inr (ws ++ earlier, root, ap (λ (l : List DiskWrite). ws ++ l) is ∙ sym (append_assoc ws earlier (root_write (closed_root root) ∷ [])), append_open ws earlier opens others)
 
--- at its start
-pub started_lawfully : {old new : DiskState} → WroteFirst old new → Lawfully old new
-started_lawfully wrote = written_lawfully wrote.wrote
+pub ended_last : {a b c : DiskState} {before : Slots} → Openly a b → WroteOn before b c → ShutsLast a c
+ended_last h k = record {
+  writes = h.writes ++ k.wrote.writes;
+  appended = appended_then h.writes k.wrote.writes h.appended k.wrote.appended;
+  lawful = lawful_then h.writes k.wrote.writes h.appended h.lawful k.wrote.lawful;
+  shut = shut_behind h.writes k.wrote.writes h.opens k.shut;
+}
+
+-- What a start writes.
+module _ {a b : DiskState} (wrote : WroteFirst a b) where
+  first_open : AreOpen wrote.wrote.writes
+  first_open = open_writes wrote.wrote.writes (subst AreOpen (sym wrote.wrote.labels)
+      (take_open wrote.count (root_write (in_use wrote.root) ∷ growth 3 0 0 wrote.sectors) (root_open (in_use wrote.root) (growth 3 0 0 wrote.sectors) refl (growth_open 3 0 0 wrote.sectors))))
+
+  first_flag : (d : List Sector) (k : ℕ) → a.contents ≡ Some d → 1 ≤ k → k ≤ length wrote.wrote.writes → short_at (root_page (moment d wrote.wrote.writes k)) 10 ≡ 0
+  first_flag d k told some few = begun_flag wrote.wrote.writes (in_use wrote.root) refl wrote.first first_open d (λ j w here. wrote.wrote.lawful d j w told here) k some few
+
+  -- no session started
+  pub started_lawfully : Lawfully a b
+  started_lawfully = record {
+    writes = wrote.wrote.writes;
+    appended = wrote.wrote.appended;
+    lawful = wrote.wrote.lawful;
+    open_flag = λ d k told some few. first_flag d k told some (omega (arith, few));
+  }
+
+  -- and then a session
+  module _ {c : DiskState} (unset : IsUnset b) (h : ShutsLast b c) where
+    later_flag : (d : List Sector) (k : ℕ) → b.contents ≡ Some d → k < length h.writes → short_at (root_page (moment d h.writes k)) 10 ≡ 0
+    later_flag d k told few = either h.shut
+      where
+        either : ShutLast h.writes → short_at (root_page (moment d h.writes k)) 10 ≡ 0
+        either (inl opens) = rows_flag h.writes d k opens (λ j w here. h.lawful d j w told here) (unset d told)
+        either (inr (earlier, root, is, opens)) =
+            let last = root_write (closed_root root) ∷ [] in
+            let long : length h.writes ≡ length earlier + 1 = ap length is ∙ length-append earlier last in
+            subst (λ (ws : List DiskWrite). short_at (root_page (moment d ws k)) 10 ≡ 0) (sym is)
+            (subst (λ (now : List Sector). short_at (root_page now) 10 ≡ 0) (sym (moment-earlier d earlier last k (omega (arith, few, long))))
+            (rows_flag earlier d k opens (λ j w here. subst (λ (now : List Sector). Lawful now w) (moment-earlier d earlier last j (below earlier j w here))
+            (subst (λ (ws : List DiskWrite). Lawful (moment d ws j) w) is (h.lawful d j w told (subst (λ (ws : List DiskWrite). slice_get ws j ≡ Some w) (sym is) (get_front earlier last j w here))))) (unset d told)))
+          where
+            below : (ws : List DiskWrite) (j : ℕ) (w : DiskWrite) → slice_get ws j ≡ Some w → j ≤ length ws
+            below [] j w here = absurd (none-some w here)
+            below (v ∷ ws) zero w here = omega arith
+            below (v ∷ ws) (suc j) w here = let rest = below ws j w here in omega (arith, rest)
+
+    all_flag : (d : List Sector) (k : ℕ) → a.contents ≡ Some d → 1 ≤ k → k < length (wrote.wrote.writes ++ h.writes) → short_at (root_page (moment d (wrote.wrote.writes ++ h.writes) k)) 10 ≡ 0
+    all_flag d k told some few = elim (cases_lt (length wrote.wrote.writes) k) [
+      | inl past ↦
+          let at : k ≡ length wrote.wrote.writes + (k - length wrote.wrote.writes) = omega (arith, past) in
+          let long = length-append wrote.wrote.writes h.writes in
+          subst (λ (now : List Sector). short_at (root_page now) 10 ≡ 0) (sym (ap (moment d (wrote.wrote.writes ++ h.writes)) at ∙ moment_later d wrote.wrote.writes h.writes (k - length wrote.wrote.writes)))
+          (later_flag (after_writes wrote.wrote.writes d) (k - length wrote.wrote.writes) (wrote.wrote.appended.contents ∙ ap (option_map (after_writes wrote.wrote.writes)) told) (omega (arith, past, few, long)))
+      | inr early ↦ subst (λ (now : List Sector). short_at (root_page now) 10 ≡ 0) (sym (moment-earlier d wrote.wrote.writes h.writes k early)) (first_flag d k told some early)
+    ]
+
+    pub ran_lawfully : Lawfully a c
+    ran_lawfully = record {
+      writes = wrote.wrote.writes ++ h.writes;
+      appended = appended_then wrote.wrote.writes h.writes wrote.wrote.appended h.appended;
+      lawful = lawful_then wrote.wrote.writes h.writes wrote.wrote.appended wrote.wrote.lawful h.lawful;
+      open_flag = all_flag;
+    }

@@ -4,7 +4,9 @@ use Rattle.std.specs.Io.KnownBytes.{Appends}
 use Rattle.trace_io.specs.Stream.{IsFrontOf}
 use Rattle.trace_io.specs.declared.stream.SinkFault.{SinkFault}
 use Rattle.labelled_disk.specs.declared.evidence.Evidence.{Evidence}
-use Rattle.pilot_top.specs.Headline.{HasWritten, TellsDamage}
+use Rattle.labelled_disk.specs.State.{DiskState}
+use Rattle.filer_kernel.specs.Evidence.{IsSo}
+use Rattle.pilot_top.specs.Headline.{HasWritten, IsLeftOpen, TellsDamage}
 use Rattle.pilot_top.specs.Last.{last_line, Puts}
 use Rattle.pilot_top.specs.declared.last.Cause.TheVariants as cause
 
@@ -27,9 +29,11 @@ put_alone failed t u v last told put = wrote (subst (λ (o : Option (List ℕ)).
     wrote (inr some) = inr (some.0, some.1, some.2, told_bytes t v some.1 some.3)
 
 -- the damage was told before any reply
-pub damage_alone : (failed : Type 0) (t : List ℕ) (u v : Option (List ℕ)) (e : Evidence) → u ≡ Some t → Puts failed u v (last_line (cause.Damaged e)) → TellsDamage t v failed
-damage_alone failed t u v e told put = record {
+abbrev pub damage_alone : (failed : Type 0) (t : List ℕ) (u v : Option (List ℕ)) (e : Evidence) (disk : DiskState) → IsSo disk e → IsLeftOpen disk → u ≡ Some t → Puts failed u v (last_line (cause.Damaged e)) → TellsDamage t v failed disk
+damage_alone failed t u v e disk so open_still told put = record {
   replies = [];
   evidence = e;
+  so = so;
+  left_open = open_still;
   written = subst (λ (x : List ℕ). HasWritten failed x v (last_line (cause.Damaged e))) (sym (append-nil t)) (put_alone failed t u v (last_line (cause.Damaged e)) told put);
 }

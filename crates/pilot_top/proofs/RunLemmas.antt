@@ -13,8 +13,8 @@ use Rattle.trace_io.specs.Reading.{is_last, reading}
 use Rattle.volume_root.specs.Flag.{IsRefused}
 use Rattle.pilot_engine.specs.declared.fault.StartFault.{StartFault}
 use Rattle.pilot_engine.specs.declared.fault.StartFault.TheVariants as start_fault
-use Rattle.pilot_engine.specs.Opening.{IsDiskFault, IsEarly, IsOutside, IsRightRefusal, KeepsFiles}
-use Rattle.pilot_top.specs.Headline.{Answering, EndsEarly, HasFilesAt, HasWritten, Run, TellsDamage}
+use Rattle.pilot_engine.specs.Opening.{IsDiskFault, IsEarly, IsOutside, IsRightRefusal, IsSoAtStart, KeepsFiles, LeavesOpenAtStart}
+use Rattle.pilot_top.specs.Headline.{Answering, AreToFirst, EndsEarly, HasFilesAt, HasWritten, IsLeftOpen, Run, TellsDamage}
 use Rattle.pilot_top.specs.Last.{last_line, Puts}
 use Rattle.pilot_top.specs.Moments.{IsBy, Moments}
 use Rattle.pilot_top.specs.Stopping.{StopsAs}
@@ -106,12 +106,12 @@ module _ {K : Type 0} (f : StartFault) (s : Status) (old new : K) (took : K → 
     | inr (inr (inr damage)) ↦ (λ is. let e = sym damage.2 ∙ is in absurd (cc e), λ is. let e = sym damage.2 ∙ is in absurd (cc e))
   ]
 
-  pub not_early : (lines : List TraceLine) → EndsEarly s lines → ⊥
-  not_early lines early = elim (how f s old new (Puts failed (took old) (took new)) stops) [
-    | inl refusal ↦ subst (λ (x : Status). EndsEarly x lines) refusal.3 early
-    | inr (inl disk) ↦ subst (λ (x : Status). EndsEarly x lines) disk.1 early
-    | inr (inr (inl memory)) ↦ subst (λ (x : Status). EndsEarly x lines) memory.1 early
-    | inr (inr (inr damage)) ↦ subst (λ (x : Status). EndsEarly x lines) damage.2 early
+  pub left_early : (disk : DiskState) → LeavesOpenAtStart disk f → (lines : List TraceLine) → EndsEarly s lines → IsLeftOpen disk
+  left_early disk left lines early = elim (how f s old new (Puts failed (took old) (took new)) stops) [
+    | inl refusal ↦ absurd (subst (λ (x : Status). EndsEarly x lines) refusal.3 early)
+    | inr (inl fault) ↦ absurd (subst (λ (x : Status). EndsEarly x lines) fault.1 early)
+    | inr (inr (inl memory)) ↦ absurd (subst (λ (x : Status). EndsEarly x lines) memory.1 early)
+    | inr (inr (inr damage)) ↦ subst (LeavesOpenAtStart disk) damage.1 left
   ]
 
   pub run_refused : (d : List Sector) (b t : List ℕ) (left : Option (List ℕ)) (before after : DiskState) → Moments (start d) [] before after → IsOutside f → left ≡ Some b → took old ≡ Some t
@@ -128,12 +128,17 @@ module _ {K : Type 0} (f : StartFault) (s : Status) (old new : K) (took : K → 
     | inr (inr (inr damage)) ↦ absurd (let e : halt.Damaged damage.0 ≡ halt.Disk = subst IsOutside damage.1 outside in cc e)
   ]
 
-  pub damage_told : (t : List ℕ) → took old ≡ Some t → s ≡ status.Damaged → TellsDamage t (took new) failed
-  damage_told t sink is = elim (how f s old new (Puts failed (took old) (took new)) stops) [
+  -- what is told of damage before any line, and of all lines none has a reply
+  pub damage_first : (disk : DiskState) → IsSoAtStart disk f → LeavesOpenAtStart disk f → (t : List ℕ) → took old ≡ Some t → s ≡ status.Damaged → (lines : List TraceLine) → (told : TellsDamage t (took new) failed disk) × AreToFirst told.replies lines
+  damage_first disk so left t sink is lines = elim (how f s old new (Puts failed (took old) (took new)) stops) [
     | inl refusal ↦ absurd (let e = sym refusal.3 ∙ is in cc e)
-    | inr (inl disk) ↦ absurd (let e = sym disk.1 ∙ is in cc e)
+    | inr (inl fault) ↦ absurd (let e = sym fault.1 ∙ is in cc e)
     | inr (inr (inl memory)) ↦ absurd (let e = sym memory.1 ∙ is in cc e)
-    | inr (inr (inr damage)) ↦ damage_alone failed t (took old) (took new) damage.0 sink damage.3
+    | inr (inr (inr damage)) ↦ (
+      damage_alone failed t (took old) (took new) damage.0 disk (subst (IsSoAtStart disk) damage.1 so) (subst (LeavesOpenAtStart disk) damage.1 left) sink damage.3,
+      omega arith,
+      some_line lines,
+    )
   ]
 
   -- a volume that was refused, and why

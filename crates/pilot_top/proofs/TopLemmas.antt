@@ -24,7 +24,9 @@ use Rattle.trace_io.proofs.CourseLemmas.{HasRead-none, HasRead-line, HasRead-las
 use Rattle.pilot_top.specs.Ending.{is_halt, halts}
 use Rattle.pilot_top.specs.Turn.{Answers}
 use Rattle.pilot_top.specs.Last.{last_line, Puts}
-use Rattle.pilot_top.specs.Headline.{Answered, HasWritten, Taken, Unheard, Answering, TellsDamage}
+use Rattle.filer_kernel.specs.Evidence.{IsSo}
+use Rattle.labelled_disk.specs.State.{DiskState}
+use Rattle.pilot_top.specs.Headline.{Answered, AreToFirst, HasWritten, IsLeftOpen, Taken, Unheard, Answering, TellsDamage}
 use Rattle.pilot_top.specs.declared.last.Cause.TheVariants as cause
 use Rattle.pilot_top.specs.declared.status.Status.TheVariants as status
 use Rattle.pilot_top.proofs.StagedLemmas.{after_then}
@@ -87,6 +89,7 @@ pub record Going (a c t u : Option (List ℕ)) (p : Progress) (first now : Machi
   pub wrote : Appends t u out
   pub replies : List Reply
   pub said : out ≡ flat_map text replies
+  pub one_a_line : length replies ≡ length lines
   pub script : (m : Machine) → first m → Answered m lines out
   pub stands : (m : Machine) → first m → now (last_of m lines)
   pub none_halts : halts lines ≡ false
@@ -100,6 +103,7 @@ Going-start a t p first zero none = record {
   wrote = Appends-nil t;
   replies = [];
   said = refl;
+  one_a_line = refl;
   script = λ m is. record { replies = []; one_a_line = refl; allowed = tt; text_is = refl };
   stands = λ m is. is;
   none_halts = refl;
@@ -120,6 +124,7 @@ module _ (a b t u : Option (List ℕ)) (p : Progress) (first now : Machine → T
     wrote = Appends-trans t u v going.out (text r) going.wrote wrote;
     replies = going.replies ++ r ∷ [];
     said = ap (λ b. b ++ text r) going.said ∙ flat_map_more text [] going.replies r;
+    one_a_line = let same = going.one_a_line in omega (arith, length_push going.replies r, length_push going.lines line, same);
     script = more_script then line r answers;
     stands = λ m is.
         subst then (sym (after_then m going.lines (line ∷ []))) (answers.next (last_of m going.lines) (going.stands m is) goes);
@@ -141,7 +146,7 @@ told_taken b None bytes took = absurd took
 told_taken b (Some s) bytes took = (record { bytes = bytes; rest = s; all = took; left_is = refl }, refl)
 
 -- the lines read are the first of the trace's
-told_front : (b : List ℕ) (c : Option (List ℕ)) (p : Progress) (lines : List TraceLine) → HasRead (Some b) c p lines → p.stopped ≡ None → (more : List TraceLine) × (reading b ≡ lines ++ more)
+pub told_front : (b : List ℕ) (c : Option (List ℕ)) (p : Progress) (lines : List TraceLine) → HasRead (Some b) c p lines → p.stopped ≡ None → (more : List TraceLine) × (reading b ≡ lines ++ more)
 told_front b None p lines read none = absurd read.took
 told_front b (Some s) p lines read none =
     let are : AreLines read.bytes lines = rw none at read.goes_on in
@@ -242,14 +247,27 @@ pub Going-told : (a b t u : Option (List ℕ)) (p : Progress) (first now : Machi
     → Going (Some x) b (Some y) u p first now
 Going-told a b t u p first now x y going source sink = subst (λ s. Going (Some x) b s u p first now) sink (subst (λ r. Going r b t u p first now) source going)
 
--- replies were written, and then what shows that the volume is damaged
-pub damage_told : (a b u v : Option (List ℕ)) (t : List ℕ) (p : Progress) (first now : Machine → Type 0) (failed : Type 0) (e : Evidence) → Going a b (Some t) u p first now → Puts failed u v (last_line (cause.Damaged e))
-    → TellsDamage t v failed
-damage_told a b u v t p first now failed e going put = record {
-  replies = going.replies;
-  evidence = e;
-  written = rw (sym going.said) (wrote_last failed t u v going.out (last_line (cause.Damaged e)) going.wrote put);
-}
+-- Replies were written, and then what shows that the volume is damaged.
+module _ (a b u v : Option (List ℕ)) (t : List ℕ) (p : Progress) (first now : Machine → Type 0) (failed : Type 0) (e : Evidence) (disk : DiskState) (so : IsSo disk e) (open_still : IsLeftOpen disk) (going : Going a b (Some t) u p first now)
+    (put : Puts failed u v (last_line (cause.Damaged e))) where
+  abbrev pub damage_told : TellsDamage t v failed disk
+  damage_told = record {
+    replies = going.replies;
+    evidence = e;
+    so = so;
+    left_open = open_still;
+    written = rw (sym going.said) (wrote_last failed t u v going.out (last_line (cause.Damaged e)) going.wrote put);
+  }
+
+-- and where the source tells its bytes, they are replies to some first lines
+pub damage_behind : (x : List ℕ) (b u v : Option (List ℕ)) (t : List ℕ) (p : Progress) (first now : Machine → Type 0) (failed : Type 0) (e : Evidence) (disk : DiskState) → IsSo disk e → IsLeftOpen disk → (going : Going (Some x) b (Some t) u p first now)
+    → Puts failed u v (last_line (cause.Damaged e)) → (more : List TraceLine) → reading x ≡ going.lines ++ more → (told : TellsDamage t v failed disk) × AreToFirst told.replies (reading x)
+damage_behind x b u v t p first now failed e disk so open_still going put more are =
+    let same = going.one_a_line in (
+      damage_told (Some x) b u v t p first now failed e disk so open_still going put,
+      omega (arith, same, ap length are, length-append going.lines more),
+      λ some. let fewer = before_last going.lines more (reading x) are going.none_last some in omega (arith, same, fewer),
+    )
 
 -- a trace that was read to its end is short enough, and one of which as many bytes as the limit were taken is not
 module _ (x : List ℕ) (b t u : Option (List ℕ)) (p : Progress) (first now : Machine → Type 0) (going : Going (Some x) b t u p first now) where

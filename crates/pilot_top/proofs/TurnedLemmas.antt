@@ -13,12 +13,12 @@ use Rattle.trace_io.specs.Reading.{is_last, reading}
 use Rattle.running_words.specs.Bound.{CostsOther}
 use Rattle.pilot_engine.specs.Closing.{IsStop, Throughout}
 use Rattle.pilot_top.specs.Headline.{CostsLine, CostsLines, HasFilesAt}
-use Rattle.pilot_top.specs.Moments.{Lawfully, Moments}
+use Rattle.pilot_top.specs.Moments.{Moments, Openly}
 use Rattle.pilot_top.specs.Turn.{Answers}
 use Rattle.pilot_top.proofs.AlongLemmas.{by_itself}
 use Rattle.pilot_top.proofs.CostLemmas.{Spends, end_spends, front_spends, more_cost, none_cost}
 use Rattle.pilot_top.proofs.FrontLemmas.{read_front}
-use Rattle.pilot_top.proofs.LawfulRuns.{lawfully_then}
+use Rattle.pilot_top.proofs.LawfulRuns.{openly_then}
 use Rattle.pilot_top.proofs.PlaceLemmas.{files_before, files_behind}
 use Rattle.pilot_top.proofs.StagedLemmas.{from_end, moments_before, moments_then}
 use Rattle.pilot_top.proofs.TopLemmas.{Going, Going-start, Going-reply, last_of, reply_lines}
@@ -32,9 +32,9 @@ pub record Turned (a c t u : Option (List ℕ)) (p : Progress) (first now : Mach
   pub going : Going a c t u p first now
   pub along : (m : Machine) → first m → Moments m going.lines old new
   pub cost : (m : Machine) → first m → CostsLines going.lines old new
-  pub lawful : Lawfully old new
+  pub lawful : Openly old new
 
-pub Turned-start : (a t : Option (List ℕ)) (p : Progress) (first : Machine → Type 0) (disk : DiskState) → p.taken ≡ 0 → p.stopped ≡ None → ((m : Machine) → first m → Moments m [] disk disk) → Lawfully disk disk
+pub Turned-start : (a t : Option (List ℕ)) (p : Progress) (first : Machine → Type 0) (disk : DiskState) → p.taken ≡ 0 → p.stopped ≡ None → ((m : Machine) → first m → Moments m [] disk disk) → Openly disk disk
     → Turned a a t t p first first disk disk
 Turned-start a t p first disk none stopped along lawful = record {
   going = Going-start a t p first none stopped;
@@ -59,14 +59,14 @@ module _ {a b t u : Option (List ℕ)} {p : Progress} {first now : Machine → T
 
   -- a line was answered, and others follow
   pub Turned-reply : {c v : Option (List ℕ)} {q : Progress} {then : Machine → Type 0} {new : DiskState} {line : TraceLine} {r : Reply} → mid.sectors ≡ old.sectors → p.stopped ≡ None → TakesLine line b c p q → Answers now then line r
-      → is_last line ≡ false → Made now line mid new → Lawfully mid new → Appends u v (text r) → Turned a c t v q first then old new
+      → is_last line ≡ false → Made now line mid new → Openly mid new → Appends u v (text r) → Turned a c t v q first then old new
   Turned-reply {c = c} {v = v} {q = q} {then = then} {new = new} {line = line} {r = r} same none takes answers goes made lawful wrote = record {
     going = Going-reply a b t u p first now turned.going c v q then line r none takes answers goes wrote;
     along = subst (λ (lines : List TraceLine). (m : Machine) → first m → Moments m lines old new) (sym (reply_lines a b t u p first now turned.going c v q then line r none takes answers goes wrote))
         (more_moments made);
     cost = subst (λ (lines : List TraceLine). (m : Machine) → first m → CostsLines lines old new) (sym (reply_lines a b t u p first now turned.going c v q then line r none takes answers goes wrote))
         (more_costs same made);
-    lawful = lawfully_then turned.lawful lawful;
+    lawful = openly_then turned.lawful lawful;
   }
 
   -- where the source tells its bytes, and the sink

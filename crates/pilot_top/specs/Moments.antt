@@ -11,7 +11,9 @@ use Rattle.flat_machine.specs.After.{TraceLine, after}
 use Rattle.flat_machine.specs.Machine.{Machine}
 use Rattle.volume_root.specs.Sound.{Sound}
 use Rattle.session_words.specs.StandsFor.{TellsSettled}
+use Rattle.running_words.specs.Session.{AreOpen}
 use Rattle.running_words.specs.Stages.{last_step, stage}
+use Rattle.pilot_engine.specs.Closing.{ShutLast}
 
 -- the machine after so many steps of a line
 abbrev pub step_of : Machine → Option TraceLine → ℕ → Machine
@@ -54,8 +56,23 @@ pub record IsMoment (m : Machine) (lines : List TraceLine) (j i : ℕ) (d : List
 abbrev pub Moments : Machine → List TraceLine → DiskState → DiskState → Type 0
 Moments m lines old new = Along (IsMoment m lines) 0 0 (length lines) 0 old new
 
--- over any contents: each write was lawful at its moment
+-- over any contents: each write was lawful at its moment, and none sets the clean flag
+pub record Openly (old new : DiskState) : Type 0 where
+  pub writes : List DiskWrite
+  pub appended : Appended writes old new
+  pub lawful : (d : List Sector) (k : ℕ) (w : DiskWrite) → old.contents ≡ Some d → slice_get writes k ≡ Some w → Lawful (moment d writes k) w
+  pub opens : AreOpen writes
+
+-- the same, but for the last of them, which may set it
+pub record ShutsLast (old new : DiskState) : Type 0 where
+  pub writes : List DiskWrite
+  pub appended : Appended writes old new
+  pub lawful : (d : List Sector) (k : ℕ) (w : DiskWrite) → old.contents ≡ Some d → slice_get writes k ≡ Some w → Lawful (moment d writes k) w
+  pub shut : ShutLast writes
+
+-- over any contents: each write was lawful at its moment, and after the first of them and up to the last the clean flag is 0
 pub record Lawfully (old new : DiskState) : Type 0 where
   pub writes : List DiskWrite
   pub appended : Appended writes old new
   pub lawful : (d : List Sector) (k : ℕ) (w : DiskWrite) → old.contents ≡ Some d → slice_get writes k ≡ Some w → Lawful (moment d writes k) w
+  pub open_flag : (d : List Sector) (k : ℕ) → old.contents ≡ Some d → 1 ≤ k → k < length writes → short_at (root_page (moment d writes k)) 10 ≡ 0

@@ -3,10 +3,12 @@ ghost use Rattle.std.specs.Prelude.{◌≡◌, ◌≢◌, ◌⊎◌, ◌≤◌, 
 ghost use Rattle.std.specs.Io.KnownBytes.{Appends};
 ghost use Rattle.labelled_disk.specs.declared.evidence.Evidence.{Evidence};
 ghost use Rattle.labelled_disk.specs.Calls.{Rose};
+ghost use Rattle.filer_kernel.specs.Evidence.{IsSo};
 ghost use Rattle.flat_machine.specs.Machine.{Machine};
 ghost use Rattle.trace_io.specs.Stream.{IsFrontOf};
 ghost use Rattle.running_words.specs.Bound.{CostsOther};
 ghost use Rattle.pilot_engine.specs.Closing.{HasShut, IsStop, Throughout, WroteOn};
+ghost use Rattle.pilot_engine.specs.Opening.{IsUnset};
 ghost use Rattle.running_words.specs.Session.{IsOpen};
 ghost use Rattle.running_words.specs.Running.{Runs};
 ghost use Rattle.pilot_top.specs.Ending.{end_text};
@@ -46,6 +48,9 @@ pub(crate) fn close<D: Disk, A: Allocator, K: Sink>(
         → Rose (D.state session.core.filer.swapper.under).faults (D.state result.1).faults }
     ensures damage_line { result.0 ≡ Some Status.Damaged → (e : Evidence) × Puts (Rose (K.faults sink.old) (K.faults sink.new)) (K.took sink.old) (K.took sink.new)
         (last_line (Cause.Damaged e)) }
+    ensures so { result.0 ≡ Some Status.Damaged → (e : Evidence) × IsSo (D.state result.1) e × Puts (Rose (K.faults sink.old) (K.faults sink.new)) (K.took sink.old) (K.took sink.new)
+        (last_line (Cause.Damaged e)) }
+    ensures left_open { IsUnset (D.state session.core.filer.swapper.under) → result.0 ≡ Some Status.Damaged → IsUnset (D.state result.1) }
     ensures ends { (result.0 ≡ None) ⊎ (result.0 ≡ Some Status.DiskFault)
         ⊎ (result.0 ≡ Some Status.Damaged) }
     ensures wrote { WroteOn session.core.filer.swapper.pool (D.state session.core.filer.swapper.under) (D.state result.1) }
@@ -86,8 +91,9 @@ pub(crate) fn end_trace<D: Disk, A: Allocator, K: Sink>(
         (last_line Cause.DiskFault) }
     ensures disk_cause { result.0 ≡ Status.DiskFault
         → Rose (D.state session.core.filer.swapper.under).faults (D.state result.1).faults }
-    ensures damage_line { result.0 ≡ Status.Damaged → (e : Evidence) × Puts (Rose (K.faults sink.old) (K.faults sink.new)) (K.took sink.old) (K.took sink.new)
+    ensures damage_line { result.0 ≡ Status.Damaged → (e : Evidence) × IsSo (D.state result.1) e × Puts (Rose (K.faults sink.old) (K.faults sink.new)) (K.took sink.old) (K.took sink.new)
         (last_line (Cause.Damaged e)) }
+    ensures left_open { IsUnset (D.state session.core.filer.swapper.under) → result.0 ≡ Status.Damaged → IsUnset (D.state result.1) }
     ensures ends { (result.0 ≡ Status.Done) ⊎ (result.0 ≡ Status.StreamFault)
         ⊎ (result.0 ≡ Status.DiskFault) ⊎ (result.0 ≡ Status.Damaged) }
     ensures wrote { WroteOn session.core.filer.swapper.pool (D.state session.core.filer.swapper.under) (D.state result.1) }

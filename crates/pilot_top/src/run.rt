@@ -16,9 +16,9 @@ ghost use Rattle.pilot_engine.specs.Closing.{HasShut};
 ghost use Rattle.running_words.specs.Session.{IsOpen};
 ghost use Rattle.running_words.specs.Running.{Runs};
 ghost use Rattle.pilot_top.specs.Ending.{halts, closes};
-ghost use Rattle.pilot_top.specs.Headline.{Answering, EndsEarly, HasFilesAt, IsLeftOpen, Run, TellsDamage, at_end, line_bound, run_bound};
+ghost use Rattle.pilot_top.specs.Headline.{Answering, AreToFirst, EndsEarly, HasFilesAt, IsLeftOpen, Run, TellsDamage, at_end, line_bound, run_bound};
 ghost use Rattle.pilot_top.specs.Last.{last_line, Puts};
-ghost use Rattle.pilot_top.specs.Moments.{Lawfully, Moments};
+ghost use Rattle.pilot_top.specs.Moments.{Lawfully, Moments, ShutsLast};
 
 use crate::Status;
 use crate::closing::end_trace;
@@ -57,16 +57,20 @@ fn answer_lines<D: Disk, A: Allocator, S: Source, K: Sink>(
         → HasShut (after m (reading b) (length (reading b))) (D.state result.1) }
     ensures some_moments { (m : Machine) → Runs session.core session.volume m
         → (lines : List TraceLine) × Moments m lines (D.state session.core.filer.swapper.under) (D.state result.1) }
-    ensures stays_open { (m : Machine) (b : List ℕ) → Runs session.core session.volume m
+    ensures stays_open { (b : List ℕ) → IsLeftOpen (D.state session.core.filer.swapper.under)
         → S.left source.old ≡ Some b → EndsEarly result.0 (reading b) → IsLeftOpen (D.state result.1) }
     ensures transfers { (m : Machine) (b : List ℕ) → Runs session.core session.volume m
         → S.left source.old ≡ Some b
         → (D.state result.1).transfers ≤ (D.state session.core.filer.swapper.under).transfers + (other_bound (D.state session.core.filer.swapper.under).sectors + sum_by (line_bound (D.state session.core.filer.swapper.under).sectors) (reading b)) }
     ensures sound { (m : Machine) → Runs session.core session.volume m
         → result.0 ≢ Status.Damaged }
-    ensures damage { (t : List ℕ) → K.took sink.old ≡ Some t → result.0 ≡ Status.Damaged
-        → TellsDamage t (K.took sink.new) (Rose (K.faults sink.old) (K.faults sink.new)) }
-    ensures lawful { Lawfully (D.state session.core.filer.swapper.under) (D.state result.1) }
+    ensures damage { (t : List ℕ) → IsLeftOpen (D.state session.core.filer.swapper.under)
+        → K.took sink.old ≡ Some t → result.0 ≡ Status.Damaged
+        → TellsDamage t (K.took sink.new) (Rose (K.faults sink.old) (K.faults sink.new)) (D.state result.1) }
+    ensures damage_behind { (b t : List ℕ) → IsLeftOpen (D.state session.core.filer.swapper.under)
+        → S.left source.old ≡ Some b → K.took sink.old ≡ Some t → result.0 ≡ Status.Damaged
+        → (told : TellsDamage t (K.took sink.new) (Rose (K.faults sink.old) (K.faults sink.new)) (D.state result.1)) × AreToFirst told.replies (reading b) }
+    ensures lawful { ShutsLast (D.state session.core.filer.swapper.under) (D.state result.1) }
     ensures same_disk { Went (D.state session.core.filer.swapper.under) (D.state result.1) }
     ensures disk_cause { result.0 ≡ Status.DiskFault
         → Rose (D.state session.core.filer.swapper.under).faults (D.state result.1).faults }
@@ -130,8 +134,7 @@ pub(crate) fn run<A: Allocator, D: Disk, S: Source, K: Sink>(
         → HasShut (at_end d (reading b)) (D.state result.1) }
     ensures some_moments { (d : List Sector) → (D.state disk).contents ≡ Some d → Sound d
         → (lines : List TraceLine) × Moments (start d) lines (D.state disk) (D.state result.1) }
-    ensures stays_open { (d : List Sector) (b : List ℕ)
-        → (D.state disk).contents ≡ Some d → Sound d → S.left source.old ≡ Some b
+    ensures stays_open { (b : List ℕ) → S.left source.old ≡ Some b
         → EndsEarly result.0 (reading b) → IsLeftOpen (D.state result.1) }
     ensures transfers { (d : List Sector) (b : List ℕ)
         → (D.state disk).contents ≡ Some d → Sound d → S.left source.old ≡ Some b
@@ -139,7 +142,9 @@ pub(crate) fn run<A: Allocator, D: Disk, S: Source, K: Sink>(
     ensures sound { (d : List Sector) → (D.state disk).contents ≡ Some d → Sound d
         → result.0 ≢ Status.NotOpened × result.0 ≢ Status.Damaged }
     ensures damage { (t : List ℕ) → K.took sink.old ≡ Some t → result.0 ≡ Status.Damaged
-        → TellsDamage t (K.took sink.new) (Rose (K.faults sink.old) (K.faults sink.new)) }
+        → TellsDamage t (K.took sink.new) (Rose (K.faults sink.old) (K.faults sink.new)) (D.state result.1) }
+    ensures damage_behind { (b t : List ℕ) → S.left source.old ≡ Some b → K.took sink.old ≡ Some t → result.0 ≡ Status.Damaged
+        → (told : TellsDamage t (K.took sink.new) (Rose (K.faults sink.old) (K.faults sink.new)) (D.state result.1)) × AreToFirst told.replies (reading b) }
     ensures lawful { Lawfully (D.state disk) (D.state result.1) }
     ensures same_disk { Went (D.state disk) (D.state result.1) }
 

@@ -2,6 +2,7 @@
 ghost use Rattle.std.specs.Prelude.{◌≡◌, ◌⊎◌, ◌≤◌, [], ◌∷◌, true, Some, None};
 ghost use Rattle.labelled_disk.specs.declared.evidence.Halt.TheVariants as halt;
 ghost use Rattle.labelled_disk.specs.Calls.{Rose};
+ghost use Rattle.filer_kernel.specs.Evidence.{ShowsSo};
 ghost use Rattle.flat_machine.specs.Machine.{Machine};
 ghost use Rattle.running_words.specs.Session.{IsOpen, WroteIn};
 ghost use Rattle.running_words.specs.Stages.{client_or_own};
@@ -71,6 +72,7 @@ pub(crate) fn take_turn<D: Disk, A: Allocator, S: Source>(
     ensures sound { (m : Machine) (why : Halt) → Runs session.old.core session.old.volume m
         → result ≡ Turn.Halts why → why ≡ halt.Disk }
     ensures counted { result ≡ Turn.Halts halt.Disk → Rose (D.state session.old.core.filer.swapper.under).faults (D.state session.new.core.filer.swapper.under).faults }
+    ensures so { (why : Halt) → result ≡ Turn.Halts why → ShowsSo (D.state session.new.core.filer.swapper.under) why }
     ensures wrote { WroteIn client_or_own (D.state session.old.core.filer.swapper.under) session.old.core.filer.swapper.pool (D.state session.new.core.filer.swapper.under) session.new.core.filer.swapper.pool }
     ensures open_still { IsOpen session.new.core.filer.swapper.layout session.new.volume }
     ensures layout { session.new.core.filer.swapper.layout ≡ session.old.core.filer.swapper.layout }

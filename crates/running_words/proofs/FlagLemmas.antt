@@ -91,7 +91,7 @@ page_flag d sector t f is (Some old) = by (f old)
     by true = rest_flag d is
     by false = is
 
-rows_flag : (ws : List DiskWrite) (d : List Sector) (k : ℕ) → AreOpen ws → ((j : ℕ) (w : DiskWrite) → slice_get ws j ≡ Some w → Lawful (moment d ws j) w) → short_at (root_page d) 10 ≡ 0
+pub rows_flag : (ws : List DiskWrite) (d : List Sector) (k : ℕ) → AreOpen ws → ((j : ℕ) (w : DiskWrite) → slice_get ws j ≡ Some w → Lawful (moment d ws j) w) → short_at (root_page d) 10 ≡ 0
     → short_at (root_page (moment d ws k)) 10 ≡ 0
 rows_flag [] d zero opens lawful is = is
 rows_flag [] d (suc k) opens lawful is = is
@@ -110,7 +110,7 @@ pub flag_open : {run : List DiskWrite} {old new : DiskState} {before : Slots} (w
 flag_open wrote opens d k told is = rows_flag wrote.writes d k (open_writes wrote.writes (subst AreOpen (sym wrote.labels) opens)) (λ j w here. wrote.lawful d j w told here) is
 
 -- a root with the flag 0 is written, whatever stood there
-root_flag : (d : List Sector) (root : Root) → root.clean ≡ false → short_at (root_page (written (root_write root) d)) 10 ≡ 0
+pub root_flag : (d : List Sector) (root : Root) → root.clean ≡ false → short_at (root_page (written (root_write root) d)) 10 ≡ 0
 root_flag [] root unset = refl
 root_flag (s ∷ rest) root unset = (root_open root [] unset tt).0
 

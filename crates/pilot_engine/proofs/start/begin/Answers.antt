@@ -6,6 +6,12 @@ use Rattle.file_manager.specs.declared.volume.Volume.{Volume}
 use Rattle.swapper_kernel.proofs.PlacedLemmas.{parts}
 use Rattle.pilot_engine.proofs.StartStands.{bare_stands, opened, opened_stands, marks, bits, map_named, free_are, may_begin, session_begun}
 use Rattle.pilot_engine.proofs.StartWrites.{root_some, count_some, tables_some, tables_all}
+use Rattle.filer_kernel.specs.EvidenceLaws.{so_of_halts}
+use Rattle.file_manager.proofs.RunLeads.{map_makes}
+use Rattle.pilot_engine.proofs.UnsetLemmas.{leaves_open, unset_open, unset_root}
+use Rattle.pilot_engine.proofs.StartWrites.{first_made}
+use Rattle.running_words.proofs.FlagLemmas.{growth_open, take_open}
+use Rattle.labelled_disk.specs.Runs.{growth}
 use Rattle.pilot_engine.proofs.start.begin.Goals as goal
 
 pub used_of-requires-clause-first : goal.used_of-requires-clause-first
@@ -116,3 +122,41 @@ returns-clause-starts g c =
 pub returns-in-Err-write_tables-clause-starts : goal.returns-in-Err-write_tables-clause-starts
 returns-in-Err-write_tables-clause-starts g c =
     tables_all c.args.root _ _ c.requires.bare (rw c.in_use-root.ensures.root at c.in-Ok.ensures.made).makes (rw (c.in-Ok.ensures.frames, c.in-Ok.ensures.layout) at c.in-Ok-free_count.ensures.kept) c.in-Ok-make_tables.ensures.makes c.write_tables.ensures.makes
+
+-- what evidence says is so
+pub returns-in-Err-clause-so : goal.returns-in-Err-clause-so
+returns-in-Err-clause-so g c = rw c.in-Err.ensures.fault tt
+
+pub returns-in-Err-free_count-clause-so : goal.returns-in-Err-free_count-clause-so
+returns-in-Err-free_count-clause-so g c = so_of_halts (map_makes c.in-Err-free_count.ensures.kept) c.in-Err-free_count.halt _ c.in-Err-free_count.ensures.cause
+
+-- the clean flag is 0 from the first write on
+pub returns-in-Err-clause-left_open : goal.returns-in-Err-clause-left_open
+returns-in-Err-clause-left_open g c = rw c.in-Err.ensures.fault tt
+
+pub returns-in-Err-free_count-clause-left_open : goal.returns-in-Err-free_count-clause-left_open
+returns-in-Err-free_count-clause-left_open g c =
+    let made = (rw c.in_use-root.ensures.root at c.in-Ok.ensures.made).makes in
+    let begun = unset_root c.args.root _ _ (first_made c.args.root _ _ c.requires.bare made) in
+    leaves_open (g.D.Disk.state c.free_count.new.self.swapper.under) (unset_open begun (map_makes c.in-Err-free_count.ensures.kept).wrote tt) c.in-Err-free_count.halt
+
+pub returns-in-Err-make_tables-clause-left_open : goal.returns-in-Err-make_tables-clause-left_open
+returns-in-Err-make_tables-clause-left_open g c =
+    let made = (rw c.in_use-root.ensures.root at c.in-Ok.ensures.made).makes in
+    let begun = unset_root c.args.root _ _ (first_made c.args.root _ _ c.requires.bare made) in
+    let some = c.in-Err-make_tables.ensures.stopped in
+    leaves_open (g.D.Disk.state c.make_tables.new.filer.swapper.under) (unset_open (unset_open begun (map_makes c.in-Ok-free_count.ensures.kept).wrote tt) some.makes.wrote (take_open some.count (growth 3 0 0 some.sectors) (growth_open 3 0 0 some.sectors))) c.in-Err-make_tables.halt
+
+pub returns-in-Err-write_tables-clause-left_open : goal.returns-in-Err-write_tables-clause-left_open
+returns-in-Err-write_tables-clause-left_open g c =
+    let made = (rw c.in_use-root.ensures.root at c.in-Ok.ensures.made).makes in
+    let begun = unset_root c.args.root _ _ (first_made c.args.root _ _ c.requires.bare made) in
+    let all = c.in-Ok-make_tables.ensures.makes in
+    leaves_open (g.D.Disk.state c.write_tables.new.filer.swapper.under) (unset_open (unset_open (unset_open begun (map_makes c.in-Ok-free_count.ensures.kept).wrote tt) all.makes.wrote (growth_open 3 0 0 all.sectors)) c.write_tables.ensures.makes.wrote tt) c.in-Err-write_tables.halt
+
+pub returns-clause-left_open : goal.returns-clause-left_open
+returns-clause-left_open g c =
+    let made = (rw c.in_use-root.ensures.root at c.in-Ok.ensures.made).makes in
+    let begun = unset_root c.args.root _ _ (first_made c.args.root _ _ c.requires.bare made) in
+    let all = c.in-Ok-make_tables.ensures.makes in
+    unset_open (unset_open (unset_open begun (map_makes c.in-Ok-free_count.ensures.kept).wrote tt) all.makes.wrote (growth_open 3 0 0 all.sectors)) c.write_tables.ensures.makes.wrote tt

@@ -1,7 +1,9 @@
 use Rattle.std.proofs.Common.{◌≡◌, subst, OnOk, IfErr}
 use Rattle.labelled_disk.specs.declared.evidence.Halt.TheVariants as halt
 use Rattle.pilot_engine.specs.Closing.{HasShut}
-use Rattle.pilot_top.proofs.CloseLemmas.{not_damaged, damage_told}
+use Rattle.filer_kernel.specs.Evidence.{ShowsSo}
+use Rattle.pilot_engine.specs.Opening.{LeavesOpen}
+use Rattle.pilot_top.proofs.CloseLemmas.{not_damaged, damage_told, left_damaged}
 use Rattle.pilot_top.proofs.closing.close.Goals as goal
 
 pub returns-in-Ok-clause-closed : goal.returns-in-Ok-clause-closed
@@ -17,11 +19,21 @@ pub returns-in-Err-clause-sound : goal.returns-in-Err-clause-sound
 returns-in-Err-clause-sound g c m is damaged =
     not_damaged c.in-Err.halt c.stop.result (subst (λ r. IfErr r (λ e. e ≡ halt.Disk)) c.in-Err.is (c.finish-closed.ensures.sound m is)) c.stop.ensures.status damaged
 
-pub returns-in-Err-clause-damage_line : goal.returns-in-Err-clause-damage_line
-returns-in-Err-clause-damage_line g c damaged = damage_told c.in-Err.halt c.stop.result _ _ _ c.stop.ensures.status damaged c.stop.ensures.line
+pub returns-in-Err-clause-so : goal.returns-in-Err-clause-so
+returns-in-Err-clause-so g c damaged =
+    damage_told c.in-Err.halt c.stop.result _ _ _ (g.D.Disk.state c.finish-closed.result.1) (subst (λ r. IfErr r (ShowsSo (g.D.Disk.state c.finish-closed.result.1))) c.in-Err.is c.finish-closed.ensures.so) c.stop.ensures.status damaged c.stop.ensures.line
 
 pub returns-in-Ok-clause-cost : goal.returns-in-Ok-clause-cost
 returns-in-Ok-clause-cost g c m is = c.finish-closed.ensures.cost m is
 
 pub returns-in-Err-clause-cost : goal.returns-in-Err-clause-cost
 returns-in-Err-clause-cost g c m is = c.finish-closed.ensures.cost m is
+
+pub returns-in-Err-clause-left_open : goal.returns-in-Err-clause-left_open
+returns-in-Err-clause-left_open g c unset damaged =
+    left_damaged c.in-Err.halt c.stop.result (g.D.Disk.state c.finish-closed.result.1) (subst (λ r. IfErr r (LeavesOpen (g.D.Disk.state c.finish-closed.result.1))) c.in-Err.is (c.finish-closed.ensures.left_open unset)) c.stop.ensures.status damaged
+
+pub returns-in-Err-clause-damage_line : goal.returns-in-Err-clause-damage_line
+returns-in-Err-clause-damage_line g c damaged =
+    let told = damage_told c.in-Err.halt c.stop.result _ _ _ (g.D.Disk.state c.finish-closed.result.1) (subst (λ r. IfErr r (ShowsSo (g.D.Disk.state c.finish-closed.result.1))) c.in-Err.is c.finish-closed.ensures.so) c.stop.ensures.status damaged c.stop.ensures.line in
+    (told.0, told.2)

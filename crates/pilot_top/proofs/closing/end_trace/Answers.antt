@@ -1,7 +1,8 @@
 use Rattle.std.proofs.Common.{rules, ◌≡◌, Option, Some, None, sym, ◌∙◌, ap, subst}
 use denote.Enum.Bare.{same_true}
 use Rattle.pilot_engine.specs.Closing.{IsStop, Throughout, WroteOn}
-use Rattle.pilot_engine.proofs.WroteLemmas.{wrote_nothing, wrote_on}
+use Rattle.pilot_engine.proofs.ShutLemmas.{wrote_on}
+use Rattle.pilot_engine.proofs.WroteLemmas.{wrote_nothing}
 use Rattle.pilot_top.specs.contracts.turn.End.{the_type}
 use Rattle.pilot_top.specs.declared.status.Status.{Status}
 use Rattle.pilot_top.proofs.CloseLemmas.{rest_stops, not_closed}
@@ -49,3 +50,9 @@ returns-then-is_err-clause-closed g c m is other done = let none : ◌≡◌ {A 
 
 pub returns-clause-closed : goal.returns-clause-closed
 returns-clause-closed g c m is other done = let none : ◌≡◌ {A = Option Status} c.close-stopped.result.0 None = search rules in c.close-stopped.ensures.closed m is none
+
+pub returns-in-Some-clause-damage_line : goal.returns-in-Some-clause-damage_line
+returns-in-Some-clause-damage_line g c damaged = c.close-stopped.ensures.so (c.in-Some.is ∙ ap (λ (s : Status). Some s) damaged)
+
+pub returns-in-Some-clause-left_open : goal.returns-in-Some-clause-left_open
+returns-in-Some-clause-left_open g c unset damaged = c.close-stopped.ensures.left_open unset (c.in-Some.is ∙ ap (λ (s : Status). Some s) damaged)

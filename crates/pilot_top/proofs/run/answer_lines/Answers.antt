@@ -8,21 +8,23 @@ use Rattle.flat_machine.specs.Machine.{Machine}
 use Rattle.swapper_kernel.specs.GoesLaws.{went_itself, went_then}
 use Rattle.trace_io.specs.Reading.{reading}
 use Rattle.session_words.specs.StandsFor.{TellsSettled}
+use Rattle.filer_kernel.specs.Evidence.{IsSo, ShowsSo}
 use Rattle.pilot_engine.specs.declared.session.SessionOver.{SessionOver}
+use Rattle.pilot_engine.proofs.UnsetLemmas.{unset_then}
 use Rattle.running_words.specs.Running.{Runs}
-use Rattle.pilot_top.specs.Headline.{HasFilesAt, IsLeftOpen}
+use Rattle.pilot_top.specs.Headline.{HasFilesAt}
 use Rattle.pilot_top.specs.Last.{last_line, Puts}
 use Rattle.pilot_top.specs.Stopping.{status_of, cause_of}
 use Rattle.pilot_top.specs.declared.last.Cause.TheVariants as cause
 use Rattle.pilot_top.specs.declared.status.Status.TheVariants as status
-use Rattle.pilot_top.proofs.EndLemmas.{End-answering, End-short}
+use Rattle.pilot_top.proofs.EndLemmas.{End-answering, End-front, End-short}
 use Rattle.pilot_top.proofs.ExitLemmas.{halt_not_damaged, halt_not_done, halt_evidence, three_ways, stopped_files, halt_not_stream, takes_more, still_moments, still_spends, line_spends, end_spent, still_files, line_moments, halt_files, reply_files, line_not_close, end_closed, end_unheard, end_moments}
 use Rattle.pilot_top.proofs.FrontLemmas.{End-has}
-use Rattle.pilot_top.proofs.LawfulRuns.{lawfully_none, lawfully_then, called_lawfully, ended_lawfully}
-use Rattle.pilot_top.proofs.OpenLemmas.{early_halt, halt_not_early, stands_open}
+use Rattle.pilot_top.proofs.LawfulRuns.{called_openly, ended_last, openly_last, openly_none, openly_then}
+use Rattle.pilot_top.proofs.OpenLemmas.{early_halt}
 use Rattle.pilot_top.proofs.PlaceLemmas.{stop_told}
 use Rattle.pilot_top.proofs.StagedLemmas.{from_rest, stands_told}
-use Rattle.pilot_top.proofs.TopLemmas.{Run-disk, Run-long, Run-read_fault, Run-write_fault, not_short, rose_later, Puts-later, damage_told, Going-sink}
+use Rattle.pilot_top.proofs.TopLemmas.{Run-disk, Run-long, Run-read_fault, Run-write_fault, not_short, rose_later, Puts-later, damage_behind, damage_told, told_front, Going-sink, Going-told}
 use Rattle.pilot_top.proofs.TurnedLemmas.{more_moments, ended_moments, Turned-start, Turned-reply, Turned-source, Turned-told, Turned-same}
 use Rattle.pilot_top.proofs.run.answer_lines.Given as given
 use Rattle.pilot_top.proofs.run.answer_lines.Goals as goal
@@ -42,9 +44,6 @@ tells : (g : given.Over) (s : Sessions g) (m : Machine) → stands_of g s m → 
 tells g s m stands e told =
     (stands_told m stands (λ d is. g.met.D.Disk.in_form s.core.filer.swapper.under d is) e told).told
 
-stays : (g : given.Over) (s : Sessions g) (m : Machine) → stands_of g s m → IsLeftOpen (disk_of g s)
-stays g s m stands = stands_open m stands (λ d is. g.met.D.Disk.in_form s.core.filer.swapper.under d is)
-
 pub turns-init : goal.turns-init
 turns-init g c =
     let made = c.with_limit-lines.ensures in
@@ -52,7 +51,7 @@ turns-init g c =
     record {
       turned = Turned-start _ _ c.with_limit-lines.result _ _ (ap (λ p. p.taken) made) stopped
           (λ m is. from_rest m [] is (λ d told. g.met.D.Disk.in_form c.args.session.core.filer.swapper.under d told))
-          (lawfully_none (record { contents = refl; writes = refl }));
+          (openly_none (record { contents = refl; writes = refl }));
       same_disk = went_itself (g.D.Disk.state c.args.session.core.filer.swapper.under);
       goes_on = inl stopped;
       limit = ap (λ p. p.limit) made;
@@ -60,6 +59,7 @@ turns-init g c =
       size = c.requires.size;
       opened = c.requires.opened;
       running = c.requires.running;
+      left_open = λ is. is;
       source = omega arith;
       sink = omega arith;
     }
@@ -80,7 +80,7 @@ turns-preserved g c =
     let went = c.take_turn.ensures.wrote.makes.went in
     record {
       turned = Turned-reply i.turned i.same_disk.sectors turn.0 turn.2 turn.3 turn.4 turn.5
-          (called_lawfully c.take_turn.ensures.wrote) c.in-Ok.ensures.ok;
+          (called_openly c.take_turn.ensures.wrote) c.in-Ok.ensures.ok;
       same_disk = went_then i.same_disk went;
       goes_on = elim turn.2.ends [ inl fed ↦ inl fed.1 | inr ended ↦ inr ended.3 ];
       limit = turn.2.limit ∙ i.limit;
@@ -88,6 +88,7 @@ turns-preserved g c =
       size = went.sectors ∙ i.size ∙ ap (λ l. l.sectors) (sym c.take_turn.ensures.layout);
       opened = c.take_turn.ensures.open_still;
       running = c.in-Replies.ensures.going tt;
+      left_open = λ is. unset_then (i.left_open is) c.take_turn.ensures.wrote;
       source = omega (arith, i.source, c.take_turn.ensures.source_later);
       sink = omega (arith, i.sink, c.in-Ok.ensures.cause.later);
     }
@@ -116,12 +117,10 @@ returns-in_default-clause-closed_unheard g c m b stands source is heard left clo
     absurd (line_not_close m turned stands turn.0 turn.2 turn.4 left closed)
 
 pub returns-in_default-clause-stays_open : goal.returns-in_default-clause-stays_open
-returns-in_default-clause-stays_open g c m b stands source early =
-    let turn = c.in-Replies.ensures.turns in
-    rw c.into_disk.ensures (stays g c.take_turn.new.session _ (turn.3.next _ (c.turns.invariant.turned.going.stands m stands) turn.4))
+returns-in_default-clause-stays_open g c b left source early = rw c.into_disk.ensures (unset_then (c.turns.invariant.left_open left) c.take_turn.ensures.wrote)
 
 pub returns-in_default-clause-lawful : goal.returns-in_default-clause-lawful
-returns-in_default-clause-lawful g c = rw c.into_disk.ensures (lawfully_then c.turns.invariant.turned.lawful (called_lawfully c.take_turn.ensures.wrote))
+returns-in_default-clause-lawful g c = rw c.into_disk.ensures (openly_last (openly_then c.turns.invariant.turned.lawful (called_openly c.take_turn.ensures.wrote)))
 
 -- the source failed
 pub returns-in-ReadFault-clause-answering : goal.returns-in-ReadFault-clause-answering
@@ -139,9 +138,10 @@ returns-in-ReadFault-clause-moments g c m b stands source =
     rw c.into_disk-in-ReadFault.ensures (still_moments m turned stands)
 
 pub returns-in-ReadFault-clause-stays_open : goal.returns-in-ReadFault-clause-stays_open
-returns-in-ReadFault-clause-stays_open g c m b stands source early =
-    let same : c.take_turn.new.session ≡ c.turns.session = c.in-ReadFault.ensures.idle tt in
-    rw (c.into_disk-in-ReadFault.ensures, same) (stays g c.turns.session _ (c.turns.invariant.turned.going.stands m stands))
+returns-in-ReadFault-clause-stays_open g c b left source early = rw c.into_disk-in-ReadFault.ensures (unset_then (c.turns.invariant.left_open left) c.take_turn.ensures.wrote)
+
+pub returns-in-ReadFault-clause-lawful : goal.returns-in-ReadFault-clause-lawful
+returns-in-ReadFault-clause-lawful g c = rw c.into_disk-in-ReadFault.ensures (openly_last (openly_then c.turns.invariant.turned.lawful (called_openly c.take_turn.ensures.wrote)))
 
 pub returns-in-ReadFault-clause-closed_unheard : goal.returns-in-ReadFault-clause-closed_unheard
 returns-in-ReadFault-clause-closed_unheard g c m b stands source is heard left closed =
@@ -165,9 +165,10 @@ returns-in-Long-clause-moments g c m b stands source =
     rw c.into_disk-in-Long.ensures (still_moments m turned stands)
 
 pub returns-in-Long-clause-stays_open : goal.returns-in-Long-clause-stays_open
-returns-in-Long-clause-stays_open g c m b stands source early =
-    let same : c.take_turn.new.session ≡ c.turns.session = c.in-Long.ensures.idle tt in
-    rw (c.into_disk-in-Long.ensures, same) (stays g c.turns.session _ (c.turns.invariant.turned.going.stands m stands))
+returns-in-Long-clause-stays_open g c b left source early = rw c.into_disk-in-Long.ensures (unset_then (c.turns.invariant.left_open left) c.take_turn.ensures.wrote)
+
+pub returns-in-Long-clause-lawful : goal.returns-in-Long-clause-lawful
+returns-in-Long-clause-lawful g c = rw c.into_disk-in-Long.ensures (openly_last (openly_then c.turns.invariant.turned.lawful (called_openly c.take_turn.ensures.wrote)))
 
 pub returns-in-Long-clause-long : goal.returns-in-Long-clause-long
 returns-in-Long-clause-long g c b source is =
@@ -203,18 +204,35 @@ pub returns-in-Halts-clause-closed_unheard : goal.returns-in-Halts-clause-closed
 returns-in-Halts-clause-closed_unheard g c m b stands source is heard left closed = absurd (halt_not_stream c.in-Halts.halt c.stop.result c.stop.ensures.status is)
 
 pub returns-in-Halts-clause-stays_open : goal.returns-in-Halts-clause-stays_open
-returns-in-Halts-clause-stays_open g c m b stands source early = absurd (halt_not_early c.in-Halts.halt c.stop.result (reading b) c.stop.ensures.status early)
+returns-in-Halts-clause-stays_open g c b left source early = rw c.into_disk-in-Halts.ensures (unset_then (c.turns.invariant.left_open left) c.take_turn.ensures.wrote)
 
 pub returns-in-Halts-clause-damage : goal.returns-in-Halts-clause-damage
-returns-in-Halts-clause-damage g c t sink is =
+returns-in-Halts-clause-damage g c t left sink is =
     let i = c.turns.invariant in
     let why = halt_evidence c.in-Halts.halt c.stop.result c.stop.ensures.status is in
-    damage_told _ _ _ _ t c.turns.lines _ _ _ why.0 (Going-sink _ _ _ _ _ _ _ t i.turned.going sink)
+    let disk = disk_of g c.take_turn.new.session in
+    let so : IsSo disk why.0 = subst (λ (h : Halt). ShowsSo disk h) why.1 (c.in-Halts.ensures.so c.in-Halts.halt refl) in
+    rw c.into_disk-in-Halts.ensures
+    (damage_told _ _ _ _ t c.turns.lines _ _ _ why.0 disk so (unset_then (i.left_open left) c.take_turn.ensures.wrote) (Going-sink _ _ _ _ _ _ _ t i.turned.going sink)
+    (Puts-later _ _ _ _ _ (rose_later _ _ _ i.sink)
+    (subst (λ (h : Halt). Puts (Rose (g.K.Sink.faults c.turns.sink) (g.K.Sink.faults c.stop.new.sink)) (g.K.Sink.took c.turns.sink) (g.K.Sink.took c.stop.new.sink) (last_line (cause_of h))) why.1 c.stop.ensures.line)))
+
+pub returns-in-Halts-clause-damage_behind : goal.returns-in-Halts-clause-damage_behind
+returns-in-Halts-clause-damage_behind g c b t left source sink is =
+    let i = c.turns.invariant in
+    let why = halt_evidence c.in-Halts.halt c.stop.result c.stop.ensures.status is in
+    let disk = disk_of g c.take_turn.new.session in
+    let so : IsSo disk why.0 = subst (λ (h : Halt). ShowsSo disk h) why.1 (c.in-Halts.ensures.so c.in-Halts.halt refl) in
+    let going = Going-told _ _ _ _ _ _ _ b t i.turned.going source sink in
+    let front = told_front b _ c.turns.lines going.lines going.read c.in-Halts.ensures.turns.0 in
+    rw c.into_disk-in-Halts.ensures
+    (damage_behind b _ _ _ t c.turns.lines _ _ _ why.0 disk so (unset_then (i.left_open left) c.take_turn.ensures.wrote) going
     (Puts-later _ _ _ _ _ (rose_later _ _ _ i.sink)
     (subst (λ (h : Halt). Puts (Rose (g.K.Sink.faults c.turns.sink) (g.K.Sink.faults c.stop.new.sink)) (g.K.Sink.took c.turns.sink) (g.K.Sink.took c.stop.new.sink) (last_line (cause_of h))) why.1 c.stop.ensures.line))
+    front.0 front.1)
 
 pub returns-in-Halts-clause-lawful : goal.returns-in-Halts-clause-lawful
-returns-in-Halts-clause-lawful g c = rw c.into_disk-in-Halts.ensures (lawfully_then c.turns.invariant.turned.lawful (called_lawfully c.take_turn.ensures.wrote))
+returns-in-Halts-clause-lawful g c = rw c.into_disk-in-Halts.ensures (openly_last (openly_then c.turns.invariant.turned.lawful (called_openly c.take_turn.ensures.wrote)))
 
 pub returns-in-Halts-clause-short : goal.returns-in-Halts-clause-short
 returns-in-Halts-clause-short g c b source done = absurd (halt_not_done c.in-Halts.halt c.stop.result c.stop.ensures.status done)
@@ -255,15 +273,15 @@ returns-in-Ends-clause-closed_unheard g c m b stands source is heard left closed
     end_unheard m turned stands _ c.in-Ends.end _ c.take_turn.new.lines c.in-Ends.ensures.turns closed (λ other. c.end_trace.ensures.closed _ (turned.going.stands m stands) other (inr is))
 
 pub returns-in-Ends-clause-stays_open : goal.returns-in-Ends-clause-stays_open
-returns-in-Ends-clause-stays_open g c m b stands source early =
+returns-in-Ends-clause-stays_open g c b left source early =
     let e = c.end_trace.ensures in
-    let same : c.take_turn.new.session ≡ c.turns.session = c.in-Ends.ensures.idle tt in
-    let turned = Turned-same {S = Sessions g} (disk_of g) (stands_of g) same (Turned-source c.turns.invariant.turned source) in
-    let halted = early_halt b _ _ _ c.turns.lines _ _ turned.going c.end_trace.result.0 c.in-Ends.end _ c.take_turn.new.lines c.in-Ends.ensures.turns e.ends (λ is. (e.stream_cause is).1) early in
-    rw (e.halted halted) (stays g c.take_turn.new.session _ (turned.going.stands m stands))
+    let turned = Turned-source c.turns.invariant.turned source in
+    let now = unset_then (c.turns.invariant.left_open left) c.take_turn.ensures.wrote in
+    let ended = early_halt b _ _ _ c.turns.lines _ _ turned.going c.end_trace.result.0 c.in-Ends.end _ c.take_turn.new.lines c.in-Ends.ensures.turns e.ends (λ is. (e.stream_cause is).1) early in
+    elim ended [ inl halted ↦ rw (e.halted halted) now | inr damaged ↦ e.left_open now damaged ]
 
 pub returns-in-Ends-clause-lawful : goal.returns-in-Ends-clause-lawful
-returns-in-Ends-clause-lawful g c = lawfully_then (lawfully_then c.turns.invariant.turned.lawful (called_lawfully c.take_turn.ensures.wrote)) (ended_lawfully c.end_trace.ensures.wrote)
+returns-in-Ends-clause-lawful g c = ended_last (openly_then c.turns.invariant.turned.lawful (called_openly c.take_turn.ensures.wrote)) c.end_trace.ensures.wrote
 
 pub returns-in-Ends-clause-short : goal.returns-in-Ends-clause-short
 returns-in-Ends-clause-short g c b source done =
@@ -284,10 +302,20 @@ returns-in-Ends-clause-sound g c m stands =
     c.end_trace.ensures.sound _ (turned.going.stands m stands)
 
 pub returns-in-Ends-clause-damage : goal.returns-in-Ends-clause-damage
-returns-in-Ends-clause-damage g c t sink is =
+returns-in-Ends-clause-damage g c t left sink is =
     let i = c.turns.invariant in
     let line = c.end_trace.ensures.damage_line is in
-    damage_told _ _ _ _ t c.turns.lines _ _ _ line.0 (Going-sink _ _ _ _ _ _ _ t i.turned.going sink) (Puts-later _ _ _ _ _ (rose_later _ _ _ i.sink) line.1)
+    let open_still = c.end_trace.ensures.left_open (unset_then (i.left_open left) c.take_turn.ensures.wrote) is in
+    damage_told _ _ _ _ t c.turns.lines _ _ _ line.0 (g.D.Disk.state c.end_trace.result.1) line.1 open_still (Going-sink _ _ _ _ _ _ _ t i.turned.going sink) (Puts-later _ _ _ _ _ (rose_later _ _ _ i.sink) line.2)
+
+pub returns-in-Ends-clause-damage_behind : goal.returns-in-Ends-clause-damage_behind
+returns-in-Ends-clause-damage_behind g c b t left source sink is =
+    let i = c.turns.invariant in
+    let line = c.end_trace.ensures.damage_line is in
+    let open_still = c.end_trace.ensures.left_open (unset_then (i.left_open left) c.take_turn.ensures.wrote) is in
+    let going = Going-told _ _ _ _ _ _ _ b t i.turned.going source sink in
+    let front = End-front b _ _ _ c.turns.lines _ _ going c.in-Ends.end _ c.take_turn.new.lines c.in-Ends.ensures.turns in
+    damage_behind b _ _ _ t c.turns.lines _ _ _ line.0 (g.D.Disk.state c.end_trace.result.1) line.1 open_still going (Puts-later _ _ _ _ _ (rose_later _ _ _ i.sink) line.2) front.0 front.1
 
 -- the disk is handed back
 pub returns-in_default-clause-same_disk : goal.returns-in_default-clause-same_disk

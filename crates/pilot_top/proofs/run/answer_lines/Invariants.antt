@@ -1,6 +1,7 @@
 use Rattle.std.proofs.Common.{◌≡◌, ◌⊎◌, ◌-◌, ◌^◌, ◌≤◌, true, Some, None}
 use Rattle.trace_io.specs.declared.progress.Stop.TheVariants as stop
 use Rattle.swapper_kernel.specs.Goes.{Went}
+use Rattle.pilot_engine.specs.Opening.{IsUnset}
 use Rattle.running_words.specs.Session.{IsOpen}
 use Rattle.running_words.specs.Running.{Runs}
 use Rattle.pilot_top.proofs.TurnedLemmas.{Turned}
@@ -20,6 +21,7 @@ invariant-turns g l = record {
   size : (g.D.Disk.state l.session.core.filer.swapper.under).sectors ≡ l.session.core.filer.swapper.layout.sectors;
   opened : IsOpen l.session.core.filer.swapper.layout l.session.volume;
   running : l.session.running ≡ true;
+  left_open : IsUnset (g.D.Disk.state l.fn.session.core.filer.swapper.under) → IsUnset (g.D.Disk.state l.session.core.filer.swapper.under);
   source : g.S.Source.faults l.fn.source ≤ g.S.Source.faults l.source;
   sink : g.K.Sink.faults l.fn.sink ≤ g.K.Sink.faults l.sink;
 }

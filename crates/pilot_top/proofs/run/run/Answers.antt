@@ -3,8 +3,8 @@ use Rattle.flat_machine.specs.Start.{start}
 use Rattle.swapper_kernel.specs.GoesLaws.{went_then}
 use Rattle.trace_io.specs.Reading.{reading}
 use Rattle.pilot_top.proofs.CostLemmas.{run_spends, start_spends}
-use Rattle.pilot_top.proofs.LawfulRuns.{lawfully_then, started_lawfully}
-use Rattle.pilot_top.proofs.RunLemmas.{run_of, not_sound, not_done, not_early, run_refused, damage_told, refused_why, refused_line, refused_ends, is_early}
+use Rattle.pilot_top.proofs.LawfulRuns.{ran_lawfully, started_lawfully}
+use Rattle.pilot_top.proofs.RunLemmas.{run_of, not_sound, not_done, left_early, run_refused, damage_first, refused_why, refused_line, refused_ends, is_early}
 use Rattle.pilot_top.proofs.StagedLemmas.{from_start, moments_before, moments_then}
 use Rattle.pilot_top.proofs.run.run.Goals as goal
 
@@ -34,13 +34,19 @@ returns-in-Ok-clause-closed_unheard g c d b told sound source failed held rest c
     c.answer_lines.ensures.closed_unheard (start d) b (c.in-Ok.ensures.stands d told sound) source failed held rest closes
 
 pub returns-in-Ok-clause-stays_open : goal.returns-in-Ok-clause-stays_open
-returns-in-Ok-clause-stays_open g c d b told sound source early = c.answer_lines.ensures.stays_open (start d) b (c.in-Ok.ensures.stands d told sound) source early
+returns-in-Ok-clause-stays_open g c b source early = c.answer_lines.ensures.stays_open b c.in-Ok.ensures.left_open source early
+
+pub returns-in-Ok-clause-damage : goal.returns-in-Ok-clause-damage
+returns-in-Ok-clause-damage g c t sink is = c.answer_lines.ensures.damage t c.in-Ok.ensures.left_open sink is
+
+pub returns-in-Ok-clause-damage_behind : goal.returns-in-Ok-clause-damage_behind
+returns-in-Ok-clause-damage_behind g c b t source sink is = c.answer_lines.ensures.damage_behind b t c.in-Ok.ensures.left_open source sink is
 
 pub returns-in-Ok-clause-sound : goal.returns-in-Ok-clause-sound
 returns-in-Ok-clause-sound g c d told sound = (c.answer_lines.ensures.opened.1, c.answer_lines.ensures.sound (start d) (c.in-Ok.ensures.stands d told sound))
 
 pub returns-in-Ok-clause-lawful : goal.returns-in-Ok-clause-lawful
-returns-in-Ok-clause-lawful g c = lawfully_then (started_lawfully c.in-Ok.ensures.wrote) c.answer_lines.ensures.lawful
+returns-in-Ok-clause-lawful g c = ran_lawfully c.in-Ok.ensures.wrote c.in-Ok.ensures.left_open c.answer_lines.ensures.lawful
 
 pub returns-in-Ok-clause-refused : goal.returns-in-Ok-clause-refused
 returns-in-Ok-clause-refused g c d why told refused = absurd (c.in-Ok.ensures.refused d why told refused)
@@ -72,13 +78,22 @@ pub returns-in-Err-clause-closed_unheard : goal.returns-in-Err-clause-closed_unh
 returns-in-Err-clause-closed_unheard g c d b told sound source failed held rest closes = absurd ((not_done c.in-Err.fault c.refuse.result _ _ g.K.Sink.took _ c.refuse.ensures.stops).1 failed)
 
 pub returns-in-Err-clause-stays_open : goal.returns-in-Err-clause-stays_open
-returns-in-Err-clause-stays_open g c d b told sound source early = absurd (not_early c.in-Err.fault c.refuse.result _ _ g.K.Sink.took _ c.refuse.ensures.stops (reading b) early)
+returns-in-Err-clause-stays_open g c b source early =
+    left_early c.in-Err.fault c.refuse.result _ _ g.K.Sink.took _ c.refuse.ensures.stops (g.D.Disk.state c.in-Err.disk) c.in-Err.ensures.left_open (reading b) early
 
 pub returns-in-Err-clause-sound : goal.returns-in-Err-clause-sound
 returns-in-Err-clause-sound g c d told sound = not_sound c.in-Err.fault c.refuse.result _ _ g.K.Sink.took _ c.refuse.ensures.stops (c.in-Err.ensures.sound d told sound)
 
 pub returns-in-Err-clause-damage : goal.returns-in-Err-clause-damage
-returns-in-Err-clause-damage g c t sink is = damage_told c.in-Err.fault c.refuse.result _ _ g.K.Sink.took _ c.refuse.ensures.stops t sink is
+returns-in-Err-clause-damage g c t sink is =
+    (damage_first c.in-Err.fault c.refuse.result _ _ g.K.Sink.took _ c.refuse.ensures.stops (g.D.Disk.state c.in-Err.disk) c.in-Err.ensures.so c.in-Err.ensures.left_open t sink is []).0
+
+pub returns-in-Err-clause-damage_behind : goal.returns-in-Err-clause-damage_behind
+returns-in-Err-clause-damage_behind g c b t source sink is =
+    damage_first c.in-Err.fault c.refuse.result _ _ g.K.Sink.took _ c.refuse.ensures.stops (g.D.Disk.state c.in-Err.disk) c.in-Err.ensures.so c.in-Err.ensures.left_open t sink is (reading b)
+
+pub returns-in-Err-clause-lawful : goal.returns-in-Err-clause-lawful
+returns-in-Err-clause-lawful g c = started_lawfully c.in-Err.ensures.wrote
 
 pub returns-in-Err-clause-not_opened : goal.returns-in-Err-clause-not_opened
 returns-in-Err-clause-not_opened g c d told is = refused_why c.in-Err.fault c.refuse.result _ _ g.K.Sink.took _ c.refuse.ensures.stops d (c.in-Err.ensures.judged d told) is

@@ -1,4 +1,6 @@
 use Rattle.std.proofs.Common.{◌≡◌, [], ◌∷◌, false, Some, None, refl, sym, ◌∙◌, subst}
+use Rattle.labelled_disk.specs.declared.evidence.Halt.{Halt}
+use Rattle.filer_kernel.specs.Evidence.{ShowsSo}
 use Rattle.flat_machine.specs.declared.call.Reply.TheVariants as reply
 use Rattle.trace_io.specs.Form.{GivesForm}
 use Rattle.trace_io.specs.Reading.{is_last}
@@ -84,3 +86,6 @@ returns-in-Bad-clause-turns g c =
         bad_costs (g.D.Disk.state c.args.session.now.core.filer.swapper.under),
       ),
     )
+
+pub returns-in-Err-clause-so : goal.returns-in-Err-clause-so
+returns-in-Err-clause-so g c halt same = subst (λ (h : Halt). ShowsSo (g.D.Disk.state c.step.new.self.core.filer.swapper.under) h) (same_halt c.in-Err.halt halt same) c.in-Err.ensures.so

@@ -1,10 +1,12 @@
-use Rattle.std.proofs.Common.{refl, sym, ap, ◌∙◌, arith}
+use Rattle.std.proofs.Common.{refl, sym, ap, ◌∙◌, arith, subst}
 use Rattle.std.proofs.lemmas.Bool.{true≢false}
 use Rattle.flat_machine.specs.References.{is_reference}
-use Rattle.pilot_engine.specs.Stepping.{relabels, waits}
+use Rattle.pilot_engine.specs.Stepping.{relabels, waits, IsResident}
+use Rattle.fault_core.specs.Core.{kept}
 use Rattle.pilot_engine.proofs.BoundLemmas.{asked_inside, spent_inside}
 use Rattle.pilot_engine.proofs.LiftLemmas.{carried_out}
-use Rattle.pilot_engine.proofs.StepLemmas.{nothing_told, on_spaces}
+use Rattle.pilot_engine.proofs.StepLemmas.{none_said, nothing_told, on_spaces}
+use Rattle.flat_machine.specs.declared.call.Call.{Call}
 use Rattle.flat_machine.specs.declared.call.Call.TheVariants as call
 use Rattle.pilot_engine.proofs.OwnLemmas.{own_of, own_none, none_relabelled}
 use Rattle.pilot_engine.proofs.session.SessionOver.answer.Goals as goal
@@ -216,3 +218,51 @@ returns-in-Volume-clause-own g c = own_none (ap relabels c.in-Volume.is)
 
 pub returns-in_default-clause-own : goal.returns-in_default-clause-own
 returns-in_default-clause-own g c = own_none (none_relabelled c.args.call.now (on_spaces c.args.call.now c.requires.more c.in_default.not-Create c.in_default.not-Delete c.in_default.not-Attributes c.in_default.not-SetSize c.in_default.not-MakePermanent c.in_default.not-MakeImmutable c.in_default.not-Next c.in_default.not-Volume))
+
+pub returns-in-Create-clause-idle : goal.returns-in-Create-clause-idle
+returns-in-Create-clause-idle g c = λ m r resident. absurd (subst (λ (x : Call). IsResident x (kept c.args.self.now.core) c.args.self.now.core.filer.swapper.pool) c.in-Create.is resident)
+
+pub returns-in-Delete-clause-idle : goal.returns-in-Delete-clause-idle
+returns-in-Delete-clause-idle g c = λ m r resident. absurd (subst (λ (x : Call). IsResident x (kept c.args.self.now.core) c.args.self.now.core.filer.swapper.pool) c.in-Delete.is resident)
+
+pub returns-in-Attributes-clause-idle : goal.returns-in-Attributes-clause-idle
+returns-in-Attributes-clause-idle g c = λ m r resident. absurd (subst (λ (x : Call). IsResident x (kept c.args.self.now.core) c.args.self.now.core.filer.swapper.pool) c.in-Attributes.is resident)
+
+pub returns-in-SetSize-clause-idle : goal.returns-in-SetSize-clause-idle
+returns-in-SetSize-clause-idle g c = λ m r resident. absurd (subst (λ (x : Call). IsResident x (kept c.args.self.now.core) c.args.self.now.core.filer.swapper.pool) c.in-SetSize.is resident)
+
+pub returns-in-MakePermanent-clause-idle : goal.returns-in-MakePermanent-clause-idle
+returns-in-MakePermanent-clause-idle g c = λ m r resident. absurd (subst (λ (x : Call). IsResident x (kept c.args.self.now.core) c.args.self.now.core.filer.swapper.pool) c.in-MakePermanent.is resident)
+
+pub returns-in-MakeImmutable-clause-idle : goal.returns-in-MakeImmutable-clause-idle
+returns-in-MakeImmutable-clause-idle g c = λ m r resident. absurd (subst (λ (x : Call). IsResident x (kept c.args.self.now.core) c.args.self.now.core.filer.swapper.pool) c.in-MakeImmutable.is resident)
+
+pub returns-in-Next-clause-idle : goal.returns-in-Next-clause-idle
+returns-in-Next-clause-idle g c = λ m r resident. absurd (subst (λ (x : Call). IsResident x (kept c.args.self.now.core) c.args.self.now.core.filer.swapper.pool) c.in-Next.is resident)
+
+pub returns-in-Volume-clause-idle : goal.returns-in-Volume-clause-idle
+returns-in-Volume-clause-idle g c = λ m r resident. absurd (subst (λ (x : Call). IsResident x (kept c.args.self.now.core) c.args.self.now.core.filer.swapper.pool) c.in-Volume.is resident)
+
+pub returns-in-Create-clause-cause : goal.returns-in-Create-clause-cause
+returns-in-Create-clause-cause g c = rw c.in-Create.is (none_said c.create.result)
+
+pub returns-in-Delete-clause-cause : goal.returns-in-Delete-clause-cause
+returns-in-Delete-clause-cause g c = rw c.in-Delete.is (none_said c.delete.result)
+
+pub returns-in-Attributes-clause-cause : goal.returns-in-Attributes-clause-cause
+returns-in-Attributes-clause-cause g c = rw c.in-Attributes.is (none_said c.attributes.result)
+
+pub returns-in-SetSize-clause-cause : goal.returns-in-SetSize-clause-cause
+returns-in-SetSize-clause-cause g c = rw c.in-SetSize.is (none_said c.set_size.result)
+
+pub returns-in-MakePermanent-clause-cause : goal.returns-in-MakePermanent-clause-cause
+returns-in-MakePermanent-clause-cause g c = rw c.in-MakePermanent.is (none_said c.make_permanent.result)
+
+pub returns-in-MakeImmutable-clause-cause : goal.returns-in-MakeImmutable-clause-cause
+returns-in-MakeImmutable-clause-cause g c = rw c.in-MakeImmutable.is (none_said c.make_immutable.result)
+
+pub returns-in-Next-clause-cause : goal.returns-in-Next-clause-cause
+returns-in-Next-clause-cause g c = rw c.in-Next.is (none_said c.next.result)
+
+pub returns-in-Volume-clause-cause : goal.returns-in-Volume-clause-cause
+returns-in-Volume-clause-cause g c = rw c.in-Volume.is (none_said c.volume.result)

@@ -1,22 +1,23 @@
 use Rattle.std.proofs.Common.{◌≤◌, ℕ, List, length, refl, sym, ap, subst, ◌∙◌, arith}
 use Rattle.std.proofs.lemmas.Bool.{true≢false}
 use Rattle.flat_machine.specs.References.{is_reference}
-use Rattle.pilot_engine.specs.Stepping.{waits}
+use Rattle.pilot_engine.specs.Stepping.{IsResident, StepHalts, waits}
 use Rattle.pilot_engine.proofs.BoundLemmas.{asked_inside}
 use Rattle.pilot_engine.proofs.LiftLemmas.{still_open}
-use Rattle.pilot_engine.proofs.StepLemmas.{none_on_spaces, nothing_told, of_pages}
+use Rattle.pilot_engine.proofs.StepLemmas.{none_on_spaces, none_said, nothing_told, of_pages}
 use Rattle.pilot_engine.proofs.AnonymousLemmas.{done_then, unset}
 use Rattle.fault_core.specs.Access.{last_page}
 use Rattle.fault_core.specs.Activate.{IsActive}
-use Rattle.fault_core.specs.Core.{kept}
+use Rattle.fault_core.specs.Core.{kept, state}
 use Rattle.fault_core.specs.Kill.{AreWritableSo, is_absent}
 use Rattle.fault_core.specs.Range.{AreClean, AreGone}
 use Rattle.fault_core.specs.Unit.{IsReady}
-use Rattle.std.specs.Prelude.{IfOk, OnOk}
+use Rattle.std.specs.Prelude.{IfErr, IfOk, OnOk}
 use Rattle.running_words.specs.Running.{Carried}
 use Rattle.running_words.specs.Stages.{Passes}
 use Rattle.flat_machine.specs.Form.{IsInForm}
 use Rattle.flat_machine.specs.Refusal.{refusal}
+use Rattle.flat_machine.specs.declared.call.Call.{Call}
 use Rattle.flat_machine.specs.declared.call.Call.TheVariants as call
 use Rattle.pilot_engine.proofs.session.SessionOver.answer_on_spaces.Goals as goal
 
@@ -401,3 +402,96 @@ store-requires-clause-few g c = subst (λ (bs : List ℕ). length bs ≤ 64) (sy
 
 pub unreachable-requires : goal.unreachable-requires
 unreachable-requires g c = none_on_spaces c.args.call.now c.requires.on_spaces c.in_default.not-MakeSpace c.in_default.not-RemoveSpace c.in_default.not-Place c.in_default.not-Units c.in_default.not-Map c.in_default.not-MapAnonymous c.in_default.not-Unmap c.in_default.not-Protect c.in_default.not-Load c.in_default.not-Store c.in_default.not-Activate c.in_default.not-Deactivate c.in_default.not-Kill c.in_default.not-ForceOut
+
+pub returns-in-MakeSpace-clause-idle : goal.returns-in-MakeSpace-clause-idle
+returns-in-MakeSpace-clause-idle g c = λ m r resident. absurd (subst (λ (x : Call). IsResident x (kept c.args.self.now.core) c.args.self.now.core.filer.swapper.pool) c.in-MakeSpace.is resident)
+
+pub returns-in-RemoveSpace-clause-idle : goal.returns-in-RemoveSpace-clause-idle
+returns-in-RemoveSpace-clause-idle g c = λ m r resident. absurd (subst (λ (x : Call). IsResident x (kept c.args.self.now.core) c.args.self.now.core.filer.swapper.pool) c.in-RemoveSpace.is resident)
+
+pub returns-in-Place-clause-idle : goal.returns-in-Place-clause-idle
+returns-in-Place-clause-idle g c = λ m r resident. absurd (subst (λ (x : Call). IsResident x (kept c.args.self.now.core) c.args.self.now.core.filer.swapper.pool) c.in-Place.is resident)
+
+pub returns-in-Units-clause-idle : goal.returns-in-Units-clause-idle
+returns-in-Units-clause-idle g c = λ m r resident. absurd (subst (λ (x : Call). IsResident x (kept c.args.self.now.core) c.args.self.now.core.filer.swapper.pool) c.in-Units.is resident)
+
+pub returns-in-Map-clause-idle : goal.returns-in-Map-clause-idle
+returns-in-Map-clause-idle g c = λ m r resident. absurd (subst (λ (x : Call). IsResident x (kept c.args.self.now.core) c.args.self.now.core.filer.swapper.pool) c.in-Map.is resident)
+
+pub returns-in-MapAnonymous-clause-idle : goal.returns-in-MapAnonymous-clause-idle
+returns-in-MapAnonymous-clause-idle g c = λ m r resident. absurd (subst (λ (x : Call). IsResident x (kept c.args.self.now.core) c.args.self.now.core.filer.swapper.pool) c.in-MapAnonymous.is resident)
+
+pub returns-in-Unmap-clause-idle : goal.returns-in-Unmap-clause-idle
+returns-in-Unmap-clause-idle g c = λ m r resident. absurd (subst (λ (x : Call). IsResident x (kept c.args.self.now.core) c.args.self.now.core.filer.swapper.pool) c.in-Unmap.is resident)
+
+pub returns-in-Protect-clause-idle : goal.returns-in-Protect-clause-idle
+returns-in-Protect-clause-idle g c = λ m r resident. absurd (subst (λ (x : Call). IsResident x (kept c.args.self.now.core) c.args.self.now.core.filer.swapper.pool) c.in-Protect.is resident)
+
+pub returns-in-Activate-clause-idle : goal.returns-in-Activate-clause-idle
+returns-in-Activate-clause-idle g c = λ m r resident. absurd (subst (λ (x : Call). IsResident x (kept c.args.self.now.core) c.args.self.now.core.filer.swapper.pool) c.in-Activate.is resident)
+
+pub returns-in-Deactivate-clause-idle : goal.returns-in-Deactivate-clause-idle
+returns-in-Deactivate-clause-idle g c = λ m r resident. absurd (subst (λ (x : Call). IsResident x (kept c.args.self.now.core) c.args.self.now.core.filer.swapper.pool) c.in-Deactivate.is resident)
+
+pub returns-in-Kill-clause-idle : goal.returns-in-Kill-clause-idle
+returns-in-Kill-clause-idle g c = λ m r resident. absurd (subst (λ (x : Call). IsResident x (kept c.args.self.now.core) c.args.self.now.core.filer.swapper.pool) c.in-Kill.is resident)
+
+pub returns-in-ForceOut-clause-idle : goal.returns-in-ForceOut-clause-idle
+returns-in-ForceOut-clause-idle g c = λ m r resident. absurd (subst (λ (x : Call). IsResident x (kept c.args.self.now.core) c.args.self.now.core.filer.swapper.pool) c.in-ForceOut.is resident)
+
+pub returns-in-Load-clause-idle : goal.returns-in-Load-clause-idle
+returns-in-Load-clause-idle g c = λ m r resident.
+    let ready = subst (λ (x : Call). IsResident x (kept c.args.self.now.core) c.args.self.now.core.filer.swapper.pool) c.in-Load.is resident in
+    let done = c.load.ensures.idle c.args.self.now.volume m r ready.0 ready.1 in
+    (done.0, rw done.1 refl)
+
+pub returns-in-Store-clause-idle : goal.returns-in-Store-clause-idle
+returns-in-Store-clause-idle g c = λ m r resident.
+    let ready = subst (λ (x : Call). IsResident x (kept c.args.self.now.core) c.args.self.now.core.filer.swapper.pool) c.in-Store.is resident in
+    let last = subst (λ (bs : List ℕ). IsReady (kept c.args.self.now.core) c.args.self.now.core.filer.swapper.pool (last_page c.in-Store.address (length bs))) (sym c.as_slice.ensures.bytes) ready.1 in
+    let done = c.store.ensures.idle c.args.self.now.volume m r ready.0 last in
+    (done.0, done.1)
+
+pub returns-in-MakeSpace-clause-cause : goal.returns-in-MakeSpace-clause-cause
+returns-in-MakeSpace-clause-cause g c = rw c.in-MakeSpace.is (none_said c.make_space.result)
+
+pub returns-in-RemoveSpace-clause-cause : goal.returns-in-RemoveSpace-clause-cause
+returns-in-RemoveSpace-clause-cause g c = rw c.in-RemoveSpace.is (none_said c.remove_space.result)
+
+pub returns-in-Place-clause-cause : goal.returns-in-Place-clause-cause
+returns-in-Place-clause-cause g c = rw c.in-Place.is (none_said c.place.result)
+
+pub returns-in-Units-clause-cause : goal.returns-in-Units-clause-cause
+returns-in-Units-clause-cause g c = rw c.in-Units.is (none_said c.set_units.result)
+
+pub returns-in-Map-clause-cause : goal.returns-in-Map-clause-cause
+returns-in-Map-clause-cause g c = rw c.in-Map.is (none_said c.map.result)
+
+pub returns-in-MapAnonymous-clause-cause : goal.returns-in-MapAnonymous-clause-cause
+returns-in-MapAnonymous-clause-cause g c = rw c.in-MapAnonymous.is (none_said c.map_anonymous.result)
+
+pub returns-in-Unmap-clause-cause : goal.returns-in-Unmap-clause-cause
+returns-in-Unmap-clause-cause g c = rw c.in-Unmap.is (none_said c.unmap.result)
+
+pub returns-in-Protect-clause-cause : goal.returns-in-Protect-clause-cause
+returns-in-Protect-clause-cause g c = rw c.in-Protect.is (none_said c.protect.result)
+
+pub returns-in-Load-clause-cause : goal.returns-in-Load-clause-cause
+returns-in-Load-clause-cause g c = rw c.in-Load.is c.load.ensures.cause
+
+pub returns-in-Store-clause-cause : goal.returns-in-Store-clause-cause
+returns-in-Store-clause-cause g c =
+    rw c.in-Store.is
+    (subst (λ (bs : List ℕ). IfErr c.store.result (StepHalts (call.Store c.in-Store.address bs) c.args.self.now.core.intervals (state c.args.self.now.core) (state c.store.new.core))) c.as_slice.ensures.bytes c.store.ensures.cause)
+
+pub returns-in-Activate-clause-cause : goal.returns-in-Activate-clause-cause
+returns-in-Activate-clause-cause g c = rw c.in-Activate.is c.activate.ensures.cause
+
+pub returns-in-Deactivate-clause-cause : goal.returns-in-Deactivate-clause-cause
+returns-in-Deactivate-clause-cause g c = rw c.in-Deactivate.is c.deactivate.ensures.cause
+
+pub returns-in-Kill-clause-cause : goal.returns-in-Kill-clause-cause
+returns-in-Kill-clause-cause g c = rw c.in-Kill.is c.kill.ensures.cause
+
+pub returns-in-ForceOut-clause-cause : goal.returns-in-ForceOut-clause-cause
+returns-in-ForceOut-clause-cause g c = rw c.in-ForceOut.is c.force_out.ensures.cause

@@ -9,7 +9,9 @@ use Rattle.pilot_engine.proofs.EndCosts.{closed_bounded}
 use Rattle.pilot_engine.proofs.EndLemmas.{has_shut, made_ready}
 use Rattle.pilot_engine.proofs.StopLemmas.{ends, open_is_stop, throughout_less, throughout_still, throughout_then}
 use Rattle.pilot_engine.proofs.TableStops.{stops_closed, stops_forcing}
-use Rattle.pilot_engine.proofs.WroteLemmas.{any_of, any_then, rose_behind, wrote_swapping}
+use Rattle.pilot_engine.proofs.ShutLemmas.{any_of, shut_still, shut_then}
+use Rattle.pilot_engine.proofs.UnsetLemmas.{leaves_open, unset_then}
+use Rattle.pilot_engine.proofs.WroteLemmas.{rose_behind, wrote_swapping, wrote_then}
 use Rattle.pilot_engine.proofs.session.SessionOver.close.Goals as goal
 
 pub returns-in-Err-empty-clause-sound : goal.returns-in-Err-empty-clause-sound
@@ -22,19 +24,19 @@ pub returns-in-Err-clause-wrote : goal.returns-in-Err-clause-wrote
 returns-in-Err-clause-wrote g c = any_of c.let_all_go.ensures.wrote
 
 pub returns-in-Err-empty-clause-wrote : goal.returns-in-Err-empty-clause-wrote
-returns-in-Err-empty-clause-wrote g c = any_then (any_of c.let_all_go.ensures.wrote) (any_of c.empty.ensures.wrote)
+returns-in-Err-empty-clause-wrote g c = any_of (wrote_then c.let_all_go.ensures.wrote c.empty.ensures.wrote)
 
 pub returns-in-Err-write_maps-clause-wrote : goal.returns-in-Err-write_maps-clause-wrote
-returns-in-Err-write_maps-clause-wrote g c = any_then (any_then (any_of c.let_all_go.ensures.wrote) (any_of c.empty.ensures.wrote)) (any_of (wrote_swapping c.write_maps.ensures.swaps))
+returns-in-Err-write_maps-clause-wrote g c = any_of (wrote_then (wrote_then c.let_all_go.ensures.wrote c.empty.ensures.wrote) (wrote_swapping c.write_maps.ensures.swaps))
 
 pub returns-in-Err-write_clean-clause-wrote : goal.returns-in-Err-write_clean-clause-wrote
-returns-in-Err-write_clean-clause-wrote g c = any_then (any_then (any_then (any_of c.let_all_go.ensures.wrote) (any_of c.empty.ensures.wrote)) (any_of (wrote_swapping c.write_maps.ensures.swaps))) c.write_clean.ensures.wrote
+returns-in-Err-write_clean-clause-wrote g c = shut_then (wrote_then (wrote_then c.let_all_go.ensures.wrote c.empty.ensures.wrote) (wrote_swapping c.write_maps.ensures.swaps)) c.write_clean.ensures.wrote
 
 pub returns-in-Ok-settle-clause-wrote : goal.returns-in-Ok-settle-clause-wrote
-returns-in-Ok-settle-clause-wrote g c = any_then (any_then (any_then (any_then (any_of c.let_all_go.ensures.wrote) (any_of c.empty.ensures.wrote)) (any_of (wrote_swapping c.write_maps.ensures.swaps))) c.write_clean.ensures.wrote) (any_of c.settle.ensures.wrote)
+returns-in-Ok-settle-clause-wrote g c = shut_still (shut_then (wrote_then (wrote_then c.let_all_go.ensures.wrote c.empty.ensures.wrote) (wrote_swapping c.write_maps.ensures.swaps)) c.write_clean.ensures.wrote) c.settle.ensures.same c.settle.ensures.wrote
 
 pub returns-in-Err-settle-clause-wrote : goal.returns-in-Err-settle-clause-wrote
-returns-in-Err-settle-clause-wrote g c = any_then (any_then (any_then (any_then (any_of c.let_all_go.ensures.wrote) (any_of c.empty.ensures.wrote)) (any_of (wrote_swapping c.write_maps.ensures.swaps))) c.write_clean.ensures.wrote) (any_of c.settle.ensures.wrote)
+returns-in-Err-settle-clause-wrote g c = shut_still (shut_then (wrote_then (wrote_then c.let_all_go.ensures.wrote c.empty.ensures.wrote) (wrote_swapping c.write_maps.ensures.swaps)) c.write_clean.ensures.wrote) c.settle.ensures.same c.settle.ensures.wrote
 
 pub returns-in-Ok-settle-clause-closed : goal.returns-in-Ok-settle-clause-closed
 returns-in-Ok-settle-clause-closed g c = λ m r.
@@ -101,13 +103,13 @@ pub returns-in-Err-empty-clause-counted : goal.returns-in-Err-empty-clause-count
 returns-in-Err-empty-clause-counted g c = counted_then _ _ _ c.let_all_go.ensures.wrote.makes.went.faults c.in-Err-empty.ensures.counted
 
 pub returns-in-Err-write_maps-clause-counted : goal.returns-in-Err-write_maps-clause-counted
-returns-in-Err-write_maps-clause-counted g c = counted_then _ _ _ (any_then (any_of c.let_all_go.ensures.wrote) (any_of c.empty.ensures.wrote)).makes.went.faults c.in-Err-write_maps.ensures.counted
+returns-in-Err-write_maps-clause-counted g c = counted_then _ _ _ (wrote_then c.let_all_go.ensures.wrote c.empty.ensures.wrote).makes.went.faults c.in-Err-write_maps.ensures.counted
 
 pub returns-in-Err-write_clean-clause-counted : goal.returns-in-Err-write_clean-clause-counted
-returns-in-Err-write_clean-clause-counted g c = λ is. rose_behind _ _ _ (any_then (any_then (any_of c.let_all_go.ensures.wrote) (any_of c.empty.ensures.wrote)) (any_of (wrote_swapping c.write_maps.ensures.swaps))).makes.went.faults c.in-Err-write_clean.ensures.counted
+returns-in-Err-write_clean-clause-counted g c = λ is. rose_behind _ _ _ (wrote_then (wrote_then c.let_all_go.ensures.wrote c.empty.ensures.wrote) (wrote_swapping c.write_maps.ensures.swaps)).makes.went.faults c.in-Err-write_clean.ensures.counted
 
 pub returns-in-Err-settle-clause-counted : goal.returns-in-Err-settle-clause-counted
-returns-in-Err-settle-clause-counted g c = λ is. rose_behind _ _ _ (any_then (any_then (any_then (any_of c.let_all_go.ensures.wrote) (any_of c.empty.ensures.wrote)) (any_of (wrote_swapping c.write_maps.ensures.swaps))) c.write_clean.ensures.wrote).makes.went.faults c.in-Err-settle.ensures.counted
+returns-in-Err-settle-clause-counted g c = λ is. rose_behind _ _ _ (shut_then (wrote_then (wrote_then c.let_all_go.ensures.wrote c.empty.ensures.wrote) (wrote_swapping c.write_maps.ensures.swaps)) c.write_clean.ensures.wrote).makes.went.faults c.in-Err-settle.ensures.counted
 
 pub returns-in-Err-clause-cost : goal.returns-in-Err-clause-cost
 returns-in-Err-clause-cost g c = λ m r.
@@ -165,3 +167,25 @@ returns-in-Err-settle-clause-cost g c = λ m r.
     (closed_bounded layout c.args.self.now.core.filer.swapper.accepted c.let_all_go.new.self.core.filer.swapper.layout c.let_all_go.ensures.layout
     (g.D.Disk.state c.args.self.now.core.filer.swapper.under).transfers (g.D.Disk.state c.let_all_go.new.self.core.filer.swapper.under).transfers (g.D.Disk.state c.empty.new.self.core.filer.swapper.under).transfers (g.D.Disk.state c.settle.new.self.core.filer.swapper.under).transfers
     c.let_all_go.ensures.cost (c.empty.ensures.cost root_alone (forgotten m) (c.in-Ok.ensures.alone m r)) (omega (arith, maps, written, settled)))
+
+-- where no root was written
+pub returns-in-Err-clause-left_open : goal.returns-in-Err-clause-left_open
+returns-in-Err-clause-left_open g c = λ unset. leaves_open (g.D.Disk.state c.let_all_go.new.self.core.filer.swapper.under) (unset_then unset c.let_all_go.ensures.wrote) c.in-Err.halt
+
+pub returns-in-Err-empty-clause-left_open : goal.returns-in-Err-empty-clause-left_open
+returns-in-Err-empty-clause-left_open g c = λ unset. leaves_open (g.D.Disk.state c.empty.new.self.core.filer.swapper.under) (unset_then unset (wrote_then c.let_all_go.ensures.wrote c.empty.ensures.wrote)) c.in-Err-empty.halt
+
+pub returns-in-Err-write_maps-clause-left_open : goal.returns-in-Err-write_maps-clause-left_open
+returns-in-Err-write_maps-clause-left_open g c = λ unset. leaves_open (g.D.Disk.state c.write_maps.new.self.core.filer.swapper.under) (unset_then unset (wrote_then (wrote_then c.let_all_go.ensures.wrote c.empty.ensures.wrote) (wrote_swapping c.write_maps.ensures.swaps))) c.in-Err-write_maps.halt
+
+pub returns-in-Err-write_clean-clause-left_open : goal.returns-in-Err-write_clean-clause-left_open
+returns-in-Err-write_clean-clause-left_open g c = λ unset. rw c.in-Err-write_clean.ensures.fault tt
+
+pub returns-in-Err-settle-clause-left_open : goal.returns-in-Err-settle-clause-left_open
+returns-in-Err-settle-clause-left_open g c = λ unset. rw c.in-Err-settle.ensures.fault tt
+
+pub returns-in-Err-write_clean-clause-so : goal.returns-in-Err-write_clean-clause-so
+returns-in-Err-write_clean-clause-so g c = rw c.in-Err-write_clean.ensures.fault tt
+
+pub returns-in-Err-settle-clause-so : goal.returns-in-Err-settle-clause-so
+returns-in-Err-settle-clause-so g c = rw c.in-Err-settle.ensures.fault tt

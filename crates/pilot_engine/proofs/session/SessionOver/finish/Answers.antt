@@ -1,3 +1,4 @@
+use Rattle.pilot_engine.proofs.ShutLemmas.{on_of}
 use Rattle.pilot_engine.proofs.session.SessionOver.finish.Goals as goal
 
 pub returns-clause-closed : goal.returns-clause-closed
@@ -8,3 +9,9 @@ returns-clause-stops g c = λ m r. rw c.into_disk.ensures (c.close-closed.ensure
 
 pub returns-clause-cost : goal.returns-clause-cost
 returns-clause-cost g c = λ m r. rw c.into_disk.ensures (c.close-closed.ensures.cost m r)
+
+pub returns-clause-left_open : goal.returns-clause-left_open
+returns-clause-left_open g c = λ unset. rw c.into_disk.ensures (c.close-closed.ensures.left_open unset)
+
+pub returns-clause-wrote : goal.returns-clause-wrote
+returns-clause-wrote g c = rw c.into_disk.ensures (on_of c.close-closed.ensures.wrote)

@@ -1,6 +1,6 @@
 use Rattle.std.proofs.Common.{sym, ◌∙◌}
 use Rattle.flat_machine.specs.Start.{start}
-use Rattle.pilot_engine.proofs.StartFaults.{early_outside}
+use Rattle.pilot_engine.proofs.StartFaults.{early_left, early_outside, early_so}
 use Rattle.pilot_engine.proofs.StartRuns.{runs_over}
 use Rattle.pilot_engine.proofs.StartWrites.{read_wrote, read_keeps, start_wrote, start_keeps}
 use Rattle.pilot_engine.proofs.session.SessionOver.over.Goals as goal
@@ -42,3 +42,18 @@ returns-in-Err-begin-clause-wrote g c = rw c.into_disk.ensures (start_wrote c.in
 
 pub returns-in-Ok-begin-clause-frames : goal.returns-in-Ok-begin-clause-frames
 returns-in-Ok-begin-clause-frames g c = rw c.over.ensures.filer (c.in-Ok-begin.ensures.starts.makes.count ∙ c.in-Ok.ensures.frames)
+
+pub returns-in-Err-clause-so : goal.returns-in-Err-clause-so
+returns-in-Err-clause-so g c = early_so (g.D.Disk.state c.in-Err.fault.1) c.in-Err.fault.0 c.in-Err.ensures.early
+
+pub returns-in-Err-clause-left_open : goal.returns-in-Err-clause-left_open
+returns-in-Err-clause-left_open g c = early_left (g.D.Disk.state c.in-Err.fault.1) c.in-Err.fault.0 c.in-Err.ensures.early
+
+pub returns-in-Err-begin-clause-so : goal.returns-in-Err-begin-clause-so
+returns-in-Err-begin-clause-so g c = rw c.into_disk.ensures c.in-Err-begin.ensures.so
+
+pub returns-in-Err-begin-clause-left_open : goal.returns-in-Err-begin-clause-left_open
+returns-in-Err-begin-clause-left_open g c = rw c.into_disk.ensures c.in-Err-begin.ensures.left_open
+
+pub returns-in-Ok-begin-clause-left_open : goal.returns-in-Ok-begin-clause-left_open
+returns-in-Ok-begin-clause-left_open g c = rw c.over.ensures.filer c.in-Ok-begin.ensures.left_open

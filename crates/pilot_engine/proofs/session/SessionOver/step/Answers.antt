@@ -41,3 +41,9 @@ returns-then-is_err-clause-own g c = c.answer-answer.ensures.own
 
 pub returns-else-is_err-clause-own : goal.returns-else-is_err-clause-own
 returns-else-is_err-clause-own g c = c.answer-answer.ensures.own
+
+pub returns-then-is_err-clause-idle : goal.returns-then-is_err-clause-idle
+returns-then-is_err-clause-idle g c = λ m r resident. c.answer-answer.ensures.idle m r resident
+
+pub returns-else-is_err-clause-idle : goal.returns-else-is_err-clause-idle
+returns-else-is_err-clause-idle g c = λ m r resident. c.answer-answer.ensures.idle m r resident

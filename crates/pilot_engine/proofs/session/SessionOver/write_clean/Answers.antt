@@ -2,10 +2,8 @@ use Rattle.std.proofs.Common.{rules, ◌⊎◌, inr, ◌∙◌, subst}
 use Rattle.labelled_disk.specs.Calls.{Moves, TellsSame, TellsWrite}
 use Rattle.volume_root.specs.declared.root.Root.{Root}
 use Rattle.volume_root.specs.RootPage.{root_write}
-use Rattle.pilot_engine.specs.Closing.{closed_root}
 use Rattle.pilot_engine.proofs.EndLemmas.{closed_valid, tells_shut, valid_at}
-use Rattle.pilot_engine.proofs.WroteLemmas.{any_root}
-use Rattle.file_manager.proofs.RootForm.{root_may}
+use Rattle.pilot_engine.proofs.ShutLemmas.{any_root}
 use Rattle.pilot_engine.proofs.TableStops.{stops_root}
 use Rattle.pilot_engine.proofs.session.SessionOver.write_clean.Goals as goal
 
@@ -26,9 +24,8 @@ returns-in-Ok-clause-wrote g c =
     let wrote : TellsWrite (root_write c.closed-root.result) old new = search rules in
     let made = subst (λ (w : Root). TellsWrite (root_write w) old new) c.closed-root.ensures.closed wrote in
     let moves : Moves old new = search rules in
-    any_root old new filer.swapper.pool (closed_root r)
-    (root_may old new filer.swapper.pool filer.swapper.layout (closed_root r) filer.swapper.accepted filer.swapper.placed (closed_valid _ r c.requires.opened.valid) c.closed-root.ensures.serial c.closed-root.ensures.counter
-    (λ d told. g.met.D.Disk.whole filer.swapper.under d told ∙ c.requires.size) moves (inr made))
+    any_root old new filer.swapper.pool filer.swapper.layout.sectors r (closed_valid _ r c.requires.opened.valid) c.closed-root.ensures.serial c.closed-root.ensures.counter
+    (λ d told. g.met.D.Disk.whole filer.swapper.under d told ∙ c.requires.size) moves (inr made)
 
 pub returns-in-Err-clause-wrote : goal.returns-in-Err-clause-wrote
 returns-in-Err-clause-wrote g c =
@@ -39,9 +36,8 @@ returns-in-Err-clause-wrote g c =
     let wrote : TellsSame old new ⊎ TellsWrite (root_write c.closed-root.result) old new = search rules in
     let either = subst (λ (w : Root). TellsSame old new ⊎ TellsWrite (root_write w) old new) c.closed-root.ensures.closed wrote in
     let moves : Moves old new = search rules in
-    any_root old new filer.swapper.pool (closed_root r)
-    (root_may old new filer.swapper.pool filer.swapper.layout (closed_root r) filer.swapper.accepted filer.swapper.placed (closed_valid _ r c.requires.opened.valid) c.closed-root.ensures.serial c.closed-root.ensures.counter
-    (λ d told. g.met.D.Disk.whole filer.swapper.under d told ∙ c.requires.size) moves either)
+    any_root old new filer.swapper.pool filer.swapper.layout.sectors r (closed_valid _ r c.requires.opened.valid) c.closed-root.ensures.serial c.closed-root.ensures.counter
+    (λ d told. g.met.D.Disk.whole filer.swapper.under d told ∙ c.requires.size) moves either
 
 pub returns-in-Ok-clause-stops : goal.returns-in-Ok-clause-stops
 returns-in-Ok-clause-stops g c = λ m ready start.

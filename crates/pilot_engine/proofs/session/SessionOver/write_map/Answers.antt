@@ -2,6 +2,8 @@ use Rattle.std.proofs.Common.{rules, ◌≡◌}
 use Rattle.swapper_kernel.specs.Maps.{id_of, pages_of}
 use Rattle.pilot_engine.proofs.EndCosts.{few_written}
 use Rattle.pilot_engine.proofs.EndLemmas.{map_clean}
+use Rattle.filer_kernel.specs.EvidenceLaws.{so_of_halts}
+use Rattle.swapper_kernel.specs.Homes.{no_home}
 use Rattle.pilot_engine.proofs.session.SessionOver.write_map.Goals as goal
 
 pub returns-in-Ok-clause-clean : goal.returns-in-Ok-clause-clean
@@ -22,3 +24,6 @@ pub returns-in-Err-clause-cost : goal.returns-in-Err-clause-cost
 returns-in-Err-clause-cost g c =
     few_written c.id.result 0 c.pages.result c.frames-slots.result c.frames.result.now c.args.self.now.core.filer.swapper.pool (g.D.Disk.state c.args.self.now.core.filer.swapper.under).transfers (g.D.Disk.state c.force.new.swapper.under).transfers
     (rw c.swapper_over-swapper.ensures.value at c.frames.ensures) c.frames-slots.ensures.count c.frames-slots.ensures.most (rw c.swapper_over-swapper.ensures.value at c.force.ensures.cost)
+
+pub returns-in-Err-clause-so : goal.returns-in-Err-clause-so
+returns-in-Err-clause-so g c = so_of_halts (rw c.swapper_over-swapper.ensures.value at c.force.ensures.swaps).makes c.in-Err.halt no_home (rw c.swapper_over-swapper.ensures.value at c.in-Err.ensures.cause)
