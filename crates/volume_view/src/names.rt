@@ -1,49 +1,44 @@
 //! The file map beside the labels.
 use crate::LookFault;
-use crate::bits::FIRST_FEW;
-use crate::named::{NameDifference, compare_names, labelled_triples, mapped_triples};
+use crate::mapped::find_unlabelled;
 use crate::pages::read_pages;
-use crate::records::{Records, read_records};
-use file_map::Run;
+use crate::records::read_runs;
+use crate::stop::Stop;
+use crate::unmapped::find_unmapped;
 use flat_mem::VecMem;
-use labelled_disk::{Disk, Label, Layout, NoMemory};
+use label_survey::Triple;
+use labelled_disk::{Disk, Label, Layout};
 use std::alloc::Allocator;
+
+/// A page that map and labels have not in common.
+#[derive(Clone, Copy, Debug, PartialEq, Eq)]
+pub enum NameDifference {
+    /// The label of the sector names the page, and the map doesn't name it there.
+    OnlyLabelled(Triple),
+    /// The map names the page there, and the label of the sector doesn't.
+    OnlyMapped(Triple),
+}
 
 /// What the file map says beside the labels.
 #[derive(Drop)]
 pub enum Names<A: Allocator> {
     /// This page of the map, as it was read, breaks its form.
     Malformed { page: u32 },
-    /// The map was read: the first pages that it and the labels have not in common.
+    /// The map was read: the pages that it and the labels have not in common, or some of them.
     Read { differences: Vec<NameDifference, A> },
 }
 
-// The first differences between the runs of the map and the labels.
-fn differences_of<A: Allocator + Clone>(
-    alloc: A,
-    layout: &Layout,
-    labels: &[Label],
-    runs: &[Run],
-) -> Result<Vec<NameDifference, A>, NoMemory> {
-    let labelled = labelled_triples(alloc.clone()?, layout.first, labels)?;
-    let mapped = mapped_triples(alloc.clone()?, runs, labelled.len() + FIRST_FEW)?;
-    let differences = compare_names(alloc, &labelled, &mapped)?;
-    Ok(differences)
-}
-
-// The map in this memory beside the labels.
-fn compare_map<A: Allocator + Clone>(
+// What the map in this memory has not in common with the labels.
+fn compare_names<A: Allocator + Clone>(
     alloc: A,
     map: &mut VecMem<A>,
     layout: &Layout,
     labels: &[Label],
-) -> Result<Names<A>, NoMemory> {
-    match read_records(alloc.clone()?, map, layout)? {
-        Records::Malformed { page } => Ok(Names::Malformed { page }),
-        Records::Runs(runs) => Ok(Names::Read {
-            differences: differences_of(alloc, layout, labels, &runs)?,
-        }),
-    }
+) -> Result<Vec<NameDifference, A>, Stop> {
+    let runs = read_runs(alloc.clone()?, map, layout)?;
+    let mut differences = find_unmapped(alloc, map, layout, labels)?;
+    find_unlabelled(&mut differences, layout.first, labels, &runs)?;
+    Ok(differences)
 }
 
 /// What the file map says beside the labels.
@@ -57,8 +52,9 @@ pub(crate) fn look_at_names<A: Allocator + Clone, D: Disk>(
         return Err(LookFault::NoMemory);
     };
     let mut map = read_pages(own, disk, 1 + layout.vam, layout.vfm)?;
-    match compare_map(alloc, &mut map, layout, labels) {
-        Ok(names) => Ok(names),
-        Err(_) => Err(LookFault::NoMemory),
+    match compare_names(alloc, &mut map, layout, labels) {
+        Ok(differences) => Ok(Names::Read { differences }),
+        Err(Stop::Broken { page }) => Ok(Names::Malformed { page }),
+        Err(Stop::NoMemory) => Err(LookFault::NoMemory),
     }
 }
