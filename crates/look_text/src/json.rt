@@ -71,7 +71,7 @@ fn files_value(alloc: Global, files: &[FileLine], runs: &[Run]) -> Result<Value,
     for file in files {
         let count = page_runs(rest, file.id);
         values.push(file_value(alloc, file, rest.get(..count).unwrap_or(&[]))?)?;
-        rest = rest.get(count + 1..).unwrap_or(&[]);
+        rest = rest.get(count.saturating_add(1)..).unwrap_or(&[]);
     }
     Ok(Value::Array(values))
 }

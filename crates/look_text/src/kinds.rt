@@ -62,10 +62,10 @@ fn colour_run(kinds: &mut [Kind], run: &Run, colour: u8) {
 
 // Each file gets the next colour.
 fn colour_files(kinds: &mut [Kind], runs: &[Run]) {
-    let mut colour = 0;
+    let mut colour = 0u8;
     for run in runs {
         if run.first == LEADER {
-            colour = (colour + 1) % COLOURS;
+            colour = colour.wrapping_add(1) % COLOURS;
         } else {
             colour_run(kinds, run, colour);
         }

@@ -53,19 +53,22 @@ fn write_root(out: &mut String, view: &View<Global>) -> Result<(), AllocError> {
     Ok(())
 }
 
-/// The runs of the pages of a file, of which these are all runs from its first on.
+/// How many of these runs, which begin with the first of a file, are those of its pages.
 pub(crate) fn page_runs(runs: &[Run], id: FileId) -> usize {
-    let mut count = 0;
-    for run in runs {
-        if run.id != id || run.first == LEADER {
-            return count;
+    for i in 0..runs.len() {
+        if runs[i].id != id || runs[i].first == LEADER {
+            return i;
         }
-        count += 1;
     }
-    count
+    runs.len()
 }
 
-fn write_line(out: &mut String, file: &FileLine, runs: u32, first: u32) -> Result<(), AllocError> {
+fn write_line(
+    out: &mut String,
+    file: &FileLine,
+    runs: usize,
+    first: u32,
+) -> Result<(), AllocError> {
     let id = file.id;
     let pages = file.pages;
     let kind = file.kind;
@@ -96,8 +99,8 @@ fn write_files(out: &mut String, files: &[FileLine], runs: &[Run]) -> Result<(),
             Some(run) => run.sector,
             None => file.leader,
         };
-        write_line(out, file, count as u32, first)?;
-        rest = rest.get(count + 1..).unwrap_or(&[]);
+        write_line(out, file, count, first)?;
+        rest = rest.get(count.saturating_add(1)..).unwrap_or(&[]);
     }
     Ok(())
 }
@@ -122,7 +125,7 @@ fn write_leftover(
     let name = name_of(id, has_leader);
     writeln!(
         out,
-        "  {id:016x}  {name}: sectors {sectors}, first {first}"
+        "  {id:016x}  {name}: sectors {sectors}, lowest {first}"
     )
 }
 
@@ -148,6 +151,7 @@ fn write_leftovers(out: &mut String, leftovers: &[Triple]) -> Result<(), AllocEr
             first = triple.sector;
             has_leader = false;
         }
+        first = first.min(triple.sector);
         sectors = sectors.saturating_add(1);
         has_leader |= triple.page == LEADER;
     }

@@ -17,6 +17,17 @@ pub(crate) fn state_of(layout: &Layout, difference: &BitDifference) -> &'static 
     }
 }
 
+/// How many differences of a map are written.
+const FEW: usize = 16;
+
+// A line where there are more differences than were written.
+fn write_more(out: &mut String, count: usize) -> Result<(), AllocError> {
+    if count > FEW {
+        writeln!(out, "  and more")?;
+    }
+    Ok(())
+}
+
 pub(crate) fn map_word(difference: &BitDifference) -> &'static str {
     if difference.used { "used" } else { "free" }
 }
@@ -31,13 +42,13 @@ pub(crate) fn write_bits(
         return writeln!(out, "allocation map   agrees with the labels");
     }
     writeln!(out, "allocation map   differs from the labels, first here:")?;
-    for difference in differences {
+    for difference in differences.iter().take(FEW) {
         let sector = difference.sector;
         let map = map_word(difference);
         let state = state_of(layout, difference);
         writeln!(out, "  sector {sector}: the map says {map}, {state}")?;
     }
-    Ok(())
+    write_more(out, differences.len())
 }
 
 fn write_page(out: &mut String, triple: &Triple, text: &str) -> Result<(), AllocError> {
@@ -49,7 +60,7 @@ fn write_differences(
     out: &mut String,
     differences: &[NameDifference],
 ) -> Result<(), AllocError> {
-    for difference in differences {
+    for difference in differences.iter().take(FEW) {
         match difference {
             NameDifference::OnlyLabelled(triple) => {
                 write_page(out, triple, "by its label, but not in the map")?;
@@ -59,7 +70,7 @@ fn write_differences(
             }
         }
     }
-    Ok(())
+    write_more(out, differences.len())
 }
 
 /// Writes what the file map says beside the labels.

@@ -53,7 +53,8 @@ fn counts_of(kinds: &[Kind]) -> [u32; 8] {
     counts
 }
 
-// What a cell shows: lost and left over before all, else what most of its sectors are that are not free.
+// What a cell shows: lost, left over and root before all, else what most of its sectors are that
+// are not free.
 fn cell_kind(kinds: &[Kind]) -> Kind {
     let mut shown = Kind::Free;
     let mut most = 0u32;
@@ -66,7 +67,7 @@ fn cell_kind(kinds: &[Kind]) -> Kind {
         let count = if line < 8 { counts[line] } else { 0 };
         let weight = match kind {
             Kind::Free => 0,
-            Kind::Leftover => u32::MAX,
+            Kind::Root | Kind::Leftover => u32::MAX,
             _ => count,
         };
         if weight > most {
@@ -114,12 +115,12 @@ fn write_row(out: &mut String, grid: Grid, y: u64, row: &[Kind]) -> Result<(), A
     let mut start = 0;
     for i in 0..row.len() {
         if row[i] != kind {
-            write_rect(out, grid, start, y, i - start, kind)?;
+            write_rect(out, grid, start, y, i.saturating_sub(start), kind)?;
             kind = row[i];
             start = i;
         }
     }
-    write_rect(out, grid, start, y, row.len() - start, kind)
+    write_rect(out, grid, start, y, row.len().saturating_sub(start), kind)
 }
 
 // The number of the first sector in front of a row.
@@ -136,7 +137,7 @@ fn write_rows(out: &mut String, grid: Grid, cells: &[Kind]) -> Result<u64, Alloc
     let mut first = 0usize;
     if grid.columns > 0 {
         for row in cells.chunks(grid.columns) {
-            if (y - TOP) % 24 == 0 {
+            if y.saturating_sub(TOP) % 24 == 0 {
                 write_number(out, y, first)?;
             }
             write_row(out, grid, y, row)?;

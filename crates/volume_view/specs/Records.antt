@@ -1,11 +1,10 @@
 -- The runs of a file map that stands in bytes.
-use Rattle.std.specs.Prelude.{◌≡◌, ◌⊎◌, ℕ, ◌+◌, ◌<◌, ◌≤◌, List, map, take, length, slice_get, Option, Some, None}
+use Rattle.std.specs.Prelude.{◌≡◌, ◌⊎◌, ℕ, zero, suc, ◌+◌, ◌<◌, ◌≤◌, List, map, length, slice_get, Option, Some, None}
 use Rattle.labelled_disk.specs.Layout.{vfm}
 use Rattle.page_tree.specs.Tells.{TellsTree}
 use Rattle.file_map.specs.declared.run.Run.{Run}
 use Rattle.file_map.specs.Run.{IsRun, run_bytes}
-use Rattle.file_map.specs.FileMap.{AreRuns}
-use Rattle.file_map.specs.Searches.{IsFirstRun}
+use Rattle.file_map.specs.FileMap.{AreRuns, run_at, no_run}
 use Rattle.volume_view.specs.declared.stop.Stop.{Stop}
 use Rattle.volume_view.specs.declared.stop.Stop.TheVariants.{NoMemory, Broken}
 
@@ -14,18 +13,24 @@ pub record AreRunsOfMap (n : ℕ) (bytes : List ℕ) (runs : List Run) : Type 0 
   pub listed : TellsTree 24 12 (vfm n) (λ b. b ≡ bytes) (map run_bytes runs)
   pub form : AreRuns n runs
 
--- the run begins behind the end of the other
+-- the run begins behind the end of the other, by identifier and page
 abbrev pub Follows : Run → Run → Type 0
 Follows last run = (last.id < run.id) ⊎ ((last.id ≡ run.id) × (last.first + last.pages ≤ run.first))
 
--- the first run whose key is above that of the last, or none
-abbrev pub IsNextRun : List Run → Run → Option Run → Type 0
-IsNextRun runs last found = IsFirstRun runs last.id last.first found
+-- the last of the first k runs
+abbrev pub last_of : List Run → ℕ → Run
+last_of runs zero = no_run
+last_of runs (suc k) = run_at runs k
+
+-- run k, or none where there are k runs
+abbrev pub IsStep : List Run → ℕ → Option Run → Type 0
+IsStep runs k (Some r) = (k < length runs) × (r ≡ run_at runs k)
+IsStep runs k None = k ≡ length runs
 
 -- a run that is there is in form
-abbrev pub AreInForm : ℕ → Option Run → Type 0
-AreInForm n (Some run) = IsRun n run
-AreInForm n None = Unit {0}
+abbrev pub IsInForm : ℕ → Option Run → Type 0
+IsInForm n (Some run) = IsRun n run
+IsInForm n None = Unit {0}
 
 -- each of these runs is in form
 abbrev pub AreAllInForm : ℕ → List Run → Type 0

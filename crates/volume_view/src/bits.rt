@@ -1,5 +1,5 @@
 //! The allocation map beside the labels.
-ghost use Rattle.std.specs.Prelude.{◌≡◌, ◌+◌, ◌*◌, ◌-◌, ◌≤◌, ◌<◌, List, Some, Err, [], length, map, IfOk, IfErr};
+ghost use Rattle.std.specs.Prelude.{◌≡◌, ◌≢◌, ◌*◌, ◌<◌, ℕ, true, false, List, Some, Err, length, map, IfOk, IfErr};
 ghost use Rattle.flat_mem.specs.Vec.{vec_mem_bytes};
 ghost use Rattle.alloc_map.specs.Bits.{is_used as is_used_in};
 ghost use Rattle.labelled_disk.specs.Calls.{ReadsAtMost, Rose};
@@ -50,6 +50,14 @@ fn is_used<A: Allocator>(map: &mut VecMem<A>, end: u32, sector: u32) -> bool
     }
 }
 
+// Whether the two say different things.
+fn differ(used: bool, taken: bool) -> bool
+    ensures yes { result ≡ true → taken ≢ used }
+    ensures no { result ≡ false → used ≡ taken }
+{
+    used != taken
+}
+
 fn compare_bits<A: Allocator>(
     alloc: A,
     map: &mut VecMem<A>,
@@ -65,7 +73,7 @@ fn compare_bits<A: Allocator>(
     let mut differences = Vec::new(alloc);
     for sector in 0..end {
         let used = is_used(map, end, sector);
-        if used != is_taken(first, labels, sector) {
+        if differ(used, is_taken(first, labels, sector)) {
             differences.push(BitDifference { sector, used })?;
         }
     }

@@ -1,6 +1,13 @@
 //! The permanent files of a volume, a line each.
+ghost use Rattle.std.specs.Prelude.{◌≡◌, ◌-◌, ◌≤◌, ◌<◌, List, length, map, slice_get, IfOk};
+ghost use Rattle.labelled_disk.specs.FilesOn.{files_on};
+ghost use Rattle.labelled_disk.specs.Layout.{data_sectors, first_data};
+ghost use Rattle.labelled_disk.specs.Sectors.{Sector};
+ghost use Rattle.volume_view.specs.Files.{AreLinesOf};
+ghost use Rattle.volume_view.specs.Listed.{AreSorted, IsLineAt, IsPages};
+
 use label_survey::Triple;
-use labelled_disk::{FileId, Label};
+use labelled_disk::{FileId, Label, files_are_as_told, files_are_looked_up};
 use std::alloc::{AllocError, Allocator};
 
 /// The page number of a leader.
@@ -18,7 +25,11 @@ pub struct FileLine {
 }
 
 // The pages of the file that leader k is of: its last page stands before the leader.
-fn pages_before(triples: &[Triple], k: usize) -> u32 {
+fn pages_before(triples: &[Triple], k: usize) -> u32
+    requires { k < length triples.now }
+    ensures { (d : List Sector) → AreSorted d triples.now → IsPages d triples.now k result }
+{
+    files_are_as_told();
     if k == 0 {
         return 0;
     }
@@ -30,13 +41,32 @@ fn pages_before(triples: &[Triple], k: usize) -> u32 {
     }
 }
 
-// The file of leader k.
-fn line_of(first: u32, labels: &[Label], triples: &[Triple], k: usize) -> Option<FileLine> {
-    let triple = &triples[k];
-    if triple.page != LEADER || triple.sector < first {
+// The label of a sector, the first label being that of sector `first`.
+fn label_at(first: u32, labels: &[Label], sector: u32) -> Option<Label>
+    ensures { first ≤ sector → result ≡ slice_get labels.now (sector - first) }
+{
+    if sector < first {
         return None;
     }
-    match labels.get((triple.sector - first) as usize) {
+    match labels.get((sector - first) as usize) {
+        Some(label) => Some(*label),
+        None => None,
+    }
+}
+
+// The file of leader k.
+fn line_of(first: u32, labels: &[Label], triples: &[Triple], k: usize) -> Option<FileLine>
+    requires { k < length triples.now }
+    ensures { (d : List Sector) → first ≡ first_data (length d)
+        → labels.now ≡ map (λ s. s.0) (data_sectors d) → AreSorted d triples.now
+        → IsLineAt d triples.now k result }
+{
+    files_are_as_told();
+    let triple = &triples[k];
+    if triple.page != LEADER {
+        return None;
+    }
+    match label_at(first, labels, triple.sector) {
         Some(label) => Some(FileLine {
             id: triple.id,
             pages: pages_before(triples, k),
@@ -54,11 +84,18 @@ pub(crate) fn list_files<A: Allocator>(
     first: u32,
     labels: &[Label],
     triples: &[Triple],
-) -> Result<Vec<FileLine, A>, AllocError> {
+) -> Result<Vec<FileLine, A>, AllocError>
+    ensures { IfOk result (λ lines. (d : List Sector) → first ≡ first_data (length d)
+        → labels.now ≡ map (λ s. s.0) (data_sectors d) → AreSorted d triples.now
+        → AreLinesOf d lines.items (files_on d)) }
+{
+    files_are_as_told();
+    files_are_looked_up();
     let mut files = Vec::new(alloc);
     for k in 0..triples.len() {
-        if let Some(line) = line_of(first, labels, triples, k) {
-            files.push(line)?;
+        match line_of(first, labels, triples, k) {
+            Some(line) => files.push(line)?,
+            None => {}
         }
     }
     Ok(files)

@@ -1,4 +1,6 @@
 //! What no permanent file has: temporary files that were left, and labels of no file.
+ghost use Rattle.std.specs.Prelude.{◌≡◌, ◌+◌, ◌<◌, ◌^◌, length};
+
 use label_survey::{Standing, Triple};
 use labelled_disk::Label;
 use std::alloc::{AllocError, Allocator};
@@ -13,7 +15,10 @@ fn collect_leftovers<A: Allocator>(
     first: u32,
     labels: &[Label],
     standings: &[Standing],
-) -> Result<Vec<Triple, A>, AllocError> {
+) -> Result<Vec<Triple, A>, AllocError>
+    requires few { first + length labels.now < 2 ^ 32 }
+    requires same_length { length standings.now ≡ length labels.now }
+{
     let mut triples = Vec::new(alloc);
     for i in 0..labels.len() {
         if standings[i] == Standing::Stray {
@@ -34,7 +39,10 @@ pub(crate) fn leftovers_of<A: Allocator>(
     first: u32,
     labels: &[Label],
     standings: &[Standing],
-) -> Result<Vec<Triple, A>, AllocError> {
+) -> Result<Vec<Triple, A>, AllocError>
+    requires few { first + length labels.now < 2 ^ 32 }
+    requires same_length { length standings.now ≡ length labels.now }
+{
     let mut triples = collect_leftovers(alloc, first, labels, standings)?;
     sort_triples(&mut triples);
     Ok(triples)

@@ -1,4 +1,9 @@
 //! Pages that the file map names and labels do not.
+ghost use Rattle.std.specs.Prelude.{◌≡◌, [], ◌∷◌, OnOk};
+ghost use Rattle.file_map.specs.Run.{IsRun};
+ghost use Rattle.volume_view.specs.Names.{labelled, AddsUnlabelled};
+ghost use Rattle.volume_view.specs.Records.{AreAllInForm};
+
 use crate::names::NameDifference;
 use file_map::Run;
 use label_survey::Triple;
@@ -10,22 +15,30 @@ use std::alloc::{AllocError, Allocator};
 const MOST: usize = 4096;
 
 // Whether the label of the sector names the page; the first label is that of sector `first`.
-fn is_labelled(first: u32, labels: &[Label], triple: Triple) -> bool {
+fn is_labelled(first: u32, labels: &[Label], triple: Triple) -> bool
+    ensures { result ≡ labelled first labels.now triple.id triple.page triple.sector }
+{
     if triple.sector < first {
         return false;
     }
     match labels.get((triple.sector - first) as usize) {
-        Some(label) => label.id == triple.id && label.page == triple.page,
+        Some(label) => !label.is_free() && (label.id == triple.id && label.page == triple.page),
         None => false,
     }
 }
 
+// The same for the pages of one run.
 fn add_unlabelled<A: Allocator>(
     differences: &mut Vec<NameDifference, A>,
     first: u32,
     labels: &[Label],
+    sectors: u32,
     run: Run,
-) -> Result<(), AllocError> {
+) -> Result<(), AllocError>
+    requires { IsRun sectors run }
+    ensures { OnOk result (AddsUnlabelled (run ∷ []) (labelled first labels.now)
+        differences.old.items differences.new.items) }
+{
     for k in 0..run.pages {
         if differences.len() >= MOST {
             return Ok(());
@@ -48,12 +61,15 @@ pub(crate) fn find_unlabelled<A: Allocator>(
     differences: &mut Vec<NameDifference, A>,
     first: u32,
     labels: &[Label],
+    sectors: u32,
     runs: &[Run],
-) -> Result<(), AllocError> {
+) -> Result<(), AllocError>
+    requires { AreAllInForm sectors runs.now }
+    ensures { OnOk result (AddsUnlabelled runs.now (labelled first labels.now)
+        differences.old.items differences.new.items) }
+{
     for j in 0..runs.len() {
-        if differences.len() < MOST {
-            add_unlabelled(differences, first, labels, runs[j])?;
-        }
+        add_unlabelled(differences, first, labels, sectors, runs[j])?;
     }
     Ok(())
 }

@@ -1,4 +1,15 @@
 //! The file map beside the labels.
+ghost use Rattle.std.specs.Prelude.{◌≡◌, ◌*◌, ◌-◌, ◌+◌, List, Some, Err, length, map, IfOk, IfErr, MatchResult};
+ghost use Rattle.flat_mem.specs.Vec.{vec_mem_bytes};
+ghost use Rattle.labelled_disk.specs.Calls.{ReadsAtMost, Rose};
+ghost use Rattle.labelled_disk.specs.Layout.{IsCount, layout_of, data_sectors, first_data, vfm};
+ghost use Rattle.labelled_disk.specs.Sectors.{Sector};
+ghost use Rattle.file_map.specs.FileMap.{Triples};
+ghost use Rattle.file_map.specs.InSectors.{MapNames};
+ghost use Rattle.volume_view.specs.Names.{labelled, NamesIn, IsComparison, IsToldOf};
+ghost use Rattle.volume_view.specs.Pages.{IsDiskOrMemory};
+ghost use Rattle.volume_view.specs.Records.{IsNoMemory};
+
 use crate::LookFault;
 use crate::mapped::find_unlabelled;
 use crate::pages::read_pages;
@@ -34,10 +45,24 @@ fn compare_names<A: Allocator + Clone>(
     map: &mut VecMem<A>,
     layout: &Layout,
     labels: &[Label],
-) -> Result<Vec<NameDifference, A>, Stop> {
+) -> Result<Vec<NameDifference, A>, Stop>
+    requires counted { IsCount layout.now.sectors }
+    requires layout { layout.now ≡ layout_of layout.now.sectors }
+    requires size { length (vec_mem_bytes map.old) ≡ 512 * vfm layout.now.sectors }
+    requires all { length labels.now ≡ layout.now.sectors - first_data layout.now.sectors }
+    ensures { (named : Triples) → NamesIn layout.now.sectors (vec_mem_bytes map.old) named
+        → MatchResult result (λ differences.
+        IsComparison named (labelled layout.now.first labels.now) differences.items) IsNoMemory }
+{
     let runs = read_runs(alloc.clone()?, map, layout)?;
     let mut differences = find_unmapped(alloc, map, layout, labels)?;
-    find_unlabelled(&mut differences, layout.first, labels, &runs)?;
+    find_unlabelled(
+        &mut differences,
+        layout.first,
+        labels,
+        layout.sectors,
+        &runs,
+    )?;
     Ok(differences)
 }
 
@@ -47,7 +72,20 @@ pub(crate) fn look_at_names<A: Allocator + Clone, D: Disk>(
     disk: &mut D,
     layout: &Layout,
     labels: &[Label],
-) -> Result<Names<A>, LookFault> {
+) -> Result<Names<A>, LookFault>
+    requires counted { IsCount (D.state disk.old).sectors }
+    requires layout { layout.now ≡ layout_of (D.state disk.old).sectors }
+    requires all { length labels.now
+        ≡ (D.state disk.old).sectors - first_data (D.state disk.old).sectors }
+    ensures told { IfOk result (λ names. (d : List Sector) → (D.state disk.old).contents ≡ Some d
+        → labels.now ≡ map (λ s. s.0) (data_sectors d)
+        → (named : Triples) → MapNames d named → IsToldOf named d names) }
+    ensures err { IfErr result IsDiskOrMemory }
+    ensures cause { result ≡ Err LookFault.Disk
+        → Rose (D.state disk.old).faults (D.state disk.new).faults }
+    ensures cost { ReadsAtMost (vfm (D.state disk.old).sectors) (D.state disk.old)
+        (D.state disk.new) }
+{
     let Ok(own) = alloc.clone() else {
         return Err(LookFault::NoMemory);
     };

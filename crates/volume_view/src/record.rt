@@ -55,9 +55,9 @@ fn ends_in_zeros(bytes: &[u8; 24]) -> bool
     u32::from_be_bytes([bytes[20], bytes[21], bytes[22], bytes[23]]) == 0
 }
 
-/// The run that a record tells, or none where the record breaks its form on a volume of so many
-/// sectors, of which `first` is the first data sector.
-pub(crate) fn read_record(bytes: &[u8; 24], first: u32, sectors: u32) -> Option<Run>
+// The run that a record tells, or none where the record breaks its form on a volume of so many
+// sectors, of which `first` is the first data sector.
+fn read_record(bytes: &[u8; 24], first: u32, sectors: u32) -> Option<Run>
     requires { first ≡ first_data sectors }
     ensures form { IfSome result (λ run. IsRun sectors run) }
     ensures same { IfSome result (λ run. bytes.now ≡ run_bytes run) }
@@ -70,11 +70,29 @@ pub(crate) fn read_record(bytes: &[u8; 24], first: u32, sectors: u32) -> Option<
     None
 }
 
-/// Whether a run begins behind the end of the one before it, by identifier and page.
-pub(crate) fn follows(last: Run, run: Run) -> bool
-    requires { last.first + last.pages ≤ 4294967296 }
+// Whether a run begins behind the end of the one before it, by identifier and page.
+fn follows(last: Run, run: Run) -> bool
     ensures { Follows last run → result ≡ true }
 {
     let end = u64::from(last.first) + u64::from(last.pages);
     run.id > last.id || run.id == last.id && u64::from(run.first) >= end
+}
+
+/// The run that a record tells, or none where the record breaks its form, or doesn't begin behind
+/// the end of the last run.
+pub(crate) fn read_behind(last: Run, bytes: &[u8; 24], first: u32, sectors: u32) -> Option<Run>
+    requires { first ≡ first_data sectors }
+    ensures form { IfSome result (λ run. IsRun sectors run) }
+    ensures same { IfSome result (λ run. bytes.now ≡ run_bytes run) }
+    ensures broken { result ≡ None → Follows last (run_in bytes.now) → ¬ IsRecord sectors bytes.now }
+{
+    match read_record(bytes, first, sectors) {
+        Some(run) => {
+            if follows(last, run) {
+                return Some(run);
+            }
+            None
+        }
+        None => None,
+    }
 }

@@ -1,12 +1,11 @@
 //! All records of the file map, in their order.
-ghost use Rattle.std.specs.Prelude.{◌≡◌, ◌*◌, ◌+◌, ◌≤◌, ◌<◌, ℕ, List, length, IfOk, IfErr, MatchResult};
+ghost use Rattle.std.specs.Prelude.{◌≡◌, ◌*◌, ◌≤◌, ℕ, List, length, IfOk, MatchResult};
 ghost use Rattle.flat_mem.specs.Vec.{vec_mem_bytes};
 ghost use Rattle.labelled_disk.specs.Layout.{IsCount, layout_of, vfm};
-ghost use Rattle.file_map.specs.Run.{IsRun};
-ghost use Rattle.volume_view.specs.Records.{AreRunsOfMap, AreInForm, IsNextRun, IsNoMemory};
 ghost use Rattle.file_map.specs.declared.run.Run.{Run as MapRun};
+ghost use Rattle.volume_view.specs.Records.{AreRunsOfMap, AreAllInForm, IsInForm, IsNoMemory, IsStep, last_of};
 
-use crate::record::{follows, key_of, read_record};
+use crate::record::{key_of, read_behind};
 use crate::stop::Stop;
 use file_map::Run;
 use flat_mem::VecMem;
@@ -39,15 +38,16 @@ fn next_run<A: Allocator>(
     requires counted { IsCount layout.now.sectors }
     requires layout { layout.now ≡ layout_of layout.now.sectors }
     requires size { length (vec_mem_bytes map.old) ≡ 512 * vfm layout.now.sectors }
-    ensures next { (runs : List MapRun)
+    ensures next { (runs : List MapRun) (k : ℕ)
         → AreRunsOfMap layout.now.sectors (vec_mem_bytes map.old) runs
-        → MatchResult result (IsNextRun runs last) IsNoMemory }
-    ensures form { IfOk result (AreInForm layout.now.sectors) }
+        → last ≡ last_of runs k → k ≤ length runs
+        → MatchResult result (IsStep runs k) IsNoMemory }
+    ensures form { IfOk result (IsInForm layout.now.sectors) }
     ensures same { vec_mem_bytes map.new ≡ vec_mem_bytes map.old }
 {
     let mut bytes = [0; 24];
     match PageTree::<&mut VecMem<A>, 24, 12>::over(map).look_after_at(&key_of(last), &mut bytes) {
-        Ok(Some(page)) => match read_record(&bytes, layout.first, layout.sectors) {
+        Ok(Some(page)) => match read_behind(last, &bytes, layout.first, layout.sectors) {
             Some(run) => Ok(Some(run)),
             None => Err(Stop::Broken { page }),
         },
@@ -58,29 +58,64 @@ fn next_run<A: Allocator>(
     }
 }
 
+// The runs that were read, where there is no record behind that of the last.
+fn end_of<A: Allocator>(
+    map: &mut VecMem<A>,
+    layout: &Layout,
+    last: Run,
+    runs: Vec<Run, A>,
+) -> Result<Vec<Run, A>, Stop>
+    requires counted { IsCount layout.now.sectors }
+    requires layout { layout.now ≡ layout_of layout.now.sectors }
+    requires size { length (vec_mem_bytes map.old) ≡ 512 * vfm layout.now.sectors }
+    ensures end { (all : List MapRun)
+        → AreRunsOfMap layout.now.sectors (vec_mem_bytes map.old) all
+        → last ≡ last_of all (length all)
+        → MatchResult result (λ found. found.items ≡ runs.items) IsNoMemory }
+    ensures found { IfOk result (λ found. found.items ≡ runs.items) }
+    ensures same { vec_mem_bytes map.new ≡ vec_mem_bytes map.old }
+{
+    match next_run(map, layout, last) {
+        Ok(None) => Ok(runs),
+        Ok(Some(_)) => Err(Stop::Broken { page: 0 }),
+        Err(stop) => Err(stop),
+    }
+}
+
 /// The runs of the map, as many as its header counts, each behind the one before. Where there are
-/// fewer or more, or one is not behind, the header is what breaks the form.
+/// fewer or more, the header is what breaks the form.
 pub(crate) fn read_runs<A: Allocator>(
     alloc: A,
     map: &mut VecMem<A>,
     layout: &Layout,
-) -> Result<Vec<Run, A>, Stop> {
-    let count = count_of(map, layout.sectors)?;
+) -> Result<Vec<Run, A>, Stop>
+    requires counted { IsCount layout.now.sectors }
+    requires layout { layout.now ≡ layout_of layout.now.sectors }
+    requires size { length (vec_mem_bytes map.old) ≡ 512 * vfm layout.now.sectors }
+    ensures read { (runs : List MapRun)
+        → AreRunsOfMap layout.now.sectors (vec_mem_bytes map.old) runs
+        → MatchResult result (λ found. found.items ≡ runs) IsNoMemory }
+    ensures form { IfOk result (λ found. AreAllInForm layout.now.sectors found.items) }
+    ensures same { vec_mem_bytes map.new ≡ vec_mem_bytes map.old }
+{
+    let count = match count_of(map, layout.sectors) {
+        Ok(count) => count,
+        Err(stop) => return Err(stop),
+    };
     let mut runs = Vec::new(alloc);
     let mut last = Run::default();
-    for _ in 0..count {
-        match next_run(map, layout, last)? {
-            Some(run) if follows(last, run) => {
-                let Ok(()) = runs.push(run) else {
-                    return Err(Stop::NoMemory);
-                };
-                last = run;
-            }
-            _ => return Err(Stop::Broken { page: 0 }),
-        }
+    for k in 0..count {
+        let found = match next_run(map, layout, last) {
+            Ok(found) => found,
+            Err(stop) => return Err(stop),
+        };
+        let Some(run) = found else {
+            return Err(Stop::Broken { page: 0 });
+        };
+        let Ok(()) = runs.push(run) else {
+            return Err(Stop::NoMemory);
+        };
+        last = run;
     }
-    match next_run(map, layout, last)? {
-        Some(_) => Err(Stop::Broken { page: 0 }),
-        None => Ok(runs),
-    }
+    end_of(map, layout, last, runs)
 }

@@ -14,6 +14,8 @@ pub(crate) enum Stop {
 }
 
 impl From<AllocError> for Stop {
+    ghost use Rattle.volume_view.specs.declared.stop.Stop.{Stop};
+
     ghost from_gives = { λ error given. given ≡ Stop.NoMemory };
 
     fn from(_: AllocError) -> Stop {
