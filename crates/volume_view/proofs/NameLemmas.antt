@@ -12,7 +12,7 @@ use Rattle.page_tree.specs.Tells.{TellsTree}
 use Rattle.file_map.specs.declared.run.Run.{Run}
 use Rattle.file_map.specs.Run.{IsRun, holds, sector_at}
 use Rattle.file_map.specs.FileMap.{Triples, AreNamed, IsFound, IsNowhere, names_triple, run_names, run_at}
-use Rattle.file_map.specs.InSectors.{label_triples}
+use Rattle.file_map.specs.InSectors.{label_triples, map_bytes, MapNames}
 use Rattle.file_map.specs.Cause.{IsOwn}
 use Rattle.file_map.specs.declared.error.MapError.{MapError}
 use Rattle.file_map.specs.declared.error.MapError.TheVariants.{Malformed}
@@ -21,7 +21,10 @@ use Rattle.file_map.proofs.Searches.{IsNamedBy, named_by}
 use Rattle.label_survey.specs.declared.triples.Triple.{Triple}
 use Rattle.volume_view.specs.declared.names.NameDifference.{NameDifference}
 use Rattle.volume_view.specs.declared.names.NameDifference.TheVariants.{OnlyLabelled, OnlyMapped}
-use Rattle.volume_view.specs.Names.{labelled, NamesIn, Differs, AllDiffer, Covers, AreAlike, IsUnmapped, AddsUnlabelled, IsComparison}
+use Rattle.volume_view.specs.Names.{labelled, NamesIn, IsDifferenceAt, Differs, AllDiffer, Covers, AreAlike, IsUnmapped, AddsUnlabelled, IsComparison}
+use Rattle.volume_view.specs.Records.{IsNoMemory}
+use Rattle.volume_view.specs.declared.stop.Stop.{Stop}
+use Rattle.volume_view.specs.declared.stop.Stop.TheVariants.{Broken}
 use Rattle.volume_view.proofs.ListLemmas.{dropped, in_pushed, pushed_some, one_more}
 
 -- ---- what a map in form names
@@ -131,6 +134,15 @@ module _ (first : ℕ) (labels : List Label) where
           (ap (λ (q : Triple). labelled first labels q.id q.page q.sector) is ∙ labelled_own first labels k l here used, ap (λ (q : Triple). named q.id q.page q.sector) is ∙ missing) pushed;
       covers = λ none. absurd (pushed_some ds (OnlyLabelled t) (sym pushed ∙ none));
     }
+
+    -- the answer for a label, as it stands in the list
+    pub unmapped_at : (sector : ℕ) (x : NameDifference) (new : List NameDifference) → sector ≡ first + k → IsDifferenceAt named l sector (Some x) → new ≡ ds ++ x ∷ [] → IsUnmappedTo first labels (k + 1) named new
+    unmapped_at sector x new at is pushed =
+        unmapped_more (record { id = l.id; page = l.page; sector = first + k }) new refl is.0 (ap (named l.id l.page) (sym at) ∙ is.1)
+        (pushed ∙ ap (λ (y : NameDifference). ds ++ y ∷ []) (is.2 ∙ ap (λ (i : ℕ). OnlyLabelled (record { id = l.id; page = l.page; sector = i })) at))
+
+    pub unmapped_not : (sector : ℕ) → sector ≡ first + k → IsDifferenceAt named l sector None → IsUnmappedTo first labels (k + 1) named ds
+    unmapped_not sector at is = unmapped_same (elim is [ | inl free ↦ inl free | inr there ↦ inr (ap (named l.id l.page) (sym at) ∙ there) ])
 
   pub unmapped_all : (named : Triples) (k : ℕ) (ds : List NameDifference) → length labels ≤ k → IsUnmappedTo first labels k named ds → IsUnmapped named (labelled first labels) ds
   unmapped_all named k ds all so_far = record {
@@ -331,3 +343,12 @@ found_none named id page o is found = subst (IsFound named id page) is found
 
 pub never_broken : {X : Type 0} (e : MapError X) (page : ℕ) → e ≡ Malformed page → IsOwn e → ⊥
 never_broken {X} e page is says = subst (λ (x : MapError X). IsOwn x) is says
+
+-- the map of a disk, in the memory that it was read into
+pub names_in : (d : List Sector) (n : ℕ) (bytes : List ℕ) (named : Triples) → length d ≡ n → bytes ≡ map_bytes d → MapNames d named → NamesIn n bytes named
+names_in d n bytes named long same is =
+    subst (λ (k : ℕ). AreNamed k (TellsTree 24 12 (vfm k) (λ b. b ≡ bytes)) named) long
+    (subst (λ (x : List ℕ). AreNamed (length d) (TellsTree 24 12 (vfm (length d)) (λ b. b ≡ x)) named) (sym same) is)
+
+pub never_stopped : (e : Stop) (page : ℕ) → e ≡ Broken page → IsNoMemory e → ⊥
+never_stopped e page is says = subst IsNoMemory is says

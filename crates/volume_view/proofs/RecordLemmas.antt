@@ -92,9 +92,9 @@ module _ (n : ℕ) (bytes : List ℕ) (runs : List Run) (few : n < 2 ^ 32) (is :
       ]
 
   -- an answer of the search, as a step
-  pub found_step : (k page : ℕ) (key entry : List ℕ) (last r : Run) → k ≤ length runs → last ≡ last_of runs k → key ≡ key_bytes last.id last.first → IsNextEntry 12 (map run_bytes runs) key entry true → IsRun n r → entry ≡ run_bytes r
+  pub found_step : (k : ℕ) (key entry : List ℕ) (last r : Run) → k ≤ length runs → last ≡ last_of runs k → key ≡ key_bytes last.id last.first → IsNextEntry 12 (map run_bytes runs) key entry true → IsRun n r → entry ≡ run_bytes r
       → IsStep runs k (Some r)
-  found_step k page key entry last r within last_is key_is answer form same =
+  found_step k key entry last r within last_is key_is answer form same =
       let at = step_found k answer.0 within answer.1 (subst (λ (x : List ℕ). IsBehind 12 (map run_bytes runs) x answer.0) (key_is ∙ ap (λ (q : Run). key_bytes q.id q.first) last_is) answer.2) in
       (omega (arith, at, answer.1, long), run_is n runs is.form few answer.0 entry r answer.1 answer.3 form same ∙ ap (run_at runs) at)
 

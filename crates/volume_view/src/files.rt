@@ -94,7 +94,9 @@ pub(crate) fn list_files<A: Allocator>(
     let mut files = Vec::new(alloc);
     for k in 0..triples.len() {
         match line_of(first, labels, triples, k) {
-            Some(line) => files.push(line)?,
+            Some(line) => {
+                files.push(line)?;
+            }
             None => {}
         }
     }

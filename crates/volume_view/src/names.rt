@@ -54,8 +54,14 @@ fn compare_names<A: Allocator + Clone>(
         → MatchResult result (λ differences.
         IsComparison named (labelled layout.now.first labels.now) differences.items) IsNoMemory }
 {
-    let runs = read_runs(alloc.clone()?, map, layout)?;
-    let mut differences = find_unmapped(alloc, map, layout, labels)?;
+    let runs = match read_runs(alloc.clone()?, map, layout) {
+        Ok(runs) => runs,
+        Err(stop) => return Err(stop),
+    };
+    let mut differences = match find_unmapped(alloc, map, layout, labels) {
+        Ok(differences) => differences,
+        Err(stop) => return Err(stop),
+    };
     find_unlabelled(
         &mut differences,
         layout.first,
