@@ -1,0 +1,9 @@
+//! Tests of a look at a volume: its texts, against texts that were written by hand.
+#![tactic(auto)]
+
+#[cfg(test)]
+mod listings;
+#[cfg(test)]
+mod others;
+#[cfg(test)]
+mod volumes;

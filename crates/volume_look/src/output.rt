@@ -1,0 +1,139 @@
+//! What is asked for, written to standard output or into a new file.
+use crate::status::Status;
+use image_disk::ImageDisk;
+use look_text::{FileText, Request, json_of, write_file, write_listing, write_page, write_picture};
+use labelled_disk::{Disk, FileId};
+use std::alloc::{AllocError, Global};
+use std::fs::{File, OpenOptions};
+use std::io::{self, Write};
+use volume_view::{LookFault, View, read_page, sector_of};
+
+/// Writes a text to standard output.
+pub(crate) fn tell(rt: &HostRuntime, text: &str) -> Status {
+    match print!(rt; "{text}") {
+        Ok(()) => Status::Done,
+        Err(why) => {
+            let _ = eprintln!(rt; "look: standard output: {why}");
+            Status::StreamFault
+        }
+    }
+}
+
+fn no_memory(rt: &HostRuntime) -> Status {
+    let _ = eprintln!(rt; "look: there is no memory left");
+    Status::NoMemory
+}
+
+fn tell_text(rt: &HostRuntime, text: Result<String, AllocError>) -> Status {
+    match text {
+        Ok(text) => tell(rt, text.as_str()),
+        Err(_) => no_memory(rt),
+    }
+}
+
+fn listing(alloc: Global, view: &View<Global>) -> Result<String, AllocError> {
+    let mut text = String::new(alloc);
+    write_listing(&mut text, view)?;
+    Ok(text)
+}
+
+fn json(alloc: Global, view: &View<Global>) -> Result<String, AllocError> {
+    let mut text = json_of(alloc, view)?;
+    text.push('\n')?;
+    Ok(text)
+}
+
+fn picture(alloc: Global, view: &View<Global>) -> Result<String, AllocError> {
+    let mut text = String::new(alloc);
+    write_picture(alloc, &mut text, view)?;
+    Ok(text)
+}
+
+fn put_text(rt: &HostRuntime, path: &str, text: &str) -> io::Result<()> {
+    let mut file = OpenOptions::new()
+        .write(true)
+        .create_new(true)
+        .open(rt, path)?;
+    file.write_all(text.as_bytes())
+}
+
+/// Writes the picture into a new file.
+fn put_picture(rt: &HostRuntime, path: &str, view: &View<Global>) -> Status {
+    let Ok(text) = picture(rt.alloc(), view) else {
+        return no_memory(rt);
+    };
+    match put_text(rt, path, text.as_str()) {
+        Ok(()) => Status::Done,
+        Err(why) => {
+            let _ = eprintln!(rt; "look: {path:?}: {why}");
+            Status::StreamFault
+        }
+    }
+}
+
+/// Writes the bytes of a page behind the text of its file.
+fn tell_page(
+    rt: &HostRuntime,
+    image: &str,
+    disk: &mut ImageDisk<File>,
+    sector: u32,
+    text: &mut String,
+) -> Status {
+    match read_page(disk, sector) {
+        Ok(page) => match write_page(text, &page) {
+            Ok(()) => tell(rt, text.as_str()),
+            Err(_) => no_memory(rt),
+        },
+        Err(_) => {
+            let fault = LookFault::Disk;
+            let _ = eprintln!(rt; "look: {image:?}: {fault}");
+            Status::DiskFault
+        }
+    }
+}
+
+/// Writes the runs of a file, and the bytes of a page where one is asked for.
+fn tell_file(
+    rt: &HostRuntime,
+    image: &str,
+    disk: &mut ImageDisk<File>,
+    view: &View<Global>,
+    id: FileId,
+    page: Option<u32>,
+) -> Status {
+    let mut text = String::new(rt.alloc());
+    match write_file(&mut text, view, id) {
+        Err(_) => return no_memory(rt),
+        Ok(FileText::NoFile) => {
+            let _ = eprintln!(rt; "look: {image:?}: no permanent file {id:016x}");
+            return Status::NoFile;
+        }
+        Ok(FileText::Written) => {}
+    }
+    let Some(page) = page else {
+        return tell(rt, text.as_str());
+    };
+    match sector_of(&view.found.runs, id, page) {
+        Some(sector) if sector < disk.sectors() => tell_page(rt, image, disk, sector, &mut text),
+        _ => {
+            let _ = eprintln!(rt; "look: {image:?}: file {id:016x} has no page {page}");
+            Status::NoFile
+        }
+    }
+}
+
+/// Answers a request from a look.
+pub(crate) fn answer(
+    rt: &HostRuntime,
+    image: &str,
+    disk: &mut ImageDisk<File>,
+    view: &View<Global>,
+    request: Request<'_>,
+) -> Status {
+    match request {
+        Request::Listing => tell_text(rt, listing(rt.alloc(), view)),
+        Request::Json => tell_text(rt, json(rt.alloc(), view)),
+        Request::Picture { path } => put_picture(rt, path, view),
+        Request::File { id, page } => tell_file(rt, image, disk, view, id, page),
+    }
+}

@@ -1,0 +1,7 @@
+mod ListLemmas
+mod PageLemmas
+mod LayoutLemmas
+mod BitLemmas
+mod RecordLemmas
+mod NameLemmas
+mod FileLemmas

@@ -1,0 +1,69 @@
+-- Pages that are laid one behind the other.
+use Rattle.std.proofs.Common.{◌≡◌, ℕ, zero, suc, ◌+◌, ◌-◌, ◌*◌, ◌<◌, ◌≤◌, List, [], ◌∷◌, ◌++◌, length, map, take, drop, replicate, Some, refl, sym, ◌∙◌, ap, subst, arith, rules}
+use Rattle.std.specs.Prelude.{slice_get}
+use Rattle.std.specs.List.{flat_map}
+use Rattle.std.proofs.lemmas.Grind.{flat_map-append}
+use Rattle.std.proofs.lemmas.List.{length-append, length-replicate}
+use Rattle.labelled_disk.specs.declared.label.Label.{Label}
+use Rattle.labelled_disk.specs.Sectors.{Sector}
+use Rattle.flat_mem.specs.Memory.{overwritten}
+use Rattle.volume_view.specs.Pages.{bytes_of}
+use Rattle.volume_view.proofs.ListLemmas.{dropped, one_more, nothing_more}
+
+-- one page more
+pub page_more : (d : List Sector) (first k : ℕ) (label : Label) (page : List ℕ) → slice_get d (first + k) ≡ Some (label, page) → bytes_of d first (k + 1) ≡ bytes_of d first k ++ page
+page_more d first k label page here =
+    let s : k + 1 ≡ suc k = omega arith in
+    ap (λ (m : ℕ). bytes_of d first m) s
+    ∙ ap (flat_map (λ (t : Sector). t.1)) (one_more (drop first d) k (label, page) (dropped d first k ∙ here))
+    ∙ flat_map-append (λ (t : Sector). t.1) (take k (drop first d)) ((label, page) ∷ [])
+    ∙ ap (λ (b : List ℕ). bytes_of d first k ++ b) (nothing_more page)
+
+take_front : (xs ys : List ℕ) → take (length xs) (xs ++ ys) ≡ xs
+take_front [] ys = refl
+take_front (x ∷ xs) ys = ap (λ (l : List ℕ). x ∷ l) (take_front xs ys)
+
+drop_front : (xs ys : List ℕ) (n : ℕ) → drop (length xs + n) (xs ++ ys) ≡ drop n ys
+drop_front [] ys n = let z : 0 + n ≡ n = omega arith in ap (λ (m : ℕ). drop m ys) z
+drop_front (x ∷ xs) ys n = let s : suc (length xs) + n ≡ suc (length xs + n) = omega arith in ap (λ (m : ℕ). drop m (x ∷ (xs ++ ys))) s ∙ drop_front xs ys n
+
+-- a page over the first of the zeros
+laid_over : (xs page zeros rest : List ℕ) (at : ℕ) → length xs ≡ at → length page ≡ length zeros → overwritten (xs ++ (zeros ++ rest)) at page ≡ (xs ++ page) ++ rest
+laid_over xs page zeros rest at long size =
+    let past : at + length page ≡ length xs + (length zeros + 0) = omega (arith, long, size) in
+    let front : take at (xs ++ (zeros ++ rest)) ≡ xs = ap (λ (m : ℕ). take m (xs ++ (zeros ++ rest))) (sym long) ∙ take_front xs (zeros ++ rest) in
+    let back : drop (at + length page) (xs ++ (zeros ++ rest)) ≡ rest =
+    ap (λ (m : ℕ). drop m (xs ++ (zeros ++ rest))) past ∙ drop_front xs (zeros ++ rest) (length zeros + 0) ∙ drop_front zeros rest 0 in
+    ap (λ (l : List ℕ). (l ++ page) ++ drop (at + length page) (xs ++ (zeros ++ rest))) front ∙ ap (λ (l : List ℕ). (xs ++ page) ++ l) back
+
+abbrev zeros : ℕ → List ℕ
+zeros n = replicate {A = ℕ} n 0
+
+zeros_split : (a b : ℕ) → zeros (a + b) ≡ zeros a ++ zeros b
+zeros_split zero b = let z : 0 + b ≡ b = omega arith in ap zeros z
+zeros_split (suc a) b = let s : suc a + b ≡ suc (a + b) = omega arith in ap zeros s ∙ ap (λ (l : List ℕ). 0 ∷ l) (zeros_split a b)
+
+fewer_zeros : (n k : ℕ) → k < n → zeros (512 * (n - k)) ≡ zeros 512 ++ zeros (512 * (n - (k + 1)))
+fewer_zeros n k below = let e : 512 * (n - k) ≡ 512 + 512 * (n - (k + 1)) = omega (arith, below) in ap zeros e ∙ zeros_split 512 (512 * (n - (k + 1)))
+
+-- the pages so far, and zeros behind them
+pub laid_more : (d : List Sector) (first n k : ℕ) (label : Label) (page old new : List ℕ) → k < n → length old ≡ 512 * n → length page ≡ 512 → slice_get d (first + k) ≡ Some (label, page)
+    → old ≡ bytes_of d first k ++ zeros (512 * (n - k)) → new ≡ overwritten old (512 * k) page → new ≡ bytes_of d first (k + 1) ++ zeros (512 * (n - (k + 1)))
+laid_more d first n k label page old new below size whole here so_far is =
+    let left : length (zeros (512 * (n - k))) ≡ 512 * (n - k) = (let nought : ℕ = 0 in length-replicate (512 * (n - k)) nought) in
+    let whole_zeros : length (zeros 512) ≡ 512 = (let nought : ℕ = 0 in length-replicate 512 nought) in
+    let both = length-append (bytes_of d first k) (zeros (512 * (n - k))) in
+    let long : length (bytes_of d first k) ≡ 512 * k = omega (arith, both, left, size, below, ap length so_far) in
+    is
+    ∙ ap (λ (b : List ℕ). overwritten b (512 * k) page) so_far
+    ∙ ap (λ (z : List ℕ). overwritten (bytes_of d first k ++ z) (512 * k) page) (fewer_zeros n k below)
+    ∙ laid_over (bytes_of d first k) page (zeros 512) (zeros (512 * (n - (k + 1)))) (512 * k) long (omega (arith, whole, whole_zeros))
+    ∙ ap (λ (b : List ℕ). b ++ zeros (512 * (n - (k + 1)))) (sym (page_more d first k label page here))
+
+pub laid_all : (d : List Sector) (first n k : ℕ) (bytes : List ℕ) → k ≡ n → bytes ≡ bytes_of d first k ++ zeros (512 * (n - k)) → bytes ≡ bytes_of d first n
+laid_all d first n k bytes all is =
+    let none : 512 * (n - k) ≡ 0 = omega (arith, all) in
+    is ∙ ap (λ (m : ℕ). bytes_of d first k ++ zeros m) none ∙ nothing_more (bytes_of d first k) ∙ ap (bytes_of d first) all
+
+pub laid_none : (d : List Sector) (first n : ℕ) (bytes : List ℕ) → bytes ≡ zeros (512 * n) → bytes ≡ bytes_of d first 0 ++ zeros (512 * (n - 0))
+laid_none d first n bytes is = let e : 512 * n ≡ 512 * (n - 0) = omega arith in is ∙ ap zeros e

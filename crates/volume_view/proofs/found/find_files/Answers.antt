@@ -1,0 +1,19 @@
+use Rattle.std.proofs.Common.{List, sym, subst}
+use Rattle.label_survey.specs.declared.triples.Triple.{Triple}
+use Rattle.label_survey.specs.Runs.{AreRunsOf}
+use Rattle.label_survey.specs.Standings.{AreStandings}
+use Rattle.volume_view.specs.Listed.{AreSorted}
+use Rattle.volume_view.proofs.found.find_files.Goals as goal
+
+pub returns : goal.returns
+returns g c = λ d at are.
+    let tells = c.in_ok-survey.ensures.tells d at are in
+    let needed = c.in_ok-triples.ensures.needed d at are (subst (AreStandings d) (sym c.deref.ensures.value) tells.standings) in
+    let sorted : AreSorted d c.in_ok-triples.triples.items = record { needed = needed; up = c.in_ok-triples.ensures.order } in
+    record {
+      survey = tells;
+      files = c.in_ok-files.ensures d at are (subst (AreSorted d) (sym c.deref-2.ensures.value) sorted);
+      triples = c.in_ok-triples.triples.items;
+      sorted = sorted;
+      runs = subst (λ (ts : List Triple). AreRunsOf ts c.in_ok-runs.runs.items) c.deref-3.ensures.value c.in_ok-runs.ensures;
+    }

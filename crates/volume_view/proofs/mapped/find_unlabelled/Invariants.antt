@@ -1,0 +1,7 @@
+use Rattle.std.proofs.Common.{take}
+use Rattle.volume_view.specs.Names.{labelled, AddsUnlabelled}
+use Rattle.volume_view.proofs.mapped.find_unlabelled.Given as goal
+
+-- the runs before this one are looked at
+abbrev pub invariant-loop-j : goal.invariant-loop-j
+invariant-loop-j g l = AddsUnlabelled (take l.j l.runs) (labelled l.first l.labels) l.fn.differences.items l.differences.items

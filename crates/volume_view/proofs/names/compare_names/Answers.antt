@@ -1,0 +1,21 @@
+use Rattle.std.proofs.Common.{◌≡◌, ℕ, ◌∙◌, List, sym, ap, subst, arith}
+use Rattle.flat_mem.specs.Vec.{vec_mem_bytes}
+use Rattle.file_map.specs.declared.run.Run.{Run}
+use Rattle.volume_view.specs.Names.{labelled, NamesIn, AddsUnlabelled}
+use Rattle.volume_view.proofs.LayoutLemmas.{of_layout, first_within}
+use Rattle.volume_view.proofs.NameLemmas.{compared}
+use Rattle.volume_view.proofs.names.compare_names.Goals as goal
+
+pub find_unmapped-requires-clause-few : goal.find_unmapped-requires-clause-few
+find_unmapped-requires-clause-few g c =
+    let parts = of_layout c.args.layout.now c.args.layout.now.sectors c.requires.layout in
+    let within = first_within c.args.layout.now.sectors c.requires.counted in
+    omega (arith, c.requires.all, parts.first, within)
+
+pub returns : goal.returns
+returns g c = λ named is.
+    let said = labelled c.args.layout.now.first c.args.labels.now in
+    let read = c.in-Ok.ensures.read is.runs record { listed = is.listed; form = is.form } in
+    let first = c.in-Ok-find_unmapped.ensures.unmapped named (subst (λ (b : List ℕ). NamesIn c.args.layout.now.sectors b named) (sym c.in-Ok.ensures.same) is) in
+    compared c.args.layout.now.sectors _ named said is c.in-Ok-find_unmapped.differences.items c.find_unlabelled.new.differences.items first
+    (subst (λ (rs : List Run). AddsUnlabelled rs said c.in-Ok-find_unmapped.differences.items c.find_unlabelled.new.differences.items) (c.deref.ensures.value ∙ read) c.in_ok-find_unlabelled.ensures)

@@ -1,0 +1,37 @@
+use Rattle.std.proofs.Common.{◌≡◌, ℕ, ◌+◌, ◌∙◌, List, sym, ap, subst, arith, slice_index_or}
+use Rattle.std.proofs.lemmas.Option.{slice_get-get_or}
+use Rattle.labelled_disk.specs.Sectors.{free_label}
+use Rattle.flat_mem.specs.Vec.{vec_mem_bytes}
+use Rattle.volume_view.specs.declared.names.NameDifference.{NameDifference}
+use Rattle.volume_view.specs.Names.{NamesIn, IsDifferenceAt}
+use Rattle.volume_view.proofs.NameLemmas.{IsUnmappedTo, unmapped_at, unmapped_not, unmapped_all}
+use Rattle.volume_view.proofs.unmapped.find_unmapped.Goals as goal
+use Rattle.volume_view.proofs.unmapped.find_unmapped.Goals.{in-Some+in-Ok-push, in-None}
+
+pub returns-in-Err-clause-unmapped : goal.returns-in-Err-clause-unmapped
+returns-in-Err-clause-unmapped g c = λ named is. c.in-Err.ensures.difference named (subst (λ (b : List ℕ). NamesIn c.args.layout.now.sectors b named) (sym c.loop-i.invariant.same) is)
+
+pub loop-i-preserved : goal.loop-i-preserved
+loop-i-preserved g c =
+    let so_far = c.loop-i.invariant in
+    let first = c.args.layout.now.first in
+    let labels = c.args.labels.now in
+    let i = c.loop-i.i in
+    let here = slice_get-get_or labels i free_label c.loop-i-test.true in
+    record {
+      same = c.in-Ok.ensures.same ∙ so_far.same;
+      unmapped = λ named is.
+          let answer = c.in-Ok.ensures.difference named (subst (λ (b : List ℕ). NamesIn c.args.layout.now.sectors b named) (sym so_far.same) is) in
+          elim c.match-found.branch [
+            | in-Some+in-Ok-push w ↦
+                unmapped_at first labels named i (slice_index_or labels i free_label) here c.loop-i.differences.items (so_far.unmapped named is) _ w.in-Some.difference c.match-found.differences.items (omega (arith, c.requires.few, c.loop-i-test.true, c.requires.counted.1))
+                (subst (IsDifferenceAt named (slice_index_or labels i free_label) _) w.in-Some.is answer) (ap (λ v. v.items) w.differences-is ∙ w.in-Ok-push.ensures.items)
+            | in-None w ↦
+                subst (IsUnmappedTo first labels (i + 1) named) (sym (ap (λ v. v.items) w.differences-is))
+                (unmapped_not first labels named i (slice_index_or labels i free_label) here c.loop-i.differences.items (so_far.unmapped named is) _ (omega (arith, c.requires.few, c.loop-i-test.true, c.requires.counted.1))
+                (subst (IsDifferenceAt named (slice_index_or labels i free_label) _) w.in-None.is answer))
+          ];
+    }
+
+pub returns-clause-unmapped : goal.returns-clause-unmapped
+returns-clause-unmapped g c = λ named is. unmapped_all c.args.layout.now.first c.args.labels.now named c.loop-i.i c.loop-i.differences.items (omega (arith, c.loop-i-test.false)) (c.loop-i.invariant.unmapped named is)

@@ -1,0 +1,24 @@
+//! What a volume holds, as values: its root, its files, both maps beside the labels, and what a restoration would do.
+#![tactic(auto)]
+
+mod bits;
+mod fault;
+mod files;
+mod found;
+mod leftovers;
+mod mapped;
+mod names;
+mod pages;
+mod record;
+mod records;
+mod stop;
+mod unmapped;
+mod view;
+
+pub use bits::BitDifference;
+pub use fault::LookFault;
+pub use files::FileLine;
+pub use found::Found;
+pub use names::{NameDifference, Names};
+pub use pages::{read_page, sector_of};
+pub use view::{View, look};

@@ -1,0 +1,104 @@
+//! The file map beside the labels.
+ghost use Rattle.std.specs.Prelude.{◌≡◌, ◌*◌, ◌-◌, ◌+◌, List, Some, Err, length, map, IfOk, IfErr, MatchResult};
+ghost use Rattle.flat_mem.specs.Vec.{vec_mem_bytes};
+ghost use Rattle.labelled_disk.specs.Calls.{ReadsAtMost, Rose};
+ghost use Rattle.labelled_disk.specs.Layout.{IsCount, layout_of, data_sectors, first_data, vfm};
+ghost use Rattle.labelled_disk.specs.Sectors.{Sector};
+ghost use Rattle.file_map.specs.FileMap.{Triples};
+ghost use Rattle.file_map.specs.InSectors.{MapNames};
+ghost use Rattle.volume_view.specs.Names.{labelled, NamesIn, IsComparison, IsToldOf};
+ghost use Rattle.volume_view.specs.Pages.{IsDiskOrMemory};
+ghost use Rattle.volume_view.specs.Records.{IsNoMemory};
+
+use crate::LookFault;
+use crate::mapped::find_unlabelled;
+use crate::pages::read_pages;
+use crate::records::read_runs;
+use crate::stop::Stop;
+use crate::unmapped::find_unmapped;
+use flat_mem::VecMem;
+use label_survey::Triple;
+use labelled_disk::{Disk, Label, Layout};
+use std::alloc::Allocator;
+
+/// A page that map and labels have not in common.
+#[derive(Clone, Copy, Debug, PartialEq, Eq)]
+pub enum NameDifference {
+    /// The label of the sector names the page, and the map doesn't name it there.
+    OnlyLabelled(Triple),
+    /// The map names the page there, and the label of the sector doesn't.
+    OnlyMapped(Triple),
+}
+
+/// What the file map says beside the labels.
+#[derive(Drop)]
+pub enum Names<A: Allocator> {
+    /// This page of the map, as it was read, breaks its form.
+    Malformed { page: u32 },
+    /// The map was read: the pages that it and the labels have not in common, or some of them.
+    Read { differences: Vec<NameDifference, A> },
+}
+
+// What the map in this memory has not in common with the labels.
+fn compare_names<A: Allocator + Clone>(
+    alloc: A,
+    map: &mut VecMem<A>,
+    layout: &Layout,
+    labels: &[Label],
+) -> Result<Vec<NameDifference, A>, Stop>
+    requires counted { IsCount layout.now.sectors }
+    requires layout { layout.now ≡ layout_of layout.now.sectors }
+    requires size { length (vec_mem_bytes map.old) ≡ 512 * vfm layout.now.sectors }
+    requires all { length labels.now ≡ layout.now.sectors - first_data layout.now.sectors }
+    ensures { (named : Triples) → NamesIn layout.now.sectors (vec_mem_bytes map.old) named
+        → MatchResult result (λ differences.
+        IsComparison named (labelled layout.now.first labels.now) differences.items) IsNoMemory }
+{
+    let runs = match read_runs(alloc.clone()?, map, layout) {
+        Ok(runs) => runs,
+        Err(stop) => return Err(stop),
+    };
+    let mut differences = match find_unmapped(alloc, map, layout, labels) {
+        Ok(differences) => differences,
+        Err(stop) => return Err(stop),
+    };
+    find_unlabelled(
+        &mut differences,
+        layout.first,
+        labels,
+        layout.sectors,
+        &runs,
+    )?;
+    Ok(differences)
+}
+
+/// What the file map says beside the labels.
+pub(crate) fn look_at_names<A: Allocator + Clone, D: Disk>(
+    alloc: A,
+    disk: &mut D,
+    layout: &Layout,
+    labels: &[Label],
+) -> Result<Names<A>, LookFault>
+    requires counted { IsCount (D.state disk.old).sectors }
+    requires layout { layout.now ≡ layout_of (D.state disk.old).sectors }
+    requires all { length labels.now
+        ≡ (D.state disk.old).sectors - first_data (D.state disk.old).sectors }
+    ensures told { IfOk result (λ names. (d : List Sector) → (D.state disk.old).contents ≡ Some d
+        → labels.now ≡ map (λ s. s.0) (data_sectors d)
+        → (named : Triples) → MapNames d named → IsToldOf named d names) }
+    ensures err { IfErr result IsDiskOrMemory }
+    ensures cause { result ≡ Err LookFault.Disk
+        → Rose (D.state disk.old).faults (D.state disk.new).faults }
+    ensures cost { ReadsAtMost (vfm (D.state disk.old).sectors) (D.state disk.old)
+        (D.state disk.new) }
+{
+    let Ok(own) = alloc.clone() else {
+        return Err(LookFault::NoMemory);
+    };
+    let mut map = read_pages(own, disk, 1 + layout.vam, layout.vfm)?;
+    match compare_names(alloc, &mut map, layout, labels) {
+        Ok(differences) => Ok(Names::Read { differences }),
+        Err(Stop::Broken { page }) => Ok(Names::Malformed { page }),
+        Err(Stop::NoMemory) => Err(LookFault::NoMemory),
+    }
+}

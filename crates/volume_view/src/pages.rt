@@ -1,0 +1,80 @@
+//! Pages of a disk that stand in sectors in a row, brought into memory, and a page of a file.
+ghost use Rattle.std.specs.Prelude.{◌≡◌, ◌+◌, ◌*◌, ◌≤◌, ◌<◌, List, Some, Err, length, IfOk, IfErr};
+ghost use Rattle.flat_mem.specs.Memory.{overwritten};
+ghost use Rattle.flat_mem.specs.Vec.{vec_mem_bytes};
+ghost use Rattle.labelled_disk.specs.Calls.{OnlyReads, ReadsAtMost, Rose};
+ghost use Rattle.labelled_disk.specs.Sectors.{Sector};
+ghost use Rattle.volume_view.specs.Pages.{IsDiskOrMemory, bytes_of, HasPage};
+
+use crate::LookFault;
+use flat_mem::{FlatMem, VecMem};
+use label_survey::Run;
+use labelled_disk::{Disk, FileId, Page};
+use std::alloc::Allocator;
+
+fn put_page<A: Allocator>(mem: &mut VecMem<A>, index: u32, page: &Page)
+    requires { 512 * index + 512 ≤ length (vec_mem_bytes mem.old) }
+    ensures { vec_mem_bytes mem.new ≡ overwritten (vec_mem_bytes mem.old) (512 * index) page.now }
+{
+    match mem.write(512 * u64::from(index), page) {
+        Ok(()) => {}
+        Err(never) => match never {},
+    }
+}
+
+/// The pages of so many sectors from this one on, one behind the other. The memory is taken before
+/// the first is read.
+pub(crate) fn read_pages<A: Allocator, D: Disk>(
+    alloc: A,
+    disk: &mut D,
+    first: u32,
+    count: u32,
+) -> Result<VecMem<A>, LookFault>
+    requires inside { first + count ≤ (D.state disk.old).sectors }
+    ensures bytes { IfOk result (λ mem. (d : List Sector) → (D.state disk.old).contents ≡ Some d
+        → vec_mem_bytes mem ≡ bytes_of d first count) }
+    ensures size { IfOk result (λ mem. length (vec_mem_bytes mem) ≡ 512 * count) }
+    ensures err { IfErr result IsDiskOrMemory }
+    ensures cause { result ≡ Err LookFault.Disk
+        → Rose (D.state disk.old).faults (D.state disk.new).faults }
+    ensures cost { ReadsAtMost count (D.state disk.old) (D.state disk.new) }
+{
+    let Ok(mut mem) = VecMem::zeroed(alloc, count) else {
+        return Err(LookFault::NoMemory);
+    };
+    let mut page = [0; 512];
+    for index in 0..count {
+        let Ok(_) = disk.read(first + index, &mut page) else {
+            return Err(LookFault::Disk);
+        };
+        put_page(&mut mem, index, &page);
+    }
+    Ok(mem)
+}
+
+/// The sector of a page of a file, by runs.
+pub fn sector_of(runs: &[Run], id: FileId, page: u32) -> Option<u32> {
+    for run in runs {
+        if run.id == id && run.first <= page && page - run.first < run.pages {
+            return run.sector.checked_add(page - run.first);
+        }
+    }
+    None
+}
+
+/// The bytes of a sector of the disk.
+pub fn read_page<D: Disk>(disk: &mut D, sector: u32) -> Result<Page, LookFault>
+    requires { sector < (D.state disk.old).sectors }
+    ensures page { IfOk result (λ page. (d : List Sector) → (D.state disk.old).contents ≡ Some d
+        → HasPage d sector page) }
+    ensures err { IfErr result (λ why. why ≡ LookFault.Disk) }
+    ensures cause { result ≡ Err LookFault.Disk
+        → Rose (D.state disk.old).faults (D.state disk.new).faults }
+    ensures cost { ReadsAtMost 1 (D.state disk.old) (D.state disk.new) }
+{
+    let mut page = [0; 512];
+    match disk.read(sector, &mut page) {
+        Ok(_) => Ok(page),
+        Err(_) => Err(LookFault::Disk),
+    }
+}

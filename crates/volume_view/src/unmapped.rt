@@ -1,0 +1,101 @@
+//! Pages that labels name and the file map does not.
+ghost use Rattle.std.specs.Prelude.{◌≡◌, ◌*◌, ◌+◌, ◌<◌, ◌≤◌, length, MatchResult};
+ghost use Rattle.flat_mem.specs.Vec.{vec_mem_bytes};
+ghost use Rattle.labelled_disk.specs.Layout.{IsCount, layout_of, vfm};
+ghost use Rattle.file_map.specs.FileMap.{Triples};
+ghost use Rattle.volume_view.specs.Names.{labelled, NamesIn, IsUnmapped, IsDifferenceAt};
+ghost use Rattle.volume_view.specs.Records.{IsNoMemory};
+
+use crate::names::NameDifference;
+use crate::stop::Stop;
+use file_map::{FileMap, MapError};
+use flat_mem::VecMem;
+use label_survey::Triple;
+use labelled_disk::{Label, Layout};
+use std::alloc::Allocator;
+
+// Whether the map names the page in this sector.
+fn is_mapped<A: Allocator>(
+    map: &mut VecMem<A>,
+    sectors: u32,
+    triple: Triple,
+) -> Result<bool, Stop>
+    requires counted { IsCount sectors }
+    requires size { length (vec_mem_bytes map.old) ≡ 512 * vfm sectors }
+    ensures mapped { (named : Triples) → NamesIn sectors (vec_mem_bytes map.old) named
+        → MatchResult result (λ yes. yes ≡ named triple.id triple.page triple.sector) IsNoMemory }
+    ensures same { vec_mem_bytes map.new ≡ vec_mem_bytes map.old }
+{
+    match FileMap::<&mut VecMem<A>>::over(map, sectors).find(triple.id, triple.page) {
+        Ok(Some(run)) => {
+            let sector = u64::from(run.sector) + u64::from(triple.page - run.first);
+            Ok(sector == u64::from(triple.sector))
+        }
+        Ok(None) => Ok(false),
+        Err(MapError::Malformed { page }) => Err(Stop::Broken { page }),
+        Err(MapError::Full) => unreachable!(),
+        Err(MapError::Mem(never)) => match never {},
+    }
+}
+
+// The difference of a label that is not free, if the map doesn't name its page in this sector.
+fn difference_at<A: Allocator>(
+    map: &mut VecMem<A>,
+    sectors: u32,
+    label: &Label,
+    sector: u32,
+) -> Result<Option<NameDifference>, Stop>
+    requires counted { IsCount sectors }
+    requires size { length (vec_mem_bytes map.old) ≡ 512 * vfm sectors }
+    ensures difference { (named : Triples) → NamesIn sectors (vec_mem_bytes map.old) named
+        → MatchResult result (IsDifferenceAt named label.now sector) IsNoMemory }
+    ensures same { vec_mem_bytes map.new ≡ vec_mem_bytes map.old }
+{
+    if label.is_free() {
+        return Ok(None);
+    }
+    let triple = Triple {
+        id: label.id,
+        page: label.page,
+        sector,
+    };
+    match is_mapped(map, sectors, triple) {
+        Ok(true) => Ok(None),
+        Ok(false) => Ok(Some(NameDifference::OnlyLabelled(triple))),
+        Err(stop) => Err(stop),
+    }
+}
+
+/// A difference for each sector whose label names a page that the map doesn't name there.
+pub(crate) fn find_unmapped<A: Allocator>(
+    alloc: A,
+    map: &mut VecMem<A>,
+    layout: &Layout,
+    labels: &[Label],
+) -> Result<Vec<NameDifference, A>, Stop>
+    requires counted { IsCount layout.now.sectors }
+    requires size { length (vec_mem_bytes map.old) ≡ 512 * vfm layout.now.sectors }
+    requires few { layout.now.first + length labels.now ≤ layout.now.sectors }
+    ensures unmapped { (named : Triples)
+        → NamesIn layout.now.sectors (vec_mem_bytes map.old) named
+        → MatchResult result (λ differences.
+        IsUnmapped named (labelled layout.now.first labels.now) differences.items) IsNoMemory }
+    ensures same { vec_mem_bytes map.new ≡ vec_mem_bytes map.old }
+{
+    let mut differences = Vec::new(alloc);
+    for i in 0..labels.len() {
+        let found = match difference_at(map, layout.sectors, &labels[i], layout.first + i as u32) {
+            Ok(found) => found,
+            Err(stop) => return Err(stop),
+        };
+        match found {
+            Some(difference) => {
+                let Ok(()) = differences.push(difference) else {
+                    return Err(Stop::NoMemory);
+                };
+            }
+            None => {}
+        }
+    }
+    Ok(differences)
+}
