@@ -1,5 +1,5 @@
 -- Why a call that gives a file another size stops the session.
-use Rattle.std.proofs.Common.{◌≡◌, ◌⊎◌, inl, inr, ℕ, ◌<◌, ◌≤◌, List, sym, ◌∙◌, ap, subst}
+use Rattle.std.proofs.Common.{inl, inr, ℕ, ◌<◌, ◌≤◌, List, sym, ◌∙◌, ap, subst}
 use Rattle.labelled_disk.specs.declared.evidence.Evidence.{Evidence}
 use Rattle.labelled_disk.specs.declared.evidence.Evidence.TheVariants.{Mismatch, Malformed, Missing}
 use Rattle.labelled_disk.specs.declared.evidence.Halt.{Halt}
@@ -14,7 +14,7 @@ use Rattle.swapper_kernel.specs.Homes.{home_at}
 use Rattle.filer_kernel.specs.Causes.{MapEvidence, IsRunHome}
 use Rattle.file_manager.specs.Causes.{LeaderEvidence}
 use Rattle.file_manager.specs.Finding.{IsNoLeader, FileHalts}
-use Rattle.file_manager.specs.Grounds.{IsUnframed, IsBelowSize, FreeEvidence, TakesOut, PutsBack, MakeEvidence, MakeHalts, ShrinkHalts, ResizeHalts}
+use Rattle.file_manager.specs.Grounds.{IsUnframed, IsBelowSize, FreeEvidence, PutsBack, MakeEvidence, MakeHalts, ShrinkHalts, ResizeHalts}
 
 module _ (layout : Layout) (kept : List Run) (id pages : ℕ) (a c : DiskState) (s u : Slots) where
   searched : (e : Evidence) → MapEvidence layout a s e → LeaderEvidence layout kept id a s e
