@@ -16,7 +16,6 @@ mod LoadLemmas
 mod MovedLemmas
 mod StoreLemmas
 mod RangeLemmas
-mod EvidenceOfFiles
 mod WindowHalts
 pub mod BareLemmas
 pub mod TakenMachine

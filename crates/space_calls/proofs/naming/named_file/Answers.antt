@@ -2,7 +2,6 @@ use Rattle.session_words.specs.Parts.{shapes_of}
 use Rattle.swapper_kernel.specs.GoesLaws.{makes_then}
 use Rattle.space_calls.proofs.NameLemmas.{seen_not, seen_told}
 use Rattle.space_calls.proofs.RunLemmas.{books_of, if_failed, if_told, looked_runs}
-use Rattle.space_calls.proofs.EvidenceOfFiles.{file_if_so}
 use Rattle.space_calls.proofs.naming.named_file.Goals as goal
 
 pub returns-in-Ok-false-clause-answer : goal.returns-in-Ok-false-clause-answer
@@ -24,8 +23,3 @@ returns-clause-sound g c = λ volume m r. if_failed c.attributes_of.result _ _ (
 
 pub returns-clause-makes : goal.returns-clause-makes
 returns-clause-makes g c = makes_then c.may_be_named.ensures.makes c.attributes_of.ensures.makes
-
--- ---- What its evidence says is so.
-
-pub returns-clause-so : goal.returns-clause-so
-returns-clause-so g c = file_if_so _ c.args.id c.attributes_of.ensures.makes c.attributes_of.result c.attributes_of.ensures.cause

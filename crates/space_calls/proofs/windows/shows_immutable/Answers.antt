@@ -1,7 +1,6 @@
 use Rattle.session_words.specs.Parts.{shapes_of}
 use Rattle.space_calls.proofs.FileLemmas.{immutable_told, missing_told}
 use Rattle.space_calls.proofs.RunLemmas.{books_of, looked_runs}
-use Rattle.space_calls.proofs.EvidenceOfFiles.{file_so}
 use Rattle.space_calls.proofs.windows.shows_immutable.Goals as goal
 
 pub returns-in-Ok-Some-clause-answer : goal.returns-in-Ok-Some-clause-answer
@@ -21,8 +20,3 @@ returns-in-Ok-None-clause-runs g c = λ volume m r. looked_runs r c.attributes_o
 
 pub returns-in-Err-clause-runs : goal.returns-in-Err-clause-runs
 returns-in-Err-clause-runs g c = λ volume m r. looked_runs r c.attributes_of.ensures.makes c.attributes_of.ensures.brings (c.attributes_of.ensures.same _ (shapes_of m.files) m.spaces (books_of r)) c.attributes_of.ensures.layout
-
--- ---- What its evidence says is so.
-
-pub returns-in-Err-clause-so : goal.returns-in-Err-clause-so
-returns-in-Err-clause-so g c = file_so _ c.args.id c.attributes_of.ensures.makes c.in-Err.halt c.in-Err.ensures.cause
