@@ -28,7 +28,6 @@ made_of P a b writes appended each e told = from a.contents refl
     from None is = absurd (none-some e (sym (appended.contents ∙ ap (option_map (after_writes writes)) is) ∙ told))
     from (Some d) is = subst P (same_Some (after_writes writes d) e (sym (appended.contents ∙ ap (option_map (after_writes writes)) is) ∙ told)) (each d is)
 
-
 -- the root of a volume in use was written
 pub unset_root : (root : Root) (a b : DiskState) → Appended (root_write (in_use root) ∷ []) a b → IsUnset b
 unset_root root a b appended e told = made_of (λ d. short_at (root_page d) 10 ≡ 0) a b (root_write (in_use root) ∷ []) appended (λ d is. root_flag d (in_use root) refl) e told

@@ -136,8 +136,7 @@ module _ {K : Type 0} (f : StartFault) (s : Status) (old new : K) (took : K → 
     | inr (inr (inl memory)) ↦ absurd (let e = sym memory.1 ∙ is in cc e)
     | inr (inr (inr damage)) ↦ (
       damage_alone failed t (took old) (took new) damage.0 disk (subst (IsSoAtStart disk) damage.1 so) (subst (LeavesOpenAtStart disk) damage.1 left) sink damage.3,
-      omega arith,
-      some_line lines,
+      (omega arith, some_line lines),
     )
   ]
 

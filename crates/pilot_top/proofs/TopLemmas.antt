@@ -265,8 +265,10 @@ pub damage_behind : (x : List ℕ) (b u v : Option (List ℕ)) (t : List ℕ) (p
 damage_behind x b u v t p first now failed e disk so open_still going put more are =
     let same = going.one_a_line in (
       damage_told (Some x) b u v t p first now failed e disk so open_still going put,
-      omega (arith, same, ap length are, length-append going.lines more),
-      λ some. let fewer = before_last going.lines more (reading x) are going.none_last some in omega (arith, same, fewer),
+      (
+        omega (arith, same, ap length are, length-append going.lines more),
+        λ some. let fewer = before_last going.lines more (reading x) are going.none_last some in omega (arith, same, fewer),
+      ),
     )
 
 -- a trace that was read to its end is short enough, and one of which as many bytes as the limit were taken is not
