@@ -8,6 +8,8 @@ use Rattle.frame_pool.specs.Frames.{Slots}
 use Rattle.file_map.specs.FileMap.{Triples}
 use Rattle.flat_machine.specs.declared.space.Space.{Space}
 use Rattle.swapper_kernel.specs.GoesLaws.{makes_nothing}
+use Rattle.label_calls.specs.Own.{RelabelsOwn}
+use Rattle.label_calls.specs.OwnLaws.{WroteOwn, own_then, quiet_own}
 use Rattle.filer_kernel.specs.declared.cached.CachedRuns.{CachedRuns}
 use Rattle.filer_kernel.specs.Cached.{runs_of}
 use Rattle.session_words.specs.Volume.{volume_page}
@@ -17,6 +19,7 @@ use Rattle.file_manager.specs.Grounds.{IsUnframed, FreeHalts, KeepsMap}
 use Rattle.file_manager.proofs.FreedRun.{makes_free_then}
 use Rattle.file_manager.proofs.Keeping.{keeps_none, keeps_then, free_halts_before}
 use Rattle.file_manager.proofs.FreedUpTo.{cost_then}
+use Rattle.file_manager.proofs.OwnSteps.{freed_own}
 use Rattle.file_manager.proofs.DownRun.{freed_down_then, freed_down_none, broken_then}
 
 pub record IsFreedDownTo (id from end page : ℕ) (d0 : DiskState) (s0 : Slots) (layout : Layout) (kept : CachedRuns) (d : DiskState) (s : Slots) (later : Layout) (runs : CachedRuns) : Type 0 where
@@ -28,6 +31,7 @@ pub record IsFreedDownTo (id from end page : ℕ) (d0 : DiskState) (s0 : Slots) 
   pub makes : MakesFree (end - page) d0 s0 d s
   pub keeps : KeepsMap (IsUnframed s0 id) layout id d0 s0 (runs_of layout.sectors kept) d s (runs_of layout.sectors runs)
   pub told : (named : Triples) (spaces : List Space) (m : List Sector) → MayFree d0 s0 layout kept named spaces id from end m → FreedDown layout named spaces id from (end - page) end d0 s0 d s runs
+  pub own : WroteOwn id d0 d
 
 down_cost : (t0 t u from page end v : ℕ) → page ≤ end → from < page → t ≤ t0 + (end - page) * (16 + 4 * v) → u ≤ t + (14 + 2 * (page - from) + 4 * v) → u ≤ t0 + (end - from) * (16 + 4 * v)
 down_cost t0 t u from page end v above below before here =
@@ -47,6 +51,7 @@ down_none id from end d0 s0 layout kept order size =
       makes = subst (λ (n : ℕ). MakesFree n d0 s0 d0 s0) z (record { sectors = []; long = refl; makes = makes_nothing volume_page d0 s0 });
       keeps = keeps_none (IsUnframed s0 id) layout id d0 s0 (runs_of layout.sectors kept) (λ none. none);
       told = λ named spaces m may. subst (λ (n : ℕ). FreedDown layout named spaces id from n end d0 s0 d0 s0 kept) z (freed_down_none m may);
+      own = quiet_own id (makes_nothing volume_page d0 s0);
     }
 
 -- and a run more
@@ -54,8 +59,8 @@ pub down_then : {id from end page pages : ℕ} {d0 d e : DiskState} {s0 s t : Sl
     → from < page → (1 ≤ pages) × (pages ≤ page - from) → last ≡ later → e.transfers ≤ d.transfers + (14 + 2 * pages + 4 * later.vam) → MakesFree pages d s e t
     → KeepsMap (IsUnframed s id) later id d s (runs_of later.sectors runs) e t (runs_of later.sectors more)
     → ((named : Triples) (spaces : List Space) (m : List Sector) → MayFree d s later runs named spaces id from page m → FreedDown later named spaces id from pages page d s e t more)
-    → IsFreedDownTo id from end (page - pages) d0 s0 layout kept e t last more
-down_then {id = id} {from = from} {end = end} {page = page} {pages = pages} {d0 = d0} {d = d} {e = e} {s0 = s0} {s = s} {t = t} {layout = layout} {later = later} {last = last} {kept = kept} {runs = runs} {more = more} h under some same cost makes keeps told =
+    → RelabelsOwn id d e → IsFreedDownTo id from end (page - pages) d0 s0 layout kept e t last more
+down_then {id = id} {from = from} {end = end} {page = page} {pages = pages} {d0 = d0} {d = d} {e = e} {s0 = s0} {s = s} {t = t} {layout = layout} {later = later} {last = last} {kept = kept} {runs = runs} {more = more} h under some same cost makes keeps told own =
     let few = some.1 in
     let below = h.below in
     let z : end - page + pages ≡ end - (page - pages) = omega (arith, below, few) in
@@ -76,6 +81,7 @@ down_then {id = id} {from = from} {end = end} {page = page} {pages = pages} {d0 
           let next_there = subst (λ (l : Layout). FreedDown l named spaces id from pages page d s e t more) h.same_layout next in
           subst (λ (n : ℕ). FreedDown layout named spaces id from n end d0 s0 e t more) z
           (freed_down_then first (subst (λ (n : ℕ). FreedDown layout named spaces id from pages n d s e t more) (sym y) next_there));
+      own = own_then h.own (freed_own makes own);
     }
 
 module _ {id from end page : ℕ} {d0 d : DiskState} {s0 s : Slots} {layout later : Layout} {kept runs : CachedRuns} (h : IsFreedDownTo id from end page d0 s0 layout kept d s later runs) where

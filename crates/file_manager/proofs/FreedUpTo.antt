@@ -8,6 +8,8 @@ use Rattle.frame_pool.specs.Frames.{Slots}
 use Rattle.file_map.specs.FileMap.{Triples}
 use Rattle.flat_machine.specs.declared.space.Space.{Space}
 use Rattle.swapper_kernel.specs.GoesLaws.{makes_nothing}
+use Rattle.label_calls.specs.Own.{RelabelsOwn}
+use Rattle.label_calls.specs.OwnLaws.{WroteOwn, own_then, quiet_own}
 use Rattle.filer_kernel.specs.declared.cached.CachedRuns.{CachedRuns}
 use Rattle.filer_kernel.specs.Cached.{runs_of}
 use Rattle.session_words.specs.Volume.{volume_page}
@@ -15,6 +17,7 @@ use Rattle.file_manager.specs.Freeing.{MayFree, Freed, MakesFree}
 use Rattle.file_manager.specs.Grounds.{IsUnframed, FreeHalts, KeepsMap}
 use Rattle.file_manager.proofs.FreedRun.{freed_then, freed_none, makes_free_then}
 use Rattle.file_manager.proofs.Keeping.{keeps_none, keeps_then, free_halts_before}
+use Rattle.file_manager.proofs.OwnSteps.{freed_own}
 
 pub record IsFreedTo (id from end page : ℕ) (d0 : DiskState) (s0 : Slots) (layout : Layout) (kept : CachedRuns) (d : DiskState) (s : Slots) (later : Layout) (runs : CachedRuns) : Type 0 where
   pub above : from ≤ page
@@ -25,6 +28,7 @@ pub record IsFreedTo (id from end page : ℕ) (d0 : DiskState) (s0 : Slots) (lay
   pub makes : MakesFree (page - from) d0 s0 d s
   pub keeps : KeepsMap (IsUnframed s0 id) layout id d0 s0 (runs_of layout.sectors kept) d s (runs_of layout.sectors runs)
   pub told : (named : Triples) (spaces : List Space) (m : List Sector) → MayFree d0 s0 layout kept named spaces id from end m → Freed layout named spaces id from (page - from) end d0 s0 d s runs
+  pub own : WroteOwn id d0 d
 
 -- what a run costs is at most so much a page
 pub per_page : (p v : ℕ) → 1 ≤ p → 14 + 2 * p + 4 * v ≤ p * (16 + 4 * v)
@@ -53,6 +57,7 @@ to_none id from end d0 s0 layout kept order size =
       makes = subst (λ (n : ℕ). MakesFree n d0 s0 d0 s0) z (record { sectors = []; long = refl; makes = makes_nothing volume_page d0 s0 });
       keeps = keeps_none (IsUnframed s0 id) layout id d0 s0 (runs_of layout.sectors kept) (λ none. none);
       told = λ named spaces m may. subst (λ (n : ℕ). Freed layout named spaces id from n end d0 s0 d0 s0 kept) z (freed_none m may);
+      own = quiet_own id (makes_nothing volume_page d0 s0);
     }
 
 -- and a run more
@@ -60,8 +65,8 @@ pub to_then : {id from end page pages : ℕ} {d0 d e : DiskState} {s0 s t : Slot
     → page < end → (1 ≤ pages) × (pages ≤ end - page) → last ≡ later → e.transfers ≤ d.transfers + (14 + 2 * pages + 4 * later.vam) → MakesFree pages d s e t
     → KeepsMap (IsUnframed s id) later id d s (runs_of later.sectors runs) e t (runs_of later.sectors more)
     → ((named : Triples) (spaces : List Space) (m : List Sector) → MayFree d s later runs named spaces id page (page + (end - page)) m → Freed later named spaces id page pages (page + (end - page)) d s e t more)
-    → IsFreedTo id from end (page + pages) d0 s0 layout kept e t last more
-to_then {id = id} {from = from} {end = end} {page = page} {pages = pages} {d0 = d0} {d = d} {e = e} {s0 = s0} {s = s} {t = t} {layout = layout} {later = later} {last = last} {kept = kept} {runs = runs} {more = more} h under some same cost makes keeps told =
+    → RelabelsOwn id d e → IsFreedTo id from end (page + pages) d0 s0 layout kept e t last more
+to_then {id = id} {from = from} {end = end} {page = page} {pages = pages} {d0 = d0} {d = d} {e = e} {s0 = s0} {s = s} {t = t} {layout = layout} {later = later} {last = last} {kept = kept} {runs = runs} {more = more} h under some same cost makes keeps told own =
     let few = some.1 in
     let whole : page + (end - page) ≡ end = omega (arith, under) in
     let above = h.above in
@@ -84,6 +89,7 @@ to_then {id = id} {from = from} {end = end} {page = page} {pages = pages} {d0 = 
           let next_there = subst (λ (l : Layout). Freed l named spaces id page pages end d s e t more) h.same_layout next in
           subst (λ (n : ℕ). Freed layout named spaces id from n end d0 s0 e t more) z
           (freed_then first (subst (λ (n : ℕ). Freed layout named spaces id n pages end d s e t more) (sym y) next_there));
+      own = own_then h.own (freed_own makes own);
     }
 
 module _ {id from end page : ℕ} {d0 d : DiskState} {s0 s : Slots} {layout later : Layout} {kept runs : CachedRuns} (h : IsFreedTo id from end page d0 s0 layout kept d s later runs) where

@@ -7,6 +7,7 @@ ghost use Rattle.labelled_disk.specs.declared.evidence.Halt.TheVariants as halt;
 ghost use Rattle.file_map.specs.FileMap.{Triples, most_records};
 ghost use Rattle.file_map.specs.Laws.{AreOnce};
 ghost use Rattle.flat_machine.specs.declared.space.Space.{Space};
+ghost use Rattle.label_calls.specs.Own.{RelabelsOwn};
 ghost use Rattle.swapper_kernel.specs.declared.manager.Manager.TheVariants.{FileMap as FileMapPages};
 ghost use Rattle.swapper_kernel.specs.Maps.{IsMapHome};
 ghost use Rattle.swapper_kernel.specs.Homes.{AreNamed};
@@ -102,6 +103,7 @@ pub(crate) fn shrink<D: Disk, A: Allocator>(
     ensures same_volume { OnErr result (volume.new ≡ volume.old) }
     ensures layout { filer.new.swapper.layout ≡ filer.old.swapper.layout }
     ensures cost { (D.state filer.new.swapper.under).transfers ≤ (D.state filer.old.swapper.under).transfers + ((size - pages) * (16 + 4 * filer.old.swapper.layout.vam) + (100 + 102 * most_records filer.old.swapper.layout.sectors)) }
+    ensures own { RelabelsOwn id (D.state filer.old.swapper.under) (D.state filer.new.swapper.under) }
 {
     match free_down(filer, id, pages, size) {
         Ok(()) => (),

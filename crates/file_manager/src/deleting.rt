@@ -5,6 +5,7 @@ ghost use Rattle.labelled_disk.specs.Calls.{Rose};
 ghost use Rattle.labelled_disk.specs.Sectors.{Sector};
 ghost use Rattle.file_map.specs.FileMap.{most_records};
 ghost use Rattle.flat_machine.specs.declared.space.Space.{Space};
+ghost use Rattle.label_calls.specs.Own.{RelabelsOwn};
 ghost use Rattle.session_words.specs.FrameLaws.{is_shown};
 ghost use Rattle.session_words.specs.Parts.{Shape, Shapes};
 ghost use Rattle.file_manager.specs.Grounds.{DeleteHalts};
@@ -55,6 +56,7 @@ pub fn delete<D: Disk, A: Allocator>(
     ensures cost_sized { (x : List Sector) (shapes : Shapes) (spaces : List Space) (f : Shape) → Books (D.state filer.old.swapper.under) filer.old.swapper.pool filer.old.swapper.layout filer.old.runs shapes spaces x → shapes id ≡ Some f
         → ((page : ℕ) → is_shown spaces id page ≡ false)
         → (D.state filer.new.swapper.under).transfers ≤ (D.state filer.old.swapper.under).transfers + (14 + (1 + f.size) * (16 + 4 * filer.old.swapper.layout.vam) + 2 * (1 + 51 * (f.size + 2))) }
+    ensures own { RelabelsOwn id (D.state filer.old.swapper.under) (D.state filer.new.swapper.under) }
 {
     let pages = match filer.size(id) {
         Ok(pages) => pages,

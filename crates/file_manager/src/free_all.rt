@@ -9,6 +9,7 @@ ghost use Rattle.file_manager.specs.Grounds.{FreeHalts, IsUnframed, KeepsMap};
 ghost use Rattle.filer_kernel.specs.Cached.{runs_of};
 ghost use Rattle.labelled_disk.specs.Label.{leader_page};
 ghost use Rattle.filer_kernel.specs.Evidence.{ShowsSo};
+ghost use Rattle.label_calls.specs.Own.{RelabelsOwn};
 ghost use Rattle.file_manager.specs.Freeing.{MayFreeAll, FreedAll, FreedFirst, MakesFree, MakesSomeFree};
 
 use crate::release::{free_run, free_up};
@@ -41,6 +42,7 @@ pub(crate) fn free_all<D: Disk, A: Allocator>(
     ensures counted { result ≡ Err halt.Disk → Rose (D.state filer.old.swapper.under).faults (D.state filer.new.swapper.under).faults }
     ensures layout { filer.new.swapper.layout ≡ filer.old.swapper.layout }
     ensures cost { (D.state filer.new.swapper.under).transfers ≤ (D.state filer.old.swapper.under).transfers + (1 + pages) * (16 + 4 * filer.old.swapper.layout.vam) }
+    ensures own { RelabelsOwn id (D.state filer.old.swapper.under) (D.state filer.new.swapper.under) }
 {
     match free_run(filer, id, LEADER, 1) {
         Ok(_) => (),

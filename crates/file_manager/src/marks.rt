@@ -8,6 +8,7 @@ ghost use Rattle.flat_machine.specs.declared.space.Space.{Space};
 ghost use Rattle.session_words.specs.FrameLaws.{is_shown};
 ghost use Rattle.session_words.specs.Parts.{Shape, Shapes};
 ghost use Rattle.label_calls.specs.Labels.{with_mark};
+ghost use Rattle.label_calls.specs.Own.{RelabelsOwn};
 ghost use Rattle.label_laws.specs.Marks.{permanent_label, immutable_label};
 ghost use Rattle.label_calls.specs.declared.page.Mark.TheVariants.{Permanent, Immutable};
 ghost use Rattle.file_manager.specs.Answer.{IsMarked, WritesMark};
@@ -44,6 +45,7 @@ fn mark<D: Disk, A: Allocator>(
     ensures counted { result ≡ Err halt.Disk → Rose (D.state filer.old.swapper.under).faults (D.state filer.new.swapper.under).faults }
     ensures layout { filer.new.swapper.layout ≡ filer.old.swapper.layout }
     ensures cost { (D.state filer.new.swapper.under).transfers ≤ (D.state filer.old.swapper.under).transfers + 16 }
+    ensures own { RelabelsOwn id (D.state filer.old.swapper.under) (D.state filer.new.swapper.under) }
 {
     let sector = match leader_of(filer, id) {
         Ok(Some(sector)) => sector,
@@ -80,6 +82,7 @@ pub fn make_permanent<D: Disk, A: Allocator>(
     ensures counted { result ≡ Err halt.Disk → Rose (D.state filer.old.swapper.under).faults (D.state filer.new.swapper.under).faults }
     ensures layout { filer.new.swapper.layout ≡ filer.old.swapper.layout }
     ensures cost { (D.state filer.new.swapper.under).transfers ≤ (D.state filer.old.swapper.under).transfers + 16 }
+    ensures own { RelabelsOwn id (D.state filer.old.swapper.under) (D.state filer.new.swapper.under) }
 {
     match mark(filer, id, Mark::Permanent) {
         Ok(()) => Ok(()),
@@ -107,6 +110,7 @@ pub fn make_immutable<D: Disk, A: Allocator>(
     ensures counted { result ≡ Err halt.Disk → Rose (D.state filer.old.swapper.under).faults (D.state filer.new.swapper.under).faults }
     ensures layout { filer.new.swapper.layout ≡ filer.old.swapper.layout }
     ensures cost { (D.state filer.new.swapper.under).transfers ≤ (D.state filer.old.swapper.under).transfers + 16 }
+    ensures own { RelabelsOwn id (D.state filer.old.swapper.under) (D.state filer.new.swapper.under) }
 {
     match mark(filer, id, Mark::Immutable) {
         Ok(()) => Ok(()),

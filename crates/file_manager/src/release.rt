@@ -14,6 +14,7 @@ ghost use Rattle.swapper_kernel.specs.Stands.{Stands};
 ghost use Rattle.swapper_kernel.specs.Window.{Beside};
 ghost use Rattle.label_calls.specs.Labels.{ones_of};
 ghost use Rattle.label_calls.specs.Runs.{AreUncovered, HaveOnes, RelabelsRun, MadeSome, IsOneNotOf};
+ghost use Rattle.label_calls.specs.Own.{RelabelsOwn};
 ghost use Rattle.filer_kernel.specs.Cached.{runs_of};
 ghost use Rattle.filer_kernel.specs.Triples.{MapIs, AreOf};
 ghost use Rattle.file_manager.specs.Grounds.{FreeHalts, IsUnframed, KeepsMap};
@@ -86,6 +87,7 @@ fn free_labels<D: Disk, A: Allocator>(filer: &mut FilerOver<D, A>, run: Run) -> 
     ensures layout { filer.new.swapper.layout ≡ filer.old.swapper.layout }
     ensures runs { filer.new.runs ≡ filer.old.runs }
     ensures cost { (D.state filer.new.swapper.under).transfers ≤ (D.state filer.old.swapper.under).transfers + 2 * run.pages }
+    ensures own { RelabelsOwn run.id (D.state filer.old.swapper.under) (D.state filer.new.swapper.under) }
 {
     let swapper = filer.swapper_over();
     match free_pages_up(swapper, run.sector, run.pages, run.id, run.first) {
@@ -121,6 +123,7 @@ pub(crate) fn free_run<D: Disk, A: Allocator>(
     ensures layout { filer.new.swapper.layout ≡ filer.old.swapper.layout }
     ensures spent { IfOk result (λ pages. (D.state filer.new.swapper.under).transfers ≤ (D.state filer.old.swapper.under).transfers + (14 + 2 * pages + 4 * filer.old.swapper.layout.vam)) }
     ensures cost { (D.state filer.new.swapper.under).transfers ≤ (D.state filer.old.swapper.under).transfers + (14 + 2 * most + 4 * filer.old.swapper.layout.vam) }
+    ensures own { RelabelsOwn id (D.state filer.old.swapper.under) (D.state filer.new.swapper.under) }
 {
     let run = match part_of(filer, id, page, most) {
         Ok(run) => run,
@@ -161,6 +164,7 @@ pub(crate) fn free_up<D: Disk, A: Allocator>(
     ensures counted { result ≡ Err halt.Disk → Rose (D.state filer.old.swapper.under).faults (D.state filer.new.swapper.under).faults }
     ensures layout { filer.new.swapper.layout ≡ filer.old.swapper.layout }
     ensures cost { (D.state filer.new.swapper.under).transfers ≤ (D.state filer.old.swapper.under).transfers + (end - from) * (16 + 4 * filer.old.swapper.layout.vam) }
+    ensures own { RelabelsOwn id (D.state filer.old.swapper.under) (D.state filer.new.swapper.under) }
 {
     let mut page = from;
     while page < end {

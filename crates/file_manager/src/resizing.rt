@@ -6,6 +6,7 @@ ghost use Rattle.labelled_disk.specs.Label.{is_file_id};
 ghost use Rattle.labelled_disk.specs.Sectors.{Sector};
 ghost use Rattle.file_map.specs.FileMap.{most_records};
 ghost use Rattle.flat_machine.specs.declared.space.Space.{Space};
+ghost use Rattle.label_calls.specs.Own.{RelabelsOwn};
 ghost use Rattle.session_words.specs.Parts.{Shape, Shapes};
 ghost use Rattle.file_manager.specs.Grounds.{ResizeHalts};
 ghost use Rattle.filer_kernel.specs.Cached.{runs_of};
@@ -63,6 +64,7 @@ pub fn set_size<D: Disk, A: Allocator>(
     ensures cost { (D.state filer.new.swapper.under).transfers ≤ (D.state filer.old.swapper.under).transfers + (129 + 4294967295 * (8 * filer.old.swapper.layout.vam + 100) + 102 * most_records filer.old.swapper.layout.sectors) }
     ensures cost_told { (x : List Sector) (shapes : Shapes) (spaces : List Space) (f : Shape) → Books (D.state filer.old.swapper.under) filer.old.swapper.pool filer.old.swapper.layout filer.old.runs shapes spaces x → shapes id ≡ Some f
         → (D.state filer.new.swapper.under).transfers ≤ (D.state filer.old.swapper.under).transfers + (129 + ((pages - f.size) + (f.size - pages)) * (8 * filer.old.swapper.layout.vam + 100) + 102 * most_records filer.old.swapper.layout.sectors) }
+    ensures own { RelabelsOwn id (D.state filer.old.swapper.under) (D.state filer.new.swapper.under) }
 {
     let file = match find_file(filer, id) {
         Ok(Some(file)) => file,

@@ -14,6 +14,7 @@ ghost use Rattle.swapper_kernel.specs.Stands.{Stands};
 ghost use Rattle.swapper_kernel.specs.Window.{Beside};
 ghost use Rattle.label_calls.specs.Labels.{ones_of};
 ghost use Rattle.label_calls.specs.Runs.{AreUncovered, HaveOnes, RelabelsRun, MadeSome, IsOneNotOf};
+ghost use Rattle.label_calls.specs.Own.{RelabelsOwn};
 ghost use Rattle.filer_kernel.specs.Cached.{runs_of};
 ghost use Rattle.filer_kernel.specs.Triples.{MapIs, AreOf};
 ghost use Rattle.file_manager.specs.Grounds.{FreeHalts, IsUnframed, KeepsMap};
@@ -89,6 +90,7 @@ fn free_labels_down<D: Disk, A: Allocator>(
     ensures layout { filer.new.swapper.layout ≡ filer.old.swapper.layout }
     ensures runs { filer.new.runs ≡ filer.old.runs }
     ensures cost { (D.state filer.new.swapper.under).transfers ≤ (D.state filer.old.swapper.under).transfers + 2 * run.pages }
+    ensures own { RelabelsOwn run.id (D.state filer.old.swapper.under) (D.state filer.new.swapper.under) }
 {
     let swapper = filer.swapper_over();
     match free_pages_down(swapper, run.sector, run.pages, run.id, run.first) {
@@ -124,6 +126,7 @@ fn free_last<D: Disk, A: Allocator>(
     ensures layout { filer.new.swapper.layout ≡ filer.old.swapper.layout }
     ensures spent { IfOk result (λ pages. (D.state filer.new.swapper.under).transfers ≤ (D.state filer.old.swapper.under).transfers + (14 + 2 * pages + 4 * filer.old.swapper.layout.vam)) }
     ensures cost { (D.state filer.new.swapper.under).transfers ≤ (D.state filer.old.swapper.under).transfers + (14 + 2 * (end - from) + 4 * filer.old.swapper.layout.vam) }
+    ensures own { RelabelsOwn id (D.state filer.old.swapper.under) (D.state filer.new.swapper.under) }
 {
     let run = match last_part(filer, id, from, end) {
         Ok(run) => run,
@@ -164,6 +167,7 @@ pub(crate) fn free_down<D: Disk, A: Allocator>(
     ensures stopped { OnErr result (MakesSomeFree (D.state filer.old.swapper.under) filer.old.swapper.pool (D.state filer.new.swapper.under) filer.new.swapper.pool) }
     ensures layout { filer.new.swapper.layout ≡ filer.old.swapper.layout }
     ensures cost { (D.state filer.new.swapper.under).transfers ≤ (D.state filer.old.swapper.under).transfers + (end - from) * (16 + 4 * filer.old.swapper.layout.vam) }
+    ensures own { RelabelsOwn id (D.state filer.old.swapper.under) (D.state filer.new.swapper.under) }
 {
     let mut page = end;
     while from < page {

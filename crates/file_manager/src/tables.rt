@@ -6,6 +6,7 @@ ghost use Rattle.labelled_disk.specs.Sectors.{Sector, AreSectors};
 ghost use Rattle.frame_pool.specs.Frames.{Frame, Has, IsWithin};
 ghost use Rattle.file_map.specs.FileMap.{most_records};
 ghost use Rattle.flat_machine.specs.declared.space.Space.{Space};
+ghost use Rattle.label_calls.specs.Own.{RelabelsOwn};
 ghost use Rattle.swapper_kernel.specs.Differs.{Differs, of_run};
 ghost use Rattle.swapper_kernel.specs.Goes.{Goes, no_page};
 ghost use Rattle.swapper_kernel.specs.Stands.{Stands};
@@ -86,6 +87,7 @@ pub fn free_tables<D: Disk, A: Allocator>(filer: &mut FilerOver<D, A>) -> Result
     ensures counted { result ≡ Err halt.Disk → Rose (D.state filer.old.swapper.under).faults (D.state filer.new.swapper.under).faults }
     ensures layout { filer.new.swapper.layout ≡ filer.old.swapper.layout }
     ensures cost { (D.state filer.new.swapper.under).transfers ≤ (D.state filer.old.swapper.under).transfers + (96 * (16 + 4 * filer.old.swapper.layout.vam) + 2 * (1 + 51 * most_records filer.old.swapper.layout.sectors)) }
+    ensures own { RelabelsOwn 3 (D.state filer.old.swapper.under) (D.state filer.new.swapper.under) }
 {
     forget_tables(filer);
     match free_up(filer, TABLES, 0, TABLE_PAGES) {

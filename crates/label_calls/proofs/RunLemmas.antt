@@ -32,7 +32,7 @@ use Rattle.label_calls.specs.Labels.{Labels, HasOne, IsUncovered, Relabels, MayH
 use Rattle.label_calls.specs.Runs.{AreUncovered, RelabelsRun, MadeSome, NamedSome}
 
 -- a label write leaves all other sectors
-write_elsewhere : (w : DiskWrite) (k j : ℕ) (d : List Sector) → IsLabelled w k → j ≢ k → slice_get (written w d) j ≡ slice_get d j
+pub write_elsewhere : (w : DiskWrite) (k j : ℕ) (d : List Sector) → IsLabelled w k → j ≢ k → slice_get (written w d) j ≡ slice_get d j
 write_elsewhere (write.Whole sector label page) k j d is apart = get_set_other d sector j (label, page) (λ same. apart (same ∙ is))
 write_elsewhere (write.LabelOnly sector label) k j d is apart = either (slice_get d sector)
   where
@@ -45,7 +45,7 @@ write_elsewhere (write.Page sector wanted page) k j d is apart = absurd is
 abbrev pub turns : (ℕ → DiskWrite) → ℕ → List DiskWrite
 turns f k = map f (range_with_len 0 k)
 
-turns_more : (f : ℕ → DiskWrite) (k : ℕ) → turns f (k + 1) ≡ turns f k ++ f k ∷ []
+pub turns_more : (f : ℕ → DiskWrite) (k : ℕ) → turns f (k + 1) ≡ turns f k ++ f k ∷ []
 turns_more f k = map-range_with_len_more f 0 k k (omega arith)
 
 -- At turn i a label is written into the sector of its place. The first k turns are over.

@@ -1,3 +1,4 @@
 pub mod Labels
 pub mod Own
+pub mod OwnLaws
 pub mod Runs

@@ -12,6 +12,7 @@ ghost use Rattle.swapper_kernel.specs.Goes.{Makes, no_page};
 ghost use Rattle.swapper_kernel.specs.Halts.{HasCause};
 ghost use Rattle.swapper_kernel.specs.Stands.{Stands};
 ghost use Rattle.label_calls.specs.Labels.{IsFresh, HasOne, Relabels, MayHaveWritten, IsTaken, IsNotOf, free_ones, ones_of, with_mark};
+ghost use Rattle.label_calls.specs.Own.{RelabelsOwn};
 
 use labelled_disk::{Disk, Evidence, FileId, Halt, Label, Wanted};
 use std::alloc::Allocator;
@@ -128,6 +129,7 @@ pub fn make_page<D: Disk, A: Allocator>(
     ensures frames { swapper.new.pool ≡ swapper.old.pool }
     ensures layout { swapper.new.layout ≡ swapper.old.layout }
     ensures cost { (D.state swapper.new.under).transfers ≤ (D.state swapper.old.under).transfers + 2 }
+    ensures own { (other : ℕ) → RelabelsOwn other (D.state swapper.old.under) (D.state swapper.new.under) }
 {
     let found = match read_label(swapper, sector) {
         Ok(found) => found,
@@ -167,6 +169,7 @@ pub fn free_page<D: Disk, A: Allocator>(
     ensures frames { swapper.new.pool ≡ swapper.old.pool }
     ensures layout { swapper.new.layout ≡ swapper.old.layout }
     ensures cost { (D.state swapper.new.under).transfers ≤ (D.state swapper.old.under).transfers + 2 }
+    ensures own { RelabelsOwn wanted.id (D.state swapper.old.under) (D.state swapper.new.under) }
 {
     let found = match read_label(swapper, sector) {
         Ok(found) => found,
@@ -208,6 +211,7 @@ pub fn mark_leader<D: Disk, A: Allocator>(
     ensures frames { swapper.new.pool ≡ swapper.old.pool }
     ensures layout { swapper.new.layout ≡ swapper.old.layout }
     ensures cost { (D.state swapper.new.under).transfers ≤ (D.state swapper.old.under).transfers + 2 }
+    ensures own { RelabelsOwn id (D.state swapper.old.under) (D.state swapper.new.under) }
 {
     let wanted = Wanted { id, page: LEADER };
     let found = match read_label(swapper, sector) {

@@ -7,6 +7,7 @@ ghost use Rattle.labelled_disk.specs.Sectors.{Sector};
 ghost use Rattle.swapper_kernel.specs.Halts.{HasCause};
 ghost use Rattle.swapper_kernel.specs.Stands.{Stands};
 ghost use Rattle.label_calls.specs.Labels.{free_ones, ones_of};
+ghost use Rattle.label_calls.specs.Own.{RelabelsOwn};
 ghost use Rattle.label_calls.specs.Runs.{AreOfFile, AreUncovered, HaveOnes, RelabelsRun, MadeSome, NamedSome, IsOneTaken, IsOneNotOf};
 
 use crate::page::{free_page, make_page};
@@ -36,6 +37,7 @@ pub fn make_pages<D: Disk, A: Allocator>(
     ensures frames { swapper.new.pool ≡ swapper.old.pool }
     ensures layout { swapper.new.layout ≡ swapper.old.layout }
     ensures cost { (D.state swapper.new.under).transfers ≤ (D.state swapper.old.under).transfers + 2 * pages }
+    ensures own { (other : ℕ) → RelabelsOwn other (D.state swapper.old.under) (D.state swapper.new.under) }
 {
     for k in 0..pages {
         let label = Label {
@@ -76,6 +78,7 @@ pub fn free_pages_up<D: Disk, A: Allocator>(
     ensures frames { swapper.new.pool ≡ swapper.old.pool }
     ensures layout { swapper.new.layout ≡ swapper.old.layout }
     ensures cost { (D.state swapper.new.under).transfers ≤ (D.state swapper.old.under).transfers + 2 * pages }
+    ensures own { RelabelsOwn id (D.state swapper.old.under) (D.state swapper.new.under) }
 {
     for k in 0..pages {
         let wanted = Wanted { id, page: page + k };
@@ -110,6 +113,7 @@ pub fn free_pages_down<D: Disk, A: Allocator>(
     ensures frames { swapper.new.pool ≡ swapper.old.pool }
     ensures layout { swapper.new.layout ≡ swapper.old.layout }
     ensures cost { (D.state swapper.new.under).transfers ≤ (D.state swapper.old.under).transfers + 2 * pages }
+    ensures own { RelabelsOwn id (D.state swapper.old.under) (D.state swapper.new.under) }
 {
     for k in 0..pages {
         let behind = pages - (k + 1);

@@ -35,3 +35,4 @@ pub mod AttributeLemmas
 pub mod SettledWider
 pub mod AnonymousLemmas
 pub mod NewWindow
+pub mod OwnLemmas

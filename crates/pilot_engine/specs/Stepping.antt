@@ -1,5 +1,5 @@
 -- Kinds of calls.
-use Rattle.std.specs.Prelude.{Bool, true, false, not}
+use Rattle.std.specs.Prelude.{ℕ, Bool, true, false, not, Option, Some, None}
 use Rattle.flat_machine.specs.declared.call.Call.{Call}
 use Rattle.flat_machine.specs.declared.call.Call.TheVariants as call
 
@@ -27,3 +27,11 @@ waits (call.Unmap space) = true
 waits (call.Protect space writable) = not writable
 waits (call.ForceOut space) = true
 waits other = false
+
+-- the file that a call frees sectors of, or marks: over labels of it alone the call may write others without their pages
+abbrev pub relabels : Call → Option ℕ
+relabels (call.Delete id) = Some id
+relabels (call.SetSize id pages) = Some id
+relabels (call.MakePermanent id) = Some id
+relabels (call.MakeImmutable id) = Some id
+relabels other = None

@@ -5,6 +5,7 @@ ghost use Rattle.labelled_disk.specs.declared.evidence.Halt.TheVariants as halt;
 ghost use Rattle.flat_machine.specs.declared.call.Call.TheVariants as call;
 ghost use Rattle.file_map.specs.FileMap.{most_records};
 ghost use Rattle.flat_machine.specs.Machine.{Machine};
+ghost use Rattle.label_calls.specs.Own.{RelabelsOwn};
 ghost use Rattle.session_words.specs.Parts.{TablesMeaning};
 ghost use Rattle.running_words.specs.Bound.{CostsOther};
 ghost use Rattle.running_words.specs.Session.{IsOpen, IsSession, Carries, Wrote};
@@ -45,6 +46,7 @@ impl<D: Disk, A: Allocator> SessionOver<D, A> {
         ensures cost { (D.state self.new.core.filer.swapper.under).transfers ≤ (D.state self.old.core.filer.swapper.under).transfers + (43 + 2 ^ 32 * (16 + 4 * self.old.core.filer.swapper.layout.vam) + 2 * (1 + 51 * most_records self.old.core.filer.swapper.layout.sectors)) }
         ensures bounded { (spaces_of : TablesMeaning) (m : Machine) → IsSession spaces_of (D.state self.old.core.filer.swapper.under) self.old.core.filer.swapper.pool self.old.core.filer.swapper.layout self.old.core.filer.runs self.old.volume m
             → CostsInside (D.state self.old.core.filer.swapper.under) (D.state self.new.core.filer.swapper.under) }
+        ensures own { RelabelsOwn id (D.state self.old.core.filer.swapper.under) (D.state self.new.core.filer.swapper.under) }
     {
         match attributes_of(&mut self.core.filer, id) {
             Ok(Some(_)) => (),
@@ -70,6 +72,7 @@ impl<D: Disk, A: Allocator> SessionOver<D, A> {
         ensures layout { self.new.core.filer.swapper.layout ≡ self.old.core.filer.swapper.layout }
         ensures running { self.new.running ≡ self.old.running }
         ensures cost { (m : Machine) → Runs self.old.core self.old.volume m → CostsOther (D.state self.old.core.filer.swapper.under) (D.state self.new.core.filer.swapper.under) }
+        ensures own { RelabelsOwn id (D.state self.old.core.filer.swapper.under) (D.state self.new.core.filer.swapper.under) }
     {
         let seen = match self.sight(id) {
             Ok(Sight::Hidden) => return Ok(Reply::Refused(Refusal::File)),

@@ -4,6 +4,7 @@ ghost use Rattle.labelled_disk.specs.Calls.{Rose};
 ghost use Rattle.labelled_disk.specs.declared.evidence.Halt.TheVariants as halt;
 ghost use Rattle.flat_machine.specs.declared.call.Call.TheVariants as call;
 ghost use Rattle.flat_machine.specs.Machine.{Machine, is_anonymous};
+ghost use Rattle.label_calls.specs.Own.{RelabelsOwn};
 ghost use Rattle.session_words.specs.Parts.{TablesMeaning};
 ghost use Rattle.running_words.specs.Session.{IsOpen, IsSession, Carries, Wrote};
 ghost use Rattle.running_words.specs.Stages.{Passes};
@@ -41,6 +42,7 @@ impl<D: Disk, A: Allocator> SessionOver<D, A> {
         ensures kept { kept self.new.core ≡ kept self.old.core }
         ensures intervals { self.new.core.intervals ≡ self.old.core.intervals }
         ensures cost { (D.state self.new.core.filer.swapper.under).transfers ≤ (D.state self.old.core.filer.swapper.under).transfers + 45 }
+        ensures own { RelabelsOwn id (D.state self.old.core.filer.swapper.under) (D.state self.new.core.filer.swapper.under) }
     {
         match attributes_of(&mut self.core.filer, id) {
             Ok(Some(_)) => (),
@@ -73,6 +75,7 @@ impl<D: Disk, A: Allocator> SessionOver<D, A> {
         ensures kept { kept self.new.core ≡ kept self.old.core }
         ensures intervals { self.new.core.intervals ≡ self.old.core.intervals }
         ensures cost { (D.state self.new.core.filer.swapper.under).transfers ≤ (D.state self.old.core.filer.swapper.under).transfers + 45 }
+        ensures own { RelabelsOwn id (D.state self.old.core.filer.swapper.under) (D.state self.new.core.filer.swapper.under) }
     {
         match attributes_of(&mut self.core.filer, id) {
             Ok(Some(_)) => (),
@@ -98,6 +101,7 @@ impl<D: Disk, A: Allocator> SessionOver<D, A> {
         ensures layout { self.new.core.filer.swapper.layout ≡ self.old.core.filer.swapper.layout }
         ensures running { self.new.running ≡ self.old.running }
         ensures cost { (m : Machine) → Runs self.old.core self.old.volume m → CostsOther (D.state self.old.core.filer.swapper.under) (D.state self.new.core.filer.swapper.under) }
+        ensures own { RelabelsOwn id (D.state self.old.core.filer.swapper.under) (D.state self.new.core.filer.swapper.under) }
     {
         match self.sight(id) {
             Ok(Sight::Hidden) => Ok(Reply::Refused(Refusal::File)),
@@ -119,6 +123,7 @@ impl<D: Disk, A: Allocator> SessionOver<D, A> {
         ensures layout { self.new.core.filer.swapper.layout ≡ self.old.core.filer.swapper.layout }
         ensures running { self.new.running ≡ self.old.running }
         ensures cost { (m : Machine) → Runs self.old.core self.old.volume m → CostsOther (D.state self.old.core.filer.swapper.under) (D.state self.new.core.filer.swapper.under) }
+        ensures own { RelabelsOwn id (D.state self.old.core.filer.swapper.under) (D.state self.new.core.filer.swapper.under) }
     {
         match self.sight(id) {
             Ok(Sight::Hidden) => return Ok(Reply::Refused(Refusal::File)),

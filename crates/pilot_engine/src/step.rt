@@ -1,10 +1,11 @@
 //! One call of a client.
-ghost use Rattle.std.specs.Prelude.{◌≡◌, ◌+◌, ◌≤◌, true, false, IfOk, IfErr, OnOk, OnErr, Err, None};
+ghost use Rattle.std.specs.Prelude.{◌≡◌, ℕ, ◌+◌, ◌≤◌, true, false, IfOk, IfErr, OnOk, OnErr, Err, Some, None};
 ghost use Rattle.labelled_disk.specs.Calls.{Rose};
 ghost use Rattle.labelled_disk.specs.declared.evidence.Halt.TheVariants as halt;
 ghost use Rattle.flat_machine.specs.After.{ends_trace};
 ghost use Rattle.flat_machine.specs.Form.{IsInForm};
 ghost use Rattle.flat_machine.specs.Machine.{Machine};
+ghost use Rattle.label_calls.specs.Own.{RelabelsOwn};
 ghost use Rattle.flat_machine.specs.References.{is_reference};
 ghost use Rattle.flat_machine.specs.Refusal.{refusal};
 ghost use Rattle.running_words.specs.Bound.{CostsOther};
@@ -13,7 +14,7 @@ ghost use Rattle.running_words.specs.Session.{IsOpen, WroteIn};
 ghost use Rattle.running_words.specs.Stages.{Passes, may_dirty};
 ghost use Rattle.fault_core.specs.Core.{kept};
 ghost use Rattle.pilot_engine.specs.Advised.{IsAdvised};
-ghost use Rattle.pilot_engine.specs.Stepping.{waits};
+ghost use Rattle.pilot_engine.specs.Stepping.{relabels, waits};
 
 use crate::SessionOver;
 use flat_machine::{Call, Reply};
@@ -55,6 +56,7 @@ impl<D: Disk, A: Allocator> SessionOver<D, A> {
         ensures cost { (m : Machine) → Runs self.old.core self.old.volume m
             → CostsOther (D.state self.old.core.filer.swapper.under) (D.state self.new.core.filer.swapper.under) }
         ensures reference { is_reference call.now ≡ true → (D.state self.new.core.filer.swapper.under).transfers ≤ (D.state self.old.core.filer.swapper.under).transfers + 1680 }
+        ensures own { (id : ℕ) → relabels call.now ≡ Some id → RelabelsOwn id (D.state self.old.core.filer.swapper.under) (D.state self.new.core.filer.swapper.under) }
     {
         let answer = self.answer(call);
         if answer.is_err() {
@@ -86,6 +88,7 @@ impl<D: Disk, A: Allocator> SessionOver<D, A> {
         ensures cost { (m : Machine) → Runs self.old.core self.old.volume m
             → CostsOther (D.state self.old.core.filer.swapper.under) (D.state self.new.core.filer.swapper.under) }
         ensures reference { is_reference call.now ≡ true → (D.state self.new.core.filer.swapper.under).transfers ≤ (D.state self.old.core.filer.swapper.under).transfers + 1680 }
+        ensures own { (id : ℕ) → relabels call.now ≡ Some id → RelabelsOwn id (D.state self.old.core.filer.swapper.under) (D.state self.new.core.filer.swapper.under) }
     {
         match call {
             Call::Create { pages, kind } => self.create(*pages, *kind),

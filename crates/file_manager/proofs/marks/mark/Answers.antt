@@ -14,6 +14,8 @@ use Rattle.file_manager.proofs.MarkStops.{marks_first}
 use Rattle.file_manager.proofs.CauseLemmas.{search_halts, label_halts}
 use Rattle.file_manager.proofs.Faults.{counted, no_fault}
 use Rattle.file_manager.proofs.SoLemmas.{so_of_other}
+use Rattle.label_calls.specs.OwnLaws.{relabels_own, wrote_own, quiet_own}
+use Rattle.file_manager.proofs.OwnSteps.{leader_own, own_after}
 use Rattle.file_manager.proofs.marks.mark.Goals as goal
 
 pub returns-in-Ok-None-clause-sound : goal.returns-in-Ok-None-clause-sound
@@ -87,3 +89,17 @@ returns-in-Ok-None-clause-so g c = inr c.requires.client
 
 pub returns-in-Err-mark_leader-clause-so : goal.returns-in-Err-mark_leader-clause-so
 returns-in-Err-mark_leader-clause-so g c = so_of_other (g.D.Disk.state c.mark_leader.new.swapper.under) c.in-Ok-Some.sector (record { id = c.args.id; page = leader_page }) (g.D.Disk.state c.leader_of.new.filer.swapper.under) (g.D.Disk.state c.mark_leader.new.swapper.under) c.in-Err-mark_leader.halt (rw c.swapper_over-swapper.ensures.value at c.in-Err-mark_leader.ensures.so)
+
+pub returns-in-Ok-None-clause-own : goal.returns-in-Ok-None-clause-own
+returns-in-Ok-None-clause-own g c = relabels_own (quiet_own c.args.id c.leader_of.ensures.makes)
+
+pub returns-in-Err-clause-own : goal.returns-in-Err-clause-own
+returns-in-Err-clause-own g c = relabels_own (quiet_own c.args.id c.leader_of.ensures.makes)
+
+pub returns-in-Err-mark_leader-clause-own : goal.returns-in-Err-mark_leader-clause-own
+returns-in-Err-mark_leader-clause-own g c = own_after (quiet_own c.args.id c.leader_of.ensures.makes) (leader_own c.args.mark (rw c.swapper_over-swapper.ensures.value at c.in-Err-mark_leader.ensures.stopped) (rw c.swapper_over-swapper.ensures.value at c.mark_leader.ensures.own))
+
+pub returns-clause-own : goal.returns-clause-own
+returns-clause-own g c =
+    let made = rw c.swapper_over-swapper.ensures.value at c.in-Ok.ensures.marked in
+    own_after (quiet_own c.args.id c.leader_of.ensures.makes) (wrote_own made.1.makes (rw c.swapper_over-swapper.ensures.value at c.mark_leader.ensures.own))

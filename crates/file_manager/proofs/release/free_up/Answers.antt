@@ -3,6 +3,8 @@ use Rattle.file_manager.proofs.FreedRun.{stops_then}
 use Rattle.file_manager.proofs.FreedUpTo.{to_none, to_then, to_rest, to_all, to_made, to_spent, to_stopped_cost, to_halts}
 use Rattle.file_manager.proofs.StoppedFree.{some_then}
 use Rattle.file_manager.proofs.Faults.{counted_then}
+use Rattle.label_calls.specs.OwnLaws.{relabels_own}
+use Rattle.file_manager.proofs.OwnSteps.{some_own, own_after}
 use Rattle.file_manager.proofs.release.free_up.Goals as goal
 
 pub loop-page-init : goal.loop-page-init
@@ -11,7 +13,7 @@ loop-page-init g c = to_none _ _ _ _ _ _ _ c.requires.order c.requires.size
 pub loop-page-preserved : goal.loop-page-preserved
 loop-page-preserved g c =
     let below : c.loop-page.page < c.args.end = search rules in
-    to_then c.loop-page.invariant below c.in-Ok.ensures.some c.in-Ok.ensures.layout c.in-Ok.ensures.spent c.in-Ok.ensures.makes c.in-Ok.ensures.keeps c.in-Ok.ensures.freed
+    to_then c.loop-page.invariant below c.in-Ok.ensures.some c.in-Ok.ensures.layout c.in-Ok.ensures.spent c.in-Ok.ensures.makes c.in-Ok.ensures.keeps c.in-Ok.ensures.freed c.in-Ok.ensures.own
 
 pub returns-in-Err-clause-sound : goal.returns-in-Err-clause-sound
 returns-in-Err-clause-sound g c = λ named spaces m may.
@@ -58,3 +60,9 @@ returns-in-Err-clause-cause g c =
 
 pub returns-clause-keeps : goal.returns-clause-keeps
 returns-clause-keeps g c = c.loop-page.invariant.keeps
+
+pub returns-in-Err-clause-own : goal.returns-in-Err-clause-own
+returns-in-Err-clause-own g c = own_after c.loop-page.invariant.own (some_own c.in-Err.ensures.stopped c.in-Err.ensures.own)
+
+pub returns-clause-own : goal.returns-clause-own
+returns-clause-own g c = relabels_own c.loop-page.invariant.own

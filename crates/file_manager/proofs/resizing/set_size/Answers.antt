@@ -12,6 +12,8 @@ use Rattle.file_manager.proofs.ResizeStops.{resize_of_file, resize_of_make, resi
 use Rattle.file_manager.proofs.MakeStops.{make_halts_before}
 use Rattle.file_manager.proofs.CutCauses.{shrink_halts_behind}
 use Rattle.filer_kernel.specs.Cached.{runs_of}
+use Rattle.label_calls.specs.OwnLaws.{relabels_own, quiet_own}
+use Rattle.file_manager.proofs.OwnSteps.{grown_own, grew_own, freed_own, some_own, own_after}
 use Rattle.file_manager.proofs.resizing.set_size.Goals as goal
 
 pub find_file-requires-clause-client : goal.find_file-requires-clause-client
@@ -317,3 +319,21 @@ returns-in-Err-shrink-clause-cause g c =
     let pages = λ (p : ℕ). (c.args.pages ≤ p) × (p < c.in-Ok-Some.file.pages) in
     resize_of_shrink layout kept c.args.id c.args.pages old (g.D.Disk.state c.shrink.new.filer.swapper.under) pool c.shrink.new.filer.swapper.pool c.in-Ok-Some.file.pages c.in-Err-shrink.halt
     (shrink_halts_behind c.find_file.ensures.keeps c.find_file.ensures.makes c.requires.sectors c.args.pages pages pages (λ p own. own) (g.D.Disk.state c.shrink.new.filer.swapper.under) c.shrink.new.filer.swapper.pool c.in-Err-shrink.halt (rw c.find_file.ensures.layout at c.in-Err-shrink.ensures.cause))
+
+pub returns-in-Ok-None-clause-own : goal.returns-in-Ok-None-clause-own
+returns-in-Ok-None-clause-own g c = relabels_own (quiet_own c.args.id c.find_file.ensures.makes)
+
+pub returns-in-Err-clause-own : goal.returns-in-Err-clause-own
+returns-in-Err-clause-own g c = relabels_own (quiet_own c.args.id c.find_file.ensures.makes)
+
+pub returns-in-Ok-clause-own : goal.returns-in-Ok-clause-own
+returns-in-Ok-clause-own g c = own_after (quiet_own c.args.id c.find_file.ensures.makes) (grown_own c.args.id c.in-Ok.ensures.makes)
+
+pub returns-in-Err-grow-clause-own : goal.returns-in-Err-grow-clause-own
+returns-in-Err-grow-clause-own g c = own_after (quiet_own c.args.id c.find_file.ensures.makes) (grew_own c.args.id c.in-Err-grow.ensures.stopped)
+
+pub returns-in-Ok-shrink-clause-own : goal.returns-in-Ok-shrink-clause-own
+returns-in-Ok-shrink-clause-own g c = own_after (quiet_own c.args.id c.find_file.ensures.makes) (freed_own c.in-Ok-shrink.ensures.makes c.in-Ok-shrink.ensures.own)
+
+pub returns-in-Err-shrink-clause-own : goal.returns-in-Err-shrink-clause-own
+returns-in-Err-shrink-clause-own g c = own_after (quiet_own c.args.id c.find_file.ensures.makes) (some_own c.in-Err-shrink.ensures.stopped c.in-Err-shrink.ensures.own)

@@ -1,10 +1,13 @@
-use Rattle.std.proofs.Common.{◌≡◌, inl, rules, true, false, true≢false, sym, ◌∙◌}
+use Rattle.std.proofs.Common.{◌≡◌, inl, inr, rules, true, false, true≢false, sym, ◌∙◌}
 use Rattle.labelled_disk.specs.Label.{names}
 use Rattle.labelled_disk.specs.Calls.{TellsSame, Moves}
+use Rattle.labelled_disk.specs.Sectors.{free_label}
 use Rattle.labelled_disk.specs.State.{HasLabel}
 use Rattle.swapper_kernel.specs.Homes.{IsLayout}
 use Rattle.label_calls.specs.Labels.{ones_of}
 use Rattle.label_calls.proofs.RelabelLemmas.{in_memory, freed_laws}
+use Rattle.label_calls.specs.OwnLaws.{relabels_own, same_own, read_own}
+use Rattle.label_calls.proofs.OwnLemmas.{of_page}
 use Rattle.label_calls.proofs.page.free_page.Goals as goal
 
 pub returns-then-not-names-clause-stopped : goal.returns-then-not-names-clause-stopped
@@ -41,3 +44,21 @@ returns-clause-freed g c =
     let layout : IsLayout c.args.swapper.now.layout = search rules in
     let named : names c.in-Ok.found c.args.wanted ≡ true = search rules in
     (freed_laws c.args.swapper.now.layout old mid new c.args.swapper.now.pool c.args.sector c.in-Ok.found layout (λ d told. g.met.D.Disk.whole c.args.swapper.now.under d told ∙ c.requires.size) c.requires.data there same read moves c.args.wanted c.requires.of_file named).made c.in-Ok-write_label.ensures.writes
+
+pub returns-in-Err-clause-own : goal.returns-in-Err-clause-own
+returns-in-Err-clause-own g c = relabels_own (same_own c.args.wanted.id c.read_label.ensures.same)
+
+pub returns-then-not-names-clause-own : goal.returns-then-not-names-clause-own
+returns-then-not-names-clause-own g c = relabels_own (same_own c.args.wanted.id c.read_label.ensures.same)
+
+pub returns-in-Err-write_label-clause-own : goal.returns-in-Err-write_label-clause-own
+returns-in-Err-write_label-clause-own g c =
+    let there : HasLabel (g.D.Disk.state c.args.swapper.now.under) c.args.sector c.in-Ok.found = search rules in
+    let named : names c.in-Ok.found c.args.wanted ≡ true = search rules in
+    read_own c.args.sector c.in-Ok.found free_label there (of_page c.args.wanted c.in-Ok.found named) c.read_label.ensures.same c.in-Err-write_label.ensures.stopped
+
+pub returns-clause-own : goal.returns-clause-own
+returns-clause-own g c =
+    let there : HasLabel (g.D.Disk.state c.args.swapper.now.under) c.args.sector c.in-Ok.found = search rules in
+    let named : names c.in-Ok.found c.args.wanted ≡ true = search rules in
+    read_own c.args.sector c.in-Ok.found free_label there (of_page c.args.wanted c.in-Ok.found named) c.read_label.ensures.same (inr c.in-Ok-write_label.ensures.writes)

@@ -7,6 +7,7 @@ use Rattle.labelled_disk.specs.State.{HasLabel}
 use Rattle.swapper_kernel.specs.Homes.{IsLayout}
 use Rattle.label_calls.specs.Labels.{free_ones}
 use Rattle.label_calls.proofs.RelabelLemmas.{in_memory, had_one, fresh_laws, fresh_in_form}
+use Rattle.label_calls.specs.OwnLaws.{relabels_own, same_own, fresh_own}
 use Rattle.label_calls.proofs.page.make_page.Goals as goal
 
 pub returns-then-not-is_free-clause-stopped : goal.returns-then-not-is_free-clause-stopped
@@ -55,3 +56,15 @@ returns-in-Err-write_fresh-clause-was g c =
     let read : Moves old mid = search rules in
     let free : is_free c.in-Ok.found ≡ true = search rules in
     inr (had_one old mid c.args.swapper.now.pool c.args.sector c.in-Ok.found there same read free_ones free)
+
+pub returns-in-Err-clause-own : goal.returns-in-Err-clause-own
+returns-in-Err-clause-own g c = λ other. relabels_own (same_own other c.read_label.ensures.same)
+
+pub returns-then-not-is_free-clause-own : goal.returns-then-not-is_free-clause-own
+returns-then-not-is_free-clause-own g c = λ other. relabels_own (same_own other c.read_label.ensures.same)
+
+pub returns-in-Err-write_fresh-clause-own : goal.returns-in-Err-write_fresh-clause-own
+returns-in-Err-write_fresh-clause-own g c = λ other. fresh_own other c.args.sector c.args.label zero_bytes c.read_label.ensures.same c.in-Err-write_fresh.ensures.stopped
+
+pub returns-clause-own : goal.returns-clause-own
+returns-clause-own g c = λ other. fresh_own other c.args.sector c.args.label zero_bytes c.read_label.ensures.same (inr c.in-Ok-write_fresh.ensures.writes)

@@ -8,6 +8,8 @@ use Rattle.labelled_disk.specs.State.{HasLabel}
 use Rattle.swapper_kernel.specs.Homes.{IsLayout}
 use Rattle.label_calls.specs.Labels.{ones_of, with_mark}
 use Rattle.label_calls.proofs.RelabelLemmas.{in_memory, marked_laws, fresh_in_form}
+use Rattle.label_calls.specs.OwnLaws.{relabels_own, same_own, read_own}
+use Rattle.label_calls.proofs.OwnLemmas.{of_page}
 use Rattle.label_calls.proofs.page.mark_leader.Goals as goal
 
 pub returns-then-not-names-clause-stopped : goal.returns-then-not-names-clause-stopped
@@ -50,3 +52,21 @@ returns-clause-marked g c =
     let laws = marked_laws c.args.swapper.now.layout old mid new c.args.swapper.now.pool c.args.sector c.in-Ok.found layout (λ d told. g.met.D.Disk.whole c.args.swapper.now.under d told ∙ c.requires.size) c.requires.data there same read moves c.args.mark c.args.id c.requires.of_file form named in
     let made : TellsWrite (write.LabelOnly c.args.sector (with_mark c.args.mark c.in-Ok.found)) mid new = search rules in
     (c.in-Ok.found, laws.made made)
+
+pub returns-in-Err-clause-own : goal.returns-in-Err-clause-own
+returns-in-Err-clause-own g c = relabels_own (same_own c.args.id c.read_label.ensures.same)
+
+pub returns-then-not-names-clause-own : goal.returns-then-not-names-clause-own
+returns-then-not-names-clause-own g c = relabels_own (same_own c.args.id c.read_label.ensures.same)
+
+pub returns-in-Err-write_label-clause-own : goal.returns-in-Err-write_label-clause-own
+returns-in-Err-write_label-clause-own g c =
+    let there : HasLabel (g.D.Disk.state c.args.swapper.now.under) c.args.sector c.in-Ok.found = search rules in
+    let named : names c.in-Ok.found (record { id = c.args.id; page = leader_page }) ≡ true = search rules in
+    read_own c.args.sector c.in-Ok.found _ there (of_page (record { id = c.args.id; page = leader_page }) c.in-Ok.found named) c.read_label.ensures.same c.in-Err-write_label.ensures.stopped
+
+pub returns-clause-own : goal.returns-clause-own
+returns-clause-own g c =
+    let there : HasLabel (g.D.Disk.state c.args.swapper.now.under) c.args.sector c.in-Ok.found = search rules in
+    let named : names c.in-Ok.found (record { id = c.args.id; page = leader_page }) ≡ true = search rules in
+    read_own c.args.sector c.in-Ok.found _ there (of_page (record { id = c.args.id; page = leader_page }) c.in-Ok.found named) c.read_label.ensures.same (inr c.in-Ok-write_label.ensures.writes)

@@ -6,6 +6,8 @@ use Rattle.labelled_disk.specs.Sectors.{free_label}
 use Rattle.label_calls.specs.Labels.{IsNotOf}
 use Rattle.label_calls.specs.Runs.{IsOneNotOf}
 use Rattle.label_calls.proofs.RunLemmas.{so_far_none, so_far_more, one_still_there, made_some, cause_before, run_is, freeing_is, not_of_before, named_some, was_before}
+use Rattle.label_calls.specs.OwnLaws.{relabels_own, own_then, may_own}
+use Rattle.label_calls.proofs.OwnLemmas.{of_page, so_far_own}
 use Rattle.label_calls.proofs.run.free_pages_down.Goals as goal
 
 pub loop-k-init : goal.loop-k-init
@@ -76,3 +78,13 @@ returns-in-Err-clause-so g c =
     let new = g.D.Disk.state c.free_page.new.swapper.under in
     cause_before (λ k. c.args.sector + (c.args.pages - (k + 1))) _ _ _ _ _ _ _ _ _ c.loop-k.k c.loop-k.invariant (apart c.args.sector c.args.pages c.loop-k.k below) (IsNotOf (c.args.sector + (c.args.pages - (c.loop-k.k + 1))) (record { id = c.args.id; page = c.args.page + (c.args.pages - (c.loop-k.k + 1)) }) new) (IsOneNotOf c.args.sector c.args.pages (λ k. record { id = c.args.id; page = c.args.page + k }) new) new c.in-Err.halt
     (λ evidence is. ((c.args.pages - (c.loop-k.k + 1)), last, is)) c.in-Err.ensures.so
+
+pub returns-in-Err-clause-own : goal.returns-in-Err-clause-own
+returns-in-Err-clause-own g c =
+    let all : c.loop-k.k < c.args.pages = search rules in
+    relabels_own (own_then (so_far_own (λ k. c.args.sector + (c.args.pages - (k + 1))) free_label _ c.args.id c.loop-k.k c.loop-k.invariant (λ i l named. of_page _ l named) (λ i below. apart c.args.sector c.args.pages i (omega (arith, all, below)))) (may_own c.in-Err.ensures.stopped c.in-Err.ensures.own))
+
+pub returns-clause-own : goal.returns-clause-own
+returns-clause-own g c =
+    let all : c.loop-k.k ≡ c.args.pages = search rules in
+    relabels_own (so_far_own (λ k. c.args.sector + (c.args.pages - (k + 1))) free_label _ c.args.id c.loop-k.k c.loop-k.invariant (λ i l named. of_page _ l named) (λ i below. apart c.args.sector c.args.pages i (omega (arith, all, below))))

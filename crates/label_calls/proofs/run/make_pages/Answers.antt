@@ -5,6 +5,8 @@ use Rattle.labelled_disk.specs.Runs.{growth, page_label, zero_bytes}
 use Rattle.label_calls.specs.Labels.{IsTaken}
 use Rattle.label_calls.specs.Runs.{IsOneTaken}
 use Rattle.label_calls.proofs.RunLemmas.{turns, so_far_none, so_far_more, one_still_there, made_some, cause_before, run_is, growth_is, taken_before}
+use Rattle.label_calls.specs.OwnLaws.{relabels_own, own_then, may_own}
+use Rattle.label_calls.proofs.OwnLemmas.{so_far_whole}
 use Rattle.label_calls.proofs.run.make_pages.Goals as goal
 
 pub loop-k-init : goal.loop-k-init
@@ -58,3 +60,10 @@ returns-in-Err-clause-so g c =
     let new = g.D.Disk.state c.make_page.new.swapper.under in
     cause_before (λ k. c.args.sector + k) _ _ _ _ _ _ _ _ _ c.loop-k.k c.loop-k.invariant (apart c.args.sector c.loop-k.k) (IsTaken (c.args.sector + c.loop-k.k) new) (IsOneTaken c.args.sector c.args.pages new) new c.in-Err.halt
     (λ evidence is. (c.loop-k.k, below, is)) c.in-Err.ensures.so
+
+pub returns-in-Err-clause-own : goal.returns-in-Err-clause-own
+returns-in-Err-clause-own g c = λ other.
+    relabels_own (own_then (so_far_whole (λ k. c.args.sector + k) (λ k. page_label c.args.id c.args.kind (c.args.page + k)) zero_bytes _ other c.loop-k.k c.loop-k.invariant) (may_own c.in-Err.ensures.stopped (c.in-Err.ensures.own other)))
+
+pub returns-clause-own : goal.returns-clause-own
+returns-clause-own g c = λ other. relabels_own (so_far_whole (λ k. c.args.sector + k) (λ k. page_label c.args.id c.args.kind (c.args.page + k)) zero_bytes _ other c.loop-k.k c.loop-k.invariant)

@@ -1,11 +1,12 @@
 use Rattle.std.proofs.Common.{refl, sym, ap, ◌∙◌, arith}
 use Rattle.std.proofs.lemmas.Bool.{true≢false}
 use Rattle.flat_machine.specs.References.{is_reference}
-use Rattle.pilot_engine.specs.Stepping.{waits}
+use Rattle.pilot_engine.specs.Stepping.{relabels, waits}
 use Rattle.pilot_engine.proofs.BoundLemmas.{asked_inside, spent_inside}
 use Rattle.pilot_engine.proofs.LiftLemmas.{carried_out}
 use Rattle.pilot_engine.proofs.StepLemmas.{nothing_told, on_spaces}
 use Rattle.flat_machine.specs.declared.call.Call.TheVariants as call
+use Rattle.pilot_engine.proofs.OwnLemmas.{own_of, own_none, none_relabelled}
 use Rattle.pilot_engine.proofs.session.SessionOver.answer.Goals as goal
 
 pub returns-in-Create-clause-carried : goal.returns-in-Create-clause-carried
@@ -188,3 +189,30 @@ returns-in-Volume-clause-advised g c = λ m free r. rw c.in-Volume.is (nothing_t
 
 pub answer_on_spaces-requires-clause-on_spaces : goal.answer_on_spaces-requires-clause-on_spaces
 answer_on_spaces-requires-clause-on_spaces g c = on_spaces c.args.call.now c.requires.more c.in_default.not-Create c.in_default.not-Delete c.in_default.not-Attributes c.in_default.not-SetSize c.in_default.not-MakePermanent c.in_default.not-MakeImmutable c.in_default.not-Next c.in_default.not-Volume
+
+pub returns-in-Delete-clause-own : goal.returns-in-Delete-clause-own
+returns-in-Delete-clause-own g c = own_of (ap relabels c.in-Delete.is) c.delete.ensures.own
+
+pub returns-in-SetSize-clause-own : goal.returns-in-SetSize-clause-own
+returns-in-SetSize-clause-own g c = own_of (ap relabels c.in-SetSize.is) c.set_size.ensures.own
+
+pub returns-in-MakePermanent-clause-own : goal.returns-in-MakePermanent-clause-own
+returns-in-MakePermanent-clause-own g c = own_of (ap relabels c.in-MakePermanent.is) c.make_permanent.ensures.own
+
+pub returns-in-MakeImmutable-clause-own : goal.returns-in-MakeImmutable-clause-own
+returns-in-MakeImmutable-clause-own g c = own_of (ap relabels c.in-MakeImmutable.is) c.make_immutable.ensures.own
+
+pub returns-in-Create-clause-own : goal.returns-in-Create-clause-own
+returns-in-Create-clause-own g c = own_none (ap relabels c.in-Create.is)
+
+pub returns-in-Attributes-clause-own : goal.returns-in-Attributes-clause-own
+returns-in-Attributes-clause-own g c = own_none (ap relabels c.in-Attributes.is)
+
+pub returns-in-Next-clause-own : goal.returns-in-Next-clause-own
+returns-in-Next-clause-own g c = own_none (ap relabels c.in-Next.is)
+
+pub returns-in-Volume-clause-own : goal.returns-in-Volume-clause-own
+returns-in-Volume-clause-own g c = own_none (ap relabels c.in-Volume.is)
+
+pub returns-in_default-clause-own : goal.returns-in_default-clause-own
+returns-in_default-clause-own g c = own_none (none_relabelled c.args.call.now (on_spaces c.args.call.now c.requires.more c.in_default.not-Create c.in_default.not-Delete c.in_default.not-Attributes c.in_default.not-SetSize c.in_default.not-MakePermanent c.in_default.not-MakeImmutable c.in_default.not-Next c.in_default.not-Volume))

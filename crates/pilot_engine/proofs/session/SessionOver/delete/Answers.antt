@@ -12,6 +12,8 @@ use Rattle.pilot_engine.proofs.PassThen.{asked_then}
 use Rattle.pilot_engine.proofs.WroteLemmas.{rose_behind, wrote_by, wrote_then}
 use Rattle.pilot_engine.proofs.RefusalLemmas.{delete_gone, no_file_hidden}
 use Rattle.pilot_engine.proofs.SeenLemmas.{delete_seen}
+use Rattle.label_calls.specs.OwnLaws.{relabels_own, quiet_own, wrote_own}
+use Rattle.file_manager.proofs.OwnSteps.{own_after}
 use Rattle.pilot_engine.proofs.session.SessionOver.delete.Goals as goal
 
 pub returns-in-Ok-Hidden-clause-carried : goal.returns-in-Ok-Hidden-clause-carried
@@ -81,3 +83,15 @@ pub returns-clause-cost : goal.returns-clause-cost
 returns-clause-cost g c = λ m r.
     let now = c.sight.ensures.runs m r in
     spent_besides (g.D.Disk.state c.args.self.now.core.filer.swapper.under) (g.D.Disk.state c.sight.new.self.core.filer.swapper.under) (g.D.Disk.state c.delete_unseen.new.self.core.filer.swapper.under) c.sight.ensures.makes.went.sectors (let few = c.sight.ensures.cost in omega (arith, few)) (c.delete_unseen.ensures.bounded _ m now.session)
+
+pub returns-in-Ok-Hidden-clause-own : goal.returns-in-Ok-Hidden-clause-own
+returns-in-Ok-Hidden-clause-own g c = relabels_own (quiet_own c.args.id c.sight.ensures.makes)
+
+pub returns-in-Err-clause-own : goal.returns-in-Err-clause-own
+returns-in-Err-clause-own g c = relabels_own (quiet_own c.args.id c.sight.ensures.makes)
+
+pub returns-in-Some-clause-own : goal.returns-in-Some-clause-own
+returns-in-Some-clause-own g c = relabels_own (quiet_own c.args.id c.sight.ensures.makes)
+
+pub returns-clause-own : goal.returns-clause-own
+returns-clause-own g c = own_after (quiet_own c.args.id c.sight.ensures.makes) (wrote_own c.delete_unseen.ensures.wrote.makes c.delete_unseen.ensures.own)

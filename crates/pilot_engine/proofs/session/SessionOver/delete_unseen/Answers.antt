@@ -10,6 +10,8 @@ use Rattle.pilot_engine.proofs.RefusalLemmas.{delete_gone, delete_free, no_file_
 use Rattle.pilot_engine.proofs.SeenLemmas.{unseen_named, unseen_pages}
 use Rattle.running_words.proofs.SessionLemmas.{session_books}
 use Rattle.running_words.proofs.StageLemmas.{no_step}
+use Rattle.label_calls.specs.OwnLaws.{relabels_own, quiet_own}
+use Rattle.file_manager.proofs.OwnSteps.{freed_own, some_own, own_after}
 use Rattle.pilot_engine.proofs.session.SessionOver.delete_unseen.Goals as goal
 
 pub returns-in-Ok-None-clause-carried : goal.returns-in-Ok-None-clause-carried
@@ -99,3 +101,15 @@ returns-in-Err-delete-clause-bounded g c = λ spaces_of m s.
     let paid = c.delete.ensures.cost_told s.stands.memory (shapes_of m.files) m.spaces _ at told in
     delete_told spaces_of (g.D.Disk.state c.args.self.now.core.filer.swapper.under) _ layout _ _ m s c.requires.opened c.args.self.now.core.filer.swapper.accepted c.attributes_of.new.filer.swapper.layout c.attributes_of.ensures.layout
     (g.D.Disk.state c.attributes_of.new.filer.swapper.under) (g.D.Disk.state c.delete.new.filer.swapper.under) c.args.id _ told c.requires.size c.attributes_of.ensures.cost paid
+
+pub returns-in-Ok-None-clause-own : goal.returns-in-Ok-None-clause-own
+returns-in-Ok-None-clause-own g c = relabels_own (quiet_own c.args.id c.attributes_of.ensures.makes)
+
+pub returns-in-Err-clause-own : goal.returns-in-Err-clause-own
+returns-in-Err-clause-own g c = relabels_own (quiet_own c.args.id c.attributes_of.ensures.makes)
+
+pub returns-in-Ok-clause-own : goal.returns-in-Ok-clause-own
+returns-in-Ok-clause-own g c = own_after (quiet_own c.args.id c.attributes_of.ensures.makes) (freed_own c.in-Ok.ensures.makes.1 c.in-Ok.ensures.own)
+
+pub returns-in-Err-delete-clause-own : goal.returns-in-Err-delete-clause-own
+returns-in-Err-delete-clause-own g c = own_after (quiet_own c.args.id c.attributes_of.ensures.makes) (some_own c.in-Err-delete.ensures.stopped c.in-Err-delete.ensures.own)

@@ -14,6 +14,8 @@ use Rattle.space_tables.specs.declared.shown.Shown.{Shown}
 use Rattle.swapper_kernel.specs.GoesLaws.{makes_then}
 use Rattle.pilot_engine.proofs.RefusalLemmas.{no_file_hidden, immutable_gone}
 use Rattle.pilot_engine.proofs.SeenLemmas.{immutable_seen, written_by_none}
+use Rattle.label_calls.specs.OwnLaws.{relabels_own, quiet_own, wrote_own, own_then}
+use Rattle.file_manager.proofs.OwnSteps.{own_after}
 use Rattle.pilot_engine.proofs.session.SessionOver.make_immutable.Goals as goal
 
 pub returns-in-Ok-Hidden-clause-carried : goal.returns-in-Ok-Hidden-clause-carried
@@ -98,3 +100,18 @@ returns-clause-layout g c = c.mark_immutable.ensures.layout ∙ c.window_on.ensu
 
 pub returns-clause-cost : goal.returns-clause-cost
 returns-clause-cost g c = λ m r. asked_inside (g.D.Disk.state c.args.self.now.core.filer.swapper.under) (g.D.Disk.state c.mark_immutable.new.self.core.filer.swapper.under) 29109 (omega arith) (let first = c.sight.ensures.cost in let later = c.window_on.ensures.cost in let last = c.mark_immutable.ensures.cost in omega (arith, first, later, last))
+
+pub returns-in-Ok-Hidden-clause-own : goal.returns-in-Ok-Hidden-clause-own
+returns-in-Ok-Hidden-clause-own g c = relabels_own (quiet_own c.args.id c.sight.ensures.makes)
+
+pub returns-in-Err-clause-own : goal.returns-in-Err-clause-own
+returns-in-Err-clause-own g c = relabels_own (quiet_own c.args.id c.sight.ensures.makes)
+
+pub returns-in-Ok-Some-clause-own : goal.returns-in-Ok-Some-clause-own
+returns-in-Ok-Some-clause-own g c = own_after (quiet_own c.args.id c.sight.ensures.makes) (quiet_own c.args.id c.window_on.ensures.makes)
+
+pub returns-in-Err-window_on-clause-own : goal.returns-in-Err-window_on-clause-own
+returns-in-Err-window_on-clause-own g c = own_after (quiet_own c.args.id c.sight.ensures.makes) (quiet_own c.args.id c.window_on.ensures.makes)
+
+pub returns-clause-own : goal.returns-clause-own
+returns-clause-own g c = own_after (quiet_own c.args.id c.sight.ensures.makes) (own_then (quiet_own c.args.id c.window_on.ensures.makes) (wrote_own c.mark_immutable.ensures.wrote.makes c.mark_immutable.ensures.own))

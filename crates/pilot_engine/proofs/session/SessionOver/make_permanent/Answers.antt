@@ -9,6 +9,8 @@ use Rattle.pilot_engine.proofs.LiftLemmas.{asked_passes, carried_out, refused_ru
 use Rattle.pilot_engine.proofs.PassThen.{asked_then}
 use Rattle.pilot_engine.proofs.WroteLemmas.{rose_behind, wrote_by, wrote_then}
 use Rattle.pilot_engine.proofs.RefusalLemmas.{no_file_hidden, permanent_gone}
+use Rattle.label_calls.specs.OwnLaws.{relabels_own, quiet_own, wrote_own}
+use Rattle.file_manager.proofs.OwnSteps.{own_after}
 use Rattle.pilot_engine.proofs.session.SessionOver.make_permanent.Goals as goal
 
 pub returns-in-Ok-Hidden-clause-carried : goal.returns-in-Ok-Hidden-clause-carried
@@ -63,3 +65,12 @@ returns-in-Ok-By-clause-layout g c = c.mark_permanent.ensures.layout ∙ c.sight
 
 pub returns-in-Ok-By-clause-cost : goal.returns-in-Ok-By-clause-cost
 returns-in-Ok-By-clause-cost g c = λ m r. asked_inside (g.D.Disk.state c.args.self.now.core.filer.swapper.under) (g.D.Disk.state c.mark_permanent.new.self.core.filer.swapper.under) 14577 (omega arith) (let first = c.sight.ensures.cost in let later = c.mark_permanent.ensures.cost in omega (arith, first, later))
+
+pub returns-in-Ok-Hidden-clause-own : goal.returns-in-Ok-Hidden-clause-own
+returns-in-Ok-Hidden-clause-own g c = relabels_own (quiet_own c.args.id c.sight.ensures.makes)
+
+pub returns-in-Err-clause-own : goal.returns-in-Err-clause-own
+returns-in-Err-clause-own g c = relabels_own (quiet_own c.args.id c.sight.ensures.makes)
+
+pub returns-in-Ok-By-clause-own : goal.returns-in-Ok-By-clause-own
+returns-in-Ok-By-clause-own g c = own_after (quiet_own c.args.id c.sight.ensures.makes) (wrote_own c.mark_permanent.ensures.wrote.makes c.mark_permanent.ensures.own)

@@ -8,6 +8,8 @@ use Rattle.pilot_engine.proofs.CallLemmas.{immutable_done, immutable_passed, imm
 use Rattle.pilot_engine.proofs.RefusalLemmas.{immutable_gone, immutable_free, no_file_missing}
 use Rattle.running_words.proofs.SessionLemmas.{session_books}
 use Rattle.running_words.proofs.StageLemmas.{no_step}
+use Rattle.label_calls.specs.OwnLaws.{relabels_own, quiet_own}
+use Rattle.file_manager.proofs.OwnSteps.{marked_own, own_after}
 use Rattle.pilot_engine.proofs.session.SessionOver.mark_immutable.Goals as goal
 
 pub returns-in-Ok-None-clause-carried : goal.returns-in-Ok-None-clause-carried
@@ -65,3 +67,15 @@ returns-in-Err-make_immutable-clause-passes g c = λ spaces_of m s named unwritt
     let broken = c.in-Err-make_immutable.ensures.broken s.stands.memory (shapes_of m.files) m.spaces _ (books_at _ _ _ _ _ _ _ _ mid c.attributes_of.ensures.layout) told in
     immutable_broken spaces_of _ _ _ _ _ _ _ _ c.args.self.now.volume m s c.attributes_of.ensures.makes c.attributes_of.ensures.brings mid c.attributes_of.ensures.layout _ _ c.args.self.now.core.filer.runs c.args.self.now.volume refl c.args.id _ told (let f = file_told m c.args.id _ told in immutable_free m c.args.id f.0 f.1 named unwritten)
     (g.met.D.Disk.in_form c.args.self.now.core.filer.swapper.under) broken
+
+pub returns-in-Ok-None-clause-own : goal.returns-in-Ok-None-clause-own
+returns-in-Ok-None-clause-own g c = relabels_own (quiet_own c.args.id c.attributes_of.ensures.makes)
+
+pub returns-in-Err-clause-own : goal.returns-in-Err-clause-own
+returns-in-Err-clause-own g c = relabels_own (quiet_own c.args.id c.attributes_of.ensures.makes)
+
+pub returns-in-Ok-clause-own : goal.returns-in-Ok-clause-own
+returns-in-Ok-clause-own g c = own_after (quiet_own c.args.id c.attributes_of.ensures.makes) (marked_own Immutable c.make_immutable.ensures.makes c.make_immutable.ensures.own)
+
+pub returns-in-Err-make_immutable-clause-own : goal.returns-in-Err-make_immutable-clause-own
+returns-in-Err-make_immutable-clause-own g c = own_after (quiet_own c.args.id c.attributes_of.ensures.makes) (marked_own Immutable c.make_immutable.ensures.makes c.make_immutable.ensures.own)

@@ -8,6 +8,8 @@ use Rattle.pilot_engine.proofs.CallLemmas.{permanent_done, permanent_passed, per
 use Rattle.pilot_engine.proofs.RefusalLemmas.{permanent_gone, permanent_free, no_file_missing}
 use Rattle.running_words.proofs.SessionLemmas.{session_books}
 use Rattle.running_words.proofs.StageLemmas.{no_step}
+use Rattle.label_calls.specs.OwnLaws.{relabels_own, quiet_own}
+use Rattle.file_manager.proofs.OwnSteps.{marked_own, own_after}
 use Rattle.pilot_engine.proofs.session.SessionOver.mark_permanent.Goals as goal
 
 pub returns-in-Ok-None-clause-carried : goal.returns-in-Ok-None-clause-carried
@@ -65,3 +67,15 @@ returns-in-Err-make_permanent-clause-passes g c = λ spaces_of m s named.
     let broken = c.in-Err-make_permanent.ensures.broken s.stands.memory (shapes_of m.files) m.spaces _ (books_at _ _ _ _ _ _ _ _ mid c.attributes_of.ensures.layout) told in
     permanent_broken spaces_of _ _ _ _ _ _ _ _ c.args.self.now.volume m s c.attributes_of.ensures.makes c.attributes_of.ensures.brings mid c.attributes_of.ensures.layout _ _ c.args.self.now.core.filer.runs c.args.self.now.volume refl c.args.id _ told (let f = file_told m c.args.id _ told in permanent_free m c.args.id f.0 f.1 named)
     (g.met.D.Disk.in_form c.args.self.now.core.filer.swapper.under) broken
+
+pub returns-in-Ok-None-clause-own : goal.returns-in-Ok-None-clause-own
+returns-in-Ok-None-clause-own g c = relabels_own (quiet_own c.args.id c.attributes_of.ensures.makes)
+
+pub returns-in-Err-clause-own : goal.returns-in-Err-clause-own
+returns-in-Err-clause-own g c = relabels_own (quiet_own c.args.id c.attributes_of.ensures.makes)
+
+pub returns-in-Ok-clause-own : goal.returns-in-Ok-clause-own
+returns-in-Ok-clause-own g c = own_after (quiet_own c.args.id c.attributes_of.ensures.makes) (marked_own Permanent c.make_permanent.ensures.makes c.make_permanent.ensures.own)
+
+pub returns-in-Err-make_permanent-clause-own : goal.returns-in-Err-make_permanent-clause-own
+returns-in-Err-make_permanent-clause-own g c = own_after (quiet_own c.args.id c.attributes_of.ensures.makes) (marked_own Permanent c.make_permanent.ensures.makes c.make_permanent.ensures.own)

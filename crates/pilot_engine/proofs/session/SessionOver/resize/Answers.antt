@@ -1,4 +1,4 @@
-use Rattle.std.proofs.Common.{Option, sym, ◌∙◌, subst, arith}
+use Rattle.std.proofs.Common.{Option, refl, sym, ◌∙◌, subst, arith}
 use Rattle.flat_machine.specs.declared.call.Call.TheVariants as call
 use Rattle.flat_machine.specs.declared.call.Refusal.TheVariants as why
 use Rattle.swapper_kernel.specs.GoesLaws.{makes_nothing}
@@ -14,6 +14,8 @@ use Rattle.running_words.proofs.SessionLemmas.{session_books}
 use Rattle.pilot_engine.proofs.SetSizeLemmas.{within_room, never_file, immutable_refused, cut_held, cut_refused, full_refused, size_sound, size_done, size_passed, size_broken, resized_wrote, some_resized_wrote}
 use Rattle.running_words.proofs.StageLemmas.{no_step}
 use Rattle.pilot_engine.proofs.WroteLemmas.{wrote_nothing}
+use Rattle.label_calls.specs.OwnLaws.{relabels_own, quiet_own, same_own}
+use Rattle.file_manager.proofs.OwnSteps.{resized_own, resizing_own, own_after}
 use Rattle.pilot_engine.proofs.session.SessionOver.resize.Goals as goal
 
 pub returns-then-not-may_be_file-clause-carried : goal.returns-then-not-may_be_file-clause-carried
@@ -150,3 +152,27 @@ returns-in-Some-clause-passes g c = λ spaces_of m s by. no_step spaces_of _ _ _
 
 pub returns-in-Some-clause-bounded : goal.returns-in-Some-clause-bounded
 returns-in-Some-clause-bounded g c = λ spaces_of m s. inside_layout c.args.self.now.core.filer.swapper.layout (g.D.Disk.state c.args.self.now.core.filer.swapper.under) (g.D.Disk.state c.attributes_of.new.filer.swapper.under) c.requires.size (inside _ _ _ 29 (omega arith) c.attributes_of.ensures.cost)
+
+pub returns-then-not-may_be_file-clause-own : goal.returns-then-not-may_be_file-clause-own
+returns-then-not-may_be_file-clause-own g c = relabels_own (same_own c.args.id (record { contents = refl; writes = refl }))
+
+pub returns-in-Ok-None-clause-own : goal.returns-in-Ok-None-clause-own
+returns-in-Ok-None-clause-own g c = relabels_own (quiet_own c.args.id c.attributes_of.ensures.makes)
+
+pub returns-in-Err-clause-own : goal.returns-in-Err-clause-own
+returns-in-Err-clause-own g c = relabels_own (quiet_own c.args.id c.attributes_of.ensures.makes)
+
+pub returns-then-found-clause-own : goal.returns-then-found-clause-own
+returns-then-found-clause-own g c = relabels_own (quiet_own c.args.id c.attributes_of.ensures.makes)
+
+pub returns-in-Some-clause-own : goal.returns-in-Some-clause-own
+returns-in-Some-clause-own g c = relabels_own (quiet_own c.args.id c.attributes_of.ensures.makes)
+
+pub returns-then-not-has_room-clause-own : goal.returns-then-not-has_room-clause-own
+returns-then-not-has_room-clause-own g c = relabels_own (quiet_own c.args.id c.attributes_of.ensures.makes)
+
+pub returns-in-Ok-clause-own : goal.returns-in-Ok-clause-own
+returns-in-Ok-clause-own g c = own_after (quiet_own c.args.id c.attributes_of.ensures.makes) (resized_own c.in-Ok.ensures.makes c.in-Ok.ensures.own)
+
+pub returns-in-Err-set_size-clause-own : goal.returns-in-Err-set_size-clause-own
+returns-in-Err-set_size-clause-own g c = own_after (quiet_own c.args.id c.attributes_of.ensures.makes) (resizing_own c.args.pages c.in-Err-set_size.ensures.stopped c.in-Err-set_size.ensures.own)

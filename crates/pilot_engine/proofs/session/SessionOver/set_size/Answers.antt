@@ -9,6 +9,8 @@ use Rattle.pilot_engine.proofs.LiftLemmas.{asked_passes, carried_out, refused_ru
 use Rattle.pilot_engine.proofs.PassThen.{asked_then}
 use Rattle.pilot_engine.proofs.WroteLemmas.{rose_behind, wrote_by, wrote_then}
 use Rattle.pilot_engine.proofs.RefusalLemmas.{no_file_hidden, size_gone}
+use Rattle.label_calls.specs.OwnLaws.{relabels_own, quiet_own, wrote_own}
+use Rattle.file_manager.proofs.OwnSteps.{own_after}
 use Rattle.pilot_engine.proofs.session.SessionOver.set_size.Goals as goal
 
 pub returns-in-Ok-Hidden-clause-carried : goal.returns-in-Ok-Hidden-clause-carried
@@ -65,3 +67,12 @@ pub returns-in-Ok-By-clause-cost : goal.returns-in-Ok-By-clause-cost
 returns-in-Ok-By-clause-cost g c = λ m r.
     let now = c.sight.ensures.runs m r in
     spent_besides (g.D.Disk.state c.args.self.now.core.filer.swapper.under) (g.D.Disk.state c.sight.new.self.core.filer.swapper.under) (g.D.Disk.state c.resize.new.self.core.filer.swapper.under) c.sight.ensures.makes.went.sectors (let few = c.sight.ensures.cost in omega (arith, few)) (c.resize.ensures.bounded _ m now.session)
+
+pub returns-in-Ok-Hidden-clause-own : goal.returns-in-Ok-Hidden-clause-own
+returns-in-Ok-Hidden-clause-own g c = relabels_own (quiet_own c.args.id c.sight.ensures.makes)
+
+pub returns-in-Err-clause-own : goal.returns-in-Err-clause-own
+returns-in-Err-clause-own g c = relabels_own (quiet_own c.args.id c.sight.ensures.makes)
+
+pub returns-in-Ok-By-clause-own : goal.returns-in-Ok-By-clause-own
+returns-in-Ok-By-clause-own g c = own_after (quiet_own c.args.id c.sight.ensures.makes) (wrote_own c.resize.ensures.wrote.makes c.resize.ensures.own)

@@ -35,3 +35,9 @@ returns-else-is_err-clause-forced g c = λ m told free r. c.answer-answer.ensure
 
 pub returns-else-is_err-clause-advised : goal.returns-else-is_err-clause-advised
 returns-else-is_err-clause-advised g c = λ m free r. c.answer-answer.ensures.advised m free r
+
+pub returns-then-is_err-clause-own : goal.returns-then-is_err-clause-own
+returns-then-is_err-clause-own g c = c.answer-answer.ensures.own
+
+pub returns-else-is_err-clause-own : goal.returns-else-is_err-clause-own
+returns-else-is_err-clause-own g c = c.answer-answer.ensures.own
