@@ -1,5 +1,5 @@
 -- Why a call that gives a file another size stops the session.
-use Rattle.std.proofs.Common.{◌≡◌, ◌⊎◌, inl, inr, ℕ, ◌<◌, ◌≤◌, List, sym, ◌∙◌, ap, subst}
+use Rattle.std.proofs.Common.{inl, inr, ℕ, ◌<◌, ◌≤◌, List, sym, ◌∙◌, ap, subst}
 use Rattle.labelled_disk.specs.declared.evidence.Evidence.{Evidence}
 use Rattle.labelled_disk.specs.declared.evidence.Evidence.TheVariants.{Mismatch, Malformed, Missing}
 use Rattle.labelled_disk.specs.declared.evidence.Halt.{Halt}
@@ -14,7 +14,7 @@ use Rattle.swapper_kernel.specs.Homes.{home_at}
 use Rattle.filer_kernel.specs.Causes.{MapEvidence, IsRunHome}
 use Rattle.file_manager.specs.Causes.{LeaderEvidence}
 use Rattle.file_manager.specs.Finding.{IsNoLeader, FileHalts}
-use Rattle.file_manager.specs.Grounds.{IsUnframed, FreeEvidence, TakesOut, PutsBack, MakeEvidence, MakeHalts, ShrinkHalts, ResizeHalts}
+use Rattle.file_manager.specs.Grounds.{IsUnframed, IsBelowSize, FreeEvidence, PutsBack, MakeEvidence, MakeHalts, ShrinkHalts, ResizeHalts}
 
 module _ (layout : Layout) (kept : List Run) (id pages : ℕ) (a c : DiskState) (s u : Slots) where
   searched : (e : Evidence) → MapEvidence layout a s e → LeaderEvidence layout kept id a s e
@@ -44,10 +44,10 @@ module _ (layout : Layout) (kept : List Run) (id pages : ℕ) (a c : DiskState) 
   resize_of_make Disk is = is
   resize_of_make (Damaged e) is = inr (inl is)
 
-  fewer : (size : ℕ) (e : Evidence) → FreeEvidence (IsUnframed s id) layout kept id (λ p. (pages ≤ p) × (p < size)) a s e → FreeEvidence (IsUnframed s id) layout kept id (λ p. pages ≤ p) a s e
-  fewer size (Mismatch sector wanted found) is = is
-  fewer size (Malformed window page) is = is
-  fewer size (Missing missing page) is = (is.0, is.1.0, is.2)
+  fewer : (size : ℕ) → ((page : ℕ) → page < size → IsBelowSize layout a s id page) → (e : Evidence) → FreeEvidence (IsUnframed s id) layout kept id (λ p. (pages ≤ p) × (p < size)) a s e → FreeEvidence (IsUnframed s id) layout kept id (λ p. (pages ≤ p) × IsBelowSize layout a s id p) a s e
+  fewer size told (Mismatch sector wanted found) is = is
+  fewer size told (Malformed window page) is = is
+  fewer size told (Missing missing page) is = (is.0, (is.1.0, told page is.1.1), is.2)
 
   put_back : (e : Evidence) → PutsBack layout a s c u e → MakeEvidence layout a s c u e
   put_back (Mismatch sector wanted found) is = absurd is
@@ -55,10 +55,10 @@ module _ (layout : Layout) (kept : List Run) (id pages : ℕ) (a c : DiskState) 
   put_back (Missing missing page) is = absurd is
 
   -- where pages are freed
-  pub resize_of_shrink : (size : ℕ) (halt : Halt) → ShrinkHalts (IsUnframed s id) layout kept id pages (λ p. (pages ≤ p) × (p < size)) a s c u halt → ResizeHalts layout kept id pages a s c u halt
-  resize_of_shrink size Disk is = is
-  resize_of_shrink size (Damaged e) is = elim is [
-    | inl free ↦ inr (inr (inl (fewer size e free)))
+  pub resize_of_shrink : (size : ℕ) → ((page : ℕ) → page < size → IsBelowSize layout a s id page) → (halt : Halt) → ShrinkHalts (IsUnframed s id) layout kept id pages (λ p. (pages ≤ p) × (p < size)) a s c u halt → ResizeHalts layout kept id pages a s c u halt
+  resize_of_shrink size told Disk is = is
+  resize_of_shrink size told (Damaged e) is = elim is [
+    | inl free ↦ inr (inr (inl (fewer size told e free)))
     | inr (inl out) ↦ inr (inr (inr out))
     | inr (inr back) ↦ inr (inl (put_back e back))
   ]

@@ -149,4 +149,4 @@ ShrinkHalts given layout kept id from pages old before new after halt =
 abbrev pub ResizeHalts : Layout → List Run → ℕ → ℕ → DiskState → Slots → DiskState → Slots → Halt → Type 0
 ResizeHalts layout kept id pages old before new after halt =
     HasCause (λ evidence. LeaderEvidence layout kept id old before evidence ⊎ (MakeEvidence layout old before new after evidence
-    ⊎ (FreeEvidence (IsUnframed before id) layout kept id (λ page. pages ≤ page) old before evidence ⊎ TakesOut (IsUnframed before id) layout id pages old before evidence))) old new halt
+    ⊎ (FreeEvidence (IsUnframed before id) layout kept id (λ page. (pages ≤ page) × IsBelowSize layout old before id page) old before evidence ⊎ TakesOut (IsUnframed before id) layout id pages old before evidence))) old new halt

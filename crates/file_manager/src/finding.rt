@@ -15,6 +15,8 @@ ghost use Rattle.session_words.specs.Volume.{volume_page};
 ghost use Rattle.filer_kernel.specs.Cached.{runs_of};
 ghost use Rattle.file_manager.specs.Grounds.{KeepsMap, IsUnframed};
 ghost use Rattle.filer_kernel.specs.Evidence.{ShowsSo};
+ghost use Rattle.filer_kernel.specs.Triples.{MapIs};
+ghost use Rattle.file_map.specs.FileMap.{Triples, IsSize};
 ghost use Rattle.file_manager.specs.Finding.{IsFoundFile, FileHalts};
 ghost use Rattle.file_manager.specs.Book.{Books, BringsOwn};
 ghost use Rattle.file_manager.specs.Causes.{NamesNone};
@@ -81,6 +83,7 @@ pub(crate) fn find_file<D: Disk, A: Allocator>(
     ensures same { (x : List Sector) (shapes : Shapes) (spaces : List Space) → Books (D.state filer.old.swapper.under) filer.old.swapper.pool filer.old.swapper.layout filer.old.runs shapes spaces x
         → Books (D.state filer.new.swapper.under) filer.new.swapper.pool filer.old.swapper.layout filer.new.runs shapes spaces x }
     ensures place { IfOk result (λ found. IfSome found (λ file. (filer.old.swapper.layout.first ≤ file.sector) × (file.sector < filer.old.swapper.layout.sectors))) }
+    ensures size { (m : List Sector) (named : Triples) → Stands (D.state filer.old.swapper.under) filer.old.swapper.pool m → MapIs filer.old.swapper.layout named m → IfOk result (λ found. IfSome found (λ file. IsSize named id file.pages)) }
     ensures missing { result ≡ Ok None → NamesNone filer.old.swapper.layout (D.state filer.old.swapper.under) filer.old.swapper.pool id leader_page }
     ensures makes { Makes volume_page [] (D.state filer.old.swapper.under) filer.old.swapper.pool (D.state filer.new.swapper.under) filer.new.swapper.pool }
     ensures brings { BringsOwn filer.old.swapper.pool filer.new.swapper.pool }

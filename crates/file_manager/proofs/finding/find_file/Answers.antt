@@ -169,3 +169,10 @@ returns-in-Err-size-clause-keeps g c =
     let lay : c.leader_label.new.filer.swapper.layout ≡ layout = c.leader_label.ensures.layout ∙ c.leader_of.ensures.layout in
     let same : runs_of layout.sectors c.size.new.self.runs ≡ runs_of layout.sectors c.leader_label.new.filer.runs = ap (runs_of layout.sectors) c.size.ensures.runs in
     keeps_then keep (keeps_read (inr c.requires.client) (rw lay at c.size.ensures.beside) (rw lay at c.size.ensures.same_bytes) (λ r one. inl (subst (IsOneOf r) same one)))
+
+pub returns-in-Ok-size-clause-size : goal.returns-in-Ok-size-clause-size
+returns-in-Ok-size-clause-size g c = λ m named stands map.
+    let layout = c.args.filer.now.swapper.layout in
+    let lay : c.leader_label.new.filer.swapper.layout ≡ layout = c.leader_label.ensures.layout ∙ c.leader_of.ensures.layout in
+    let now = read_bytes c.leader_of.ensures.beside c.leader_label.ensures.same c.leader_label.ensures.makes c.leader_label.ensures.frames c.leader_of.ensures.same_bytes map.bytes (record { memory = m; stands = stands; shows = map.shows; size = c.requires.size }) in
+    (rw lay at c.in-Ok-size.ensures.size) now.memory named now.stands (record { bytes = map.bytes; shows = now.shows; names = map.names })

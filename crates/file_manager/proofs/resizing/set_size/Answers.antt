@@ -1,7 +1,9 @@
-use Rattle.std.proofs.Common.{◌≡◌, inr, ℕ, ◌+◌, ◌-◌, ◌*◌, ◌<◌, ◌≤◌, sym, ◌∙◌, ap, subst, arith, rules, inl, refl}
+use Rattle.std.proofs.Common.{◌≡◌, inr, ℕ, List, Option, ◌+◌, ◌-◌, ◌*◌, ◌<◌, ◌≤◌, sym, ◌∙◌, ap, subst, arith, rules, inl, refl}
+use Rattle.std.specs.Prelude.{IfSome}
 use Rattle.std.proofs.lemmas.Option.{none-some}
-use Rattle.file_map.specs.FileMap.{most_records}
-use Rattle.swapper_kernel.specs.Stands.{labels_of}
+use Rattle.labelled_disk.specs.Sectors.{Sector}
+use Rattle.file_map.specs.FileMap.{Triples, IsSize, most_records}
+use Rattle.swapper_kernel.specs.Stands.{Stands, labels_of}
 use Rattle.session_words.specs.Parts.{Shape}
 use Rattle.file_manager.specs.Finding.{IsFoundFile, shape_of_leader}
 use Rattle.file_manager.proofs.CountedLemmas.{of_answer, rose_after}
@@ -14,6 +16,8 @@ use Rattle.file_manager.proofs.CutCauses.{shrink_halts_behind}
 use Rattle.filer_kernel.specs.Cached.{runs_of}
 use Rattle.label_calls.specs.OwnLaws.{relabels_own, quiet_own}
 use Rattle.file_manager.proofs.OwnSteps.{grown_own, grew_own, freed_own, some_own, own_after}
+use Rattle.filer_kernel.specs.Triples.{MapIs}
+use Rattle.file_manager.specs.declared.finding.FoundFile.{FoundFile}
 use Rattle.file_manager.proofs.resizing.set_size.Goals as goal
 
 pub find_file-requires-clause-client : goal.find_file-requires-clause-client
@@ -317,7 +321,8 @@ returns-in-Err-shrink-clause-cause g c =
     let pool = c.args.filer.now.swapper.pool in
     let kept = runs_of layout.sectors c.args.filer.now.runs in
     let pages = λ (p : ℕ). (c.args.pages ≤ p) × (p < c.in-Ok-Some.file.pages) in
-    resize_of_shrink layout kept c.args.id c.args.pages old (g.D.Disk.state c.shrink.new.filer.swapper.under) pool c.shrink.new.filer.swapper.pool c.in-Ok-Some.file.pages c.in-Err-shrink.halt
+    let sized = λ (m : List Sector) (named : Triples) (stands : Stands old pool m) (map : MapIs layout named m). subst (λ (o : Option FoundFile). IfSome o (λ file. IsSize named c.args.id file.pages)) c.in-Ok-Some.field-0-is (c.in-Ok-Some.ensures.size m named stands map) in
+    resize_of_shrink layout kept c.args.id c.args.pages old (g.D.Disk.state c.shrink.new.filer.swapper.under) pool c.shrink.new.filer.swapper.pool c.in-Ok-Some.file.pages (λ p below m named stands map. (c.in-Ok-Some.file.pages, sized m named stands map, below)) c.in-Err-shrink.halt
     (shrink_halts_behind c.find_file.ensures.keeps c.find_file.ensures.makes c.requires.sectors c.args.pages pages pages (λ p own. own) (g.D.Disk.state c.shrink.new.filer.swapper.under) c.shrink.new.filer.swapper.pool c.in-Err-shrink.halt (rw c.find_file.ensures.layout at c.in-Err-shrink.ensures.cause))
 
 pub returns-in-Ok-None-clause-own : goal.returns-in-Ok-None-clause-own
