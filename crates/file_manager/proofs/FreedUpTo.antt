@@ -70,6 +70,8 @@ to_then {id = id} {from = from} {end = end} {page = page} {pages = pages} {d0 = 
 
     → IsFreedTo id from end (page + pages) d0 s0 layout kept e t last more
 to_then {id = id} {from = from} {end = end} {page = page} {pages = pages} {d0 = d0} {d = d} {e = e} {s0 = s0} {s = s} {t = t} {layout = layout} {later = later} {last = last} {kept = kept} {runs = runs} {more = more} h under some same cost makes keeps told =
+
+to_then {id = id} {from = from} {end = end} {page = page} {pages = pages} {d0 = d0} {d = d} {e = e} {s0 = s0} {s = s} {t = t} {layout = layout} {later = later} {last = last} {kept = kept} {runs = runs} {more = more} h under some same cost makes keeps told own =
     let few = some.1 in
     let whole : page + (end - page) ≡ end = omega (arith, under) in
     let above = h.above in

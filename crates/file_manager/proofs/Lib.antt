@@ -45,3 +45,4 @@ pub mod CutCauses
 pub mod MakeStops
 pub mod ResizeStops
 pub mod Forgotten
+pub mod OwnSteps

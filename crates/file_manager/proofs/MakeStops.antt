@@ -1,11 +1,12 @@
 -- Why calls that make pages stop the session, behind others.
-use Rattle.std.proofs.Common.{◌≡◌, inl, inr, ℕ, ◌+◌, ◌≤◌, List, [], ◌++◌, sym, ap, subst, arith}
+use Rattle.std.proofs.Common.{◌≡◌, inl, inr, ℕ, ◌+◌, ◌≤◌, List, [], ◌++◌, sym, ap, subst, arith, ◌<◌, false}
 use Rattle.labelled_disk.specs.declared.disk.DiskWrite.{DiskWrite}
 use Rattle.labelled_disk.specs.declared.evidence.Evidence.{Evidence}
 use Rattle.labelled_disk.specs.declared.evidence.Evidence.TheVariants.{Mismatch, Malformed, Missing}
 use Rattle.labelled_disk.specs.declared.evidence.Halt.{Halt}
 use Rattle.labelled_disk.specs.declared.evidence.Halt.TheVariants.{Disk, Damaged}
 use Rattle.labelled_disk.specs.declared.layout.Layout.{Layout}
+use Rattle.labelled_disk.specs.Sectors.{Sector}
 use Rattle.labelled_disk.specs.State.{DiskState}
 use Rattle.frame_pool.specs.Frames.{Slots}
 use Rattle.swapper_kernel.specs.declared.manager.Manager.{Manager}
@@ -16,11 +17,13 @@ use Rattle.swapper_kernel.specs.HaltLaws.{brings_itself, brings_then, brings_wid
 use Rattle.swapper_kernel.specs.Halts.{HasCause, IsMismatch, Halts, held_or}
 use Rattle.swapper_kernel.specs.Homes.{Brings, home_at}
 use Rattle.swapper_kernel.specs.Maps.{IsMapHome}
+use Rattle.swapper_kernel.specs.Stands.{Stands}
 use Rattle.swapper_kernel.specs.Window.{Beside}
 use Rattle.label_calls.specs.Runs.{IsOneTaken}
 use Rattle.filer_kernel.specs.Causes.{AddEvidence, AddHalts, CutEvidence, CutHalts}
+use Rattle.filer_kernel.specs.Marks.{Marks, BitsAre, AreAll}
 use Rattle.session_words.specs.Volume.{volume_page}
-use Rattle.file_manager.specs.Grounds.{IsMapsHome, HeldOnce, IsBrokenOrFull, HasNoRoom, MakeEvidence, MakeHalts}
+use Rattle.file_manager.specs.Grounds.{IsMapsHome, WasClear, HeldOnce, IsBrokenOrFull, HasNoRoom, MakeEvidence, MakeHalts}
 use Rattle.file_manager.proofs.FreedRun.{map_makes}
 
 -- a call on a map brings pages of maps
@@ -45,10 +48,14 @@ module _ {layout : Layout} {run : List DiskWrite} {a b : DiskState} {s t : Slots
   once_before : (which : Manager) (P : DiskState → Slots → Type 0) → HeldOnce which layout P b t c u → HeldOnce which layout P a s c u
   once_before which P h = record { disk = h.disk; slots = h.slots; run = run ++ h.run; since = makes_then makes h.since; come = brings_then come h.come; until = h.until; held = h.held }
 
+  clear_before : (sector : ℕ) → WasClear layout b t sector → WasClear layout a s sector
+  clear_before sector h = record { disk = h.disk; slots = h.slots; run = run ++ h.run; since = makes_then makes h.since; come = brings_then come h.come; clear = h.clear }
+
   evidence_before : (e : Evidence) → MakeEvidence layout b t c u e → MakeEvidence layout a s c u e
   evidence_before (Mismatch sector wanted found) is = elim is [
     | inl held ↦ elim (come.homes (home_at sector wanted) held) [ inl was ↦ inl was | inr own ↦ inr (inl own) ]
-    | inr ground ↦ inr ground
+    | inr (inl own) ↦ inr (inl own)
+    | inr (inr free) ↦ inr (inr (record { free = free.free; from = free.from; below = free.below; was = clear_before sector free.was }))
   ]
   evidence_before (Malformed window page) is = (is.0, once_before FileMap (IsBrokenOrFull layout page) is.1)
   evidence_before (Missing id page) is = (is.0, is.1, once_before AllocationMap (HasNoRoom layout) is.2)
@@ -69,16 +76,28 @@ pub take_halts : (layout : Layout) (a b : DiskState) (s t : Slots) (halt : Halt)
 take_halts layout a b s t Disk is = is
 take_halts layout a b s t (Damaged e) is = map_label layout AllocationMap a b s t e is
 
--- labels are written
-taken_label : (layout : Layout) (a b : DiskState) (s t : Slots) (sector count : ℕ) → layout.first ≤ sector → sector + count ≤ layout.sectors → (e : Evidence) → IsOneTaken sector count a e → MakeEvidence layout a s b t e
-taken_label layout a b s t sector count from inside (Mismatch place wanted found) (k, below, (at, nobody, has, taken)) =
-    inr (inr (record { free = ap (home_at place) nobody; from = omega (arith, from, at); below = omega (arith, inside, below, at) }))
-taken_label layout a b s t sector count from inside (Malformed window page) (k, below, is) = absurd is
-taken_label layout a b s t sector count from inside (Missing id page) (k, below, is) = absurd is
+-- sectors are taken, and labels written
+module _ {layout later : Layout} {a b : DiskState} {s t : Slots} (taken : Beside AllocationMap a s layout b t later) (sector count : ℕ) (from : layout.first ≤ sector) (inside : sector + count ≤ layout.sectors)
+    (lowest : (m : List Sector) (marks : Marks) → Stands a s m → BitsAre layout marks m → AreAll false marks sector (sector + count)) (c : DiskState) (u : Slots) where
+  was_clear : (k : ℕ) → k < count → (place : ℕ) → place ≡ sector + k → WasClear layout a s place
+  was_clear k below place at = record {
+    disk = a;
+    slots = s;
+    run = [];
+    since = makes_nothing volume_page a s;
+    come = brings_itself (IsMapsHome layout) s;
+    clear = λ m marks stands bits. lowest m marks stands bits place (omega (arith, at)) (omega (arith, at, below));
+  }
 
-pub label_halts : (layout : Layout) (a b : DiskState) (s t : Slots) (sector count : ℕ) → layout.first ≤ sector → sector + count ≤ layout.sectors → (halt : Halt) → HasCause (IsOneTaken sector count a) a b halt → MakeHalts layout a s b t halt
-label_halts layout a b s t sector count from inside Disk is = is
-label_halts layout a b s t sector count from inside (Damaged e) is = taken_label layout a b s t sector count from inside e is
+  taken_label : (e : Evidence) → IsOneTaken sector count b e → MakeEvidence layout a s c u e
+  taken_label (Mismatch place wanted found) (k, below, (at, nobody, has, other)) =
+      inr (inr (record { free = ap (home_at place) nobody; from = omega (arith, from, at); below = omega (arith, inside, below, at); was = was_clear k below place at }))
+  taken_label (Malformed window page) (k, below, is) = absurd is
+  taken_label (Missing id page) (k, below, is) = absurd is
+
+  pub label_halts : (halt : Halt) → HasCause (IsOneTaken sector count b) b c halt → MakeHalts layout a s c u halt
+  label_halts Disk is = rose_wider a.faults b.faults c.faults c.faults taken.goes.makes.went.faults (omega arith) is
+  label_halts (Damaged e) is = taken_label e is
 
 -- a run is added to the map
 added_evidence : {layout later : Layout} {a b : DiskState} {s t : Slots} → Beside FileMap a s layout b t later → (e : Evidence) → AddEvidence layout a s e → MakeEvidence layout a s b t e

@@ -1,5 +1,5 @@
 -- Why the calls that free and make pages of files stop the session: what was wanted in a sector, and what the maps said.
-use Rattle.std.specs.Prelude.{◌≡◌, ◌⊎◌, ℕ, ◌<◌, ◌≤◌, true, List}
+use Rattle.std.specs.Prelude.{◌≡◌, ◌⊎◌, ℕ, ◌<◌, ◌≤◌, true, false, List}
 use Rattle.labelled_disk.specs.declared.disk.DiskWrite.{DiskWrite}
 use Rattle.labelled_disk.specs.declared.evidence.Evidence.{Evidence}
 use Rattle.labelled_disk.specs.declared.evidence.Evidence.TheVariants.{Mismatch, Malformed, Missing}
@@ -113,16 +113,26 @@ IsBrokenOrFull layout page disk slots = IsBroken layout.sectors (MapShows layout
 abbrev pub HasNoRoom : Layout → DiskState → Slots → Type 0
 HasNoRoom layout disk slots = (m : List Sector) (marks : Marks) → Stands disk slots m → BitsAre layout marks m → AreAll true marks layout.first layout.sectors
 
--- a data sector, where nobody's page is wanted
-pub record IsToBeFree (layout : Layout) (home : Home) : Type 0 where
+-- as disk and frames were when the sector was taken, the allocation map had it as free
+pub record WasClear (layout : Layout) (old : DiskState) (before : Slots) (sector : ℕ) : Type 0 where
+  pub disk : DiskState
+  pub slots : Slots
+  pub run : List DiskWrite
+  pub since : Makes volume_page run old before disk slots
+  pub come : Brings (IsMapsHome layout) before slots
+  pub clear : (m : List Sector) (marks : Marks) → Stands disk slots m → BitsAre layout marks m → marks sector ≡ false
+
+-- a data sector, where nobody's page is wanted, since the allocation map had it as free
+pub record IsToBeFree (layout : Layout) (old : DiskState) (before : Slots) (home : Home) : Type 0 where
   pub free : home ≡ home_at home.sector nobody
   pub from : layout.first ≤ home.sector
   pub below : home.sector < layout.sectors
+  pub was : WasClear layout old before home.sector
 
 -- The evidence is a label in a home of a map or of a frame, or one of a data sector that was to be free; or a page of the
 -- map; or a page of the space tables, where no data sector is free.
 abbrev pub MakeEvidence : Layout → DiskState → Slots → DiskState → Slots → Evidence → Type 0
-MakeEvidence layout old before new after (Mismatch sector wanted found) = held_or before (λ home. IsMapsHome layout home ⊎ IsToBeFree layout home) (home_at sector wanted)
+MakeEvidence layout old before new after (Mismatch sector wanted found) = held_or before (λ home. IsMapsHome layout home ⊎ IsToBeFree layout old before home) (home_at sector wanted)
 MakeEvidence layout old before new after (Malformed window page) = (window ≡ 2) × HeldOnce FileMap layout (IsBrokenOrFull layout page) old before new after
 MakeEvidence layout old before new after (Missing id page) = (id ≡ 3) × (page ≡ 0) × HeldOnce AllocationMap layout (HasNoRoom layout) old before new after
 

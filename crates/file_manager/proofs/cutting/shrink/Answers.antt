@@ -81,3 +81,14 @@ pub returns-in-Err-cut_to-clause-cause : goal.returns-in-Err-cut_to-clause-cause
 returns-in-Err-cut_to-clause-cause g c =
     shrink_halts_behind c.in-Ok.ensures.keeps c.in-Ok.ensures.makes.makes c.requires.sectors c.args.pages (λ p. ⊥) (λ p. (c.args.pages ≤ p) × (p < c.args.size)) (λ p none. absurd none) (g.D.Disk.state c.cut_to.new.filer.swapper.under) c.cut_to.new.filer.swapper.pool c.in-Err-cut_to.halt
     (rw c.in-Ok.ensures.layout at c.in-Err-cut_to.ensures.cause)
+
+
+
+pub returns-in-Err-clause-own : goal.returns-in-Err-clause-own
+returns-in-Err-clause-own g c = c.in-Err.ensures.own
+
+pub returns-in-Err-cut_to-clause-own : goal.returns-in-Err-cut_to-clause-own
+returns-in-Err-cut_to-clause-own g c = own_after (freed_own c.in-Ok.ensures.makes c.in-Ok.ensures.own) (map_own c.args.id c.cut_to.ensures.beside)
+
+pub returns-clause-own : goal.returns-clause-own
+returns-clause-own g c = own_after (freed_own c.in-Ok.ensures.makes c.in-Ok.ensures.own) (map_own c.args.id c.cut_to.ensures.beside)

@@ -229,6 +229,7 @@ returns-in-Err-cut-clause-own g c = own_after (map_own c.args.id c.size.ensures.
 pub returns-clause-own : goal.returns-clause-own
 returns-clause-own g c = rw c.frames_of-volume.ensures.same (own_after (map_own c.args.id c.size.ensures.beside) (own_then (freed_own c.in-Ok-free_all.ensures.makes c.in-Ok-free_all.ensures.own) (map_own c.args.id c.in-Ok-cut.ensures.beside)))
 
+
 pub returns-in-Err-clause-cause : goal.returns-in-Err-clause-cause
 returns-in-Err-clause-cause g c =
     let layout = c.args.filer.now.swapper.layout in
@@ -266,3 +267,17 @@ returns-in-Err-cut-clause-cause g c =
     let lay : c.free_all.new.filer.swapper.layout ≡ layout = c.in-Ok-free_all.ensures.layout ∙ c.size.ensures.beside.layout in
     cut_halts_behind (keeps_then keep (rw c.size.ensures.beside.layout at c.in-Ok-free_all.ensures.keeps)) 0 pages (g.D.Disk.state c.cut.new.self.swapper.under) c.cut.new.self.swapper.pool c.in-Err-cut.halt
     (rw lay at c.in-Err-cut.ensures.begun) (rw lay at c.in-Err-cut.ensures.cause)
+
+
+
+pub returns-in-Err-clause-own : goal.returns-in-Err-clause-own
+returns-in-Err-clause-own g c = relabels_own (map_own c.args.id c.size.ensures.beside)
+
+pub returns-in-Err-free_all-clause-own : goal.returns-in-Err-free_all-clause-own
+returns-in-Err-free_all-clause-own g c = own_after (map_own c.args.id c.size.ensures.beside) (some_own c.in-Err-free_all.ensures.stopped c.in-Err-free_all.ensures.own)
+
+pub returns-in-Err-cut-clause-own : goal.returns-in-Err-cut-clause-own
+returns-in-Err-cut-clause-own g c = own_after (map_own c.args.id c.size.ensures.beside) (own_then (freed_own c.in-Ok-free_all.ensures.makes c.in-Ok-free_all.ensures.own) (map_own c.args.id c.in-Err-cut.ensures.beside))
+
+pub returns-clause-own : goal.returns-clause-own
+returns-clause-own g c = rw c.frames_of-volume.ensures.same (own_after (map_own c.args.id c.size.ensures.beside) (own_then (freed_own c.in-Ok-free_all.ensures.makes c.in-Ok-free_all.ensures.own) (map_own c.args.id c.in-Ok-cut.ensures.beside)))

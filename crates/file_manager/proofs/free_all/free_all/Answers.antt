@@ -72,3 +72,14 @@ returns-in-Err-free_up-clause-cause g c =
 
 pub returns-in-Ok-free_up-clause-keeps : goal.returns-in-Ok-free_up-clause-keeps
 returns-in-Ok-free_up-clause-keeps g c = keeps_then c.in-Ok.ensures.keeps (rw c.in-Ok.ensures.layout at c.in-Ok-free_up.ensures.keeps)
+
+
+
+pub returns-in-Err-clause-own : goal.returns-in-Err-clause-own
+returns-in-Err-clause-own g c = c.in-Err.ensures.own
+
+pub returns-in-Err-free_up-clause-own : goal.returns-in-Err-free_up-clause-own
+returns-in-Err-free_up-clause-own g c = own_after (freed_own c.in-Ok.ensures.makes c.in-Ok.ensures.own) (some_own c.in-Err-free_up.ensures.stopped c.in-Err-free_up.ensures.own)
+
+pub returns-in-Ok-free_up-clause-own : goal.returns-in-Ok-free_up-clause-own
+returns-in-Ok-free_up-clause-own g c = own_after (freed_own c.in-Ok.ensures.makes c.in-Ok.ensures.own) (freed_own c.in-Ok-free_up.ensures.makes c.in-Ok-free_up.ensures.own)

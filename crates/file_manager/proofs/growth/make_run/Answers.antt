@@ -166,11 +166,9 @@ returns-in-Err-add-clause-so g c = so_of_add c.add.ensures.beside.goes.makes c.i
 
 pub returns-in-Err-label_run-clause-cause : goal.returns-in-Err-label_run-clause-cause
 returns-in-Err-label_run-clause-cause g c =
-    let layout = c.args.filer.now.swapper.layout in
     let form = c.in-Ok.ensures.form in
-    let lay = c.in-Ok.ensures.kept.layout in
-    make_halts_before (map_makes c.in-Ok.ensures.kept) (maps_come c.in-Ok.ensures.kept) (g.D.Disk.state c.label_run.new.filer.swapper.under) c.label_run.new.filer.swapper.pool c.in-Err-label_run.halt
-    (label_halts layout (g.D.Disk.state c.take_run.new.filer.swapper.under) (g.D.Disk.state c.label_run.new.filer.swapper.under) c.take_run.new.filer.swapper.pool c.label_run.new.filer.swapper.pool c.in-Ok.taken.0 c.in-Ok.taken.1 form.above form.inside c.in-Err-label_run.halt c.in-Err-label_run.ensures.cause)
+    label_halts c.in-Ok.ensures.kept c.in-Ok.taken.0 c.in-Ok.taken.1 form.above form.inside (λ m marks stands bits. (c.in-Ok.ensures.lowest m marks stands bits).free) (g.D.Disk.state c.label_run.new.filer.swapper.under) c.label_run.new.filer.swapper.pool
+    c.in-Err-label_run.halt c.in-Err-label_run.ensures.cause
 
 pub returns-in-Err-add-clause-cause : goal.returns-in-Err-add-clause-cause
 returns-in-Err-add-clause-cause g c =

@@ -20,8 +20,17 @@ returns-in-Ok-clause-own g c = rw (c.swapper_over-swapper.ensures.value) at c.fr
 pub returns-in-Err-clause-own : goal.returns-in-Err-clause-own
 returns-in-Err-clause-own g c = rw (c.swapper_over-swapper.ensures.value) at c.free_pages_up.ensures.own
 
+
 pub returns-in-Err-clause-cause : goal.returns-in-Err-clause-cause
 returns-in-Err-clause-cause g c = rw c.swapper_over-swapper.ensures.value at c.in-Err.ensures.cause
 
 pub returns-in-Ok-clause-were : goal.returns-in-Ok-clause-were
 returns-in-Ok-clause-were g c = rw c.swapper_over-swapper.ensures.value at c.in-Ok.ensures.were
+
+
+
+pub returns-in-Ok-clause-own : goal.returns-in-Ok-clause-own
+returns-in-Ok-clause-own g c = rw (c.swapper_over-swapper.ensures.value) at c.free_pages_up.ensures.own
+
+pub returns-in-Err-clause-own : goal.returns-in-Err-clause-own
+returns-in-Err-clause-own g c = rw (c.swapper_over-swapper.ensures.value) at c.free_pages_up.ensures.own

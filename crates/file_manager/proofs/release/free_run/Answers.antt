@@ -129,6 +129,7 @@ returns-in-Err-give-clause-own g c = own_after (map_own c.args.id c.part_of.ensu
 pub returns-clause-own : goal.returns-clause-own
 returns-clause-own g c = own_after (map_own c.args.id c.part_of.ensures.beside) (own_then (wrote_own c.in-Ok-free_labels.ensures.freed.makes (same_id c.in-Ok.ensures.form.same_id c.in-Ok-free_labels.ensures.own)) (map_own c.args.id c.in-Ok-give.ensures.kept))
 
+
 pub returns-in-Err-free_labels-clause-cause : goal.returns-in-Err-free_labels-clause-cause
 returns-in-Err-free_labels-clause-cause g c =
     let layout = c.args.filer.now.swapper.layout in
@@ -157,3 +158,17 @@ returns-clause-keeps g c =
     let same_runs : c.give.new.self.runs ≡ c.part_of.new.filer.runs = c.in-Ok-give.ensures.runs ∙ c.in-Ok-free_labels.ensures.runs in
     subst (λ (r : CachedRuns). KeepsMap (IsUnframed pool c.args.id) layout c.args.id old pool (runs_of layout.sectors c.args.filer.now.runs) (g.D.Disk.state c.give.new.self.swapper.under) c.give.new.self.swapper.pool (runs_of layout.sectors r)) (sym same_runs)
     (run_kept c.args.filer.now.swapper.accepted c.requires.of_file c.in-Ok.run' form.form form.same_id keep (run_sectors c.in-Ok.run') (λ j k at. let r = row_has c.in-Ok.run'.sector c.in-Ok.run'.pages j k at in (j, r.0, r.1)) c.in-Ok-free_labels.ensures.freed c.in-Ok-free_labels.ensures.were (rw (frames, lay) at c.in-Ok-give.ensures.kept))
+
+
+
+pub returns-in-Err-clause-own : goal.returns-in-Err-clause-own
+returns-in-Err-clause-own g c = relabels_own (map_own c.args.id c.part_of.ensures.beside)
+
+pub returns-in-Err-free_labels-clause-own : goal.returns-in-Err-free_labels-clause-own
+returns-in-Err-free_labels-clause-own g c = own_after (map_own c.args.id c.part_of.ensures.beside) (wrote_own c.in-Err-free_labels.ensures.stopped.makes (same_id c.in-Ok.ensures.form.same_id c.in-Err-free_labels.ensures.own))
+
+pub returns-in-Err-give-clause-own : goal.returns-in-Err-give-clause-own
+returns-in-Err-give-clause-own g c = own_after (map_own c.args.id c.part_of.ensures.beside) (own_then (wrote_own c.in-Ok-free_labels.ensures.freed.makes (same_id c.in-Ok.ensures.form.same_id c.in-Ok-free_labels.ensures.own)) (map_own c.args.id c.in-Err-give.ensures.kept))
+
+pub returns-clause-own : goal.returns-clause-own
+returns-clause-own g c = own_after (map_own c.args.id c.part_of.ensures.beside) (own_then (wrote_own c.in-Ok-free_labels.ensures.freed.makes (same_id c.in-Ok.ensures.form.same_id c.in-Ok-free_labels.ensures.own)) (map_own c.args.id c.in-Ok-give.ensures.kept))

@@ -15,6 +15,8 @@ loop-page-preserved g c =
 
     down_then c.loop-page.invariant below c.in-Ok.ensures.some c.in-Ok.ensures.layout c.in-Ok.ensures.spent c.in-Ok.ensures.makes c.in-Ok.ensures.keeps c.in-Ok.ensures.freed
 
+    down_then c.loop-page.invariant below c.in-Ok.ensures.some c.in-Ok.ensures.layout c.in-Ok.ensures.spent c.in-Ok.ensures.makes c.in-Ok.ensures.keeps c.in-Ok.ensures.freed c.in-Ok.ensures.own
+
 pub returns-in-Err-clause-sound : goal.returns-in-Err-clause-sound
 returns-in-Err-clause-sound g c = λ named spaces m may.
     let rest = down_rest c.loop-page.invariant named spaces m may in
@@ -59,3 +61,11 @@ returns-in-Err-clause-cause g c =
 
 pub returns-clause-keeps : goal.returns-clause-keeps
 returns-clause-keeps g c = c.loop-page.invariant.keeps
+
+
+
+pub returns-in-Err-clause-own : goal.returns-in-Err-clause-own
+returns-in-Err-clause-own g c = own_after c.loop-page.invariant.own (some_own c.in-Err.ensures.stopped c.in-Err.ensures.own)
+
+pub returns-clause-own : goal.returns-clause-own
+returns-clause-own g c = relabels_own c.loop-page.invariant.own

@@ -99,6 +99,7 @@ returns-in-Err-cut-clause-own g c = own_after (quiet_own 3 c.forget_tables.ensur
 pub returns-clause-own : goal.returns-clause-own
 returns-clause-own g c = rw c.frames_of.ensures.same (own_after (quiet_own 3 c.forget_tables.ensures.goes.makes) (own_then (freed_own c.in-Ok.ensures.makes c.in-Ok.ensures.own) (map_own 3 c.in-Ok-cut.ensures.beside)))
 
+
 pub returns-in-Err-clause-cause : goal.returns-in-Err-clause-cause
 returns-in-Err-clause-cause g c =
     let layout = c.args.filer.now.swapper.layout in
@@ -122,3 +123,14 @@ returns-in-Err-cut-clause-cause g c =
     let lay : c.free_up.new.filer.swapper.layout ≡ layout = c.in-Ok.ensures.layout ∙ f.layout in
     cut_halts_behind (keeps_then keep (rw (f.layout, f.runs) at c.in-Ok.ensures.keeps)) 0 (λ page. page < 96) (g.D.Disk.state c.cut.new.self.swapper.under) c.cut.new.self.swapper.pool c.in-Err-cut.halt
     (rw lay at c.in-Err-cut.ensures.begun) (rw lay at c.in-Err-cut.ensures.cause)
+
+
+
+pub returns-in-Err-clause-own : goal.returns-in-Err-clause-own
+returns-in-Err-clause-own g c = own_after (quiet_own 3 c.forget_tables.ensures.goes.makes) (some_own c.in-Err.ensures.stopped c.in-Err.ensures.own)
+
+pub returns-in-Err-cut-clause-own : goal.returns-in-Err-cut-clause-own
+returns-in-Err-cut-clause-own g c = own_after (quiet_own 3 c.forget_tables.ensures.goes.makes) (own_then (freed_own c.in-Ok.ensures.makes c.in-Ok.ensures.own) (map_own 3 c.in-Err-cut.ensures.beside))
+
+pub returns-clause-own : goal.returns-clause-own
+returns-clause-own g c = rw c.frames_of.ensures.same (own_after (quiet_own 3 c.forget_tables.ensures.goes.makes) (own_then (freed_own c.in-Ok.ensures.makes c.in-Ok.ensures.own) (map_own 3 c.in-Ok-cut.ensures.beside)))
