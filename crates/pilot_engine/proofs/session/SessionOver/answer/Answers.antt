@@ -193,28 +193,28 @@ pub answer_on_spaces-requires-clause-on_spaces : goal.answer_on_spaces-requires-
 answer_on_spaces-requires-clause-on_spaces g c = on_spaces c.args.call.now c.requires.more c.in_default.not-Create c.in_default.not-Delete c.in_default.not-Attributes c.in_default.not-SetSize c.in_default.not-MakePermanent c.in_default.not-MakeImmutable c.in_default.not-Next c.in_default.not-Volume
 
 pub returns-in-Delete-clause-own : goal.returns-in-Delete-clause-own
-returns-in-Delete-clause-own g c = own_of (ap relabels c.in-Delete.is) c.delete.ensures.own
+returns-in-Delete-clause-own g c = own_of c.args.call.now (ap relabels c.in-Delete.is) c.delete.ensures.own
 
 pub returns-in-SetSize-clause-own : goal.returns-in-SetSize-clause-own
-returns-in-SetSize-clause-own g c = own_of (ap relabels c.in-SetSize.is) c.set_size.ensures.own
+returns-in-SetSize-clause-own g c = own_of c.args.call.now (ap relabels c.in-SetSize.is) c.set_size.ensures.own
 
 pub returns-in-MakePermanent-clause-own : goal.returns-in-MakePermanent-clause-own
-returns-in-MakePermanent-clause-own g c = own_of (ap relabels c.in-MakePermanent.is) c.make_permanent.ensures.own
+returns-in-MakePermanent-clause-own g c = own_of c.args.call.now (ap relabels c.in-MakePermanent.is) c.make_permanent.ensures.own
 
 pub returns-in-MakeImmutable-clause-own : goal.returns-in-MakeImmutable-clause-own
-returns-in-MakeImmutable-clause-own g c = own_of (ap relabels c.in-MakeImmutable.is) c.make_immutable.ensures.own
+returns-in-MakeImmutable-clause-own g c = own_of c.args.call.now (ap relabels c.in-MakeImmutable.is) c.make_immutable.ensures.own
 
 pub returns-in-Create-clause-own : goal.returns-in-Create-clause-own
-returns-in-Create-clause-own g c = own_none (ap relabels c.in-Create.is)
+returns-in-Create-clause-own g c = own_none c.args.call.now (ap relabels c.in-Create.is)
 
 pub returns-in-Attributes-clause-own : goal.returns-in-Attributes-clause-own
-returns-in-Attributes-clause-own g c = own_none (ap relabels c.in-Attributes.is)
+returns-in-Attributes-clause-own g c = own_none c.args.call.now (ap relabels c.in-Attributes.is)
 
 pub returns-in-Next-clause-own : goal.returns-in-Next-clause-own
-returns-in-Next-clause-own g c = own_none (ap relabels c.in-Next.is)
+returns-in-Next-clause-own g c = own_none c.args.call.now (ap relabels c.in-Next.is)
 
 pub returns-in-Volume-clause-own : goal.returns-in-Volume-clause-own
-returns-in-Volume-clause-own g c = own_none (ap relabels c.in-Volume.is)
+returns-in-Volume-clause-own g c = own_none c.args.call.now (ap relabels c.in-Volume.is)
 
 pub returns-in_default-clause-own : goal.returns-in_default-clause-own
 returns-in_default-clause-own g c = own_none (none_relabelled c.args.call.now (on_spaces c.args.call.now c.requires.more c.in_default.not-Create c.in_default.not-Delete c.in_default.not-Attributes c.in_default.not-SetSize c.in_default.not-MakePermanent c.in_default.not-MakeImmutable c.in_default.not-Next c.in_default.not-Volume))
@@ -266,3 +266,5 @@ returns-in-Next-clause-cause g c = rw c.in-Next.is (none_said c.next.result)
 
 pub returns-in-Volume-clause-cause : goal.returns-in-Volume-clause-cause
 returns-in-Volume-clause-cause g c = rw c.in-Volume.is (none_said c.volume.result)
+
+returns-in_default-clause-own g c = own_none c.args.call.now (none_relabelled c.args.call.now (on_spaces c.args.call.now c.requires.more c.in_default.not-Create c.in_default.not-Delete c.in_default.not-Attributes c.in_default.not-SetSize c.in_default.not-MakePermanent c.in_default.not-MakeImmutable c.in_default.not-Next c.in_default.not-Volume))
