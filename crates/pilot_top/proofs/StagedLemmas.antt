@@ -146,8 +146,8 @@ from_start d {a} sound told keeps = along_throughout (IsMoment (start d) []) 0 0
     }
 
 -- nothing is done
-pub from_nothing : (d : List Sector) {a : DiskState} → a.contents ≡ Some d → Sound d → Moments (start d) [] a a
-from_nothing d {a} told sound = along_none (IsMoment (start d) []) 0 0 (record { contents = refl; writes = refl }) (λ e there. subst (IsMoment (start d) [] 0 0) (same_Some d e (sym told ∙ there)) (record {
+pub from_nothing : (d : List Sector) {a : DiskState} → Sound d → a.contents ≡ Some d → Moments (start d) [] a a
+from_nothing d {a} sound told = along_none (IsMoment (start d) []) 0 0 (record { contents = refl; writes = refl }) (λ e there. subst (IsMoment (start d) [] 0 0) (same_Some d e (sym told ∙ there)) (record {
   within = omega arith;
   told = record { agrees = (start_agrees d).1; right = sound.labels };
   honest = λ set. sound;
