@@ -1,5 +1,6 @@
 //! What the definitions say, as the contracts of functions that do nothing.
 ghost use Rattle.std.specs.Prelude.{◌≡◌, ℕ, List};
+ghost use Rattle.labelled_disk.specs.Layout.{IsCount};
 ghost use Rattle.labelled_disk.specs.Right.{OnlyMaps};
 ghost use Rattle.labelled_disk.specs.Root.{LabelsRight};
 ghost use Rattle.labelled_disk.specs.Sectors.{Sector};
@@ -20,9 +21,8 @@ pub fn lost_maps_are_restored()
         → OnlyMaps e g → IsRestored g h → Sound h × TellsSettled h m }
 {}
 
-/// A trial gets one list of replies, so its line is a function of seed and number of calls on a disk of so many sectors,
-/// whatever the frames.
+/// A trial gets one list of replies, so its line is a function of seed and number of calls, whatever the frames and the sectors.
 pub fn trials_have_one_line()
-    ensures { (sectors seed calls : ℕ) (rs ss : List Reply) → IsTrial sectors seed calls rs
-        → IsTrial sectors seed calls ss → rs ≡ ss }
+    ensures { (n k seed calls : ℕ) (rs ss : List Reply) → IsCount n → IsCount k
+        → IsTrial n seed calls rs → IsTrial k seed calls ss → rs ≡ ss }
 {}

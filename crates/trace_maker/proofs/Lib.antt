@@ -1,3 +1,4 @@
 pub mod CallLemmas
 pub mod FixedLemmas
 mod KnownLemmas
+pub mod RoomLemmas

@@ -20,3 +20,11 @@ AreKnown files = AllByRecursion (λ f. AllByRecursion (AllByRecursion IsKnown) f
 abbrev pub RepliesAreFixed : Type 0
 RepliesAreFixed = (m : Machine) (seed : ℕ) (indices : List ℕ) (rs ss : List Reply) → IsMachine m → AreKnown m.files → length rs ≡ length indices → length ss ≡ length indices
     → AllowsAll m (map Some (map (call_of seed) indices)) rs → AllowsAll m (map Some (map (call_of seed) indices)) ss → rs ≡ ss
+
+-- the same machine on a volume with so many sectors for files
+abbrev pub with_room : ℕ → Machine → Machine
+with_room room m = record m { capacity = room }
+
+-- replies that are allowed are allowed on a larger or smaller volume too
+abbrev pub AllowedInAnyRoom : Type 0
+AllowedInAnyRoom = (m : Machine) (room seed : ℕ) (indices : List ℕ) (rs : List Reply) → AllowsAll m (map Some (map (call_of seed) indices)) rs → AllowsAll (with_room room m) (map Some (map (call_of seed) indices)) rs
