@@ -5,3 +5,4 @@ mod BitLemmas
 mod RecordLemmas
 mod NameLemmas
 mod FileLemmas
+mod LookLemmas

@@ -19,3 +19,6 @@ returns g c = λ named is.
     let first = c.in-Ok-find_unmapped.ensures.unmapped named (subst (λ (b : List ℕ). NamesIn c.args.layout.now.sectors b named) (sym c.in-Ok.ensures.same) is) in
     compared c.args.layout.now.sectors _ named said is c.in-Ok-find_unmapped.differences.items c.find_unlabelled.new.differences.items first
     (subst (λ (rs : List Run). AddsUnlabelled rs said c.in-Ok-find_unmapped.differences.items c.find_unlabelled.new.differences.items) (c.deref.ensures.value ∙ read) c.in_ok-find_unlabelled.ensures)
+
+pub returns-in-Err-find_unmapped : goal.returns-in-Err-find_unmapped
+returns-in-Err-find_unmapped g c = λ named is. c.in-Err-find_unmapped.ensures.unmapped named (subst (λ (b : List ℕ). NamesIn c.args.layout.now.sectors b named) (sym c.in-Ok.ensures.same) is)
