@@ -32,7 +32,7 @@ fn drawn_label(from: u64) -> (Label, u64) {
     let label = Label {
         id: FILES.get(id as usize).copied().unwrap_or(other),
         page: if page < 6 { page as u32 } else { LEADER },
-        kind: id as u16,
+        kind: (id % 9) as u16,
         flags: if flags < 5 { flags as u8 } else { 1 },
         last: u8::from(last == 0),
     };
