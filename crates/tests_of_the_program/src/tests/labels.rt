@@ -129,7 +129,7 @@ fn reports(alloc: Global, labels: &[Label]) -> Result<(String, String), Fail> {
 }
 
 // What a run is asked of a file, and what it answers: its attributes, and the first bytes of each
-// page, which a new space shows from page 8 of its place on.
+// page, which a space of its own shows, eight pages behind that of the file before.
 fn file_lines(
     alloc: Global,
     labels: &[Label],
