@@ -32,7 +32,7 @@ fn drawn_label(from: u64) -> (Label, u64) {
     let label = Label {
         id: FILES.get(id as usize).copied().unwrap_or(other),
         page: if page < 6 { page as u32 } else { LEADER },
-        kind: id as u16,
+        kind: (id % 9) as u16,
         flags: if flags < 5 { flags as u8 } else { 1 },
         last: u8::from(last == 0),
     };
@@ -129,7 +129,7 @@ fn reports(alloc: Global, labels: &[Label]) -> Result<(String, String), Fail> {
 }
 
 // What a run is asked of a file, and what it answers: its attributes, and the first bytes of each
-// page, which a new space shows from page 8 of its place on.
+// page, which a space of its own shows, eight pages behind that of the file before.
 fn file_lines(
     alloc: Global,
     labels: &[Label],
