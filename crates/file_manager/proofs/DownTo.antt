@@ -60,11 +60,6 @@ pub down_then : {id from end page pages : ℕ} {d0 d e : DiskState} {s0 s t : Sl
     → KeepsMap (IsUnframed s id) later id d s (runs_of later.sectors runs) e t (runs_of later.sectors more)
     → ((named : Triples) (spaces : List Space) (m : List Sector) → MayFree d s later runs named spaces id from page m → FreedDown later named spaces id from pages page d s e t more)
     → RelabelsOwn id d e → IsFreedDownTo id from end (page - pages) d0 s0 layout kept e t last more
-down_then {id = id} {from = from} {end = end} {page = page} {pages = pages} {d0 = d0} {d = d} {e = e} {s0 = s0} {s = s} {t = t} {layout = layout} {later = later} {last = last} {kept = kept} {runs = runs} {more = more} h under some same cost makes told own =
-
-    → IsFreedDownTo id from end (page - pages) d0 s0 layout kept e t last more
-down_then {id = id} {from = from} {end = end} {page = page} {pages = pages} {d0 = d0} {d = d} {e = e} {s0 = s0} {s = s} {t = t} {layout = layout} {later = later} {last = last} {kept = kept} {runs = runs} {more = more} h under some same cost makes keeps told =
-
 down_then {id = id} {from = from} {end = end} {page = page} {pages = pages} {d0 = d0} {d = d} {e = e} {s0 = s0} {s = s} {t = t} {layout = layout} {later = later} {last = last} {kept = kept} {runs = runs} {more = more} h under some same cost makes keeps told own =
     let few = some.1 in
     let below = h.below in

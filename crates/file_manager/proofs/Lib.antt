@@ -37,8 +37,6 @@ pub mod CutSteps
 pub mod ShrinkLemmas
 pub mod SizeSteps
 pub mod SoLemmas
-
-pub mod OwnSteps
 pub mod Keeping
 pub mod RunCauses
 pub mod CutCauses

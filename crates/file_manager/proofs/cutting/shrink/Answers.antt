@@ -2,11 +2,11 @@ use Rattle.swapper_kernel.specs.declared.manager.Manager.TheVariants.{FileMap}
 use Rattle.file_manager.proofs.CountedLemmas.{rose_after}
 use Rattle.file_manager.proofs.FreedRun.{all_stop}
 use Rattle.file_manager.proofs.ShrinkLemmas.{may_free, leader_is_alone, named_apart, shrunk_by, stopped_in, stopped_cut, makes_cut}
-use Rattle.file_manager.proofs.OwnSteps.{map_own, freed_own, own_after}
 use Rattle.file_manager.proofs.CutCauses.{shrink_of_free, shrink_halts_behind}
 use Rattle.filer_kernel.specs.Cached.{runs_of}
 use Rattle.file_manager.specs.Grounds.{IsUnframed}
 use Rattle.std.proofs.Common.{◌≤◌, ◌<◌}
+use Rattle.file_manager.proofs.OwnSteps.{map_own, freed_own, own_after}
 use Rattle.file_manager.proofs.cutting.shrink.Goals as goal
 
 pub returns-in-Err-clause-sound : goal.returns-in-Err-clause-sound
@@ -60,15 +60,6 @@ returns-clause-shrunk g c = λ x shapes spaces f may size t.
 pub returns-clause-makes : goal.returns-clause-makes
 returns-clause-makes g c = makes_cut c.in-Ok.ensures.makes c.cut_to.ensures.beside
 
-pub returns-in-Err-clause-own : goal.returns-in-Err-clause-own
-returns-in-Err-clause-own g c = c.in-Err.ensures.own
-
-pub returns-in-Err-cut_to-clause-own : goal.returns-in-Err-cut_to-clause-own
-returns-in-Err-cut_to-clause-own g c = own_after (freed_own c.in-Ok.ensures.makes c.in-Ok.ensures.own) (map_own c.args.id c.cut_to.ensures.beside)
-
-pub returns-clause-own : goal.returns-clause-own
-returns-clause-own g c = own_after (freed_own c.in-Ok.ensures.makes c.in-Ok.ensures.own) (map_own c.args.id c.cut_to.ensures.beside)
-
 pub returns-in-Err-clause-cause : goal.returns-in-Err-clause-cause
 returns-in-Err-clause-cause g c =
     let layout = c.args.filer.now.swapper.layout in
@@ -81,8 +72,6 @@ pub returns-in-Err-cut_to-clause-cause : goal.returns-in-Err-cut_to-clause-cause
 returns-in-Err-cut_to-clause-cause g c =
     shrink_halts_behind c.in-Ok.ensures.keeps c.in-Ok.ensures.makes.makes c.requires.sectors c.args.pages (λ p. ⊥) (λ p. (c.args.pages ≤ p) × (p < c.args.size)) (λ p none. absurd none) (g.D.Disk.state c.cut_to.new.filer.swapper.under) c.cut_to.new.filer.swapper.pool c.in-Err-cut_to.halt
     (rw c.in-Ok.ensures.layout at c.in-Err-cut_to.ensures.cause)
-
-
 
 pub returns-in-Err-clause-own : goal.returns-in-Err-clause-own
 returns-in-Err-clause-own g c = c.in-Err.ensures.own

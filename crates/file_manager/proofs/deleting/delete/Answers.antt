@@ -7,15 +7,14 @@ use Rattle.file_manager.proofs.FreedRun.{map_makes, map_stops}
 use Rattle.file_manager.proofs.DeletedFile.{may_free, size_is, deletes_first, deletes_all, deleted_by, delete_makes, delete_stops, free_stops, told_cost, sized_cost}
 use Rattle.file_manager.proofs.Faults.{counted, counted_then}
 use Rattle.filer_kernel.specs.EvidenceLaws.{so_of_map, so_of_cut}
-
-use Rattle.label_calls.specs.OwnLaws.{relabels_own, own_then}
-use Rattle.file_manager.proofs.OwnSteps.{map_own, freed_own, some_own, own_after}
 use Rattle.file_manager.proofs.Keeping.{keeps_none, keeps_read, keeps_then, search_halts_behind, free_halts_before}
 use Rattle.file_manager.proofs.CutCauses.{cut_of_free, cut_halts_behind}
 use Rattle.labelled_disk.specs.Label.{leader_page}
 use Rattle.filer_kernel.specs.Cached.{runs_of}
 use Rattle.filer_kernel.specs.Triples.{IsOneOf}
 use Rattle.file_manager.specs.Grounds.{IsUnframed, IsPageOf}
+use Rattle.label_calls.specs.OwnLaws.{relabels_own, own_then}
+use Rattle.file_manager.proofs.OwnSteps.{map_own, freed_own, some_own, own_after}
 use Rattle.file_manager.proofs.deleting.delete.Goals as goal
 
 pub returns-in-Err-clause-sound : goal.returns-in-Err-clause-sound
@@ -217,19 +216,6 @@ returns-in-Err-clause-so g c = so_of_map c.size.ensures.beside.goes.makes c.in-E
 pub returns-in-Err-cut-clause-so : goal.returns-in-Err-cut-clause-so
 returns-in-Err-cut-clause-so g c = so_of_cut c.cut.ensures.beside.goes.makes c.in-Err-cut.halt c.free_all.new.filer.swapper.layout c.in-Err-cut.ensures.cause
 
-pub returns-in-Err-clause-own : goal.returns-in-Err-clause-own
-returns-in-Err-clause-own g c = relabels_own (map_own c.args.id c.size.ensures.beside)
-
-pub returns-in-Err-free_all-clause-own : goal.returns-in-Err-free_all-clause-own
-returns-in-Err-free_all-clause-own g c = own_after (map_own c.args.id c.size.ensures.beside) (some_own c.in-Err-free_all.ensures.stopped c.in-Err-free_all.ensures.own)
-
-pub returns-in-Err-cut-clause-own : goal.returns-in-Err-cut-clause-own
-returns-in-Err-cut-clause-own g c = own_after (map_own c.args.id c.size.ensures.beside) (own_then (freed_own c.in-Ok-free_all.ensures.makes c.in-Ok-free_all.ensures.own) (map_own c.args.id c.in-Err-cut.ensures.beside))
-
-pub returns-clause-own : goal.returns-clause-own
-returns-clause-own g c = rw c.frames_of-volume.ensures.same (own_after (map_own c.args.id c.size.ensures.beside) (own_then (freed_own c.in-Ok-free_all.ensures.makes c.in-Ok-free_all.ensures.own) (map_own c.args.id c.in-Ok-cut.ensures.beside)))
-
-
 pub returns-in-Err-clause-cause : goal.returns-in-Err-clause-cause
 returns-in-Err-clause-cause g c =
     let layout = c.args.filer.now.swapper.layout in
@@ -267,8 +253,6 @@ returns-in-Err-cut-clause-cause g c =
     let lay : c.free_all.new.filer.swapper.layout ≡ layout = c.in-Ok-free_all.ensures.layout ∙ c.size.ensures.beside.layout in
     cut_halts_behind (keeps_then keep (rw c.size.ensures.beside.layout at c.in-Ok-free_all.ensures.keeps)) 0 pages (g.D.Disk.state c.cut.new.self.swapper.under) c.cut.new.self.swapper.pool c.in-Err-cut.halt
     (rw lay at c.in-Err-cut.ensures.begun) (rw lay at c.in-Err-cut.ensures.cause)
-
-
 
 pub returns-in-Err-clause-own : goal.returns-in-Err-clause-own
 returns-in-Err-clause-own g c = relabels_own (map_own c.args.id c.size.ensures.beside)

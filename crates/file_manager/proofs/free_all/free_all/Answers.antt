@@ -4,10 +4,10 @@ use Rattle.file_manager.proofs.FreedRun.{stops_then}
 use Rattle.file_manager.proofs.AllFreed.{may_rest, all_freed, all_made, one_page}
 use Rattle.file_manager.proofs.StoppedFree.{leader_some, pages_some}
 use Rattle.file_manager.proofs.Faults.{counted_then}
-use Rattle.file_manager.proofs.OwnSteps.{freed_own, some_own, own_after}
 use Rattle.file_manager.proofs.Keeping.{keeps_none, keeps_then, free_halts_before}
 use Rattle.filer_kernel.specs.Cached.{runs_of}
 use Rattle.file_manager.specs.Grounds.{IsUnframed}
+use Rattle.file_manager.proofs.OwnSteps.{freed_own, some_own, own_after}
 use Rattle.file_manager.proofs.free_all.free_all.Goals as goal
 
 pub returns-in-Err-clause-sound : goal.returns-in-Err-clause-sound
@@ -49,15 +49,6 @@ returns-in-Err-free_up-clause-first g c = λ named spaces m all.
 pub returns-in-Err-free_up-clause-counted : goal.returns-in-Err-free_up-clause-counted
 returns-in-Err-free_up-clause-counted g c = counted_then _ _ _ c.in-Ok.ensures.makes.makes.went.faults c.in-Err-free_up.ensures.counted
 
-pub returns-in-Err-clause-own : goal.returns-in-Err-clause-own
-returns-in-Err-clause-own g c = c.in-Err.ensures.own
-
-pub returns-in-Err-free_up-clause-own : goal.returns-in-Err-free_up-clause-own
-returns-in-Err-free_up-clause-own g c = own_after (freed_own c.in-Ok.ensures.makes c.in-Ok.ensures.own) (some_own c.in-Err-free_up.ensures.stopped c.in-Err-free_up.ensures.own)
-
-pub returns-in-Ok-free_up-clause-own : goal.returns-in-Ok-free_up-clause-own
-returns-in-Ok-free_up-clause-own g c = own_after (freed_own c.in-Ok.ensures.makes c.in-Ok.ensures.own) (freed_own c.in-Ok-free_up.ensures.makes c.in-Ok-free_up.ensures.own)
-
 pub returns-in-Err-clause-cause : goal.returns-in-Err-clause-cause
 returns-in-Err-clause-cause g c =
     let layout = c.args.filer.now.swapper.layout in
@@ -72,8 +63,6 @@ returns-in-Err-free_up-clause-cause g c =
 
 pub returns-in-Ok-free_up-clause-keeps : goal.returns-in-Ok-free_up-clause-keeps
 returns-in-Ok-free_up-clause-keeps g c = keeps_then c.in-Ok.ensures.keeps (rw c.in-Ok.ensures.layout at c.in-Ok-free_up.ensures.keeps)
-
-
 
 pub returns-in-Err-clause-own : goal.returns-in-Err-clause-own
 returns-in-Err-clause-own g c = c.in-Err.ensures.own

@@ -14,7 +14,6 @@ use Rattle.file_manager.proofs.MarkStops.{marks_first}
 use Rattle.file_manager.proofs.CauseLemmas.{search_halts, label_halts}
 use Rattle.file_manager.proofs.Faults.{counted, no_fault}
 use Rattle.file_manager.proofs.SoLemmas.{so_of_other}
-
 use Rattle.label_calls.specs.OwnLaws.{relabels_own, wrote_own, quiet_own}
 use Rattle.file_manager.proofs.OwnSteps.{leader_own, own_after}
 use Rattle.file_manager.proofs.marks.mark.Goals as goal

@@ -9,13 +9,12 @@ use Rattle.file_manager.proofs.FreedRun.{none_over, ones, labelled, named_then, 
 use Rattle.file_manager.proofs.StoppedFree.{some_none, some_labels, some_run}
 use Rattle.file_manager.proofs.Faults.{counted, counted_then}
 use Rattle.filer_kernel.specs.EvidenceLaws.{so_of_halts}
-
-use Rattle.label_calls.specs.OwnLaws.{relabels_own, wrote_own, own_then}
-use Rattle.file_manager.proofs.OwnSteps.{map_own, own_after, same_id}
 use Rattle.file_manager.proofs.RunCauses.{at_labels, at_marks, run_kept}
 use Rattle.file_manager.specs.Freeing.{run_sectors}
 use Rattle.file_manager.proofs.FreedSectors.{row_has}
 use Rattle.file_manager.specs.Grounds.{IsUnframed, KeepsMap}
+use Rattle.label_calls.specs.OwnLaws.{relabels_own, wrote_own, own_then}
+use Rattle.file_manager.proofs.OwnSteps.{map_own, own_after, same_id}
 use Rattle.file_manager.proofs.release.free_run.Goals as goal
 
 pub returns-in-Err-clause-sound : goal.returns-in-Err-clause-sound
@@ -117,19 +116,6 @@ returns-in-Err-clause-so g c = c.in-Err.ensures.so c.requires.of_file
 pub returns-in-Err-give-clause-so : goal.returns-in-Err-give-clause-so
 returns-in-Err-give-clause-so g c = so_of_halts c.in-Err-give.ensures.kept.goes.makes c.in-Err-give.halt _ c.in-Err-give.ensures.cause
 
-pub returns-in-Err-clause-own : goal.returns-in-Err-clause-own
-returns-in-Err-clause-own g c = relabels_own (map_own c.args.id c.part_of.ensures.beside)
-
-pub returns-in-Err-free_labels-clause-own : goal.returns-in-Err-free_labels-clause-own
-returns-in-Err-free_labels-clause-own g c = own_after (map_own c.args.id c.part_of.ensures.beside) (wrote_own c.in-Err-free_labels.ensures.stopped.makes (same_id c.in-Ok.ensures.form.same_id c.in-Err-free_labels.ensures.own))
-
-pub returns-in-Err-give-clause-own : goal.returns-in-Err-give-clause-own
-returns-in-Err-give-clause-own g c = own_after (map_own c.args.id c.part_of.ensures.beside) (own_then (wrote_own c.in-Ok-free_labels.ensures.freed.makes (same_id c.in-Ok.ensures.form.same_id c.in-Ok-free_labels.ensures.own)) (map_own c.args.id c.in-Err-give.ensures.kept))
-
-pub returns-clause-own : goal.returns-clause-own
-returns-clause-own g c = own_after (map_own c.args.id c.part_of.ensures.beside) (own_then (wrote_own c.in-Ok-free_labels.ensures.freed.makes (same_id c.in-Ok.ensures.form.same_id c.in-Ok-free_labels.ensures.own)) (map_own c.args.id c.in-Ok-give.ensures.kept))
-
-
 pub returns-in-Err-free_labels-clause-cause : goal.returns-in-Err-free_labels-clause-cause
 returns-in-Err-free_labels-clause-cause g c =
     let layout = c.args.filer.now.swapper.layout in
@@ -158,8 +144,6 @@ returns-clause-keeps g c =
     let same_runs : c.give.new.self.runs ≡ c.part_of.new.filer.runs = c.in-Ok-give.ensures.runs ∙ c.in-Ok-free_labels.ensures.runs in
     subst (λ (r : CachedRuns). KeepsMap (IsUnframed pool c.args.id) layout c.args.id old pool (runs_of layout.sectors c.args.filer.now.runs) (g.D.Disk.state c.give.new.self.swapper.under) c.give.new.self.swapper.pool (runs_of layout.sectors r)) (sym same_runs)
     (run_kept c.args.filer.now.swapper.accepted c.requires.of_file c.in-Ok.run' form.form form.same_id keep (run_sectors c.in-Ok.run') (λ j k at. let r = row_has c.in-Ok.run'.sector c.in-Ok.run'.pages j k at in (j, r.0, r.1)) c.in-Ok-free_labels.ensures.freed c.in-Ok-free_labels.ensures.were (rw (frames, lay) at c.in-Ok-give.ensures.kept))
-
-
 
 pub returns-in-Err-clause-own : goal.returns-in-Err-clause-own
 returns-in-Err-clause-own g c = relabels_own (map_own c.args.id c.part_of.ensures.beside)

@@ -13,10 +13,6 @@ loop-page-init g c = to_none _ _ _ _ _ _ _ c.requires.order c.requires.size
 pub loop-page-preserved : goal.loop-page-preserved
 loop-page-preserved g c =
     let below : c.loop-page.page < c.args.end = search rules in
-    to_then c.loop-page.invariant below c.in-Ok.ensures.some c.in-Ok.ensures.layout c.in-Ok.ensures.spent c.in-Ok.ensures.makes c.in-Ok.ensures.freed c.in-Ok.ensures.own
-
-    to_then c.loop-page.invariant below c.in-Ok.ensures.some c.in-Ok.ensures.layout c.in-Ok.ensures.spent c.in-Ok.ensures.makes c.in-Ok.ensures.keeps c.in-Ok.ensures.freed
-
     to_then c.loop-page.invariant below c.in-Ok.ensures.some c.in-Ok.ensures.layout c.in-Ok.ensures.spent c.in-Ok.ensures.makes c.in-Ok.ensures.keeps c.in-Ok.ensures.freed c.in-Ok.ensures.own
 
 pub returns-in-Err-clause-sound : goal.returns-in-Err-clause-sound
@@ -57,12 +53,6 @@ returns-in-Err-clause-first g c = λ named spaces m may.
 pub returns-in-Err-clause-counted : goal.returns-in-Err-clause-counted
 returns-in-Err-clause-counted g c = counted_then _ _ _ c.loop-page.invariant.makes.makes.went.faults c.in-Err.ensures.counted
 
-pub returns-in-Err-clause-own : goal.returns-in-Err-clause-own
-returns-in-Err-clause-own g c = own_after c.loop-page.invariant.own (some_own c.in-Err.ensures.stopped c.in-Err.ensures.own)
-
-pub returns-clause-own : goal.returns-clause-own
-returns-clause-own g c = relabels_own c.loop-page.invariant.own
-
 pub returns-in-Err-clause-cause : goal.returns-in-Err-clause-cause
 returns-in-Err-clause-cause g c =
     let below : c.loop-page.page < c.args.end = search rules in
@@ -70,8 +60,6 @@ returns-in-Err-clause-cause g c =
 
 pub returns-clause-keeps : goal.returns-clause-keeps
 returns-clause-keeps g c = c.loop-page.invariant.keeps
-
-
 
 pub returns-in-Err-clause-own : goal.returns-in-Err-clause-own
 returns-in-Err-clause-own g c = own_after c.loop-page.invariant.own (some_own c.in-Err.ensures.stopped c.in-Err.ensures.own)

@@ -10,12 +10,12 @@ use Rattle.file_manager.proofs.CountedLemmas.{of_answer, rose_after}
 use Rattle.file_manager.proofs.Faults.{counted, counted_then, no_fault}
 use Rattle.file_manager.proofs.NextLemmas.{file_id}
 use Rattle.file_manager.proofs.SizeSteps.{shape_is, may_grow_now, may_shrink_now, grown_told, shrunk_told, grew_told, some_told, grew_none, some_none, grown_makes, grown_stops, shrunk_makes, shrunk_stops, none_resized, room_grown, room_shrunk, grow_cost, shrink_cost}
-use Rattle.label_calls.specs.OwnLaws.{relabels_own, quiet_own}
-use Rattle.file_manager.proofs.OwnSteps.{grown_own, grew_own, freed_own, some_own, own_after}
 use Rattle.file_manager.proofs.ResizeStops.{resize_of_file, resize_of_make, resize_of_shrink}
 use Rattle.file_manager.proofs.MakeStops.{make_halts_before}
 use Rattle.file_manager.proofs.CutCauses.{shrink_halts_behind}
 use Rattle.filer_kernel.specs.Cached.{runs_of}
+use Rattle.label_calls.specs.OwnLaws.{relabels_own, quiet_own}
+use Rattle.file_manager.proofs.OwnSteps.{grown_own, grew_own, freed_own, some_own, own_after}
 use Rattle.filer_kernel.specs.Triples.{MapIs}
 use Rattle.file_manager.specs.declared.finding.FoundFile.{FoundFile}
 use Rattle.file_manager.proofs.resizing.set_size.Goals as goal
@@ -294,25 +294,6 @@ returns-in-Ok-shrink-clause-room g c = room_shrunk c.args.volume.now c.shrink.ne
 pub returns-in-Ok-None-clause-so : goal.returns-in-Ok-None-clause-so
 returns-in-Ok-None-clause-so g c = inr (file_id c.args.id c.requires.of_file)
 
-pub returns-in-Ok-None-clause-own : goal.returns-in-Ok-None-clause-own
-returns-in-Ok-None-clause-own g c = relabels_own (quiet_own c.args.id c.find_file.ensures.makes)
-
-pub returns-in-Err-clause-own : goal.returns-in-Err-clause-own
-returns-in-Err-clause-own g c = relabels_own (quiet_own c.args.id c.find_file.ensures.makes)
-
-pub returns-in-Ok-clause-own : goal.returns-in-Ok-clause-own
-returns-in-Ok-clause-own g c = own_after (quiet_own c.args.id c.find_file.ensures.makes) (grown_own c.args.id c.in-Ok.ensures.makes)
-
-pub returns-in-Err-grow-clause-own : goal.returns-in-Err-grow-clause-own
-returns-in-Err-grow-clause-own g c = own_after (quiet_own c.args.id c.find_file.ensures.makes) (grew_own c.args.id c.in-Err-grow.ensures.stopped)
-
-pub returns-in-Ok-shrink-clause-own : goal.returns-in-Ok-shrink-clause-own
-returns-in-Ok-shrink-clause-own g c = own_after (quiet_own c.args.id c.find_file.ensures.makes) (freed_own c.in-Ok-shrink.ensures.makes c.in-Ok-shrink.ensures.own)
-
-pub returns-in-Err-shrink-clause-own : goal.returns-in-Err-shrink-clause-own
-returns-in-Err-shrink-clause-own g c = own_after (quiet_own c.args.id c.find_file.ensures.makes) (some_own c.in-Err-shrink.ensures.stopped c.in-Err-shrink.ensures.own)
-
-
 pub returns-in-Err-clause-cause : goal.returns-in-Err-clause-cause
 returns-in-Err-clause-cause g c =
     let layout = c.args.filer.now.swapper.layout in
@@ -343,8 +324,6 @@ returns-in-Err-shrink-clause-cause g c =
     let sized = λ (m : List Sector) (named : Triples) (stands : Stands old pool m) (map : MapIs layout named m). subst (λ (o : Option FoundFile). IfSome o (λ file. IsSize named c.args.id file.pages)) c.in-Ok-Some.field-0-is (c.in-Ok-Some.ensures.size m named stands map) in
     resize_of_shrink layout kept c.args.id c.args.pages old (g.D.Disk.state c.shrink.new.filer.swapper.under) pool c.shrink.new.filer.swapper.pool c.in-Ok-Some.file.pages (λ p below m named stands map. (c.in-Ok-Some.file.pages, sized m named stands map, below)) c.in-Err-shrink.halt
     (shrink_halts_behind c.find_file.ensures.keeps c.find_file.ensures.makes c.requires.sectors c.args.pages pages pages (λ p own. own) (g.D.Disk.state c.shrink.new.filer.swapper.under) c.shrink.new.filer.swapper.pool c.in-Err-shrink.halt (rw c.find_file.ensures.layout at c.in-Err-shrink.ensures.cause))
-
-
 
 pub returns-in-Ok-None-clause-own : goal.returns-in-Ok-None-clause-own
 returns-in-Ok-None-clause-own g c = relabels_own (quiet_own c.args.id c.find_file.ensures.makes)

@@ -11,10 +11,6 @@ loop-page-init g c = down_none _ _ _ _ _ _ _ c.requires.order c.requires.size
 pub loop-page-preserved : goal.loop-page-preserved
 loop-page-preserved g c =
     let below : c.args.from < c.loop-page.page = search rules in
-    down_then c.loop-page.invariant below c.in-Ok.ensures.some c.in-Ok.ensures.layout c.in-Ok.ensures.spent c.in-Ok.ensures.makes c.in-Ok.ensures.freed c.in-Ok.ensures.own
-
-    down_then c.loop-page.invariant below c.in-Ok.ensures.some c.in-Ok.ensures.layout c.in-Ok.ensures.spent c.in-Ok.ensures.makes c.in-Ok.ensures.keeps c.in-Ok.ensures.freed
-
     down_then c.loop-page.invariant below c.in-Ok.ensures.some c.in-Ok.ensures.layout c.in-Ok.ensures.spent c.in-Ok.ensures.makes c.in-Ok.ensures.keeps c.in-Ok.ensures.freed c.in-Ok.ensures.own
 
 pub returns-in-Err-clause-sound : goal.returns-in-Err-clause-sound
@@ -48,12 +44,6 @@ returns-clause-cost g c =
     let all : c.loop-page.page ≡ c.args.from = search rules in
     down_spent c.loop-page.invariant all
 
-pub returns-in-Err-clause-own : goal.returns-in-Err-clause-own
-returns-in-Err-clause-own g c = own_after c.loop-page.invariant.own (some_own c.in-Err.ensures.stopped c.in-Err.ensures.own)
-
-pub returns-clause-own : goal.returns-clause-own
-returns-clause-own g c = relabels_own c.loop-page.invariant.own
-
 pub returns-in-Err-clause-cause : goal.returns-in-Err-clause-cause
 returns-in-Err-clause-cause g c =
     let below : c.args.from < c.loop-page.page = search rules in
@@ -61,8 +51,6 @@ returns-in-Err-clause-cause g c =
 
 pub returns-clause-keeps : goal.returns-clause-keeps
 returns-clause-keeps g c = c.loop-page.invariant.keeps
-
-
 
 pub returns-in-Err-clause-own : goal.returns-in-Err-clause-own
 returns-in-Err-clause-own g c = own_after c.loop-page.invariant.own (some_own c.in-Err.ensures.stopped c.in-Err.ensures.own)

@@ -10,20 +10,11 @@ returns-in-Err-clause-so g c =
     let new = g.D.Disk.state c.free_pages_down.new.swapper.under in
     so_of_others new c.args.run.sector c.args.run.pages (λ k. record { id = c.args.run.id; page = c.args.run.first + k }) (g.D.Disk.state c.args.filer.now.swapper.under) new c.in-Err.halt (rw c.swapper_over-swapper.ensures.value at c.in-Err.ensures.so)
 
-pub returns-in-Ok-clause-own : goal.returns-in-Ok-clause-own
-returns-in-Ok-clause-own g c = rw (c.swapper_over-swapper.ensures.value) at c.free_pages_down.ensures.own
-
-pub returns-in-Err-clause-own : goal.returns-in-Err-clause-own
-returns-in-Err-clause-own g c = rw (c.swapper_over-swapper.ensures.value) at c.free_pages_down.ensures.own
-
-
 pub returns-in-Err-clause-cause : goal.returns-in-Err-clause-cause
 returns-in-Err-clause-cause g c = rw c.swapper_over-swapper.ensures.value at c.in-Err.ensures.cause
 
 pub returns-in-Ok-clause-were : goal.returns-in-Ok-clause-were
 returns-in-Ok-clause-were g c = rw c.swapper_over-swapper.ensures.value at c.in-Ok.ensures.were
-
-
 
 pub returns-in-Ok-clause-own : goal.returns-in-Ok-clause-own
 returns-in-Ok-clause-own g c = rw (c.swapper_over-swapper.ensures.value) at c.free_pages_down.ensures.own

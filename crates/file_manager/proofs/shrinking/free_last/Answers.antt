@@ -8,13 +8,12 @@ use Rattle.filer_kernel.specs.PlaceLaws.{data_first}
 use Rattle.file_manager.proofs.FreedRun.{all_stop, map_stops}
 use Rattle.file_manager.proofs.DownRun.{none_over, ones, labelled, named_then, is_named, few_pages, run_freed, down_makes, down_stops, down_broken, none_broken, all_broken}
 use Rattle.filer_kernel.specs.EvidenceLaws.{so_of_halts}
-
-use Rattle.label_calls.specs.OwnLaws.{relabels_own, wrote_own, own_then}
-use Rattle.file_manager.proofs.OwnSteps.{map_own, own_after, same_id}
 use Rattle.file_manager.proofs.RunCauses.{at_labels, at_marks, run_kept}
 use Rattle.file_manager.specs.Shrinking.{run_down}
 use Rattle.file_manager.proofs.DownLemmas.{down_has}
 use Rattle.file_manager.specs.Grounds.{IsUnframed, KeepsMap}
+use Rattle.label_calls.specs.OwnLaws.{relabels_own, wrote_own, own_then}
+use Rattle.file_manager.proofs.OwnSteps.{map_own, own_after, same_id}
 use Rattle.file_manager.proofs.shrinking.free_last.Goals as goal
 
 pub returns-in-Err-clause-sound : goal.returns-in-Err-clause-sound
@@ -128,19 +127,6 @@ returns-in-Err-clause-so g c = c.in-Err.ensures.so (inr c.requires.of_file)
 pub returns-in-Err-give-clause-so : goal.returns-in-Err-give-clause-so
 returns-in-Err-give-clause-so g c = so_of_halts c.in-Err-give.ensures.kept.goes.makes c.in-Err-give.halt _ c.in-Err-give.ensures.cause
 
-pub returns-in-Err-clause-own : goal.returns-in-Err-clause-own
-returns-in-Err-clause-own g c = relabels_own (map_own c.args.id c.last_part.ensures.beside)
-
-pub returns-in-Err-free_labels_down-clause-own : goal.returns-in-Err-free_labels_down-clause-own
-returns-in-Err-free_labels_down-clause-own g c = own_after (map_own c.args.id c.last_part.ensures.beside) (wrote_own c.in-Err-free_labels_down.ensures.stopped.makes (same_id c.in-Ok.ensures.form.same_id c.in-Err-free_labels_down.ensures.own))
-
-pub returns-in-Err-give-clause-own : goal.returns-in-Err-give-clause-own
-returns-in-Err-give-clause-own g c = own_after (map_own c.args.id c.last_part.ensures.beside) (own_then (wrote_own c.in-Ok-free_labels_down.ensures.freed.makes (same_id c.in-Ok.ensures.form.same_id c.in-Ok-free_labels_down.ensures.own)) (map_own c.args.id c.in-Err-give.ensures.kept))
-
-pub returns-clause-own : goal.returns-clause-own
-returns-clause-own g c = own_after (map_own c.args.id c.last_part.ensures.beside) (own_then (wrote_own c.in-Ok-free_labels_down.ensures.freed.makes (same_id c.in-Ok.ensures.form.same_id c.in-Ok-free_labels_down.ensures.own)) (map_own c.args.id c.in-Ok-give.ensures.kept))
-
-
 pub returns-in-Err-free_labels_down-clause-cause : goal.returns-in-Err-free_labels_down-clause-cause
 returns-in-Err-free_labels_down-clause-cause g c =
     let layout = c.args.filer.now.swapper.layout in
@@ -169,8 +155,6 @@ returns-clause-keeps g c =
     let same_runs : c.give.new.self.runs ≡ c.last_part.new.filer.runs = c.in-Ok-give.ensures.runs ∙ c.in-Ok-free_labels_down.ensures.runs in
     subst (λ (r : CachedRuns). KeepsMap (IsUnframed pool c.args.id) layout c.args.id old pool (runs_of layout.sectors c.args.filer.now.runs) (g.D.Disk.state c.give.new.self.swapper.under) c.give.new.self.swapper.pool (runs_of layout.sectors r)) (sym same_runs)
     (run_kept c.args.filer.now.swapper.accepted (inr c.requires.of_file) c.in-Ok.run' form.form form.same_id keep (run_down c.in-Ok.run') (down_has c.in-Ok.run') c.in-Ok-free_labels_down.ensures.freed c.in-Ok-free_labels_down.ensures.were (rw (frames, lay) at c.in-Ok-give.ensures.kept))
-
-
 
 pub returns-in-Err-clause-own : goal.returns-in-Err-clause-own
 returns-in-Err-clause-own g c = relabels_own (map_own c.args.id c.last_part.ensures.beside)

@@ -5,14 +5,13 @@ use Rattle.file_manager.proofs.FreedRun.{all_stop}
 use Rattle.file_manager.proofs.TablesFreed.{bare, tables_all, tables_may, tables_some, tables_ended, forgot_freed, forgot_some, freed_cut}
 use Rattle.file_manager.proofs.Faults.{counted, counted_then}
 use Rattle.filer_kernel.specs.EvidenceLaws.{so_of_cut}
-
-use Rattle.label_calls.specs.OwnLaws.{own_then, quiet_own}
-use Rattle.file_manager.proofs.OwnSteps.{map_own, freed_own, some_own, own_after}
 use Rattle.file_manager.proofs.Forgotten.{keeps_forgotten}
 use Rattle.file_manager.proofs.Keeping.{keeps_then, free_halts_before}
 use Rattle.file_manager.proofs.CutCauses.{cut_of_free, cut_halts_behind}
 use Rattle.filer_kernel.specs.Cached.{runs_of}
 use Rattle.file_manager.specs.Grounds.{AreTables}
+use Rattle.label_calls.specs.OwnLaws.{own_then, quiet_own}
+use Rattle.file_manager.proofs.OwnSteps.{map_own, freed_own, some_own, own_after}
 use Rattle.file_manager.proofs.tables.free_tables.Goals as goal
 
 pub returns-in-Err-clause-sound : goal.returns-in-Err-clause-sound
@@ -90,16 +89,6 @@ returns-in-Err-cut-clause-first g c = λ x shapes spaces books.
 pub returns-in-Err-cut-clause-so : goal.returns-in-Err-cut-clause-so
 returns-in-Err-cut-clause-so g c = so_of_cut c.cut.ensures.beside.goes.makes c.in-Err-cut.halt c.free_up.new.filer.swapper.layout c.in-Err-cut.ensures.cause
 
-pub returns-in-Err-clause-own : goal.returns-in-Err-clause-own
-returns-in-Err-clause-own g c = own_after (quiet_own 3 c.forget_tables.ensures.goes.makes) (some_own c.in-Err.ensures.stopped c.in-Err.ensures.own)
-
-pub returns-in-Err-cut-clause-own : goal.returns-in-Err-cut-clause-own
-returns-in-Err-cut-clause-own g c = own_after (quiet_own 3 c.forget_tables.ensures.goes.makes) (own_then (freed_own c.in-Ok.ensures.makes c.in-Ok.ensures.own) (map_own 3 c.in-Err-cut.ensures.beside))
-
-pub returns-clause-own : goal.returns-clause-own
-returns-clause-own g c = rw c.frames_of.ensures.same (own_after (quiet_own 3 c.forget_tables.ensures.goes.makes) (own_then (freed_own c.in-Ok.ensures.makes c.in-Ok.ensures.own) (map_own 3 c.in-Ok-cut.ensures.beside)))
-
-
 pub returns-in-Err-clause-cause : goal.returns-in-Err-clause-cause
 returns-in-Err-clause-cause g c =
     let layout = c.args.filer.now.swapper.layout in
@@ -123,8 +112,6 @@ returns-in-Err-cut-clause-cause g c =
     let lay : c.free_up.new.filer.swapper.layout ≡ layout = c.in-Ok.ensures.layout ∙ f.layout in
     cut_halts_behind (keeps_then keep (rw (f.layout, f.runs) at c.in-Ok.ensures.keeps)) 0 (λ page. page < 96) (g.D.Disk.state c.cut.new.self.swapper.under) c.cut.new.self.swapper.pool c.in-Err-cut.halt
     (rw lay at c.in-Err-cut.ensures.begun) (rw lay at c.in-Err-cut.ensures.cause)
-
-
 
 pub returns-in-Err-clause-own : goal.returns-in-Err-clause-own
 returns-in-Err-clause-own g c = own_after (quiet_own 3 c.forget_tables.ensures.goes.makes) (some_own c.in-Err.ensures.stopped c.in-Err.ensures.own)
