@@ -217,7 +217,7 @@ pub returns-in-Volume-clause-own : goal.returns-in-Volume-clause-own
 returns-in-Volume-clause-own g c = own_none c.args.call.now (ap relabels c.in-Volume.is)
 
 pub returns-in_default-clause-own : goal.returns-in_default-clause-own
-returns-in_default-clause-own g c = own_none (none_relabelled c.args.call.now (on_spaces c.args.call.now c.requires.more c.in_default.not-Create c.in_default.not-Delete c.in_default.not-Attributes c.in_default.not-SetSize c.in_default.not-MakePermanent c.in_default.not-MakeImmutable c.in_default.not-Next c.in_default.not-Volume))
+returns-in_default-clause-own g c = own_none c.args.call.now (none_relabelled c.args.call.now (on_spaces c.args.call.now c.requires.more c.in_default.not-Create c.in_default.not-Delete c.in_default.not-Attributes c.in_default.not-SetSize c.in_default.not-MakePermanent c.in_default.not-MakeImmutable c.in_default.not-Next c.in_default.not-Volume))
 
 pub returns-in-Create-clause-idle : goal.returns-in-Create-clause-idle
 returns-in-Create-clause-idle g c = λ m r resident. absurd (subst (λ (x : Call). IsResident x (kept c.args.self.now.core) c.args.self.now.core.filer.swapper.pool) c.in-Create.is resident)
@@ -266,5 +266,3 @@ returns-in-Next-clause-cause g c = rw c.in-Next.is (none_said c.next.result)
 
 pub returns-in-Volume-clause-cause : goal.returns-in-Volume-clause-cause
 returns-in-Volume-clause-cause g c = rw c.in-Volume.is (none_said c.volume.result)
-
-returns-in_default-clause-own g c = own_none c.args.call.now (none_relabelled c.args.call.now (on_spaces c.args.call.now c.requires.more c.in_default.not-Create c.in_default.not-Delete c.in_default.not-Attributes c.in_default.not-SetSize c.in_default.not-MakePermanent c.in_default.not-MakeImmutable c.in_default.not-Next c.in_default.not-Volume))
