@@ -114,7 +114,7 @@ gone_evidence : (layout : Layout) (a b : DiskState) (s t : Slots) (e : Evidence)
 gone_evidence layout a b s t (Mismatch sector wanted found) is = elim is.reason [ inl held ↦ inl held | inr own ↦ inr (inl (FileMap, own)) ]
 gone_evidence layout a b s t (Malformed window page) is =
     let once = is.1 in
-    (is.0, record { disk = once.disk; slots = once.slots; run = []; since = map_makes once.since; come = maps_come once.since; until = once.until; held = inl once.broken })
+    (is.0, record { disk = once.disk; slots = once.slots; run = []; since = map_makes once.since; come = maps_come once.since; until = once.until; held = inl (inl once.broken) })
 gone_evidence layout a b s t (Missing id page) is = absurd is
 
 pub gone_halts : (layout : Layout) (a b : DiskState) (s t : Slots) (halt : Halt) → CutHalts layout a s b t halt → MakeHalts layout a s b t halt

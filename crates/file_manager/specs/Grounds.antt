@@ -22,6 +22,7 @@ use Rattle.swapper_kernel.specs.Stands.{Stands}
 use Rattle.swapper_kernel.specs.Goes.{Makes}
 use Rattle.swapper_kernel.specs.Window.{Tells, Beside}
 use Rattle.label_calls.specs.Labels.{nobody}
+use Rattle.file_map.specs.Entries.{Stops}
 use Rattle.filer_kernel.specs.Causes.{MapShows, MapCounts, IsGiven, IsRunHome}
 use Rattle.filer_kernel.specs.Marks.{Marks, BitsAre, AreAll}
 use Rattle.filer_kernel.specs.Triples.{MapIs, IsOneOf}
@@ -105,9 +106,9 @@ pub record HeldOnce (which : Manager) (layout : Layout) (P : DiskState → Slots
   pub until : Beside which disk slots layout new after layout
   pub held : P disk slots
 
--- the page of the map breaks its form, or it is page 0 and the map has as many records as it may
+-- the page of the map breaks its form, or no record can be put in there, or it is page 0 and the map has as many as it may
 abbrev pub IsBrokenOrFull : Layout → ℕ → DiskState → Slots → Type 0
-IsBrokenOrFull layout page disk slots = IsBroken layout.sectors (MapShows layout disk slots) page ⊎ ((page ≡ 0) × IsMost layout.sectors (MapCounts layout disk slots))
+IsBrokenOrFull layout page disk slots = (IsBroken layout.sectors (MapShows layout disk slots) page ⊎ MapShows layout disk slots (Stops page)) ⊎ ((page ≡ 0) × IsMost layout.sectors (MapCounts layout disk slots))
 
 -- no data sector is free
 abbrev pub HasNoRoom : Layout → DiskState → Slots → Type 0
