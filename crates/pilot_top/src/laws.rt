@@ -1,13 +1,16 @@
 //! What the definitions say, as the contracts of functions that do nothing.
-ghost use Rattle.std.specs.Prelude.{List};
+ghost use Rattle.std.specs.Prelude.{◌≡◌, ℕ, List};
+ghost use Rattle.labelled_disk.specs.Layout.{IsCount};
 ghost use Rattle.labelled_disk.specs.Right.{OnlyMaps};
 ghost use Rattle.labelled_disk.specs.Root.{LabelsRight};
 ghost use Rattle.labelled_disk.specs.Sectors.{Sector};
+ghost use Rattle.flat_machine.specs.declared.call.Reply.{Reply};
 ghost use Rattle.flat_machine.specs.Machine.{Machine};
 ghost use Rattle.session_words.specs.StandsFor.{TellsSettled};
 ghost use Rattle.volume_root.specs.Sound.{Sound};
 ghost use Rattle.scavenger.specs.Restored.{IsRestored};
 ghost use Rattle.pilot_top.specs.Scavenging.{HasFilesOf};
+ghost use Rattle.pilot_top.specs.Trial.{IsTrial};
 
 /// Whatever then stands in both maps of a volume with right labels, a restoration gives it back
 /// sound, with its files: with the machine's settled files, where a run left it.
@@ -16,4 +19,10 @@ pub fn lost_maps_are_restored()
         → HasFilesOf e h }
     ensures run { (m : Machine) (e g h : List Sector) → TellsSettled e m
         → OnlyMaps e g → IsRestored g h → Sound h × TellsSettled h m }
+{}
+
+/// A trial gets one list of replies, so its line is a function of seed and number of calls, whatever the frames and the sectors.
+pub fn trials_have_one_line()
+    ensures { (n k seed calls : ℕ) (rs ss : List Reply) → IsCount n → IsCount k
+        → IsTrial n seed calls rs → IsTrial k seed calls ss → rs ≡ ss }
 {}

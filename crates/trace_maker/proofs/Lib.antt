@@ -1,1 +1,4 @@
 pub mod CallLemmas
+pub mod FixedLemmas
+mod KnownLemmas
+pub mod RoomLemmas

@@ -1,3 +1,4 @@
 pub mod Drawn
 pub mod Calls
+pub mod Fixed
 pub mod Maker
