@@ -1,5 +1,5 @@
 //! A session is started on a volume that is made for it.
-ghost use Rattle.std.specs.Prelude.{◌≡◌, ◌⊎◌, ℕ, ◌≤◌, ◌<◌, List, [], Some, true, length, Err, IfOk, IfErr, OnOk, OnErr, MatchResult};
+ghost use Rattle.std.specs.Prelude.{◌≡◌, ℕ, ◌≤◌, ◌<◌, List, [], Some, true, length, Err, IfOk, IfErr, OnOk, OnErr, MatchResult};
 ghost use Rattle.labelled_disk.specs.declared.evidence.Halt.TheVariants as halt;
 ghost use Rattle.labelled_disk.specs.declared.layout.RootFault.TheVariants as fault;
 ghost use Rattle.labelled_disk.specs.Calls.{OnlyReads, Rose};
@@ -7,11 +7,10 @@ ghost use Rattle.labelled_disk.specs.Layout.{IsCount, capacity};
 ghost use Rattle.labelled_disk.specs.Sectors.{Sector};
 ghost use Rattle.filer_kernel.specs.Cached.{runs_of};
 ghost use Rattle.flat_machine.specs.Start.{opened};
-ghost use Rattle.volume_root.specs.Format.{formatted};
+ghost use Rattle.volume_root.specs.Format.{formatted, new_root};
 ghost use Rattle.volume_root.specs.Later.{IsLater};
-ghost use Rattle.volume_root.specs.RootPage.{IsValidRoot};
 ghost use Rattle.pilot_engine.specs.declared.fault.StartFault.TheVariants as start_fault;
-ghost use Rattle.pilot_engine.specs.Fresh.{IsFreshFault, new_root};
+ghost use Rattle.pilot_engine.specs.Fresh.{IsFreshFault};
 ghost use Rattle.pilot_engine.specs.Opening.{IsBare, IsDiskFault, IsEarly, IsOutside};
 ghost use Rattle.running_words.specs.Running.{Runs};
 ghost use Rattle.running_words.specs.Session.{IsOpen};

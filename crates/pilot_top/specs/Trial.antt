@@ -1,5 +1,5 @@
 -- A trial: drawn calls on a new volume, and what is told of their replies.
-use Rattle.std.specs.Prelude.{◌≡◌, ℕ, Bool, true, false, ◌%◌, ◌^◌, List, [], ◌∷◌, ◌++◌, codes, filter, flat_map, fold, length, map, sum_by, Option, Some, None}
+use Rattle.std.specs.Prelude.{◌≡◌, ℕ, Bool, true, false, ◌%◌, ◌^◌, List, [], ◌∷◌, ◌++◌, codes, filter, flat_map, fold, length, map, sum_by, Some, None}
 use Rattle.std.specs.Fmt.{decimal}
 use Rattle.std.specs.List.{range_with_len}
 use Rattle.labelled_disk.specs.FilesOn.{files_on}

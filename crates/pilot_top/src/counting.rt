@@ -1,7 +1,7 @@
 //! What came of drawn calls, and the line about it.
-ghost use Rattle.std.specs.Prelude.{◌≡◌, ◌<◌, ◌≤◌, ◌+◌, ◌-◌, ◌%◌, ◌^◌, ◌++◌, codes, decimal, filter, length, List, ℕ, sum_by, [], ◌∷◌};
+ghost use Rattle.std.specs.Prelude.{◌≡◌, ◌<◌, ◌≤◌, ◌+◌, ◌-◌, ◌^◌, ◌++◌, codes, decimal, length, List, sum_by, [], ◌∷◌};
 ghost use Rattle.flat_machine.specs.declared.call.Reply.{Reply};
-ghost use Rattle.pilot_top.specs.Trial.{bytes_given, is_refused, trial_line};
+ghost use Rattle.pilot_top.specs.Trial.{trial_line};
 
 use arrayvec::ArrayVec;
 use flat_machine::Reply;

@@ -1,5 +1,5 @@
 //! The calls of a trial, one after another.
-ghost use Rattle.std.specs.Prelude.{◌≡◌, ◌<◌, ◌≤◌, ◌+◌, ◌*◌, ◌^◌, ℕ, suc, false, length};
+ghost use Rattle.std.specs.Prelude.{◌≡◌, ◌<◌, ◌+◌, ◌^◌, ℕ, suc, false};
 ghost use Rattle.flat_machine.specs.Form.{IsInForm};
 ghost use Rattle.flat_machine.specs.After.{ends_trace};
 ghost use Rattle.trace_maker.specs.Drawn.{number, number_after, value_of};

@@ -1,5 +1,4 @@
-use Rattle.std.proofs.Common.{◌≡◌, ℕ, suc, ◌+◌, List, [], ◌∷◌, ◌++◌, sym, ◌∙◌, ap, subst, arith}
-use Rattle.flat_machine.specs.declared.call.Reply.{Reply}
+use Rattle.std.proofs.Common.{◌≡◌, ℕ, suc, ◌+◌, [], ◌∷◌, ◌++◌, sym, ◌∙◌, ap, subst, arith}
 use Rattle.swapper_kernel.specs.GoesLaws.{went_then}
 use Rattle.trace_maker.specs.Maker.{IsAt}
 use Rattle.running_words.specs.Running.{Runs}

@@ -1,6 +1,4 @@
-use Rattle.std.proofs.Common.{◌≡◌, ℕ, ◌+◌, List, [], ◌∷◌, ◌++◌, take, sym, ◌∙◌, ap, subst, arith}
-use Rattle.flat_machine.specs.declared.call.Call.{Call}
-use Rattle.flat_machine.specs.declared.call.Reply.{Reply}
+use Rattle.std.proofs.Common.{◌≡◌, ℕ, ◌+◌, [], ◌∷◌, ◌++◌, take, sym, ◌∙◌, ap, subst, arith}
 use Rattle.swapper_kernel.specs.GoesLaws.{went_then}
 use Rattle.running_words.specs.Running.{Runs}
 use Rattle.pilot_top.specs.Trial.{HasAnswered, after_calls, first_calls}

@@ -1,4 +1,4 @@
-use Rattle.std.proofs.Common.{◌≡◌, ◌∙◌, ap, sym, subst, []}
+use Rattle.std.proofs.Common.{◌≡◌, []}
 use Rattle.labelled_disk.specs.declared.evidence.Halt.TheVariants as halt
 use Rattle.labelled_disk.specs.Layout.{capacity}
 use Rattle.flat_machine.specs.Start.{opened}
