@@ -91,10 +91,7 @@ pub(crate) fn write_legend(
         let text_y = y.saturating_add(12);
         let count = counts[line];
         let text = text_of(line);
-        writeln!(
-            out,
-            "<text x=\"176\" y=\"{text_y}\">{text}: {count}</text>"
-        )?;
+        writeln!(out, "<text x=\"176\" y=\"{text_y}\">{text}: {count}</text>")?;
     }
     Ok(())
 }

@@ -56,10 +56,7 @@ fn write_page(out: &mut String, triple: &Triple, text: &str) -> Result<(), Alloc
     writeln!(out, "  sector {sector}: page {page} of {id:016x}, {text}")
 }
 
-fn write_differences(
-    out: &mut String,
-    differences: &[NameDifference],
-) -> Result<(), AllocError> {
+fn write_differences(out: &mut String, differences: &[NameDifference]) -> Result<(), AllocError> {
     for difference in differences.iter().take(FEW) {
         match difference {
             NameDifference::OnlyLabelled(triple) => {

@@ -6,7 +6,9 @@ use volume_view::View;
 
 /// The width of the map, and where it begins.
 const WIDTH: u64 = 768;
+
 const LEFT: u64 = 84;
+
 const TOP: u64 = 40;
 
 /// How the map is laid out: cells in rows, each of so many sectors.
@@ -172,13 +174,7 @@ fn write_lines(out: &mut String, grid: Grid, bottom: u64) -> Result<(), AllocErr
 fn write_title(out: &mut String, view: &View<Global>, each: usize) -> Result<(), AllocError> {
     let sectors = view.layout.sectors;
     let state = match &view.root {
-        Ok(root) => {
-            if root.clean {
-                "closed"
-            } else {
-                "not closed"
-            }
-        }
+        Ok(root) => { if root.clean { "closed" } else { "not closed" } }
         Err(_) => "with no valid root",
     };
     let cell = if each == 1 { "sector" } else { "sectors" };

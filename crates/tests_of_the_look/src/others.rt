@@ -17,7 +17,10 @@ pages 0 to 1 in sectors 133 to 134
 leader in sector 132
 ";
     assert_eq!(rt; text.as_str(), expected);
-    assert_eq!(rt; write_file(&mut text, &view, 0x7_0000_0009)?, FileText::NoFile);
+    assert_eq!(rt;
+        write_file(&mut text, &view, 0x7_0000_0009)?,
+        FileText::NoFile
+    );
     assert_eq!(rt; sector_of(&view.found.runs, 0x7_0000_0001, 1), Some(134));
     assert_eq!(rt; sector_of(&view.found.runs, 0x7_0000_0001, 2), None);
     Ok(())

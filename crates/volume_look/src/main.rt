@@ -62,18 +62,15 @@ fn on_disk(
 }
 
 /// Opens the image, and answers.
-fn on_image(
-    rt: &HostRuntime,
-    held: io::Result<()>,
-    path: &str,
-    request: Request<'_>,
-) -> Status {
+fn on_image(rt: &HostRuntime, held: io::Result<()>, path: &str, request: Request<'_>) -> Status {
     let opened = held.and_then(|()| OpenOptions::new().read(true).open(rt, path));
     match opened {
         Ok(file) => {
             let mut disk = ImageDisk::over(file);
             if disk.sectors() == 0 {
-                let _ = eprintln!(rt; "look: {path:?}: no image: shorter than a sector of 528 bytes");
+                let _ = eprintln!(rt;
+                    "look: {path:?}: no image: shorter than a sector of 528 bytes"
+                );
                 return Status::NoImage;
             }
             on_disk(rt, path, &mut disk, request)

@@ -1,8 +1,8 @@
 //! What is asked for, written to standard output or into a new file.
 use crate::status::Status;
 use image_disk::ImageDisk;
-use look_text::{FileText, Request, json_of, write_file, write_listing, write_page, write_picture};
 use labelled_disk::{Disk, FileId};
+use look_text::{FileText, Request, json_of, write_file, write_listing, write_page, write_picture};
 use std::alloc::{AllocError, Global};
 use std::fs::{File, OpenOptions};
 use std::io::{self, Write};
