@@ -13,6 +13,7 @@ mod rows;
 mod runs;
 mod scavenge;
 mod spaces;
+mod trial;
 mod usage;
 mod windows;
 
