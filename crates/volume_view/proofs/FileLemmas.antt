@@ -214,8 +214,8 @@ module _ (d : List Sector) (told : FilesAreAsTold false d) where
             let p = page_listed t.id 0 f is some in
             let up = upto p.0 p.1 p.2 p.3 (omega (arith, p.4)) in
             let down = sorted.up k (k + 1) last t (omega arith) before at in
-            let low_id : t.id ≤ last.id = elim up [ | inl less ↦ omega (arith, less, p.3) | inr both ↦ omega (arith, both.0, p.3) ] in
-            let high_id : last.id ≤ t.id = elim down [ | inl less ↦ omega (arith, less) | inr both ↦ omega (arith, both.0) ] in
+            let low_id : t.id ≤ last.id = elim up [ inl less ↦ omega (arith, less, p.3) | inr both ↦ omega (arith, both.0, p.3) ] in
+            let high_id : last.id ≤ t.id = elim down [ inl less ↦ omega (arith, less) | inr both ↦ omega (arith, both.0) ] in
             let same : last.id ≡ t.id = omega (arith, low_id, high_id) in
             elim (of_file k last before).kind [
               | inl lead_too ↦
@@ -265,29 +265,38 @@ module _ (d : List Sector) (told : FilesAreAsTold false d) where
                 let by_disk : slice_get labels (t.sector - n) ≡ Some l.1.0 =
                 ap (λ (m : List Label). slice_get m (t.sector - n)) are ∙ slice_get-map (λ (s : Sector). s.0) (data_sectors d) (t.sector - n) ∙ ap (λ (m : ℕ). option_map (λ (s : Sector). s.0) (slice_get (data_sectors d) (t.sector - m))) from ∙ ap (option_map (λ (s : Sector). s.0)) there in
                 let label_is : label ≡ l.1.0 = same_Some label l.1.0 (sym labelled_so ∙ by_disk) in
-                let passes : leads_file false own.f.id own.s ≡ true = subst (λ (i : ℕ). leads_file false i own.s ≡ true) (sym as_told.1) leading.0 in
-                (t, at, lead, id, record {
-                  f = own.f;
-                  there = ap (disk_file false d) id ∙ own.there;
-                  is = record {
-                    id = id ∙ sym as_told.1;
-                    pages = pages own.f own.there;
-                    kind = kind ∙ ap (λ (m : Label). m.kind) label_is ∙ sym l.3;
-                    permanent = l.4 ∙ (leads_parts own.f.id l.1 l.2.passes).1;
-                    immutable = immutable ∙ ap is_immutable label_is ∙ sym l.5;
-                    leader = (own.s, subst (λ (i : ℕ). HasData d i own.s) (sym leader) own.data_is, passes);
-                  };
-                })
+                let passes : leads_file false own.f.id own.s ≡ true = subst (λ (i : ℕ). leads_file false i own.s ≡ true) (sym as_told.1) leading.0 in (
+                  t,
+                  at,
+                  lead,
+                  id,
+                  record {
+                    f = own.f;
+                    there = ap (disk_file false d) id ∙ own.there;
+                    is = record {
+                      id = id ∙ sym as_told.1;
+                      pages = pages own.f own.there;
+                      kind = kind ∙ ap (λ (m : Label). m.kind) label_is ∙ sym l.3;
+                      permanent = l.4 ∙ (leads_parts own.f.id l.1 l.2.passes).1;
+                      immutable = immutable ∙ ap is_immutable label_is ∙ sym l.5;
+                      leader = (own.s, subst (λ (i : ℕ). HasData d i own.s) (sym leader) own.data_is, passes);
+                    };
+                  },
+                )
           ]
 
       -- the sector of a triple has a label
       pub label_there : (k : ℕ) (t : Triple) → slice_get triples k ≡ Some t → (n ≤ t.sector) × ((label : Label) × (slice_get labels (t.sector - n) ≡ Some label))
       label_there k t at =
           let own = of_file k t at in
-          let place : first + (t.sector - first) ≡ t.sector = omega (arith, own.data_is.is_data) in
-          (omega (arith, from, own.data_is.is_data), (own.s.0,
-            ap (λ (m : List Label). slice_get m (t.sector - n)) are ∙ slice_get-map (λ (s : Sector). s.0) (data_sectors d) (t.sector - n) ∙ ap (λ (m : ℕ). option_map (λ (s : Sector). s.0) (slice_get (data_sectors d) (t.sector - m))) from
-            ∙ ap (option_map (λ (s : Sector). s.0)) (dropped d first (t.sector - first) ∙ ap (slice_get d) place ∙ own.data_is.here)))
+          let place : first + (t.sector - first) ≡ t.sector = omega (arith, own.data_is.is_data) in (
+            omega (arith, from, own.data_is.is_data),
+            (
+              own.s.0,
+              ap (λ (m : List Label). slice_get m (t.sector - n)) are ∙ slice_get-map (λ (s : Sector). s.0) (data_sectors d) (t.sector - n) ∙ ap (λ (m : ℕ). option_map (λ (s : Sector). s.0) (slice_get (data_sectors d) (t.sector - m))) from
+                  ∙ ap (option_map (λ (s : Sector). s.0)) (dropped d first (t.sector - first) ∙ ap (slice_get d) place ∙ own.data_is.here),
+            ),
+          )
 
     -- ---- the lines so far
 

@@ -142,7 +142,7 @@ module _ (first : ℕ) (labels : List Label) where
         (pushed ∙ ap (λ (y : NameDifference). ds ++ y ∷ []) (is.2 ∙ ap (λ (i : ℕ). OnlyLabelled (record { id = l.id; page = l.page; sector = i })) at))
 
     pub unmapped_not : (sector : ℕ) → sector ≡ first + k → IsDifferenceAt named l sector None → IsUnmappedTo first labels (k + 1) named ds
-    unmapped_not sector at is = unmapped_same (elim is [ | inl free ↦ inl free | inr there ↦ inr (ap (named l.id l.page) (sym at) ∙ there) ])
+    unmapped_not sector at is = unmapped_same (elim is [ inl free ↦ inl free | inr there ↦ inr (ap (named l.id l.page) (sym at) ∙ there) ])
 
   pub unmapped_all : (named : Triples) (k : ℕ) (ds : List NameDifference) → length labels ≤ k → IsUnmappedTo first labels k named ds → IsUnmapped named (labelled first labels) ds
   unmapped_all named k ds all so_far = record {
@@ -274,9 +274,11 @@ both_same false false h k = refl
 pub compared : (n : ℕ) (lists : List (List ℕ) → Type 0) (named said : Triples) (is : AreNamed n lists named) (old ds : List NameDifference) → IsUnmapped named said old → AddsUnlabelled is.runs said old ds → IsComparison named said ds
 compared n lists named said is old ds first then_all = record {
   differ = differ;
-  agrees = (λ none id page sector.
-      both_same (named id page sector) (said id page sector) (λ h. then_all.covers none id page sector (sym (is.are id page sector) ∙ h)) (λ h. first.covers (then_all.before none) id page sector h),
-      λ alike. empty ds refl alike);
+  agrees = (
+    λ none id page sector.
+        both_same (named id page sector) (said id page sector) (λ h. then_all.covers none id page sector (sym (is.are id page sector) ∙ h)) (λ h. first.covers (then_all.before none) id page sector h),
+    λ alike. empty ds refl alike,
+  );
 }
   where
     differ : AllDiffer named said ds

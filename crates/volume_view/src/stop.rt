@@ -8,9 +8,7 @@ use std::alloc::AllocError;
 pub(crate) enum Stop {
     NoMemory,
     /// This page of the map breaks its form.
-    Broken {
-        page: u32,
-    },
+    Broken { page: u32 },
 }
 
 impl From<AllocError> for Stop {

@@ -15,11 +15,7 @@ use labelled_disk::{Label, Layout};
 use std::alloc::Allocator;
 
 // Whether the map names the page in this sector.
-fn is_mapped<A: Allocator>(
-    map: &mut VecMem<A>,
-    sectors: u32,
-    triple: Triple,
-) -> Result<bool, Stop>
+fn is_mapped<A: Allocator>(map: &mut VecMem<A>, sectors: u32, triple: Triple) -> Result<bool, Stop>
     requires counted { IsCount sectors }
     requires size { length (vec_mem_bytes map.old) ≡ 512 * vfm sectors }
     ensures mapped { (named : Triples) → NamesIn sectors (vec_mem_bytes map.old) named

@@ -7,10 +7,10 @@ ghost use Rattle.volume_root.specs.RootPage.{judged};
 ghost use Rattle.volume_view.specs.Pages.{IsDiskOrMemory};
 ghost use Rattle.volume_view.specs.View.{IsView};
 
+use crate::LookFault;
 use crate::bits::{BitDifference, look_at_bits};
 use crate::found::{Found, find_files};
 use crate::names::{Names, look_at_names};
-use crate::LookFault;
 use label_survey::{SurveyFault, read_labels};
 use labelled_disk::{Disk, Label, Layout};
 use std::alloc::Allocator;
@@ -131,8 +131,8 @@ pub fn look<A: Allocator + Clone, D: Disk>(alloc: A, disk: &mut D) -> Result<Vie
     ensures unwritten { OnlyReads (D.state disk.old) (D.state disk.new) }
     ensures cost { ReadsAtMost (D.state disk.old).sectors (D.state disk.old) (D.state disk.new) }
 {
-    match Layout::of(disk.sectors()) {
-        Ok(layout) => look_inside(alloc, disk, layout),
-        Err(_) => Err(LookFault::BadCount(disk.sectors())),
-    }
+    let Ok(layout) = Layout::of(disk.sectors()) else {
+        return Err(LookFault::BadCount(disk.sectors()));
+    };
+    look_inside(alloc, disk, layout)
 }

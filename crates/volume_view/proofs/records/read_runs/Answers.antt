@@ -17,7 +17,7 @@ loop-k-preserved g c =
     let form = subst (IsInForm n) c.in-Some.is c.in-Ok-next_run.ensures.form in
     let step : (runs : List Run) → AreRunsOfMap n (vec_mem_bytes c.args.map.now) runs → IsStep runs c.loop-k.k (Some c.in-Some.run') =
     λ runs is. subst (IsStep runs c.loop-k.k) c.in-Some.is
-        (c.in-Ok-next_run.ensures.next runs c.loop-k.k (subst (λ (b : List ℕ). AreRunsOfMap n b runs) (sym so_far.same) is) (so_far.last runs is) (omega (arith, c.loop-k-test.true, c.in-Ok.ensures.count runs is))) in
+    (c.in-Ok-next_run.ensures.next runs c.loop-k.k (subst (λ (b : List ℕ). AreRunsOfMap n b runs) (sym so_far.same) is) (so_far.last runs is) (omega (arith, c.loop-k-test.true, c.in-Ok.ensures.count runs is))) in
     record {
       same = c.in-Ok-next_run.ensures.same ∙ so_far.same;
       form = λ j r at. elim (in_pushed c.loop-k.runs.items c.in-Some.run' j r (ap (λ (l : List Run). slice_get l j) (sym pushed) ∙ at)) [
