@@ -1,7 +1,7 @@
 use Rattle.std.proofs.Common.{rules, ◌≡◌, inl, inr, ◌++◌, Option, Some, None, ◌∙◌, ap}
 use Rattle.pilot_top.specs.Trial.{after_calls, drawn_calls, first_calls, trial_line}
 use Rattle.pilot_top.specs.declared.status.Status.{Status}
-use Rattle.pilot_top.proofs.CloseLemmas.{damage_told, not_closed}
+use Rattle.pilot_top.proofs.CloseLemmas.{damage_line_told, not_closed}
 use Rattle.pilot_top.proofs.ExitLemmas.{halt_not_damaged, halt_not_done, halt_not_stream}
 use Rattle.pilot_top.proofs.TrialEnds.{line_told, front_told}
 use Rattle.pilot_top.proofs.trial.try_session.Goals as goal
@@ -23,7 +23,7 @@ pub returns-in-Err-clause-sound : goal.returns-in-Err-clause-sound
 returns-in-Err-clause-sound g c = λ m stands damaged. absurd (halt_not_damaged c.in-Err.halt c.stop.result c.stop.ensures.status (c.in-Err.ensures.sound m stands) damaged)
 
 pub returns-in-Err-clause-damage_line : goal.returns-in-Err-clause-damage_line
-returns-in-Err-clause-damage_line g c = λ damaged. damage_told c.in-Err.halt c.stop.result _ _ _ c.stop.ensures.status (ap (λ (s : Status). Some s) damaged) c.stop.ensures.line
+returns-in-Err-clause-damage_line g c = λ damaged. damage_line_told c.in-Err.halt c.stop.result _ _ _ c.stop.ensures.status (ap (λ (s : Status). Some s) damaged) c.stop.ensures.line
 
 -- the end of the session failed
 pub returns-in-Some-clause-line : goal.returns-in-Some-clause-line
