@@ -1,7 +1,7 @@
 //! What is asked for, written to standard output or into a new file.
 use crate::status::Status;
 use image_disk::ImageDisk;
-use labelled_disk::{Disk, FileId};
+use labelled_disk::{Disk, FileId, Page};
 use look_text::{FileText, Request, json_of, write_file, write_listing, write_page, write_picture};
 use std::alloc::{AllocError, Global};
 use std::fs::{File, OpenOptions};
@@ -71,15 +71,22 @@ fn put_picture(rt: &HostRuntime, path: &str, view: &View<Global>) -> Status {
     }
 }
 
+/// The bytes of a sector, where the disk has it.
+fn page_at<D: Disk>(disk: &mut D, sector: u32) -> Option<Result<Page, LookFault>> {
+    if sector >= disk.sectors() {
+        return None;
+    }
+    Some(read_page(disk, sector))
+}
+
 /// Writes the bytes of a page behind the text of its file.
 fn tell_page(
     rt: &HostRuntime,
     image: &str,
-    disk: &mut ImageDisk<File>,
-    sector: u32,
+    page: Result<Page, LookFault>,
     text: &mut String,
 ) -> Status {
-    match read_page(disk, sector) {
+    match page {
         Ok(page) => match write_page(text, &page) {
             Ok(()) => tell(rt, text.as_str()),
             Err(_) => no_memory(rt),
@@ -113,9 +120,13 @@ fn tell_file(
     let Some(page) = page else {
         return tell(rt, text.as_str());
     };
-    match sector_of(&view.found.runs, id, page) {
-        Some(sector) if sector < disk.sectors() => tell_page(rt, image, disk, sector, &mut text),
-        _ => {
+    let found = match sector_of(&view.found.runs, id, page) {
+        Some(sector) => page_at(disk, sector),
+        None => None,
+    };
+    match found {
+        Some(bytes) => tell_page(rt, image, bytes, &mut text),
+        None => {
             let _ = eprintln!(rt; "look: {image:?}: file {id:016x} has no page {page}");
             Status::NoFile
         }
