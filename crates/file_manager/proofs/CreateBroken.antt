@@ -4,7 +4,7 @@ use Rattle.std.specs.Prelude.{slice_set}
 use Rattle.std.proofs.lemmas.Bool.{ne_eqb}
 use Rattle.labelled_disk.specs.declared.label.Label.{Label}
 use Rattle.labelled_disk.specs.declared.layout.Layout.{Layout}
-use Rattle.labelled_disk.specs.Label.{is_free, is_file_id, leader_page}
+use Rattle.labelled_disk.specs.Label.{is_free, is_file_id, leader_page, root_label}
 use Rattle.labelled_disk.specs.Runs.{growth, page_label, AreUnused}
 use Rattle.labelled_disk.specs.Sectors.{Sector}
 use Rattle.labelled_disk.specs.State.{DiskState}
@@ -26,7 +26,7 @@ use Rattle.session_words.specs.Volume.{volume_page}
 use Rattle.session_words.proofs.FoundLemmas.{above_reserved}
 use Rattle.session_words.proofs.RootLabelLemmas.{free_then, free_before}
 use Rattle.volume_root.specs.declared.root.Root.{Root}
-use Rattle.volume_root.specs.RootPage.{root_label, root_write}
+use Rattle.volume_root.specs.RootPage.{root_write}
 use Rattle.file_manager.specs.Book.{Leads}
 use Rattle.file_manager.specs.Broken.{GrewSome}
 use Rattle.file_manager.specs.CreateBroken.{CreatedSome}

@@ -6,7 +6,7 @@ use Rattle.std.proofs.lemmas.Bool.{ne_eqb}
 use Rattle.std.proofs.lemmas.List.{length-map, map-set}
 use Rattle.labelled_disk.specs.declared.label.Label.{Label}
 use Rattle.labelled_disk.specs.declared.layout.Layout.{Layout}
-use Rattle.labelled_disk.specs.Label.{names}
+use Rattle.labelled_disk.specs.Label.{names, root_label}
 use Rattle.labelled_disk.specs.Layout.{vam}
 use Rattle.labelled_disk.specs.Sectors.{Sector, AreSectors}
 use Rattle.labelled_disk.specs.State.{DiskState}
@@ -34,7 +34,6 @@ use Rattle.session_words.proofs.BitLemmas.{bits_alike}
 use Rattle.session_words.proofs.FoundLemmas.{owner}
 use Rattle.session_words.proofs.RootLabelLemmas.{labels_then, map_labels_then, bits_then, triples_then}
 use Rattle.session_words.proofs.ShownLemmas.{shown_laws}
-use Rattle.volume_root.specs.RootPage.{root_label}
 use Rattle.file_manager.specs.Book.{Books}
 use Rattle.file_manager.specs.Making.{MayCreate, free_count}
 use Rattle.file_manager.proofs.BookLemmas.{true_by_map, known_after, kept_are}

@@ -5,7 +5,7 @@ use Rattle.std.proofs.lemmas.Option.{same_Some, none-some}
 use Rattle.std.proofs.lemmas.List.{length-map}
 use Rattle.labelled_disk.specs.declared.label.Label.{Label}
 use Rattle.labelled_disk.specs.declared.layout.Layout.{Layout}
-use Rattle.labelled_disk.specs.Label.{leader_page}
+use Rattle.labelled_disk.specs.Label.{leader_page, root_label}
 use Rattle.labelled_disk.specs.Layout.{capacity, first_data, vam}
 use Rattle.labelled_disk.specs.Moment.{written}
 use Rattle.labelled_disk.specs.Runs.{page_label}
@@ -37,7 +37,7 @@ use Rattle.session_words.specs.Parts.{Shapes, HasRoot, is_marked}
 use Rattle.session_words.specs.Volume.{volume_page}
 use Rattle.session_words.proofs.RootLabelLemmas.{free_before}
 use Rattle.volume_root.specs.declared.root.Root.{Root}
-use Rattle.volume_root.specs.RootPage.{root_label, root_bytes, root_write}
+use Rattle.volume_root.specs.RootPage.{root_bytes, root_write}
 use Rattle.file_manager.specs.Book.{Books}
 use Rattle.file_manager.specs.Creating.{next_id, counted, CreatedAs, NewMade, NewSome}
 use Rattle.file_manager.specs.Making.{LedAndGrown, CreatedBy, CreatesAll, CreatesSome}

@@ -7,7 +7,7 @@ use Rattle.std.proofs.lemmas.Bool.{and_parts, ltb-true, le-leb, ne_eqb, cases_eq
 use Rattle.std.proofs.lemmas.List.Elements.{All-nil, All-cons, All-append, All-replicate}
 use Rattle.labelled_disk.specs.declared.layout.Layout.{Layout}
 use Rattle.labelled_disk.specs.Calls.{Moves, TellsSame, TellsWrite}
-use Rattle.labelled_disk.specs.Label.{is_file_id}
+use Rattle.labelled_disk.specs.Label.{is_file_id, root_label}
 use Rattle.labelled_disk.specs.Lawful.{Lawful}
 use Rattle.labelled_disk.specs.Layout.{capacity}
 use Rattle.labelled_disk.specs.Moment.{written}
@@ -25,7 +25,7 @@ use Rattle.swapper_kernel.specs.Homes.{IsLayout, IsPlaced, ArePlaced}
 use Rattle.swapper_kernel.specs.Maps.{id_of}
 use Rattle.session_words.specs.Parts.{HasRoot}
 use Rattle.volume_root.specs.declared.root.Root.{Root}
-use Rattle.volume_root.specs.RootPage.{IsValidRoot, number_bytes, root_fields, root_bytes, root_label, root_write}
+use Rattle.volume_root.specs.RootPage.{IsValidRoot, number_bytes, root_fields, root_bytes, root_write}
 use Rattle.volume_root.proofs.WrittenLemmas.{flag_read, serial_read, counter_read, is_root}
 use Rattle.file_manager.specs.Creating.{next_id, counted}
 use Rattle.file_manager.proofs.FreedRun.{first_is}

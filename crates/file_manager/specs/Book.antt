@@ -3,7 +3,7 @@ use Rattle.std.specs.Prelude.{◌≡◌, ℕ, ◌≤◌, true, List, length, Som
 use Rattle.labelled_disk.specs.declared.label.Label.{Label}
 use Rattle.labelled_disk.specs.declared.layout.Layout.{Layout}
 use Rattle.labelled_disk.specs.declared.disk.DiskWrite.{DiskWrite}
-use Rattle.labelled_disk.specs.Label.{names}
+use Rattle.labelled_disk.specs.Label.{names, wanted_root}
 use Rattle.labelled_disk.specs.Sectors.{Sector, AreSectors}
 use Rattle.labelled_disk.specs.State.{DiskState}
 use Rattle.frame_pool.specs.Frames.{Slots}
@@ -32,7 +32,7 @@ pub record IsBookedUpto (tables : ℕ) (layout : Layout) (runs : List Run) (shap
   pub sectors : AreSectors memory
   pub long : length memory ≡ layout.sectors
   pub files : AreShapes shapes
-  pub root_label : IsSomeAnd (slice_get (labels_of memory) 0) (λ l. IsTrue (names l (record { id = 4; page = 0 })))
+  pub root_label : IsSomeAnd (slice_get (labels_of memory) 0) (λ l. IsTrue (names l wanted_root))
   pub map_labels : HasMapLabels (labels_of memory)
   pub labels : HasLabelsUpto tables (labels_of memory) shapes
   pub bits : HasBits (is_marked memory) (labels_of memory)

@@ -1,7 +1,7 @@
 -- What makes a volume sound.
 use Rattle.std.proofs.Common.{◌≡◌, ◌⊎◌, ℕ, ◌≤◌, ◌<◌, ◌^◌, true, false, List, [], ◌∷◌, length, Some, sym, ◌∙◌, ap, subst, arith}
 use Rattle.std.specs.Prelude.{slice_get}
-use Rattle.labelled_disk.specs.Label.{is_free}
+use Rattle.labelled_disk.specs.Label.{is_free, root_label}
 use Rattle.labelled_disk.specs.Sectors.{Sector, AreSectors}
 use Rattle.labelled_disk.specs.Layout.{data_sectors, first_data}
 use Rattle.labelled_disk.specs.Lowest.{is_needed}
@@ -12,7 +12,7 @@ use Rattle.labelled_disk.proofs.WriteLemmas as writes
 use Rattle.labelled_disk.proofs.RootLemmas as laws
 use Rattle.volume_root.specs.declared.root.Root.{Root}
 use Rattle.volume_root.specs.Flag.{with_flag}
-use Rattle.volume_root.specs.RootPage.{IsValidRoot, root_bytes, root_label}
+use Rattle.volume_root.specs.RootPage.{IsValidRoot, root_bytes}
 use Rattle.volume_root.specs.Sound.{Sound}
 use Rattle.volume_root.proofs.FileMapLemmas.{file_map_kept}
 use Rattle.volume_root.proofs.FlagLemmas.{flag_keeps_volume}

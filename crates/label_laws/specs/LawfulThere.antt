@@ -3,7 +3,7 @@ use Rattle.std.specs.Prelude.{◌≡◌, ◌⊎◌, ℕ, ◌≤◌, true, List, 
 use Rattle.labelled_disk.specs.declared.label.Label.{Label}
 use Rattle.labelled_disk.specs.declared.disk.DiskWrite.TheVariants.{Whole, LabelOnly}
 use Rattle.labelled_disk.specs.Calls.{TellsSame}
-use Rattle.labelled_disk.specs.Label.{is_free, is_file, leader_page}
+use Rattle.labelled_disk.specs.Label.{is_free, is_file, leader_page, root_label}
 use Rattle.labelled_disk.specs.Layout.{first_data}
 use Rattle.labelled_disk.specs.Root.{IsRoot}
 use Rattle.labelled_disk.specs.Sectors.{Sector, free_label}
@@ -22,8 +22,8 @@ pub record WasRead (disk : DiskState) (sector : ℕ) (s : Sector) : Type 0 where
   pub holds : Holds disk sector s
 
 pub record ThereLaws : Type 0 where
-  pub root : (disk : DiskState) (page : List ℕ) → IsWholeDisk disk → IsRoot disk.sectors (Some (record { id = 4; page = 0; kind = 0; flags = 0; last = 0 }, page))
-      → LawfulThere disk (Whole 0 (record { id = 4; page = 0; kind = 0; flags = 0; last = 0 }) page)
+  pub root : (disk : DiskState) (page : List ℕ) → IsWholeDisk disk → IsRoot disk.sectors (Some (root_label, page))
+      → LawfulThere disk (Whole 0 root_label page)
   pub fresh : (disk : DiskState) (sector : ℕ) (s : Sector) (label : Label) → WasRead disk sector s → is_free s.0 ≡ true → is_file label ≡ true → label.flags ≡ 0
       → LawfulThere disk (Whole sector label (replicate 512 0))
   pub freed : (disk : DiskState) (sector : ℕ) (s : Sector) → WasRead disk sector s → (s.0.id ≡ 3) ⊎ (16 ≤ s.0.id) → LawfulThere disk (LabelOnly sector free_label)

@@ -45,3 +45,11 @@ is_permanent l = l.flags % 2 == 1
 -- bit 1 of the flags
 abbrev pub is_immutable : Label → Bool
 is_immutable l = l.flags / 2 % 2 == 1
+
+-- the label of the root
+abbrev pub root_label : Label
+root_label = record { id = 4; page = 0; kind = 0; flags = 0; last = 0 }
+
+-- the page that is looked for in sector 0: the root's
+abbrev pub wanted_root : Wanted
+wanted_root = record { id = 4; page = 0 }

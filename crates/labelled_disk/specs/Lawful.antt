@@ -4,7 +4,7 @@ use Rattle.labelled_disk.specs.declared.label.Label.{Label}
 use Rattle.labelled_disk.specs.declared.label.Wanted.{Wanted}
 use Rattle.labelled_disk.specs.declared.disk.DiskWrite.{DiskWrite}
 use Rattle.labelled_disk.specs.declared.disk.DiskWrite.TheVariants.{Whole, LabelOnly, Page}
-use Rattle.labelled_disk.specs.Label.{is_free, is_file, names, leader_page}
+use Rattle.labelled_disk.specs.Label.{is_free, is_file, names, leader_page, root_label}
 use Rattle.labelled_disk.specs.Sectors.{Sector, free_label}
 use Rattle.labelled_disk.specs.WriteLaws.{HasData}
 use Rattle.labelled_disk.specs.Root.{IsRoot}
@@ -12,7 +12,7 @@ use Rattle.labelled_disk.specs.Root.{IsRoot}
 -- a valid root in sector 0
 pub record IsRootWrite (d : List Sector) (sector : ℕ) (label : Label) (page : List ℕ) : Type 0 where
   pub place : sector ≡ 0
-  pub root_label : label ≡ record { id = 4; page = 0; kind = 0; flags = 0; last = 0 }
+  pub root_label : label ≡ root_label
   pub valid : IsRoot (length d) (Some (label, page))
 
 -- a page of zeros for a file or for the space tables, on a data sector that was free

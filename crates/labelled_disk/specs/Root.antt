@@ -2,7 +2,7 @@
 use Rattle.std.specs.Prelude.{◌≡◌, ℕ, ◌+◌, ◌≤◌, Bool, false, IsTrue, IsSomeAnd, Some, Option, List, [], length, slice_get, slice_range, drop, codes, All, ◌<◌}
 use Rattle.byteorder.specs.Endian.{big_number}
 use Rattle.std.specs.Option.{option_map_or}
-use Rattle.labelled_disk.specs.Label.{names}
+use Rattle.labelled_disk.specs.Label.{names, wanted_root}
 use Rattle.labelled_disk.specs.Sectors.{Sector}
 use Rattle.labelled_disk.specs.Layout.{IsCount, vam, vfm}
 use Rattle.labelled_disk.specs.Right.{FilesRight}
@@ -34,7 +34,7 @@ counter_of d = number_at (root_page d) 20
 -- what the root of a volume of n sectors has, clean or not
 pub record IsRoot (n : ℕ) (sector : Option Sector) : Type 0 where
   pub accepted : IsCount n
-  pub label : IsSomeAnd sector (λ s. IsTrue (names s.0 (record { id = 4; page = 0 })))
+  pub label : IsSomeAnd sector (λ s. IsTrue (names s.0 wanted_root))
   pub magic : slice_range (page_in sector) 0 8 ≡ codes "PILOTVOL"
   pub version : short_at (page_in sector) 8 ≡ 3
   pub flag : short_at (page_in sector) 10 ≤ 1

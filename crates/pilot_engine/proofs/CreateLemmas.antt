@@ -4,12 +4,12 @@ use Rattle.std.specs.Prelude.{slice_get, slice_set, option_map}
 use Rattle.std.proofs.lemmas.List.{length-replicate}
 use Rattle.labelled_disk.specs.declared.layout.Layout.{Layout}
 use Rattle.labelled_disk.specs.File.{File, file_at}
-use Rattle.labelled_disk.specs.Label.{leader_page}
+use Rattle.labelled_disk.specs.Label.{leader_page, root_label}
 use Rattle.labelled_disk.specs.Layout.{capacity}
 use Rattle.labelled_disk.specs.Runs.{creation, page_label}
 use Rattle.labelled_disk.specs.Sectors.{Sector}
 use Rattle.labelled_disk.specs.State.{DiskState}
-use Rattle.volume_root.specs.RootPage.{root_write, root_label}
+use Rattle.volume_root.specs.RootPage.{root_write}
 use Rattle.frame_pool.specs.Frames.{Slots}
 use Rattle.flat_machine.specs.declared.call.Call.TheVariants as call
 use Rattle.flat_machine.specs.declared.call.Call.{Call}

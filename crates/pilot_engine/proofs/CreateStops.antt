@@ -6,7 +6,7 @@ use Rattle.labelled_disk.specs.declared.label.Label.{Label}
 use Rattle.labelled_disk.specs.declared.layout.Layout.{Layout}
 use Rattle.labelled_disk.specs.File.{File, file_at}
 use Rattle.labelled_disk.specs.FilesOn.{disk_file}
-use Rattle.labelled_disk.specs.Label.{leader_page}
+use Rattle.labelled_disk.specs.Label.{leader_page, root_label}
 use Rattle.labelled_disk.specs.Moment.{moment}
 use Rattle.labelled_disk.specs.Rising.{BothBy}
 use Rattle.labelled_disk.specs.Root.{IsRoot, LabelsRight, number_at, serial_of, counter_of}
@@ -20,7 +20,7 @@ use Rattle.label_laws.specs.AllPermanent.{if_permanent}
 use Rattle.label_laws.specs.LawfulOrders.{AreApart}
 use Rattle.label_laws.proofs.PermanentLemmas.{one}
 use Rattle.label_laws.proofs.StayLemmas.{stay_laws}
-use Rattle.volume_root.specs.RootPage.{IsValidRoot, root_label, root_bytes, root_write}
+use Rattle.volume_root.specs.RootPage.{IsValidRoot, root_bytes, root_write}
 use Rattle.volume_root.proofs.WrittenLemmas.{is_root, serial_read, counter_read}
 use Rattle.frame_pool.specs.Frames.{Slots}
 use Rattle.flat_machine.specs.declared.call.Call.{Call}

@@ -12,7 +12,8 @@ use Rattle.flat_machine.specs.Start.{opened, start}
 use Rattle.volume_root.specs.declared.root.Root.{Root}
 use Rattle.volume_root.specs.Format.{formatted, new_root, new_sector, new_sectors}
 use Rattle.volume_root.specs.FormatLaws.{IsEmptyVolume}
-use Rattle.volume_root.specs.RootPage.{root_bytes, root_in, root_label}
+use Rattle.volume_root.specs.RootPage.{root_bytes, root_in}
+use Rattle.labelled_disk.specs.Label.{root_label}
 use Rattle.volume_root.specs.Sound.{Sound}
 use Rattle.volume_root.proofs.NewVolume.{new_is_empty}
 use Rattle.volume_root.proofs.WrittenLemmas.{root_read}

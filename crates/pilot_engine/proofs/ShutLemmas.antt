@@ -20,7 +20,8 @@ use Rattle.swapper_kernel.specs.Goes.{IsDirty, Makes, Pages, Went, is_page_write
 use Rattle.swapper_kernel.specs.GoesLaws.{went_then}
 use Rattle.session_words.specs.Volume.{volume_page}
 use Rattle.volume_root.specs.declared.root.Root.{Root}
-use Rattle.volume_root.specs.RootPage.{IsValidRoot, root_bytes, root_label, root_write}
+use Rattle.volume_root.specs.RootPage.{IsValidRoot, root_bytes, root_write}
+use Rattle.labelled_disk.specs.Label.{root_label}
 use Rattle.volume_root.proofs.WrittenLemmas.{is_root}
 use Rattle.file_manager.proofs.RootForm.{root_in_form}
 use Rattle.running_words.specs.Session.{AreOpen, Wrote, WroteIn}

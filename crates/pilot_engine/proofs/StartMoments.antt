@@ -6,7 +6,7 @@ use Rattle.std.proofs.lemmas.Bool.{true≢false, cases_eq}
 use Rattle.labelled_disk.specs.declared.disk.DiskWrite.{DiskWrite}
 use Rattle.labelled_disk.specs.declared.disk.DiskWrite.TheVariants.{Whole, LabelOnly, Page}
 use Rattle.labelled_disk.specs.declared.label.Label.{Label}
-use Rattle.labelled_disk.specs.Label.{is_free}
+use Rattle.labelled_disk.specs.Label.{is_free, root_label}
 use Rattle.labelled_disk.specs.Lawful.{Lawful, IsNextLabel}
 use Rattle.labelled_disk.specs.Layout.{first_data}
 use Rattle.labelled_disk.specs.Moment.{moment, written}
@@ -30,7 +30,7 @@ use Rattle.label_laws.proofs.LawfulLemmas.{by_each}
 use Rattle.label_laws.proofs.MixedLemmas.{labels_whole, labels_only, labels_page}
 use Rattle.label_laws.proofs.StayLemmas.{stay_laws}
 use Rattle.volume_root.specs.declared.root.Root.{Root}
-use Rattle.volume_root.specs.RootPage.{IsValidRoot, root_write, root_label, root_bytes}
+use Rattle.volume_root.specs.RootPage.{IsValidRoot, root_write, root_bytes}
 use Rattle.volume_root.proofs.WrittenLemmas.{is_root, serial_read, counter_read}
 use Rattle.pilot_engine.specs.Opening.{in_use, IsBare, StartsSome, KeepsFiles}
 use Rattle.running_words.specs.Session.{AreOpen}

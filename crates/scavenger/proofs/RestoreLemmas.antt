@@ -8,7 +8,7 @@ use Rattle.std.proofs.lemmas.Bool.{leb-true, le-leb, lt-leb, lt-ltb, true≢fals
 use Rattle.labelled_disk.specs.declared.disk.DiskWrite.{DiskWrite}
 use Rattle.labelled_disk.specs.declared.label.Label.{Label}
 use Rattle.labelled_disk.specs.declared.label.Wanted.{Wanted}
-use Rattle.labelled_disk.specs.Label.{is_file, is_free, names}
+use Rattle.labelled_disk.specs.Label.{is_file, is_free, names, root_label}
 use Rattle.labelled_disk.specs.Layout.{IsCount, capacity, data_sectors, first_data, vam, vfm}
 use Rattle.labelled_disk.specs.File.{File, total_room}
 use Rattle.labelled_disk.specs.FilesOn.{files_on, files_by, disk_file}
@@ -31,7 +31,7 @@ use Rattle.page_tree.specs.Tells.{TellsTree}
 use Rattle.volume_root.specs.declared.root.Root.{Root}
 use Rattle.volume_root.specs.Flag.{with_flag, flag_write}
 use Rattle.volume_root.specs.Format.{map_label}
-use Rattle.volume_root.specs.RootPage.{IsValidRoot, root_in, root_write, root_label, root_bytes}
+use Rattle.volume_root.specs.RootPage.{IsValidRoot, root_in, root_write, root_bytes}
 use Rattle.volume_root.specs.Sound.{Sound, HasBits, HasFileMap, map_bytes}
 use Rattle.volume_root.proofs.FlagLemmas.{flag_keeps_volume}
 use Rattle.volume_root.proofs.WrittenLemmas.{flag_read, serial_read, counter_read, is_root}

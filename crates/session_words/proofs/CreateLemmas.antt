@@ -6,7 +6,7 @@ use Rattle.std.proofs.lemmas.Option.{same_Some, none-some}
 use Rattle.std.proofs.lemmas.Bool.{eq-eqb, ne_eqb, eqb-true, eqb-false, true≢false, le-ltb, ltb-false}
 use Rattle.std.proofs.lemmas.List.{length-map}
 use Rattle.labelled_disk.specs.declared.label.Label.{Label}
-use Rattle.labelled_disk.specs.Label.{is_free, leader_page}
+use Rattle.labelled_disk.specs.Label.{is_free, leader_page, root_label}
 use Rattle.labelled_disk.specs.Layout.{first_data, vam}
 use Rattle.labelled_disk.specs.Sectors.{Sector}
 use Rattle.labelled_disk.specs.File.{File, file_at}
@@ -27,7 +27,6 @@ use Rattle.flat_machine.proofs.Lists.{rising_map}
 use Rattle.flat_machine.proofs.NextLemmas.{next_keeps_machine}
 use Rattle.flat_machine.proofs.TestLemmas.{two_none, then_none}
 use Rattle.swapper_kernel.specs.Stands.{labels_of}
-use Rattle.volume_root.specs.RootPage.{root_label}
 use Rattle.session_words.specs.Volume.{volume_page}
 use Rattle.swapper_kernel.specs.Kinds.{Kind, kind_of, HasKind, the_tables, a_file, files_alone, tables_alone, maps_alone}
 use Rattle.session_words.specs.Parts.{Shape, Shapes, shape_of, shapes_of, HasLabel, HasLabels, HasMapLabels, HasBits, HasTriples, TablesMeaning, is_owned, is_marked}

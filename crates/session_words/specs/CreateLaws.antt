@@ -1,7 +1,7 @@
 -- A file is made: its leader, then its pages, with the next counter in the root.
 use Rattle.std.specs.Prelude.{◌≡◌, ◌≢◌, ℕ, ◌+◌, ◌*◌, ◌<◌, false, ◌&&◌, ◌||◌, ◌==◌, List, ◌∷◌, length, Some, None, slice_get, slice_set}
 use Rattle.labelled_disk.specs.declared.disk.DiskWrite.{DiskWrite}
-use Rattle.labelled_disk.specs.Label.{leader_page}
+use Rattle.labelled_disk.specs.Label.{leader_page, root_label}
 use Rattle.labelled_disk.specs.Layout.{vam}
 use Rattle.labelled_disk.specs.Sectors.{Sector, AreSectors}
 use Rattle.labelled_disk.specs.Runs.{page_label}
@@ -13,7 +13,6 @@ use Rattle.flat_machine.specs.declared.call.Call.TheVariants.{Create}
 use Rattle.flat_machine.specs.Machine.{Machine}
 use Rattle.flat_machine.specs.Refusal.{refusal}
 use Rattle.flat_machine.specs.Next.{next, new_id}
-use Rattle.volume_root.specs.RootPage.{root_label}
 use Rattle.swapper_kernel.specs.Stands.{labels_of}
 use Rattle.swapper_kernel.specs.Goes.{Goes}
 use Rattle.session_words.specs.Volume.{volume_page}

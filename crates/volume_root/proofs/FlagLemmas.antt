@@ -7,7 +7,7 @@ use Rattle.std.proofs.lemmas.List.Elements.{All-drop}
 use Rattle.byteorder.specs.Numbers.{big_from-lt}
 use Rattle.labelled_disk.specs.declared.layout.RootFault.{RootFault}
 use Rattle.labelled_disk.specs.declared.layout.RootFault.TheVariants as fault
-use Rattle.labelled_disk.specs.Label.{is_free}
+use Rattle.labelled_disk.specs.Label.{is_free, root_label}
 use Rattle.labelled_disk.specs.Sectors.{Sector}
 use Rattle.labelled_disk.specs.Layout.{data_sectors, first_data}
 use Rattle.labelled_disk.specs.FilesOn.{files_on, files_by}
@@ -19,7 +19,7 @@ use Rattle.labelled_disk.proofs.WriteLemmas as writes
 use Rattle.labelled_disk.proofs.RootLemmas as laws
 use Rattle.volume_root.specs.declared.root.Root.{Root}
 use Rattle.volume_root.specs.Flag.{FlagLaws, FlagKeepsVolume, SoundIsOpened}
-use Rattle.volume_root.specs.RootPage.{Test, first_of, judged, root_in, root_label, root_bytes, is_labelled, is_magic, is_version, is_counted, has_serial, has_counter, is_flagged, is_rest, IsValidRoot}
+use Rattle.volume_root.specs.RootPage.{Test, first_of, judged, root_in, root_bytes, is_labelled, is_magic, is_version, is_counted, has_serial, has_counter, is_flagged, is_rest, IsValidRoot}
 use Rattle.volume_root.specs.Sound.{Sound}
 use Rattle.volume_root.proofs.FileMapLemmas.{file_map_kept}
 use Rattle.volume_root.proofs.RootLemmas.{passes}

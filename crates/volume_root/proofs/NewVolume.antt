@@ -6,7 +6,7 @@ use Rattle.std.proofs.lemmas.Bool.{eq-eqb}
 use Rattle.std.proofs.lemmas.List.{get_or-take, get_or-drop, length-take, length-drop}
 use Rattle.std.proofs.lemmas.List.FromFn.{length-map-range_with_len, get_or-map-range_with_len, fill_by_all}
 use Rattle.std.proofs.lemmas.Option.{same_Some, slice_get_within, slice_get-get_or, get_or_from_slice_get}
-use Rattle.labelled_disk.specs.Label.{is_file, is_free, names}
+use Rattle.labelled_disk.specs.Label.{is_file, is_free, names, root_label}
 use Rattle.labelled_disk.specs.Sectors.{Sector, zero_sector}
 use Rattle.labelled_disk.specs.Layout.{IsCount, capacity, data_sectors, first_data, layout_of, vam, vfm}
 use Rattle.labelled_disk.specs.File.{File, total_room}
@@ -18,7 +18,7 @@ use Rattle.labelled_disk.proofs.LowestLemmas.{empty_has_none}
 use Rattle.labelled_disk.proofs.WriteLemmas.{get_drop}
 use Rattle.volume_root.specs.Format.{map_label, used_byte, used_page, new_sector, new_sectors, new_root, formatted}
 use Rattle.volume_root.specs.FormatLaws.{IsEmptyVolume, NewIsEmpty}
-use Rattle.volume_root.specs.RootPage.{IsValidRoot, root_label, root_bytes}
+use Rattle.volume_root.specs.RootPage.{IsValidRoot, root_bytes}
 use Rattle.volume_root.specs.Sound.{map_bytes, HasBits, HasFileMap, Sound}
 use Rattle.volume_root.proofs.FileMapLemmas.{zero_file_map}
 use Rattle.volume_root.proofs.NewSectors.{in_allocation, in_file_map, in_data}

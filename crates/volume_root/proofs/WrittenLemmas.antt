@@ -5,7 +5,8 @@ use Rattle.std.proofs.lemmas.List.Elements.{All-replicate}
 use Rattle.byteorder.specs.Numbers.{big_number-reads_back}
 use Rattle.labelled_disk.specs.Root.{IsRoot, short_at, number_at}
 use Rattle.volume_root.specs.declared.root.Root.{Root}
-use Rattle.volume_root.specs.RootPage.{IsValidRoot, root_bytes, root_label, root_in}
+use Rattle.volume_root.specs.RootPage.{IsValidRoot, root_bytes, root_in}
+use Rattle.labelled_disk.specs.Label.{root_label}
 use Rattle.volume_root.specs.RootLaws.{WrittenIsRead}
 use Rattle.volume_root.proofs.RootLemmas.{passes}
 

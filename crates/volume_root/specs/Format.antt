@@ -12,7 +12,8 @@ use Rattle.labelled_disk.specs.Sectors.{Sector, zero_sector}
 use Rattle.labelled_disk.specs.State.{DiskState}
 use Rattle.labelled_disk.specs.WriteRuns.{Appended}
 use Rattle.volume_root.specs.declared.root.Root.{Root}
-use Rattle.volume_root.specs.RootPage.{root_label, root_bytes, root_write}
+use Rattle.volume_root.specs.RootPage.{root_bytes, root_write}
+use Rattle.labelled_disk.specs.Label.{root_label}
 
 -- the label of a page of a map
 abbrev pub map_label : ℕ → ℕ → Label

@@ -4,7 +4,8 @@ use Rattle.labelled_disk.specs.Sectors.{Sector}
 use Rattle.labelled_disk.specs.Layout.{IsCount}
 use Rattle.labelled_disk.specs.Root.{IsRoot}
 use Rattle.volume_root.specs.declared.root.Root.{Root}
-use Rattle.volume_root.specs.RootPage.{judged, root_in, root_label, root_bytes, IsValidRoot}
+use Rattle.volume_root.specs.RootPage.{judged, root_in, root_bytes, IsValidRoot}
+use Rattle.labelled_disk.specs.Label.{root_label}
 
 -- a root is valid exactly where each test passes, that it was closed not asked
 pub record ValidIsJudged (n : ℕ) (s : Sector) : Type 0 where

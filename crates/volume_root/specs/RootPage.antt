@@ -10,7 +10,7 @@ use Rattle.labelled_disk.specs.declared.label.Label.{Label}
 use Rattle.labelled_disk.specs.declared.layout.RootFault.{RootFault}
 use Rattle.labelled_disk.specs.declared.layout.RootFault.TheVariants as fault
 use Rattle.labelled_disk.specs.declared.layout.Difference.TheVariants as difference
-use Rattle.labelled_disk.specs.Label.{names}
+use Rattle.labelled_disk.specs.Label.{names, root_label, wanted_root}
 use Rattle.labelled_disk.specs.Sectors.{Sector}
 use Rattle.labelled_disk.specs.Layout.{IsCount}
 use Rattle.labelled_disk.specs.Root.{short_at, number_at}
@@ -51,7 +51,7 @@ first_of (None ∷ tests) = first_of tests
 
 -- the label names the root
 abbrev pub is_labelled : Label → Test
-is_labelled label = then_some (not (names label (record { id = 4; page = 0 }))) (fault.NotVolume difference.Label)
+is_labelled label = then_some (not (names label wanted_root)) (fault.NotVolume difference.Label)
 
 -- the page begins with the magic text
 abbrev pub is_magic : List ℕ → Test
@@ -98,10 +98,6 @@ judged clean_only n s = option_map_or Err (first_of (tests clean_only n s.0 s.1)
 abbrev pub IsUnlessFault : Result Root RootFault → Result Root RootFault → Type 0
 IsUnlessFault (Err fault.Disk) right = Unit {0}
 IsUnlessFault result right = result ≡ right
-
--- the label of the root
-abbrev pub root_label : Label
-root_label = record { id = 4; page = 0; kind = 0; flags = 0; last = 0 }
 
 -- the last fields of a root, from the count of sectors on
 abbrev pub number_bytes : Root → List ℕ

@@ -12,8 +12,6 @@ use labelled_disk::{Disk, Label, Wanted};
 /// The version of the volumes that are read.
 pub(crate) const VERSION: u16 = 3;
 
-const ROOT: Wanted = Wanted { id: 4, page: 0 };
-
 fn first_of(tests: &[Option<RootFault>]) -> Option<RootFault>
     ensures { result ≡ first_of tests.now }
 {
@@ -28,7 +26,7 @@ fn first_of(tests: &[Option<RootFault>]) -> Option<RootFault>
 fn is_labelled(label: &Label) -> Option<RootFault>
     ensures { result ≡ is_labelled label.now }
 {
-    (!label.names(ROOT)).then_some(RootFault::NotVolume(Difference::Label))
+    (!label.names(Wanted::ROOT)).then_some(RootFault::NotVolume(Difference::Label))
 }
 
 fn is_magic(page: &[u8]) -> Option<RootFault>

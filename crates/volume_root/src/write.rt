@@ -10,15 +10,6 @@ use crate::{Root, RootFault};
 use byteorder::{BigEndian, ByteOrder};
 use labelled_disk::{Disk, Label, Page};
 
-/// The label of sector 0.
-const ROOT: Label = Label {
-    id: 4,
-    page: 0,
-    kind: 0,
-    flags: 0,
-    last: 0,
-};
-
 fn write_numbers(bytes: &mut [u8], root: &Root)
     requires { 12 ≤ length bytes.old }
     ensures { bytes.new ≡ number_bytes root.now ++ drop 12 bytes.old }
@@ -58,7 +49,7 @@ pub fn write_root<D: Disk>(disk: &mut D, root: &Root) -> Result<(), RootFault>
     ensures cause { OnErr result (Rose (D.state disk.old).faults (D.state disk.new).faults) }
     ensures moves { Moves (D.state disk.old) (D.state disk.new) }
 {
-    match disk.write(0, &ROOT, &page_of(root)) {
+    match disk.write(0, &Label::ROOT, &page_of(root)) {
         Ok(()) => Ok(()),
         Err(_) => Err(RootFault::Disk),
     }

@@ -6,7 +6,8 @@ use Rattle.swapper_kernel.specs.Stands.{Stands, labels_of}
 use Rattle.flat_machine.specs.declared.space.Space.{Space}
 use Rattle.session_words.specs.Parts.{Shapes}
 use Rattle.session_words.proofs.FoundLemmas.{above_reserved}
-use Rattle.volume_root.specs.RootPage.{root_label, root_bytes}
+use Rattle.volume_root.specs.RootPage.{root_bytes}
+use Rattle.labelled_disk.specs.Label.{root_label}
 use Rattle.file_manager.specs.Creating.{counted, next_id}
 use Rattle.file_manager.specs.Making.{MayCreate}
 use Rattle.file_manager.proofs.CreateBroken.{root_broken, map_broken, file_broken}

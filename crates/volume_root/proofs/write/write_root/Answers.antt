@@ -1,7 +1,7 @@
 use Rattle.std.proofs.Common.{◌⊎◌, List, ℕ, subst}
 use Rattle.labelled_disk.specs.declared.disk.DiskWrite.TheVariants.{Whole}
 use Rattle.labelled_disk.specs.Calls.{TellsSame, TellsWrite}
-use Rattle.volume_root.specs.RootPage.{root_label}
+use Rattle.labelled_disk.specs.Label.{root_label}
 use Rattle.volume_root.proofs.write.write_root.Goals as goal
 
 pub returns-in-Ok-clause-ok : goal.returns-in-Ok-clause-ok
