@@ -7,8 +7,7 @@ use Rattle.std.proofs.lemmas.Bool.{true≢false, ne_eqb}
 use Rattle.std.proofs.lemmas.Bool.Decides.{nat_tests}
 use Rattle.labelled_disk.specs.declared.label.Label.{Label}
 use Rattle.labelled_disk.specs.declared.layout.Layout.{Layout}
-use Rattle.labelled_disk.specs.Label.{is_free, names, leader_page}
-use Rattle.labelled_disk.specs.Runs.{page_label}
+use Rattle.labelled_disk.specs.Label.{is_free, names, leader_page, page_label}
 use Rattle.labelled_disk.proofs.Finds.{get_set_other}
 use Rattle.labelled_disk.specs.Layout.{vam, vfm}
 use Rattle.labelled_disk.specs.Sectors.{Sector}

@@ -4,8 +4,8 @@ use Rattle.std.specs.Prelude.{slice_set}
 use Rattle.std.proofs.lemmas.Bool.{ne_eqb}
 use Rattle.labelled_disk.specs.declared.label.Label.{Label}
 use Rattle.labelled_disk.specs.declared.layout.Layout.{Layout}
-use Rattle.labelled_disk.specs.Label.{is_free, is_file_id, leader_page, root_label}
-use Rattle.labelled_disk.specs.Runs.{growth, page_label, AreUnused}
+use Rattle.labelled_disk.specs.Label.{is_free, is_file_id, leader_page, root_label, page_label}
+use Rattle.labelled_disk.specs.Runs.{growth, AreUnused}
 use Rattle.labelled_disk.specs.Sectors.{Sector}
 use Rattle.labelled_disk.specs.State.{DiskState}
 use Rattle.label_laws.specs.LawfulOrders.{AreApart}

@@ -11,9 +11,9 @@ use Rattle.std.proofs.Common.{length-set}
 use Rattle.labelled_disk.specs.declared.disk.DiskWrite.{DiskWrite}
 use Rattle.labelled_disk.specs.declared.label.Label.{Label}
 use Rattle.labelled_disk.specs.declared.layout.Layout.{Layout}
-use Rattle.labelled_disk.specs.Label.{is_free, is_file, leader_page}
+use Rattle.labelled_disk.specs.Label.{is_free, is_file, leader_page, page_label}
 use Rattle.labelled_disk.specs.Layout.{first_data}
-use Rattle.labelled_disk.specs.Runs.{growth, page_label, AreUnused, IsUnused}
+use Rattle.labelled_disk.specs.Runs.{growth, AreUnused, IsUnused}
 use Rattle.labelled_disk.specs.Sectors.{Sector}
 use Rattle.labelled_disk.specs.State.{DiskState}
 use Rattle.labelled_disk.proofs.Finds.{get_set_same, get_set_other}

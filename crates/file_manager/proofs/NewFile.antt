@@ -5,10 +5,9 @@ use Rattle.std.proofs.lemmas.Option.{same_Some, none-some}
 use Rattle.std.proofs.lemmas.List.{length-map}
 use Rattle.labelled_disk.specs.declared.label.Label.{Label}
 use Rattle.labelled_disk.specs.declared.layout.Layout.{Layout}
-use Rattle.labelled_disk.specs.Label.{leader_page, root_label}
+use Rattle.labelled_disk.specs.Label.{leader_page, root_label, page_label}
 use Rattle.labelled_disk.specs.Layout.{capacity, first_data, vam}
 use Rattle.labelled_disk.specs.Moment.{written}
-use Rattle.labelled_disk.specs.Runs.{page_label}
 use Rattle.labelled_disk.specs.Sectors.{Sector, AreSectors}
 use Rattle.labelled_disk.specs.State.{DiskState}
 use Rattle.labelled_disk.proofs.Finds.{get_set_same}

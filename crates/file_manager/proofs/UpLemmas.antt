@@ -10,9 +10,9 @@ use Rattle.std.proofs.lemmas.List.FromFn.{length-range_with_len}
 use Rattle.labelled_disk.specs.declared.disk.DiskWrite.{DiskWrite}
 use Rattle.labelled_disk.specs.declared.label.Label.{Label}
 use Rattle.labelled_disk.specs.declared.layout.Layout.{Layout}
-use Rattle.labelled_disk.specs.Label.{is_free, is_file_id, names, leader_page}
+use Rattle.labelled_disk.specs.Label.{is_free, is_file_id, names, leader_page, page_label}
 use Rattle.labelled_disk.specs.Layout.{first_data, vam}
-use Rattle.labelled_disk.specs.Runs.{growth, page_label}
+use Rattle.labelled_disk.specs.Runs.{growth}
 use Rattle.labelled_disk.specs.Sectors.{Sector}
 use Rattle.labelled_disk.specs.State.{DiskState}
 use Rattle.labelled_disk.proofs.Finds.{get_set_same, get_set_other}

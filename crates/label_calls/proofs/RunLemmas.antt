@@ -15,7 +15,8 @@ use Rattle.labelled_disk.specs.declared.evidence.Evidence.TheVariants as evidenc
 use Rattle.labelled_disk.specs.declared.evidence.Halt.{Halt}
 use Rattle.labelled_disk.specs.declared.evidence.Halt.TheVariants as halt
 use Rattle.labelled_disk.specs.Moment.{written}
-use Rattle.labelled_disk.specs.Runs.{growth, freeing, page_label, zero_bytes}
+use Rattle.labelled_disk.specs.Runs.{growth, freeing, zero_bytes}
+use Rattle.labelled_disk.specs.Label.{page_label}
 use Rattle.labelled_disk.specs.Sectors.{Sector, free_label}
 use Rattle.labelled_disk.specs.State.{DiskState, HasLabel}
 use Rattle.labelled_disk.specs.WriteRuns.{Appended, after_writes}

@@ -3,10 +3,10 @@ use Rattle.std.proofs.Common.{◌≡◌, ◌≢◌, inl, inr, ℕ, ◌+◌, ◌�
 use Rattle.std.specs.Prelude.{slice_set, nat_lt}
 use Rattle.std.specs.List.{AllByRecursion}
 use Rattle.std.proofs.lemmas.Bool.{and_from}
-use Rattle.labelled_disk.specs.Label.{is_file_id, leader_page}
+use Rattle.labelled_disk.specs.Label.{is_file_id, leader_page, page_label}
 use Rattle.labelled_disk.specs.Layout.{first_data}
 use Rattle.labelled_disk.specs.Sectors.{Sector, free_label}
-use Rattle.labelled_disk.specs.Runs.{page_label, zero_bytes, growth, creation, freeing}
+use Rattle.labelled_disk.specs.Runs.{zero_bytes, growth, creation, freeing}
 use Rattle.labelled_disk.specs.WriteLaws.{HasData}
 use Rattle.labelled_disk.proofs.Finds.{get_set_other}
 use Rattle.label_laws.specs.LawfulOrders.{IsFreeSector, IsTakenSector, AreApart, OrdersAreLawful}

@@ -5,7 +5,7 @@ use Rattle.std.specs.List.{AllByRecursion}
 use Rattle.std.proofs.lemmas.Bool.{and_left, and_right, cases_eq}
 use Rattle.labelled_disk.specs.declared.label.Label.{Label}
 use Rattle.labelled_disk.specs.declared.disk.DiskWrite.TheVariants.{Whole}
-use Rattle.labelled_disk.specs.Label.{is_file, is_permanent, leader_page}
+use Rattle.labelled_disk.specs.Label.{is_file, is_permanent, leader_page, page_label}
 use Rattle.labelled_disk.specs.Sectors.{Sector}
 use Rattle.labelled_disk.specs.Moment.{moment}
 use Rattle.labelled_disk.specs.Layout.{first_data}
@@ -13,7 +13,7 @@ use Rattle.labelled_disk.specs.File.{File, file_at}
 use Rattle.labelled_disk.specs.FilesOn.{disk_file, files_among}
 use Rattle.labelled_disk.specs.Root.{IsRoot, LabelsRight, number_at, serial_of, counter_of}
 use Rattle.labelled_disk.specs.RootLaws.{StaysRight}
-use Rattle.labelled_disk.specs.Runs.{growth, creation, sector_of, page_label, AreUnused}
+use Rattle.labelled_disk.specs.Runs.{growth, creation, sector_of, AreUnused}
 use Rattle.labelled_disk.specs.WriteLaws.{HasData, Changed}
 use Rattle.labelled_disk.proofs.Finds.{get_set_other}
 use Rattle.labelled_disk.proofs.RisingLemmas.{same_by_look_up}

@@ -7,14 +7,14 @@ use Rattle.std.proofs.lemmas.Bool.{cases_eq, and_left, and_right}
 use Rattle.std.proofs.lemmas.Option.{slice_get_within}
 use Rattle.labelled_disk.specs.declared.disk.DiskWrite.{DiskWrite}
 use Rattle.labelled_disk.specs.declared.disk.DiskWrite.TheVariants.{Whole, LabelOnly, Page}
-use Rattle.labelled_disk.specs.Label.{is_file, is_permanent, names, leader_page}
+use Rattle.labelled_disk.specs.Label.{is_file, is_permanent, names, leader_page, page_label}
 use Rattle.labelled_disk.specs.Sectors.{Sector, free_label}
 use Rattle.labelled_disk.specs.Moment.{written}
 use Rattle.labelled_disk.specs.Layout.{data_sectors, first_data}
 use Rattle.labelled_disk.specs.File.{File, file_at}
 use Rattle.labelled_disk.specs.FilesOn.{leads_file, disk_file}
 use Rattle.labelled_disk.specs.Right.{FilesRight}
-use Rattle.labelled_disk.specs.Runs.{page_label, zero_bytes, growth, freeing}
+use Rattle.labelled_disk.specs.Runs.{zero_bytes, growth, freeing}
 use Rattle.labelled_disk.specs.WriteLaws.{HasData, IsOnlyOf, Kept}
 use Rattle.labelled_disk.proofs.Finds.{none_passes, get_set_same, get_set_other}
 use Rattle.labelled_disk.proofs.SectorWrites as w

@@ -1,14 +1,14 @@
 -- The orders of a file, with writes of page bytes anywhere among them: the shape of the file at each moment.
 use Rattle.std.specs.Prelude.{◌≡◌, ℕ, suc, ◌+◌, ◌/◌, ◌%◌, ◌^◌, ◌<◌, ◌≤◌, Bool, true, false, List, ◌∷◌, length, replicate, slice_get, Some, None}
 use Rattle.labelled_disk.specs.declared.disk.DiskWrite.{DiskWrite}
-use Rattle.labelled_disk.specs.Label.{leader_page}
+use Rattle.labelled_disk.specs.Label.{leader_page, page_label}
 use Rattle.labelled_disk.specs.Sectors.{Sector}
 use Rattle.labelled_disk.specs.Moment.{moment}
 use Rattle.labelled_disk.specs.Layout.{capacity, data_sectors}
 use Rattle.labelled_disk.specs.File.{File, size, total_room, zero_page}
 use Rattle.labelled_disk.specs.FilesOn.{is_of, leads_file, files_among, disk_file}
 use Rattle.labelled_disk.specs.Right.{FilesRight}
-use Rattle.labelled_disk.specs.Runs.{page_label, zero_bytes, growth, creation, freeing, AreUnused, IsAt, ArePagesDown, ArePagesUp, lengthened, shortened}
+use Rattle.labelled_disk.specs.Runs.{zero_bytes, growth, creation, freeing, AreUnused, IsAt, ArePagesDown, ArePagesUp, lengthened, shortened}
 use Rattle.label_laws.specs.Mixed.{label_writes}
 use Rattle.label_laws.specs.MixedVolumes.{ShapeChanged, label_count}
 

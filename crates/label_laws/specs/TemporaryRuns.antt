@@ -1,14 +1,14 @@
 -- A temporary file is made, lengthened, shortened and removed, as the permanent files see it.
 use Rattle.std.specs.Prelude.{◌≡◌, ℕ, suc, ◌+◌, ◌/◌, ◌%◌, ◌^◌, ◌<◌, ◌≤◌, true, false, List, ◌∷◌, length, slice_get, Some}
 use Rattle.labelled_disk.specs.declared.disk.DiskWrite.{DiskWrite}
-use Rattle.labelled_disk.specs.Label.{leader_page}
+use Rattle.labelled_disk.specs.Label.{leader_page, page_label}
 use Rattle.labelled_disk.specs.Sectors.{Sector}
 use Rattle.labelled_disk.specs.Moment.{moment}
 use Rattle.labelled_disk.specs.Layout.{capacity, data_sectors}
 use Rattle.labelled_disk.specs.File.{File, size, total_room}
 use Rattle.labelled_disk.specs.FilesOn.{is_of, leads_file, files_among, disk_file}
 use Rattle.labelled_disk.specs.Right.{FilesRight}
-use Rattle.labelled_disk.specs.Runs.{page_label, zero_bytes, growth, creation, freeing, AreUnused, IsAt, ArePagesDown, ArePagesUp}
+use Rattle.labelled_disk.specs.Runs.{zero_bytes, growth, creation, freeing, AreUnused, IsAt, ArePagesDown, ArePagesUp}
 use Rattle.label_laws.specs.Mixed.{label_writes}
 use Rattle.label_laws.specs.MixedVolumes.{ShapesKept}
 

@@ -6,7 +6,7 @@ use Rattle.std.specs.List.{AllByRecursion}
 use Rattle.std.proofs.lemmas.List.{length_push, length-take-le, take_all, take-take}
 use Rattle.std.proofs.lemmas.Option.{same_Some, none-some}
 use Rattle.std.proofs.lemmas.Bool.{and_parts, and_left, and_from, eq-eqb}
-use Rattle.labelled_disk.specs.Label.{is_file, is_file_id, is_permanent, leader_page, names}
+use Rattle.labelled_disk.specs.Label.{is_file, is_file_id, is_permanent, leader_page, names, page_label}
 use Rattle.labelled_disk.specs.declared.label.Label.{Label}
 use Rattle.labelled_disk.specs.declared.disk.DiskWrite.{DiskWrite}
 use Rattle.labelled_disk.specs.declared.disk.DiskWrite.TheVariants as write
@@ -17,7 +17,7 @@ use Rattle.labelled_disk.specs.File.{File, Page, byte, size, file_at, room_of, t
 use Rattle.labelled_disk.specs.FilesOn.{is_of, is_page, leads, leads_file, leader_among, files_among, disk_file}
 use Rattle.labelled_disk.specs.Right.{FilesRight}
 use Rattle.labelled_disk.specs.WriteLaws.{HasData, Changed, Kept}
-use Rattle.labelled_disk.specs.Runs.{page_label, zero_bytes, growth, creation, freeing, IsUnused, AreUnused, IsAt, ArePagesDown, ArePagesUp, lengthened, shortened, GrowthMoments, CreationMoments, ShrinkingMoments, DeletionMoments, CreationUnseen, DataRuns, SectorsStay, sector_of}
+use Rattle.labelled_disk.specs.Runs.{zero_bytes, growth, creation, freeing, IsUnused, AreUnused, IsAt, ArePagesDown, ArePagesUp, lengthened, shortened, GrowthMoments, CreationMoments, ShrinkingMoments, DeletionMoments, CreationUnseen, DataRuns, SectorsStay, sector_of}
 use Rattle.labelled_disk.proofs.Finds.{get_set_other, found_at, find_none}
 use Rattle.labelled_disk.proofs.SectorWrites as w
 use Rattle.labelled_disk.proofs.WriteLemmas as laws

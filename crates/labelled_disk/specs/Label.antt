@@ -46,6 +46,10 @@ is_permanent l = l.flags % 2 == 1
 abbrev pub is_immutable : Label → Bool
 is_immutable l = l.flags / 2 % 2 == 1
 
+-- the label of a page of a file or a map, or with the leader's page number that of a file's leader: temporary and mutable
+abbrev pub page_label : ℕ → ℕ → ℕ → Label
+page_label id kind page = record { id = id; page = page; kind = kind; flags = 0; last = 0 }
+
 -- the label of the root
 abbrev pub root_label : Label
 root_label = record { id = 4; page = 0; kind = 0; flags = 0; last = 0 }

@@ -4,7 +4,7 @@ use Rattle.std.specs.List.{AllByRecursion}
 use Rattle.labelled_disk.specs.declared.label.Label.{Label}
 use Rattle.labelled_disk.specs.declared.disk.DiskWrite.{DiskWrite}
 use Rattle.labelled_disk.specs.declared.disk.DiskWrite.TheVariants.{Whole, LabelOnly, Page}
-use Rattle.labelled_disk.specs.Label.{is_file, is_file_id, leader_page}
+use Rattle.labelled_disk.specs.Label.{is_file, is_file_id, leader_page, page_label}
 use Rattle.labelled_disk.specs.Sectors.{Sector, IsSector, AreSectors, free_label}
 use Rattle.labelled_disk.specs.Moment.{moment, written}
 use Rattle.labelled_disk.specs.Layout.{capacity, data_sectors, first_data}
@@ -13,10 +13,6 @@ use Rattle.labelled_disk.specs.FilesOn.{is_of, is_page, leads_file, files_among,
 use Rattle.labelled_disk.specs.Right.{FilesRight}
 use Rattle.labelled_disk.specs.Root.{RightFor, serial_of, counter_of}
 use Rattle.labelled_disk.specs.WriteLaws.{HasData, Changed, Kept}
-
--- the label of a page of a file, or with the leader's page number that of its leader: temporary and mutable
-abbrev pub page_label : ℕ → ℕ → ℕ → Label
-page_label id kind page = record { id = id; page = page; kind = kind; flags = 0; last = 0 }
 
 -- 512 bytes of zero
 unfoldable pub zero_bytes : List ℕ

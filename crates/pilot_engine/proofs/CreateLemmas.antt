@@ -4,9 +4,9 @@ use Rattle.std.specs.Prelude.{slice_get, slice_set, option_map}
 use Rattle.std.proofs.lemmas.List.{length-replicate}
 use Rattle.labelled_disk.specs.declared.layout.Layout.{Layout}
 use Rattle.labelled_disk.specs.File.{File, file_at}
-use Rattle.labelled_disk.specs.Label.{leader_page, root_label}
+use Rattle.labelled_disk.specs.Label.{leader_page, root_label, page_label}
 use Rattle.labelled_disk.specs.Layout.{capacity}
-use Rattle.labelled_disk.specs.Runs.{creation, page_label}
+use Rattle.labelled_disk.specs.Runs.{creation}
 use Rattle.labelled_disk.specs.Sectors.{Sector}
 use Rattle.labelled_disk.specs.State.{DiskState}
 use Rattle.volume_root.specs.RootPage.{root_write}

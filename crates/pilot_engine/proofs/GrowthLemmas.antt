@@ -3,7 +3,8 @@ use Rattle.std.proofs.Common.{◌≡◌, ◌≢◌, ℕ, zero, suc, ◌+◌, Lis
 use Rattle.std.specs.List.{AllByRecursion}
 use Rattle.labelled_disk.specs.declared.disk.DiskWrite.{DiskWrite}
 use Rattle.labelled_disk.specs.declared.disk.DiskWrite.TheVariants.{Whole}
-use Rattle.labelled_disk.specs.Runs.{growth, page_label, zero_bytes, AreUnused}
+use Rattle.labelled_disk.specs.Runs.{growth, zero_bytes, AreUnused}
+use Rattle.labelled_disk.specs.Label.{page_label}
 use Rattle.labelled_disk.specs.Sectors.{Sector}
 
 -- they are a growth into the first of the sectors

@@ -14,7 +14,7 @@ use Rattle.swapper_kernel.specs.Stands.{labels_of}
 use Rattle.filer_kernel.specs.declared.cached.CachedRuns.{CachedRuns}
 use Rattle.session_words.specs.FreeLaws.{Frees, free_where}
 use Rattle.session_words.specs.GrowLaws.{Grows, grown_labels}
-use Rattle.labelled_disk.specs.Runs.{page_label}
+use Rattle.labelled_disk.specs.Label.{page_label}
 use Rattle.session_words.specs.MarkLaws.{Marks, marked_label}
 use Rattle.session_words.specs.Parts.{TablesMeaning}
 use Rattle.session_words.specs.StandsFor.{StandsFor}

@@ -6,13 +6,13 @@ use Rattle.std.proofs.lemmas.Bool.{true≢false, cases_eq}
 use Rattle.labelled_disk.specs.declared.disk.DiskWrite.{DiskWrite}
 use Rattle.labelled_disk.specs.declared.disk.DiskWrite.TheVariants.{Whole, LabelOnly, Page}
 use Rattle.labelled_disk.specs.declared.label.Label.{Label}
-use Rattle.labelled_disk.specs.Label.{is_free, root_label}
+use Rattle.labelled_disk.specs.Label.{is_free, root_label, page_label}
 use Rattle.labelled_disk.specs.Lawful.{Lawful, IsNextLabel}
 use Rattle.labelled_disk.specs.Layout.{first_data}
 use Rattle.labelled_disk.specs.Moment.{moment, written}
 use Rattle.labelled_disk.specs.Root.{IsRoot, LabelsRight, serial_of, counter_of}
 use Rattle.labelled_disk.specs.RootLaws.{StaysRight}
-use Rattle.labelled_disk.specs.Runs.{growth, page_label, zero_bytes}
+use Rattle.labelled_disk.specs.Runs.{growth, zero_bytes}
 use Rattle.labelled_disk.specs.Sectors.{Sector}
 use Rattle.labelled_disk.specs.State.{DiskState}
 use Rattle.labelled_disk.specs.WriteLaws.{HasData}

@@ -7,11 +7,11 @@ use Rattle.std.proofs.lemmas.Bool.{true≢false, cases_eq, ne_eqb}
 use Rattle.std.proofs.lemmas.List.{length-map, length-replicate}
 use Rattle.labelled_disk.specs.declared.label.Label.{Label}
 use Rattle.labelled_disk.specs.declared.layout.Layout.{Layout}
-use Rattle.labelled_disk.specs.Label.{leader_page}
+use Rattle.labelled_disk.specs.Label.{leader_page, page_label}
 use Rattle.labelled_disk.specs.Layout.{first_data}
 use Rattle.labelled_disk.specs.Moment.{written}
 use Rattle.labelled_disk.specs.Root.{root_page}
-use Rattle.labelled_disk.specs.Runs.{page_label, zero_bytes}
+use Rattle.labelled_disk.specs.Runs.{zero_bytes}
 use Rattle.labelled_disk.specs.Sectors.{Sector, AreSectors}
 use Rattle.labelled_disk.specs.State.{DiskState}
 use Rattle.labelled_disk.specs.FilesOn.{files_on}

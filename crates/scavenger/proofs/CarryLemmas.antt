@@ -5,6 +5,7 @@ use Rattle.std.specs.List.{range_with_len}
 use Rattle.std.proofs.lemmas.List.{take-append-drop, drop_all}
 use Rattle.std.proofs.lemmas.List.FromFn.{map-range_with_len_more, take-map-range_with_len}
 use Rattle.std.proofs.lemmas.Option.{same_Some, none-some}
+use Rattle.labelled_disk.specs.Label.{page_label}
 use Rattle.labelled_disk.specs.declared.disk.DiskError.{DiskError}
 use Rattle.labelled_disk.specs.declared.disk.DiskWrite.{DiskWrite}
 use Rattle.labelled_disk.specs.declared.disk.DiskWrite.TheVariants.{Whole, LabelOnly}
@@ -14,7 +15,6 @@ use Rattle.labelled_disk.specs.Runs.{freeing}
 use Rattle.labelled_disk.specs.Sectors.{free_label}
 use Rattle.labelled_disk.specs.State.{DiskState}
 use Rattle.page_tree.specs.Page.{page_at}
-use Rattle.volume_root.specs.Format.{map_label}
 use Rattle.label_survey.specs.declared.standing.Standing.{Standing}
 use Rattle.label_survey.specs.Survey.{is_freed, places_by}
 use Rattle.scavenger.specs.Carries.{Carries}
@@ -25,7 +25,7 @@ use Rattle.scavenger.proofs.RowLemmas.{carries_one, carries_then, carries_stoppe
 
 module _ (id first : ℕ) (bytes : List ℕ) where
   abbrev one : ℕ → DiskWrite
-  one i = Whole (first + i) (map_label id i) (page_at bytes i)
+  one i = Whole (first + i) (page_label id 0 i) (page_at bytes i)
 
   more_writes : (i : ℕ) → map_writes id first bytes i ++ one i ∷ [] ≡ map_writes id first bytes (i + 1)
   more_writes i = sym (map-range_with_len_more one 0 i i (omega arith))
@@ -34,11 +34,11 @@ module _ (id first : ℕ) (bytes : List ℕ) where
   rest_writes i pages few =
       ap (λ (ws : List DiskWrite). ws ++ drop i (map_writes id first bytes pages)) (sym (take-map-range_with_len one 0 pages i few)) ∙ take-append-drop i (map_writes id first bytes pages)
 
-  module _ (a b c : DiskState) (i : ℕ) (label : Label) (page : List ℕ) (labelled : label ≡ map_label id i) (paged : page ≡ page_at bytes i) where
+  module _ (a b c : DiskState) (i : ℕ) (label : Label) (page : List ℕ) (labelled : label ≡ page_label id 0 i) (paged : page ≡ page_at bytes i) where
     as_one : (r : Result (Unit {0}) DiskError) → Writes (Whole (first + i) label page) b r c → Carries (one i ∷ []) b r c
     as_one r writes =
         carries_as (Whole (first + i) label page ∷ []) (one i ∷ []) b c r
-        (ap (λ (l : Label). Whole (first + i) l page ∷ []) labelled ∙ ap (λ (p : List ℕ). Whole (first + i) (map_label id i) p ∷ []) paged)
+        (ap (λ (l : Label). Whole (first + i) l page ∷ []) labelled ∙ ap (λ (p : List ℕ). Whole (first + i) (page_label id 0 i) p ∷ []) paged)
         (carries_one (Whole (first + i) label page) b c r writes)
 
     pub page_more : Carries {E = DiskError} (map_writes id first bytes i) a (Ok tt) b → Writes (Whole (first + i) label page) b (Ok tt) c → Carries {E = DiskError} (map_writes id first bytes (i + 1)) a (Ok tt) c

@@ -7,7 +7,7 @@ use Rattle.std.proofs.lemmas.List.FromFn.{map-range_with_len_more}
 use Rattle.labelled_disk.specs.declared.disk.DiskWrite.{DiskWrite}
 use Rattle.labelled_disk.specs.declared.disk.DiskWrite.TheVariants.{Whole}
 use Rattle.labelled_disk.specs.declared.label.Label.{Label}
-use Rattle.labelled_disk.specs.Label.{names}
+use Rattle.labelled_disk.specs.Label.{names, page_label}
 use Rattle.labelled_disk.specs.Layout.{data_sectors, first_data}
 use Rattle.labelled_disk.specs.Moment.{written, moment}
 use Rattle.labelled_disk.specs.Root.{LabelsRight}
@@ -18,7 +18,6 @@ use Rattle.labelled_disk.proofs.WriteLemmas as laws
 use Rattle.labelled_disk.proofs.WriteRunLemmas.{after_writes-append}
 use Rattle.label_laws.specs.MapLabels.{map_page, MapRelabelled}
 use Rattle.page_tree.specs.Page.{page_at}
-use Rattle.volume_root.specs.Format.{map_label}
 use Rattle.scavenger.specs.Orders.{map_writes}
 use Rattle.scavenger.proofs.MomentLemmas.{AtEach}
 
@@ -73,32 +72,32 @@ each_made : {X : Type 0} (P : X → Type 0) (f : ℕ → X) (a n : ℕ) → ((i 
 each_made P f a zero each = tt
 each_made P f a (suc n) each = (each a (omega arith) (omega arith), each_made P f (a + 1) n (λ i from below. each i (omega (arith, from)) (omega (arith, below))))
 
-pub labelled_so : (id page : ℕ) → names (map_label id page) (record { id = id; page = page }) ≡ true
+pub labelled_so : (id page : ℕ) → names (page_label id 0 page) (record { id = id; page = page }) ≡ true
 labelled_so id page = rw (eq-eqb id id refl, eq-eqb page page refl) refl
 
 -- the writes of a map
 pub map_writes_are : (n id first : ℕ) (bytes : List ℕ) (pages : ℕ) → 1 ≤ first → first + pages ≤ first_data n
     → ((i : ℕ) → i < pages → map_page n (first + i) ≡ record { id = id; page = i }) → AllByRecursion (IsMapWrite n) (map_writes id first bytes pages)
 map_writes_are n id first bytes pages some within page_is =
-    each_made (IsMapWrite n) (λ i. Whole (first + i) (map_label id i) (page_at bytes i)) 0 pages (λ i from below. record {
+    each_made (IsMapWrite n) (λ i. Whole (first + i) (page_label id 0 i) (page_at bytes i)) 0 pages (λ i from below. record {
       place = first + i;
-      label = map_label id i;
+      label = page_label id 0 i;
       page = page_at bytes i;
       is = refl;
       above = omega (arith, some);
       below = omega (arith, within, below);
-      named = ap (names (map_label id i)) (page_is i (omega (arith, below))) ∙ labelled_so id i;
+      named = ap (names (page_label id 0 i)) (page_is i (omega (arith, below))) ∙ labelled_so id i;
     })
 
 -- what stands in the sectors of a map that was written
 module _ (id first : ℕ) (bytes : List ℕ) (d : List Sector) where
   abbrev one : ℕ → DiskWrite
-  one i = Whole (first + i) (map_label id i) (page_at bytes i)
+  one i = Whole (first + i) (page_label id 0 i) (page_at bytes i)
 
   abbrev pub map_written : ℕ → List Sector
   map_written n = after_writes (map_writes id first bytes n) d
 
-  more : (n : ℕ) → map_written (suc n) ≡ slice_set (map_written n) (first + n) (map_label id n, page_at bytes n)
+  more : (n : ℕ) → map_written (suc n) ≡ slice_set (map_written n) (first + n) (page_label id 0 n, page_at bytes n)
   more n =
       let s : suc n ≡ n + 1 = omega arith in
       ap (λ (m : ℕ). map_written m) s
@@ -107,26 +106,26 @@ module _ (id first : ℕ) (bytes : List ℕ) (d : List Sector) where
 
   pub map_long : (n : ℕ) → length (map_written n) ≡ length d
   map_long zero = refl
-  map_long (suc n) = ap (λ (e : List Sector). length e) (more n) ∙ length-set (map_written n) (first + n) (map_label id n, page_at bytes n) ∙ map_long n
+  map_long (suc n) = ap (λ (e : List Sector). length e) (more n) ∙ length-set (map_written n) (first + n) (page_label id 0 n, page_at bytes n) ∙ map_long n
 
-  pub map_there : (n k : ℕ) → k < n → first + n ≤ length d → slice_get (map_written n) (first + k) ≡ Some (map_label id k, page_at bytes k)
+  pub map_there : (n k : ℕ) → k < n → first + n ≤ length d → slice_get (map_written n) (first + k) ≡ Some (page_label id 0 k, page_at bytes k)
   map_there zero k low within = absurd (omega (arith, low))
   map_there (suc n) k low within =
       ap (λ (e : List Sector). slice_get e (first + k)) (more n) ∙ either (cases_eq k n) (λ apart. map_there n k (omega (arith, low, apart)) (omega (arith, within)))
     where
-      either : (k ≡ n) ⊎ (k ≢ n) → (k ≢ n → slice_get (map_written n) (first + k) ≡ Some (map_label id k, page_at bytes k)) → slice_get (slice_set (map_written n) (first + n) (map_label id n, page_at bytes n)) (first + k) ≡ Some (map_label id k, page_at bytes k)
+      either : (k ≡ n) ⊎ (k ≢ n) → (k ≢ n → slice_get (map_written n) (first + k) ≡ Some (page_label id 0 k, page_at bytes k)) → slice_get (slice_set (map_written n) (first + n) (page_label id 0 n, page_at bytes n)) (first + k) ≡ Some (page_label id 0 k, page_at bytes k)
       either (inl same) before =
-          subst (λ (m : ℕ). slice_get (slice_set (map_written n) (first + n) (map_label id n, page_at bytes n)) (first + m) ≡ Some (map_label id m, page_at bytes m)) (sym same)
-          (get_set_same (map_written n) (first + n) (map_label id n, page_at bytes n) (omega (arith, within, map_long n)))
+          subst (λ (m : ℕ). slice_get (slice_set (map_written n) (first + n) (page_label id 0 n, page_at bytes n)) (first + m) ≡ Some (page_label id 0 m, page_at bytes m)) (sym same)
+          (get_set_same (map_written n) (first + n) (page_label id 0 n, page_at bytes n) (omega (arith, within, map_long n)))
       either (inr apart) before =
-          get_set_other (map_written n) (first + n) (first + k) (map_label id n, page_at bytes n) (λ e. apart (omega (arith, e)))
+          get_set_other (map_written n) (first + n) (first + k) (page_label id 0 n, page_at bytes n) (λ e. apart (omega (arith, e)))
           ∙ before apart
 
   pub map_other : (n j : ℕ) → (j < first) ⊎ (first + n ≤ j) → slice_get (map_written n) j ≡ slice_get d j
   map_other zero j out = refl
   map_other (suc n) j out =
       ap (λ (e : List Sector). slice_get e j) (more n)
-      ∙ get_set_other (map_written n) (first + n) j (map_label id n, page_at bytes n) (λ e. apart e out)
+      ∙ get_set_other (map_written n) (first + n) j (page_label id 0 n, page_at bytes n) (λ e. apart e out)
       ∙ map_other n j (still out)
     where
       apart : j ≡ first + n → (j < first) ⊎ (first + suc n ≤ j) → ⊥

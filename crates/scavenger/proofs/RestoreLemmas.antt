@@ -8,7 +8,7 @@ use Rattle.std.proofs.lemmas.Bool.{leb-true, le-leb, lt-leb, lt-ltb, true≢fals
 use Rattle.labelled_disk.specs.declared.disk.DiskWrite.{DiskWrite}
 use Rattle.labelled_disk.specs.declared.label.Label.{Label}
 use Rattle.labelled_disk.specs.declared.label.Wanted.{Wanted}
-use Rattle.labelled_disk.specs.Label.{is_file, is_free, names, root_label}
+use Rattle.labelled_disk.specs.Label.{is_file, is_free, names, root_label, page_label}
 use Rattle.labelled_disk.specs.Layout.{IsCount, capacity, data_sectors, first_data, vam, vfm}
 use Rattle.labelled_disk.specs.File.{File, total_room}
 use Rattle.labelled_disk.specs.FilesOn.{files_on, files_by, disk_file}
@@ -30,7 +30,6 @@ use Rattle.page_tree.specs.Page.{page_at}
 use Rattle.page_tree.specs.Tells.{TellsTree}
 use Rattle.volume_root.specs.declared.root.Root.{Root}
 use Rattle.volume_root.specs.Flag.{with_flag, flag_write}
-use Rattle.volume_root.specs.Format.{map_label}
 use Rattle.volume_root.specs.RootPage.{IsValidRoot, root_in, root_write, root_bytes}
 use Rattle.volume_root.specs.Sound.{Sound, HasBits, HasFileMap, map_bytes}
 use Rattle.volume_root.proofs.FlagLemmas.{flag_keeps_volume}
@@ -212,13 +211,13 @@ module _ (laws : Laws) (g e : List Sector) (o : Orders) (has : IsRoot (length g)
   same_data : data_sectors h ≡ data_sectors e2
   same_data = writes.data_past false 0 0 e4 0 root_sector (writes.first_positive false 0 0 (length e4)) ∙ low4.same_data
 
-  bits_there : (k : ℕ) → k < vam n → slice_get h (1 + k) ≡ Some (map_label 1 k, page_at o.bits k)
+  bits_there : (k : ℕ) → k < vam n → slice_get h (1 + k) ≡ Some (page_label 1 0 k, page_at o.bits k)
   bits_there k low =
       get_set_other e4 0 (1 + k) root_sector (λ q. omega (arith, q))
       ∙ map_other 2 (1 + vam n) o.names e3 (vfm n) (1 + k) (inl (omega (arith, low)))
       ∙ map_there 1 1 o.bits e2 (vam n) k low (omega (arith, long2, within, first_is n))
 
-  names_there : (k : ℕ) → k < vfm n → slice_get h (1 + vam n + k) ≡ Some (map_label 2 k, page_at o.names k)
+  names_there : (k : ℕ) → k < vfm n → slice_get h (1 + vam n + k) ≡ Some (page_label 2 0 k, page_at o.names k)
   names_there k low =
       get_set_other e4 0 (1 + vam n + k) root_sector (λ q. omega (arith, q))
       ∙ map_there 2 (1 + vam n) o.names e3 (vfm n) k low (omega (arith, low3.sectors, long2, within, first_is n))
@@ -254,7 +253,7 @@ module _ (laws : Laws) (g e : List Sector) (o : Orders) (has : IsRoot (length g)
   is_clean : short_at (root_page h) 10 ≡ 1
   is_clean = ap (λ (s : Option Sector). short_at (page_in s) 10) root_there ∙ flag_read (closed o)
 
-  named : (id k : ℕ) (page : List ℕ) (place : ℕ) → slice_get h place ≡ Some (map_label id k, page) → IsSomeAnd (slice_get h place) (λ s. IsTrue (names s.0 (record { id = id; page = k })))
+  named : (id k : ℕ) (page : List ℕ) (place : ℕ) → slice_get h place ≡ Some (page_label id 0 k, page) → IsSomeAnd (slice_get h place) (λ s. IsTrue (names s.0 (record { id = id; page = k })))
   named id k page place there = subst (λ (s : Option Sector). IsSomeAnd s (λ t. IsTrue (names t.0 (record { id = id; page = k })))) (sym there) (labelled_so id k)
 
   has_maps : HasMaps (length h) h
@@ -296,11 +295,11 @@ module _ (laws : Laws) (g e : List Sector) (o : Orders) (has : IsRoot (length g)
 
   bits_are : map_bytes h ≡ o.bits
   bits_are = gathered (vam (length h)) (drop 1 h) o.bits (is_for.bits.size ∙ (let q : 512 * vam n ≡ 512 * vam (length h) = ap (λ (m : ℕ). 512 * vam m) (sym long_h) in q))
-      (λ k low. (map_label 1 k, writes.get_drop 1 h k ∙ bits_there k (omega (arith, low, ap vam long_h))))
+      (λ k low. (page_label 1 0 k, writes.get_drop 1 h k ∙ bits_there k (omega (arith, low, ap vam long_h))))
 
   names_are : file_bytes h ≡ o.names
   names_are = gathered (vfm (length h)) (drop (1 + vam (length h)) h) o.names (is_for.names.size ∙ (let q : 512 * vfm n ≡ 512 * vfm (length h) = ap (λ (m : ℕ). 512 * vfm m) (sym long_h) in q))
-      (λ k low. (map_label 2 k, writes.get_drop (1 + vam (length h)) h k ∙ ap (λ (m : ℕ). slice_get h (1 + vam m + k)) long_h ∙ names_there k (omega (arith, low, ap vfm long_h))))
+      (λ k low. (page_label 2 0 k, writes.get_drop (1 + vam (length h)) h k ∙ ap (λ (m : ℕ). slice_get h (1 + vam m + k)) long_h ∙ names_there k (omega (arith, low, ap vfm long_h))))
 
   used : (i : ℕ) → is_used (map_bytes h) i ≡ stays g i
   used i = ap (λ (b : List ℕ). is_used b i) bits_are ∙ is_for.bits.used i

@@ -1,6 +1,7 @@
 -- The writes by which a volume is restored, in their order.
 use Rattle.std.specs.Prelude.{◌≡◌, ℕ, ◌+◌, ◌<◌, ◌^◌, true, false, if◌then◌else◌, List, [], ◌∷◌, ◌++◌, map}
 use Rattle.std.specs.List.{range_with_len}
+use Rattle.labelled_disk.specs.Label.{page_label}
 use Rattle.labelled_disk.specs.declared.disk.DiskWrite.{DiskWrite}
 use Rattle.labelled_disk.specs.declared.disk.DiskWrite.TheVariants.{Whole}
 use Rattle.labelled_disk.specs.Layout.{vam, vfm}
@@ -9,7 +10,6 @@ use Rattle.labelled_disk.specs.Runs.{freeing}
 use Rattle.labelled_disk.specs.Sectors.{Sector}
 use Rattle.page_tree.specs.Page.{page_at}
 use Rattle.volume_root.specs.declared.root.Root.{Root}
-use Rattle.volume_root.specs.Format.{map_label}
 use Rattle.volume_root.specs.RootPage.{root_in, root_write}
 use Rattle.label_laws.specs.Counts.{unneeded_sectors}
 use Rattle.label_survey.specs.Counter.{IsRaised}
@@ -29,7 +29,7 @@ opening root = if root.clean then root_write (record root { clean = false }) ∷
 
 -- the first k pages of a map whose page 0 stands in this sector, each with its label
 abbrev pub map_writes : ℕ → ℕ → List ℕ → ℕ → List DiskWrite
-map_writes id first bytes k = map (λ i. Whole (first + i) (map_label id i) (page_at bytes i)) (range_with_len 0 k)
+map_writes id first bytes k = map (λ i. Whole (first + i) (page_label id 0 i) (page_at bytes i)) (range_with_len 0 k)
 
 -- the root, clean, with the new counter
 abbrev pub closed : Orders → Root

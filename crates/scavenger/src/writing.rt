@@ -3,7 +3,6 @@ ghost use Rattle.std.specs.Prelude.{◌≡◌, ◌+◌, ◌*◌, ◌-◌, ◌≤
 ghost use Rattle.flat_mem.specs.Vec.{vec_mem_bytes};
 ghost use Rattle.labelled_disk.specs.Runs.{freeing};
 ghost use Rattle.page_tree.specs.Page.{page_at};
-ghost use Rattle.volume_root.specs.Format.{map_label};
 ghost use Rattle.volume_root.specs.RootPage.{IsValidRoot, root_write};
 ghost use Rattle.label_survey.specs.Survey.{is_freed, places_by};
 ghost use Rattle.scavenger.specs.Carries.{Carries};
@@ -74,18 +73,6 @@ pub(crate) fn free_sectors<D: Disk>(
     Ok(())
 }
 
-fn map_label(id: FileId, page: u32) -> Label
-    ensures { result ≡ map_label id page }
-{
-    Label {
-        id,
-        page,
-        kind: 0,
-        flags: 0,
-        last: 0,
-    }
-}
-
 fn page_of<A: Allocator>(map: &mut VecMem<A>, index: u32) -> Page
     requires { 512 * index + 512 ≤ length (vec_mem_bytes map.old) }
     ensures page { result ≡ page_at (vec_mem_bytes map.old) index }
@@ -113,7 +100,7 @@ pub(crate) fn write_map<A: Allocator, D: Disk>(
 {
     for i in 0..pages {
         let page = page_of(map, i);
-        disk.write(first + i, &map_label(id, i), &page)?;
+        disk.write(first + i, &Label::of_page(id, 0, i), &page)?;
     }
     Ok(())
 }

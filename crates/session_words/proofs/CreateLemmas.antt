@@ -6,12 +6,12 @@ use Rattle.std.proofs.lemmas.Option.{same_Some, none-some}
 use Rattle.std.proofs.lemmas.Bool.{eq-eqb, ne_eqb, eqb-true, eqb-false, true≢false, le-ltb, ltb-false}
 use Rattle.std.proofs.lemmas.List.{length-map}
 use Rattle.labelled_disk.specs.declared.label.Label.{Label}
-use Rattle.labelled_disk.specs.Label.{is_free, leader_page, root_label}
+use Rattle.labelled_disk.specs.Label.{is_free, leader_page, root_label, page_label}
 use Rattle.labelled_disk.specs.Layout.{first_data, vam}
 use Rattle.labelled_disk.specs.Sectors.{Sector}
 use Rattle.labelled_disk.specs.File.{File, file_at}
 use Rattle.labelled_disk.specs.FilesOn.{put_file}
-use Rattle.labelled_disk.specs.Runs.{page_label, lengthened}
+use Rattle.labelled_disk.specs.Runs.{lengthened}
 use Rattle.labelled_disk.proofs.RisingLemmas.{at_id, at_put, rising_put, same_by_look_up}
 use Rattle.labelled_disk.proofs.WriteLemmas.{first_positive}
 use Rattle.file_map.specs.FileMap.{Triples}

@@ -6,11 +6,11 @@ use Rattle.std.proofs.lemmas.Option.{same_Some, none-some, slice_get_within}
 use Rattle.std.proofs.lemmas.Bool.{eqb-true, eqb-false, true≢false, cases_eq}
 use Rattle.std.proofs.lemmas.List.{length-map, length-append, length-replicate}
 use Rattle.labelled_disk.specs.declared.label.Label.{Label}
-use Rattle.labelled_disk.specs.Label.{leader_page}
+use Rattle.labelled_disk.specs.Label.{leader_page, page_label}
 use Rattle.labelled_disk.specs.Layout.{first_data, vam}
 use Rattle.labelled_disk.specs.Sectors.{Sector}
 use Rattle.labelled_disk.specs.File.{File, Page, byte, zero_page, size, file_at}
-use Rattle.labelled_disk.specs.Runs.{page_label, zero_bytes, lengthened}
+use Rattle.labelled_disk.specs.Runs.{zero_bytes, lengthened}
 use Rattle.labelled_disk.proofs.WriteLemmas.{first_positive}
 use Rattle.labelled_disk.proofs.RisingLemmas.{at_id}
 use Rattle.file_map.specs.FileMap.{Triples}

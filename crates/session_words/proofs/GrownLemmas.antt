@@ -5,10 +5,9 @@ use Rattle.std.proofs.lemmas.Option.{same_Some, none-some, slice_get_within}
 use Rattle.std.proofs.lemmas.Bool.{eq-eqb, ne_eqb, eqb-true, true≢false, cases_eq}
 use Rattle.labelled_disk.specs.declared.label.Label.{Label}
 use Rattle.labelled_disk.specs.declared.label.Wanted.{Wanted}
-use Rattle.labelled_disk.specs.Label.{is_file_id, is_free, names, leader_page}
+use Rattle.labelled_disk.specs.Label.{is_file_id, is_free, names, leader_page, page_label}
 use Rattle.labelled_disk.specs.Layout.{first_data, vam, vfm}
 use Rattle.labelled_disk.specs.File.{size}
-use Rattle.labelled_disk.specs.Runs.{page_label}
 use Rattle.labelled_disk.proofs.Finds.{get_set_same, get_set_other}
 use Rattle.file_map.specs.FileMap.{Triples}
 use Rattle.session_words.specs.Parts.{Shape, Shapes, HasLabels, HasMapLabels, is_owned}

@@ -8,13 +8,12 @@ use Rattle.std.proofs.lemmas.Bool.{and_from, eq-eqb, ne_eqb, true≢false, false
 use Rattle.std.proofs.lemmas.List.{length-map}
 use Rattle.labelled_disk.specs.declared.label.Label.{Label}
 use Rattle.labelled_disk.specs.declared.label.Wanted.{Wanted}
-use Rattle.labelled_disk.specs.Label.{is_file, is_free, names, leader_page}
+use Rattle.labelled_disk.specs.Label.{is_file, is_free, names, leader_page, page_label}
 use Rattle.labelled_disk.specs.Layout.{first_data, vam, vfm}
 use Rattle.labelled_disk.specs.Root.{page_in, serial_of, counter_of}
 use Rattle.labelled_disk.specs.Sectors.{Sector}
 use Rattle.labelled_disk.specs.File.{byte}
 use Rattle.labelled_disk.specs.FilesOn.{files_on, disk_file}
-use Rattle.labelled_disk.specs.Runs.{page_label}
 use Rattle.labelled_disk.proofs.LowestLemmas.{files_are_as_told}
 use Rattle.labelled_disk.proofs.WriteLemmas as laws
 use Rattle.alloc_map.specs.Bits.{is_used}

@@ -1,10 +1,9 @@
 -- A file is made: its leader, then its pages, with the next counter in the root.
 use Rattle.std.specs.Prelude.{◌≡◌, ◌≢◌, ℕ, ◌+◌, ◌*◌, ◌<◌, false, ◌&&◌, ◌||◌, ◌==◌, List, ◌∷◌, length, Some, None, slice_get, slice_set}
 use Rattle.labelled_disk.specs.declared.disk.DiskWrite.{DiskWrite}
-use Rattle.labelled_disk.specs.Label.{leader_page, root_label}
+use Rattle.labelled_disk.specs.Label.{leader_page, root_label, page_label}
 use Rattle.labelled_disk.specs.Layout.{vam}
 use Rattle.labelled_disk.specs.Sectors.{Sector, AreSectors}
-use Rattle.labelled_disk.specs.Runs.{page_label}
 use Rattle.labelled_disk.specs.State.{DiskState}
 use Rattle.file_map.specs.FileMap.{Triples}
 use Rattle.file_map.specs.InSectors.{MapNames}

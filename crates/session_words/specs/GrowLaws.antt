@@ -1,11 +1,11 @@
 -- A file grows: what that does to the memory, and to the machine that it stands for.
 use Rattle.std.specs.Prelude.{◌≡◌, ◌≢◌, ℕ, ◌+◌, ◌*◌, ◌<◌, Bool, true, false, ◌&&◌, ◌||◌, ◌==◌, List, [], ◌∷◌, length, Some, slice_get, slice_set}
 use Rattle.labelled_disk.specs.declared.label.Label.{Label}
-use Rattle.labelled_disk.specs.Label.{is_free, leader_page}
+use Rattle.labelled_disk.specs.Label.{is_free, leader_page, page_label}
 use Rattle.labelled_disk.specs.Layout.{vam}
 use Rattle.labelled_disk.specs.Sectors.{Sector, AreSectors}
 use Rattle.labelled_disk.specs.File.{File, file_at, size}
-use Rattle.labelled_disk.specs.Runs.{page_label, zero_bytes, lengthened}
+use Rattle.labelled_disk.specs.Runs.{zero_bytes, lengthened}
 use Rattle.file_map.specs.FileMap.{Triples}
 use Rattle.file_map.specs.InSectors.{MapNames}
 use Rattle.flat_machine.specs.Machine.{Machine}

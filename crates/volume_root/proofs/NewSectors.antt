@@ -1,17 +1,18 @@
 -- The sectors of a new volume, part by part.
 use Rattle.std.proofs.Common.{◌≡◌, ◌≢◌, ℕ, ◌-◌, ◌<◌, ◌≤◌, arith, List, refl, replicate}
 use Rattle.std.proofs.lemmas.Bool.{eq-eqb, ne_eqb, le-leb, lt-leb, lt-ltb, le-ltb}
+use Rattle.labelled_disk.specs.Label.{page_label}
 use Rattle.labelled_disk.specs.declared.label.Label.{Label}
 use Rattle.labelled_disk.specs.declared.layout.Layout.{Layout}
 use Rattle.labelled_disk.specs.Sectors.{Sector, zero_sector}
-use Rattle.volume_root.specs.Format.{map_label, used_page, new_sector}
+use Rattle.volume_root.specs.Format.{used_page, new_sector}
 
 module _ (layout : Layout) (i : ℕ) where
-  pub in_allocation : i ≢ 0 → i ≤ layout.vam → new_sector layout i ≡ (map_label 1 (i - 1), used_page layout.first (i - 1))
+  pub in_allocation : i ≢ 0 → i ≤ layout.vam → new_sector layout i ≡ (page_label 1 0 (i - 1), used_page layout.first (i - 1))
   unfolding new_sector
   in_allocation z a = rw (ne_eqb i 0 z, le-leb i layout.vam a) refl
 
-  pub in_file_map : layout.vam < i → i < layout.first → new_sector layout i ≡ (map_label 2 (i - 1 - layout.vam), replicate 512 0)
+  pub in_file_map : layout.vam < i → i < layout.first → new_sector layout i ≡ (page_label 2 0 (i - 1 - layout.vam), replicate 512 0)
   unfolding new_sector
   in_file_map a m = rw (ne_eqb i 0 (λ e. omega (arith, e, a)), lt-leb i layout.vam a, lt-ltb i layout.first m) refl
 

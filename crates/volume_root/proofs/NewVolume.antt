@@ -6,7 +6,7 @@ use Rattle.std.proofs.lemmas.Bool.{eq-eqb}
 use Rattle.std.proofs.lemmas.List.{get_or-take, get_or-drop, length-take, length-drop}
 use Rattle.std.proofs.lemmas.List.FromFn.{length-map-range_with_len, get_or-map-range_with_len, fill_by_all}
 use Rattle.std.proofs.lemmas.Option.{same_Some, slice_get_within, slice_get-get_or, get_or_from_slice_get}
-use Rattle.labelled_disk.specs.Label.{is_file, is_free, names, root_label}
+use Rattle.labelled_disk.specs.Label.{is_file, is_free, names, root_label, page_label}
 use Rattle.labelled_disk.specs.Sectors.{Sector, zero_sector}
 use Rattle.labelled_disk.specs.Layout.{IsCount, capacity, data_sectors, first_data, layout_of, vam, vfm}
 use Rattle.labelled_disk.specs.File.{File, total_room}
@@ -16,7 +16,7 @@ use Rattle.labelled_disk.specs.Root.{IsRoot, HasMaps, LabelsRight, page_in, root
 use Rattle.labelled_disk.proofs.Finds.{get_set_same, get_set_other}
 use Rattle.labelled_disk.proofs.LowestLemmas.{empty_has_none}
 use Rattle.labelled_disk.proofs.WriteLemmas.{get_drop}
-use Rattle.volume_root.specs.Format.{map_label, used_byte, used_page, new_sector, new_sectors, new_root, formatted}
+use Rattle.volume_root.specs.Format.{used_byte, used_page, new_sector, new_sectors, new_root, formatted}
 use Rattle.volume_root.specs.FormatLaws.{IsEmptyVolume, NewIsEmpty}
 use Rattle.volume_root.specs.RootPage.{IsValidRoot, root_bytes}
 use Rattle.volume_root.specs.Sound.{map_bytes, HasBits, HasFileMap, Sound}
@@ -25,7 +25,7 @@ use Rattle.volume_root.proofs.NewSectors.{in_allocation, in_file_map, in_data}
 use Rattle.volume_root.proofs.UsedBits.{is_below, is_past, pages_joined, byte_of}
 use Rattle.volume_root.proofs.WrittenLemmas.{is_root, flag_read, serial_read, counter_read}
 
-named : (id page : ℕ) → names (map_label id page) (record { id = id; page = page }) ≡ true
+named : (id page : ℕ) → names (page_label id 0 page) (record { id = id; page = page }) ≡ true
 named id page = rw (eq-eqb id id refl, eq-eqb page page refl) refl
 
 -- the sizes of the parts
@@ -71,20 +71,20 @@ module _ (n serial counter : ℕ) (count : IsCount n) (some_serial : 1 ≤ seria
       ∙ slice_get-get_or (new_sectors (layout_of n) n) i zero_sector (omega (arith, fresh_size, low))
       ∙ ap (λ (s : Sector). Some s) (get_or-map-range_with_len fresh 0 n i i zero_sector low (omega arith))
 
-  at_allocation : (k : ℕ) → k < vam n → slice_get volume (1 + k) ≡ Some (map_label 1 k, used_page (first_data n) k)
+  at_allocation : (k : ℕ) → k < vam n → slice_get volume (1 + k) ≡ Some (page_label 1 0 k, used_page (first_data n) k)
   unfolding first_data
   at_allocation k below =
       let e : 1 + k - 1 ≡ k = omega arith in
       at (1 + k) (omega arith) (omega (arith, below, first_fits n count, first_is n count))
       ∙ ap (λ (s : Sector). Some s) (in_allocation (layout_of n) (1 + k) (λ q. omega (arith, q)) (omega (arith, below)))
-      ∙ ap (λ (j : ℕ). Some (map_label 1 j, used_page (1 + vam n + vfm n) j)) e
+      ∙ ap (λ (j : ℕ). Some (page_label 1 0 j, used_page (1 + vam n + vfm n) j)) e
 
-  at_file_map : (k : ℕ) → k < vfm n → slice_get volume (1 + vam n + k) ≡ Some (map_label 2 k, replicate 512 0)
+  at_file_map : (k : ℕ) → k < vfm n → slice_get volume (1 + vam n + k) ≡ Some (page_label 2 0 k, replicate 512 0)
   at_file_map k below =
       let e : 1 + vam n + k - 1 - vam n ≡ k = omega arith in
       at (1 + vam n + k) (omega arith) (omega (arith, below, first_fits n count, first_is n count))
       ∙ ap (λ (s : Sector). Some s) (in_file_map (layout_of n) (1 + vam n + k) (omega arith) (omega (arith, below)))
-      ∙ ap (λ (j : ℕ). Some (map_label 2 j, replicate 512 0)) e
+      ∙ ap (λ (j : ℕ). Some (page_label 2 0 j, replicate 512 0)) e
 
   at_data : (i : ℕ) (s : Sector) → first_data n ≤ i → slice_get volume i ≡ Some s → s ≡ zero_sector
   at_data i s high here =
@@ -138,7 +138,7 @@ module _ (n serial counter : ℕ) (count : IsCount n) (some_serial : 1 ≤ seria
       ap (λ (k : ℕ). flat_map (λ (s : Sector). s.1) (take (vam k) (drop 1 volume))) size
       ∙ ap (flat_map (λ (s : Sector). s.1)) allocation
       ∙ pages_joined (first_data n) (λ k. fresh (1 + k)) (vam n)
-      (λ k below. ap (λ (s : Sector). s.1) (same_Some (fresh (1 + k)) (map_label 1 k, used_page (first_data n) k)
+      (λ k below. ap (λ (s : Sector). s.1) (same_Some (fresh (1 + k)) (page_label 1 0 k, used_page (first_data n) k)
       (sym (at (1 + k) (omega arith) (omega (arith, below, first_fits n count, first_is n count))) ∙ at_allocation k below)))
 
   each_byte : (k : ℕ) → slice_index (map_bytes volume) k ≡ used_byte (first_data n) k
@@ -157,7 +157,7 @@ module _ (n serial counter : ℕ) (count : IsCount n) (some_serial : 1 ≤ seria
   file_map =
       let place : 1 + vam n + 0 ≡ 1 + vam n = omega arith in
       zero_file_map volume (λ i s high here. ap (λ (t : Sector). is_free t.0) (at_data i s (subst (λ (k : ℕ). first_data k ≤ i) size high) here))
-      (map_label 2 0, replicate 512 0) (subst IsCount (sym size) count)
+      (page_label 2 0 0, replicate 512 0) (subst IsCount (sym size) count)
       (ap (λ (k : ℕ). slice_get volume (1 + vam k)) size ∙ ap (slice_get volume) (sym place) ∙ at_file_map 0 (omega arith)) refl
 
   sound : Sound volume

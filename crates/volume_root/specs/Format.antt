@@ -13,11 +13,7 @@ use Rattle.labelled_disk.specs.State.{DiskState}
 use Rattle.labelled_disk.specs.WriteRuns.{Appended}
 use Rattle.volume_root.specs.declared.root.Root.{Root}
 use Rattle.volume_root.specs.RootPage.{root_bytes, root_write}
-use Rattle.labelled_disk.specs.Label.{root_label}
-
--- the label of a page of a map
-abbrev pub map_label : ℕ → ℕ → Label
-map_label id page = record { id = id; page = page; kind = 0; flags = 0; last = 0 }
+use Rattle.labelled_disk.specs.Label.{root_label, page_label}
 
 -- the byte whose first bits, so many, are set
 abbrev pub high_bits : ℕ → ℕ
@@ -35,8 +31,8 @@ used_page used page = map (used_byte used) (range_with_len (512 * page) 512)
 unfoldable pub new_sector : Layout → ℕ → Sector
 new_sector layout i =
     if i == 0 then zero_sector
-    else (if nat_le i layout.vam then (map_label 1 (i - 1), used_page layout.first (i - 1))
-    else (if nat_lt i layout.first then (map_label 2 (i - 1 - layout.vam), replicate 512 0)
+    else (if nat_le i layout.vam then (page_label 1 0 (i - 1), used_page layout.first (i - 1))
+    else (if nat_lt i layout.first then (page_label 2 0 (i - 1 - layout.vam), replicate 512 0)
     else zero_sector))
 
 -- the sectors of a new volume, from sector 0 on, so many

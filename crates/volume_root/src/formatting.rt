@@ -6,7 +6,7 @@ ghost use Rattle.labelled_disk.specs.Layout.{IsCount, layout_of};
 ghost use Rattle.labelled_disk.specs.Sectors.{Sector};
 ghost use Rattle.labelled_disk.specs.WriteRuns.{Appended};
 ghost use Rattle.volume_root.specs.Format.{format_writes, formatted, IsFormatFault, PartMade};
-ghost use Rattle.volume_root.specs.Format.{map_label, new_sector, new_sectors, new_writes};
+ghost use Rattle.volume_root.specs.Format.{new_sector, new_sectors, new_writes};
 ghost use Rattle.volume_root.specs.Format.{used_byte, used_page};
 ghost use Rattle.volume_root.specs.Later.{IsLater};
 
@@ -35,18 +35,6 @@ fn used_page(used: u32, page: u32) -> Page
     bytes
 }
 
-fn map_label(id: u64, page: u32) -> Label
-    ensures { result ≡ map_label id page }
-{
-    Label {
-        id,
-        page,
-        kind: 0,
-        flags: 0,
-        last: 0,
-    }
-}
-
 #[tactic(auto, unfolding(crate::specs::Format::new_sector))]
 fn new_sector(layout: &Layout, sector: u32) -> (Label, Page)
     requires { layout.now.vam ≤ 256 }
@@ -56,11 +44,11 @@ fn new_sector(layout: &Layout, sector: u32) -> (Label, Page)
         (Label::FREE, [0; 512])
     } else if sector <= layout.vam {
         (
-            map_label(1, sector - 1),
+            Label::of_page(1, 0, sector - 1),
             used_page(layout.first, sector - 1),
         )
     } else if sector < layout.first {
-        (map_label(2, sector - 1 - layout.vam), [0; 512])
+        (Label::of_page(2, 0, sector - 1 - layout.vam), [0; 512])
     } else {
         (Label::FREE, [0; 512])
     }

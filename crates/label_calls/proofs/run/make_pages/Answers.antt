@@ -1,7 +1,8 @@
 use Rattle.std.proofs.Common.{◌≡◌, ◌≢◌, ℕ, ◌+◌, ◌<◌, rules, refl, ◌∙◌, arith}
 use Rattle.std.specs.List.{range_with_len}
 use Rattle.labelled_disk.specs.declared.disk.DiskWrite.TheVariants as write
-use Rattle.labelled_disk.specs.Runs.{growth, page_label, zero_bytes}
+use Rattle.labelled_disk.specs.Runs.{growth, zero_bytes}
+use Rattle.labelled_disk.specs.Label.{page_label}
 use Rattle.label_calls.specs.Labels.{IsTaken}
 use Rattle.label_calls.specs.Runs.{IsOneTaken}
 use Rattle.label_calls.proofs.RunLemmas.{turns, so_far_none, so_far_more, one_still_there, made_some, cause_before, run_is, growth_is, taken_before}

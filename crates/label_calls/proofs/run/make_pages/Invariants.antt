@@ -1,6 +1,7 @@
 use Rattle.std.proofs.Common.{◌+◌}
 use Rattle.labelled_disk.specs.declared.disk.DiskWrite.TheVariants as write
-use Rattle.labelled_disk.specs.Runs.{page_label, zero_bytes}
+use Rattle.labelled_disk.specs.Runs.{zero_bytes}
+use Rattle.labelled_disk.specs.Label.{page_label}
 use Rattle.label_calls.specs.Labels.{free_ones}
 use Rattle.label_calls.specs.Runs.{AreUncovered}
 use Rattle.label_calls.proofs.RunLemmas.{IsSoFar}

@@ -21,14 +21,14 @@ pub returns-in_err-write : goal.returns-in_err-write
 returns-in_err-write g c =
     let same : c.from_residual.result ≡ Err c.in_err-write.field-0.0 = search rules in
     rw same (page_stopped c.args.id c.args.first (vec_mem_bytes c.args.map.now) (g.D.Disk.state c.args.disk.now) (g.D.Disk.state c.loop-i.disk) (g.D.Disk.state c.write.new.self)
-    c.loop-i.i c.map_label.result c.page_of-page.result c.map_label.ensures (c.page_of-page.ensures.page ∙ ap (λ (b : List ℕ). page_at b c.loop-i.i) c.loop-i.invariant.same)
+    c.loop-i.i c.of_page.result c.page_of-page.result c.of_page.ensures (c.page_of-page.ensures.page ∙ ap (λ (b : List ℕ). page_at b c.loop-i.i) c.loop-i.invariant.same)
     c.args.pages _ _ c.loop-i-test.true c.loop-i.invariant.made c.in_err-write.ensures)
 
 pub loop-i-preserved : goal.loop-i-preserved
 loop-i-preserved g c = record {
   made =
       page_more c.args.id c.args.first (vec_mem_bytes c.args.map.now) (g.D.Disk.state c.args.disk.now) (g.D.Disk.state c.loop-i.disk) (g.D.Disk.state c.write.new.self)
-      c.loop-i.i c.map_label.result c.page_of-page.result c.map_label.ensures (c.page_of-page.ensures.page ∙ ap (λ (b : List ℕ). page_at b c.loop-i.i) c.loop-i.invariant.same)
+      c.loop-i.i c.of_page.result c.page_of-page.result c.of_page.ensures (c.page_of-page.ensures.page ∙ ap (λ (b : List ℕ). page_at b c.loop-i.i) c.loop-i.invariant.same)
       c.loop-i.invariant.made c.in_ok-write.ensures;
   same = c.page_of-page.ensures.same ∙ c.loop-i.invariant.same;
 }
