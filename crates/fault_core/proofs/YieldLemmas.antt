@@ -13,7 +13,7 @@ use Rattle.force_calls.specs.Run.{Stay}
 use Rattle.swapper_kernel.specs.Homes.{Homes}
 use Rattle.swapper_kernel.specs.Steps.{Step, IsStep, IsCourse, fills, writes_out, alters}
 use Rattle.filer_kernel.specs.Tables.{BesideTables, IsComing, IsChanging}
-use Rattle.fault_core.specs.Reach.{IsOwn, StayOrYield}
+use Rattle.fault_core.specs.Reach.{IsManagersPage, StayOrYield}
 use Rattle.fault_core.specs.View.{View, kept_by}
 use Rattle.fault_core.proofs.TurnLemmas.{map_id}
 
@@ -33,13 +33,13 @@ yield_then h k i f has =
       new.0,
       new.1,
       elim new.2 [
-        | inl same ↦ elim mid.2 [ inl was ↦ inl (same.0 ∙ was.0, same.1 ∙ was.1) | inr own ↦ inr (subst IsOwn (sym same.0) own) ]
+        | inl same ↦ elim mid.2 [ inl was ↦ inl (same.0 ∙ was.0, same.1 ∙ was.1) | inr own ↦ inr (subst IsManagersPage (sym same.0) own) ]
         | inr own ↦ inr own
       ],
     )
 
 -- one slot is filled: its frame stays, or the new one is of the volume's own
-put_yields : (s t : Slots) (i : ℕ) (x : Frame) → i < length s → t ≡ slice_set s i (Some x) → ((f : Frame) → Has s i f → ((x.home ≡ f.home) × (x.bytes ≡ f.bytes)) ⊎ IsOwn x.home) → StayOrYield s t
+put_yields : (s t : Slots) (i : ℕ) (x : Frame) → i < length s → t ≡ slice_set s i (Some x) → ((f : Frame) → Has s i f → ((x.home ≡ f.home) × (x.bytes ≡ f.bytes)) ⊎ IsManagersPage x.home) → StayOrYield s t
 put_yields s t i x below is here j f has = elim (cases_eq j i) [
   | inl same ↦ (
     x,
@@ -53,13 +53,13 @@ put_yields s t i x below is here j f has = elim (cases_eq j i) [
 one_frame : (s : Slots) (i : ℕ) (f g : Frame) → Has s i f → Has s i g → f ≡ g
 one_frame s i f g first last = same_Some f g (same_Some (Some f) (Some g) (sym first.is ∙ last.is))
 
-module _ (come change : Homes) (comes : (home : Home) → come home → IsOwn home) (changes : (home : Home) → change home → IsOwn home) where
+module _ (come change : Homes) (comes : (home : Home) → come home → IsManagersPage home) (changes : (home : Home) → change home → IsManagersPage home) where
   step_yields : (k : Step) (a : DiskState) (s : Slots) (b : DiskState) (t : Slots) → IsStep come change k a s b t → StayOrYield s t
   step_yields (fills i f) a s b t h = put_yields s t i f h.below h.is (λ g has. inr (comes f.home h.may))
   step_yields (writes_out i f g) a s b t h = put_yields s t i g (has_below s i f h.has) h.is (λ x has.
       let own = one_frame s i f x h.has has in
       inl (h.home ∙ ap (λ (y : Frame). y.home) own, h.bytes ∙ ap (λ (y : Frame). y.bytes) own))
-  step_yields (alters i f g) a s b t h = put_yields s t i g (has_below s i f h.has) h.is (λ x has. inr (subst IsOwn (sym h.home) (changes f.home h.may)))
+  step_yields (alters i f g) a s b t h = put_yields s t i g (has_below s i f h.has) h.is (λ x has. inr (subst IsManagersPage (sym h.home) (changes f.home h.may)))
 
   course_yields : (ks : List Step) (a : DiskState) (s : Slots) (b : DiskState) (t : Slots) → IsCourse come change ks a s b t → StayOrYield s t
   course_yields [] a s b t h = yield_same s t h.1
@@ -67,7 +67,7 @@ module _ (come change : Homes) (comes : (home : Home) → come home → IsOwn ho
 
 -- ---- The tables were asked, or changed.
 
-three_own : (home : Home) → home.id ≡ 3 → IsOwn home
+three_own : (home : Home) → home.id ≡ 3 → IsManagersPage home
 three_own home three = (omega (arith, three), omega (arith, three))
 
 pub tables_yield : (v w : View) → BesideTables v.disk v.slots v.layout v.runs w.disk w.slots w.layout w.runs → StayOrYield v.slots w.slots

@@ -6,8 +6,9 @@ use Rattle.page_tree.specs.declared.error.TreeError.{TreeError}
 use Rattle.page_tree.specs.declared.error.TreeError.TheVariants.{Full as TreeFull, Malformed as TreeMalformed, Mem as TreeMem}
 use Rattle.file_map.specs.declared.error.MapError.{MapError}
 use Rattle.file_map.specs.declared.error.MapError.TheVariants.{Full, Malformed, Mem}
-use Rattle.file_map.specs.Entries.{Sight, Entry, Count, Broken, Stops, IsOwn as IsOwnTree, IsCause as IsCauseTree, IsPutCause}
-use Rattle.file_map.specs.Cause.{of_tree, IsBroken, IsCause, IsAddCause, IsOwn, IsFullOr, IfFull}
+use Rattle.file_map.specs.Entries.{Sight, Entry, Count, Broken, Stops, IsCause as IsCauseTree, IsPutCause}
+use Rattle.page_tree.specs.Answer.{FromMemory as FromTreeMemory}
+use Rattle.file_map.specs.Cause.{of_tree, IsBroken, IsCause, IsAddCause, FromMemory, IsFullOr, IfFull}
 
 pub passed : {T E : Type 0} (r : Result T E) (P : T → Type 0) (Q : E → Type 0) (e : E) → IsErr r → IsErrAnd r (λ x. x ≡ e) → Q e → MatchResult r P Q
 passed (Ok x) P Q e is_err is q = absurd is
@@ -17,7 +18,7 @@ pub passed_cause : {T E : Type 0} (r : Result T E) (Q : E → Type 0) (e : E) �
 passed_cause (Ok x) Q e is q = absurd is
 passed_cause (Err x) Q e is q = subst Q (sym is) q
 
-pub own : {X : Type 0} (e : TreeError X) → IsOwnTree e → IsOwn (of_tree e)
+pub own : {X : Type 0} (e : TreeError X) → FromTreeMemory e → FromMemory (of_tree e)
 own TreeFull h = h
 own (TreeMalformed page) h = h
 own (TreeMem error) h = h
@@ -27,7 +28,7 @@ cause n full shows accounted TreeFull h = h
 cause n full shows accounted (TreeMalformed page) h = inl h
 cause n full shows accounted (TreeMem error) h = h
 
-pub full_or : {T X : Type 0} (r : Result T (MapError X)) (P : T → Type 0) (full stays : Type 0) → MatchResult r P IsOwn → MatchResult r P (IsFullOr full stays)
+pub full_or : {T X : Type 0} (r : Result T (MapError X)) (P : T → Type 0) (full stays : Type 0) → MatchResult r P FromMemory → MatchResult r P (IsFullOr full stays)
 full_or (Ok x) P full stays h = h
 full_or (Err Full) P full stays h = absurd h
 full_or (Err (Malformed page)) P full stays h = h

@@ -1,5 +1,5 @@
 -- What the last run whose key is at most that of a page, and the first whose key is above, say of all pages.
-use Rattle.std.proofs.Common.{◌≡◌, ◌⊎◌, inl, inr, ℕ, suc, ◌<◌, ◌≤◌, ◌^◌, Bool, true, false, ◌||◌, ◌==◌, List, [], ◌∷◌, length, map, Option, Some, refl, sym, ◌∙◌, ap, subst, arith}
+use Rattle.std.proofs.Common.{◌≡◌, ◌⊎◌, inl, inr, ℕ, suc, ◌<◌, ◌≤◌, ◌^◌, Bool, true, false, ◌||◌, ◌==◌, List, [], ◌∷◌, length, map, Option, Some, is_some, refl, sym, ◌∙◌, ap, subst, arith}
 use Rattle.std.proofs.lemmas.Bool.{cases_lt, cases_eq, false≢true, eqb-true, eq-eqb}
 use Rattle.std.proofs.lemmas.List.{get_or-map, length-map}
 use Rattle.std.proofs.lemmas.List.Folds.{list_any_at}
@@ -7,7 +7,8 @@ use Rattle.flat_mem.specs.Order.{entry_at, key_at, at_most, IsLastAtMost, NoneAt
 use Rattle.file_map.specs.declared.run.Run.{Run}
 use Rattle.file_map.specs.Run.{IsRun, holds, sector_at, key_bytes, run_bytes, run_in, IsRecord}
 use Rattle.file_map.specs.FileMap.{AreRuns, run_names, names_triple, run_at, no_run}
-use Rattle.file_map.specs.Entries.{IsLast, IsFirst}
+use Rattle.page_tree.specs.Answer.{IsLastEntry}
+use Rattle.file_map.specs.Entries.{IsFirst}
 use Rattle.file_map.specs.Searches.{IsLastRun, IsFirstRun}
 use Rattle.file_map.proofs.Keys.{rank, keys_ordered, AreOrdered}
 use Rattle.file_map.proofs.Records.{run_back, record_of_run}
@@ -113,15 +114,15 @@ module _ (n : ℕ) (runs : List Run) (form : AreRuns n runs) (few : n < 2 ^ 32) 
   run_is i entry r below is r_form same =
       sym (run_back n r few r_form) ∙ ap run_in (sym same ∙ is ∙ entry_is i below) ∙ run_back n (run_at runs i) few (form.each i (omega (arith, below, length-map runs run_bytes)))
 
-  pub last_found : (id page at : ℕ) (key entry : List ℕ) (found : Option ℕ) (r : Run) → key ≡ key_bytes id page → found ≡ Some at → IsLast 12 (map run_bytes runs) key entry found → IsRun n r → entry ≡ run_bytes r
+  pub last_found : (id page at : ℕ) (key entry : List ℕ) (found : Option ℕ) (r : Run) → key ≡ key_bytes id page → found ≡ Some at → IsLastEntry 12 (map run_bytes runs) key entry (is_some found) → IsRun n r → entry ≡ run_bytes r
       → IsLastRun runs id page (Some r)
   last_found id page at key entry found r key_is is answer r_form same =
-      let last = subst (λ (o : Option ℕ). IsLast 12 (map run_bytes runs) (key_bytes id page) entry o) is (subst (λ (x : List ℕ). IsLast 12 (map run_bytes runs) x entry found) key_is answer) in
+      let last = subst (λ (o : Option ℕ). IsLastEntry 12 (map run_bytes runs) (key_bytes id page) entry (is_some o)) is (subst (λ (x : List ℕ). IsLastEntry 12 (map run_bytes runs) x entry (is_some found)) key_is answer) in
       (last.0, last.1, run_is last.0 entry r last.1.below last.2 r_form same)
 
-  pub last_broken : (at : ℕ) (key entry : List ℕ) (found : Option ℕ) → found ≡ Some at → IsLast 12 (map run_bytes runs) key entry found → (IsRecord n entry → ⊥) → ⊥
+  pub last_broken : (at : ℕ) (key entry : List ℕ) (found : Option ℕ) → found ≡ Some at → IsLastEntry 12 (map run_bytes runs) key entry (is_some found) → (IsRecord n entry → ⊥) → ⊥
   last_broken at key entry found is answer broken =
-      let last = subst (λ (o : Option ℕ). IsLast 12 (map run_bytes runs) key entry o) is answer in
+      let last = subst (λ (o : Option ℕ). IsLastEntry 12 (map run_bytes runs) key entry (is_some o)) is answer in
       broken (in_form_at last.0 entry last.1.below last.2)
 
   pub first_found : (id page at : ℕ) (key entry : List ℕ) (found : Option ℕ) (r : Run) → key ≡ key_bytes id page → found ≡ Some at → IsFirst 12 (map run_bytes runs) key entry found → IsRun n r → entry ≡ run_bytes r

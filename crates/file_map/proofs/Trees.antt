@@ -3,35 +3,25 @@ use Rattle.std.proofs.Common.{◌≡◌, ℕ, ◌/◌, Bool, true, false, List, 
 use Rattle.std.specs.declared.result.Result.{Result}
 use Rattle.page_tree.specs.declared.error.TreeError.{TreeError}
 use Rattle.page_tree.specs.declared.error.TreeError.TheVariants.{Full, Malformed, Mem}
-use Rattle.page_tree.specs.Answer.{IsLastEntry, IsNextEntry, FromMemory, IfMem, IfMemory, IfFull}
+use Rattle.page_tree.specs.Answer.{IsNextEntry, FromMemory, IfMem, IfMemory, IfFull}
 use Rattle.page_tree.specs.Broken.{IfMalformed}
 use Rattle.page_tree.specs.Tells.{IsInserted, IsFull, IsTakenOut, IsPutOver}
 use Rattle.page_tree.specs.Put.{capacity_of}
 use Rattle.page_tree.specs.Page.{page_at, count_in}
 use Rattle.file_map.specs.Shown.{IsShown}
-use Rattle.file_map.specs.Entries.{Sight, Broken, Stops, IsLast, IsFirst, IsPut, IsReplaced, IsTakenOut as IsOut, IsOwn, IsFullOr, IsCause, IsPutCause}
+use Rattle.file_map.specs.Entries.{Sight, Broken, Stops, IsFirst, IsPut, IsReplaced, IsTakenOut as IsOut, IsFullOr, IsCause, IsPutCause}
 
-own : {X : Type 0} (e : TreeError X) → FromMemory e → IsOwn e
-own Full h = h
-own (Malformed page) h = h
-own (Mem error) h = h
-
-pub own_error : {T X : Type 0} (r : Result T (TreeError X)) (P : T → Type 0) → MatchResult r P FromMemory → IfErr r IsOwn
-own_error (Ok x) P h = tt
-own_error (Err e) P h = own e h
-
-pub last_entry : {X : Type 0} (r : Result (Option ℕ) (TreeError X)) (xs : List (List ℕ)) (key into : List ℕ) → MatchResult r (λ page. IsLastEntry 12 xs key into (is_some page)) FromMemory → MatchResult r (IsLast 12 xs key into) IsOwn
-last_entry (Ok (Some page)) xs key into h = h
-last_entry (Ok None) xs key into h = h
-last_entry (Err e) xs key into h = own e h
+pub from_memory : {T X : Type 0} (r : Result T (TreeError X)) (P : T → Type 0) → MatchResult r P FromMemory → IfErr r FromMemory
+from_memory (Ok x) P h = tt
+from_memory (Err e) P h = h
 
 first_above : (xs : List (List ℕ)) (key into : List ℕ) (page : Option ℕ) → IsNextEntry 12 xs key into (is_some page) → IsFirst 12 xs key into page
 first_above xs key into (Some page) (i, below, behind, is) = (i, record { below = below; above = behind.above i (omega arith) below; before = behind.below }, is)
 first_above xs key into None h = h
 
-pub first_entry : {X : Type 0} (r : Result (Option ℕ) (TreeError X)) (xs : List (List ℕ)) (key into : List ℕ) → MatchResult r (λ page. IsNextEntry 12 xs key into (is_some page)) FromMemory → MatchResult r (IsFirst 12 xs key into) IsOwn
+pub first_entry : {X : Type 0} (r : Result (Option ℕ) (TreeError X)) (xs : List (List ℕ)) (key into : List ℕ) → MatchResult r (λ page. IsNextEntry 12 xs key into (is_some page)) FromMemory → MatchResult r (IsFirst 12 xs key into) FromMemory
 first_entry (Ok page) xs key into h = first_above xs key into page h
-first_entry (Err e) xs key into h = own e h
+first_entry (Err e) xs key into h = h
 
 full : {X : Type 0} (pages : ℕ) (lists : List (List ℕ) → Type 0) (xs : List (List ℕ)) (e : TreeError X) → IsFull 24 pages lists xs e → IsFullOr (capacity_of 24 pages) lists xs e
 full pages lists xs Full h = h
@@ -61,17 +51,17 @@ taken : (lists : List (List ℕ) → Type 0) (xs : List (List ℕ)) (key : List 
 taken lists xs key true (i, last, listed) = (i, record { below = last.below; same = last.holds; others = last.above }, listed)
 taken lists xs key false h = h
 
-pub taken_out : {X : Type 0} (r : Result Bool (TreeError X)) (lists : List (List ℕ) → Type 0) (xs : List (List ℕ)) (key : List ℕ) → MatchResult r (IsTakenOut 12 lists xs key) FromMemory → MatchResult r (IsOut 12 lists xs key) IsOwn
+pub taken_out : {X : Type 0} (r : Result Bool (TreeError X)) (lists : List (List ℕ) → Type 0) (xs : List (List ℕ)) (key : List ℕ) → MatchResult r (IsTakenOut 12 lists xs key) FromMemory → MatchResult r (IsOut 12 lists xs key) FromMemory
 taken_out (Ok done) lists xs key h = taken lists xs key done h
-taken_out (Err e) lists xs key h = own e h
+taken_out (Err e) lists xs key h = h
 
 over : (lists : List (List ℕ) → Type 0) (xs : List (List ℕ)) (entry : List ℕ) (done : Bool) → IsPutOver 12 lists xs entry done → IsReplaced 12 lists xs entry done
 over lists xs entry true (i, last, listed) = (i, record { below = last.below; same = last.holds; others = last.above }, listed)
 over lists xs entry false h = h
 
-pub put_over : {X : Type 0} (r : Result Bool (TreeError X)) (lists : List (List ℕ) → Type 0) (xs : List (List ℕ)) (entry : List ℕ) → MatchResult r (IsPutOver 12 lists xs entry) FromMemory → MatchResult r (IsReplaced 12 lists xs entry) IsOwn
+pub put_over : {X : Type 0} (r : Result Bool (TreeError X)) (lists : List (List ℕ) → Type 0) (xs : List (List ℕ)) (entry : List ℕ) → MatchResult r (IsPutOver 12 lists xs entry) FromMemory → MatchResult r (IsReplaced 12 lists xs entry) FromMemory
 put_over (Ok done) lists xs entry h = over lists xs entry done h
-put_over (Err e) lists xs entry h = own e h
+put_over (Err e) lists xs entry h = h
 
 -- where nothing was written, the count and what the pages show stay
 pub kept_count : {X : Type 0} (r : Result Bool X) (told now : List ℕ → Type 0) → ((b : List ℕ) → told b → IfOk r (λ done. done ≡ false → now b))

@@ -46,7 +46,7 @@ pub record IsToCut (id from : ℕ) (shows : Sight → Type 0) : Type 0 where
 abbrev pub IsMost : ℕ → (ℕ → Type 0) → Type 0
 IsMost n counts = (count : ℕ) → counts count → count ≡ most_records n
 
--- the map has a record for each data sector, and stays; or the error is the memory's own
+-- the map has a record for each data sector, and stays; or the error comes from the memory
 abbrev pub IsFullOr : {X : Type 0} → Type 0 → Type 0 → MapError X → Type 0
 IsFullOr full stays Full = full × stays
 IsFullOr full stays (Malformed page) = ⊥
@@ -58,8 +58,8 @@ IfFull P Full = P
 IfFull P (Malformed page) = Unit {0}
 IfFull P (Mem error) = Unit {0}
 
--- the error is the memory's own
-abbrev pub IsOwn : {X : Type 0} → MapError X → Type 0
-IsOwn Full = ⊥
-IsOwn (Malformed page) = ⊥
-IsOwn (Mem error) = Unit {0}
+-- the error comes from the memory
+abbrev pub FromMemory : {X : Type 0} → MapError X → Type 0
+FromMemory Full = ⊥
+FromMemory (Malformed page) = ⊥
+FromMemory (Mem error) = Unit {0}

@@ -1,7 +1,7 @@
 -- A sorted list of entries as its callers see it: what searches and edits give, and what its pages show.
 use Rattle.std.specs.Prelude.{◌≡◌, ℕ, ◌<◌, ◌≤◌, List, length, Option, Some, None, Bool, true, false, slice_set, take}
 use Rattle.std.specs.List.{insert, remove}
-use Rattle.flat_mem.specs.Order.{entry_at, key_at, at_most, IsLastAtMost, NoneAtMost, IsBehind}
+use Rattle.flat_mem.specs.Order.{entry_at, key_at, at_most, IsBehind}
 use Rattle.page_tree.specs.declared.error.TreeError.{TreeError}
 use Rattle.page_tree.specs.declared.error.TreeError.TheVariants.{Full, Malformed, Mem}
 
@@ -12,11 +12,6 @@ pub data Sight : Type 0 where
   Count : ℕ → Sight
   Broken : ℕ → Sight
   Stops : ℕ → Sight
-
--- the entry is the last whose key is at most the given one, or no entry is such
-abbrev pub IsLast : ℕ → List (List ℕ) → List ℕ → List ℕ → Option ℕ → Type 0
-IsLast k xs key entry (Some page) = (i : ℕ) × IsLastAtMost k xs key i × (entry ≡ entry_at xs i)
-IsLast k xs key entry None = NoneAtMost k xs key
 
 -- entry i is the first whose key is above this one
 pub record IsFirstAbove (k : ℕ) (xs : List (List ℕ)) (key : List ℕ) (i : ℕ) : Type 0 where
@@ -73,13 +68,7 @@ IsPutCause full shows accounted Full = full
 IsPutCause full shows accounted (Malformed page) = shows (Stops page)
 IsPutCause full shows accounted (Mem error) = accounted error
 
--- the error is the memory's own
-abbrev pub IsOwn : {X : Type 0} → TreeError X → Type 0
-IsOwn Full = ⊥
-IsOwn (Malformed page) = ⊥
-IsOwn (Mem error) = Unit {0}
-
--- the list has as many entries as it takes, and stays; or the error is the memory's own
+-- the list has as many entries as it takes, and stays; or the error comes from the memory
 abbrev pub IsFullOr : {X : Type 0} → ℕ → (List (List ℕ) → Type 0) → List (List ℕ) → TreeError X → Type 0
 IsFullOr room lists xs Full = (length xs ≡ room) × lists xs
 IsFullOr room lists xs (Malformed page) = ⊥

@@ -5,7 +5,7 @@ ghost use Rattle.file_map.specs.Run.{IsRun};
 ghost use Rattle.file_map.specs.FileMap.{AreNamed, Triples, IsNew, with_run, most_records};
 ghost use Rattle.file_map.specs.Edits.{Joins};
 ghost use Rattle.file_map.specs.Entries.{Sight};
-ghost use Rattle.file_map.specs.Cause.{IsCause, IsAddCause, IsOwn, IsFullOr, IsMost, IfFull};
+ghost use Rattle.file_map.specs.Cause.{IsCause, IsAddCause, FromMemory, IsFullOr, IsMost, IfFull};
 
 use crate::count::{count_of, most_of};
 use crate::entries::SortedEntries;
@@ -46,7 +46,7 @@ fn extend<T: SortedEntries>(
     ensures same { (xs : List (List ℕ)) → T.lists entries.old xs → IfOk result (λ done. done ≡ false → T.lists entries.new xs) }
     ensures same_count { IfOk result (λ done. done ≡ false → (n : ℕ) → T.counts entries.old n → T.counts entries.new n) }
     ensures same_sights { IfOk result (λ done. done ≡ false → (sight : Sight) → T.shows entries.new sight → T.shows entries.old sight) }
-    ensures well { (named : Triples) → AreNamed sectors (T.lists entries.old) named → IfErr result IsOwn }
+    ensures well { (named : Triples) → AreNamed sectors (T.lists entries.old) named → IfErr result FromMemory }
     ensures kept { T.beside entries.old entries.new }
     ensures cause { IfErr result (IsCause sectors ⊥ (T.shows entries.old) (T.accounted entries.old entries.new)) }
     ensures cost { T.spent entries.new ≤ T.spent entries.old + T.look_cost + T.replace_cost }
@@ -67,7 +67,7 @@ fn extend<T: SortedEntries>(
 fn put<T: SortedEntries>(entries: &mut T, sectors: u32, run: Run) -> Result<(), MapError<T::Error>>
     requires few { sectors ≤ 1048576 }
     requires run { IsRun sectors run }
-    ensures added { (named : Triples) → AreNamed sectors (T.lists entries.old) named → IsNew named run → (n : ℕ) → T.counts entries.old n → n < most_records sectors → n < T.room entries.old → MatchResult result (λ _. AreNamed sectors (T.lists entries.new) (with_run named run)) IsOwn }
+    ensures added { (named : Triples) → AreNamed sectors (T.lists entries.old) named → IsNew named run → (n : ℕ) → T.counts entries.old n → n < most_records sectors → n < T.room entries.old → MatchResult result (λ _. AreNamed sectors (T.lists entries.new) (with_run named run)) FromMemory }
     ensures kept { T.beside entries.old entries.new }
     ensures cause { IfErr result (IsAddCause sectors ((n : ℕ) → T.counts entries.old n → T.room entries.old ≤ n) (T.shows entries.old) (T.accounted entries.old entries.new)) }
     ensures cost { T.spent entries.new ≤ T.spent entries.old + T.look_cost + T.replace_cost + T.insert_cost }

@@ -3,7 +3,7 @@ ghost use Rattle.std.specs.Prelude.{◌≡◌, ℕ, ◌+◌, ◌≤◌, List, le
 ghost use Rattle.labelled_disk.specs.Layout.{IsCount};
 ghost use Rattle.file_map.specs.FileMap.{most_records};
 ghost use Rattle.file_map.specs.Entries.{Sight};
-ghost use Rattle.file_map.specs.Cause.{IsCause, IsOwn};
+ghost use Rattle.file_map.specs.Cause.{IsCause, FromMemory};
 
 use crate::entries::SearchedEntries;
 use crate::error::MapError;
@@ -24,7 +24,7 @@ pub fn count_of<T: SearchedEntries>(
     requires { IsCount sectors }
     ensures count { (n : ℕ) → T.counts entries.old n → IfOk result (λ count. count ≡ n) }
     ensures few { IfOk result (λ count. count ≤ most_records sectors) }
-    ensures well { (xs : List (List ℕ)) → T.lists entries.old xs → length xs ≤ most_records sectors → IfErr result IsOwn }
+    ensures well { (xs : List (List ℕ)) → T.lists entries.old xs → length xs ≤ most_records sectors → IfErr result FromMemory }
     ensures same { (xs : List (List ℕ)) → T.lists entries.old xs → T.lists entries.new xs }
     ensures same_count { (n : ℕ) → T.counts entries.old n → T.counts entries.new n }
     ensures same_sights { (sight : Sight) → T.shows entries.new sight → T.shows entries.old sight }

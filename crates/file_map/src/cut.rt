@@ -3,7 +3,7 @@ ghost use Rattle.std.specs.Prelude.{◌≡◌, ◌⊎◌, ℕ, ◌+◌, ◌*◌,
 ghost use Rattle.labelled_disk.specs.Layout.{IsCount};
 ghost use Rattle.file_map.specs.FileMap.{AreNamed, IsSize, Triples, without_from, most_records};
 ghost use Rattle.file_map.specs.Edits.{IsStep};
-ghost use Rattle.file_map.specs.Cause.{IsCause, IsToCut, IsOwn};
+ghost use Rattle.file_map.specs.Cause.{IsCause, IsToCut, FromMemory};
 
 use crate::count::count_of;
 use crate::entries::CutEntries;
@@ -21,7 +21,7 @@ fn cut_last<T: CutEntries>(
     from: u32,
 ) -> Result<bool, MapError<T::Error>>
     requires { sectors ≤ 1048576 }
-    ensures step { (named : Triples) → AreNamed sectors (T.lists entries.old) named → (n : ℕ) → T.counts entries.old n → MatchResult result (IsStep sectors (T.lists entries.new) (T.counts entries.new) named id from n) IsOwn }
+    ensures step { (named : Triples) → AreNamed sectors (T.lists entries.old) named → (n : ℕ) → T.counts entries.old n → MatchResult result (IsStep sectors (T.lists entries.new) (T.counts entries.new) named id from n) FromMemory }
     ensures kept { T.beside entries.old entries.new }
     ensures cause { IfErr result (IsCause sectors ⊥ (T.shows entries.old) (T.accounted entries.old entries.new)) }
     ensures more { IfOk result (λ more. more ≡ true → IsToCut id from (T.shows entries.old)) }
@@ -56,7 +56,7 @@ pub fn cut<T: CutEntries>(
     from: u32,
 ) -> Result<(), MapError<T::Error>>
     requires { IsCount sectors }
-    ensures cut { (named : Triples) → AreNamed sectors (T.lists entries.old) named → MatchResult result (λ _. AreNamed sectors (T.lists entries.new) (without_from named id from)) IsOwn }
+    ensures cut { (named : Triples) → AreNamed sectors (T.lists entries.old) named → MatchResult result (λ _. AreNamed sectors (T.lists entries.new) (without_from named id from)) FromMemory }
     ensures kept { T.beside entries.old entries.new }
     ensures cause { IfErr result (λ error. (m : T) × T.beside entries.old m × T.beside m entries.new × IsCause sectors ⊥ (T.shows m) (T.accounted entries.old entries.new) error) }
     ensures begun { IfErr result (λ error. IsCause sectors ⊥ (T.shows entries.old) (T.accounted entries.old entries.new) error ⊎ IsToCut id from (T.shows entries.old)) }

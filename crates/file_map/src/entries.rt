@@ -1,7 +1,8 @@
 //! A sorted list of entries, as the map uses it.
-ghost use Rattle.std.specs.Prelude.{◌≡◌, ℕ, ◌+◌, ◌≤◌, List, length, false, IfOk, IfErr, IfSome, MatchResult};
+ghost use Rattle.std.specs.Prelude.{◌≡◌, ℕ, ◌+◌, ◌≤◌, List, length, false, IfOk, IfErr, IfSome, MatchResult, is_some};
 ghost use Rattle.flat_mem.specs.Order.{IsRising};
-ghost use Rattle.file_map.specs.Entries.{Sight, Entry, Count, IsLast, IsFirst, IsPut, IsReplaced, IsTakenOut, IsCause, IsPutCause, IsOwn, IsFullOr};
+ghost use Rattle.file_map.specs.Entries.{Sight, Entry, Count, IsFirst, IsPut, IsReplaced, IsTakenOut, IsCause, IsPutCause, IsFullOr};
+ghost use Rattle.page_tree.specs.Answer.{FromMemory, IsLastEntry};
 
 use crate::run::{Key, Record};
 use page_tree::TreeError;
@@ -47,7 +48,7 @@ pub trait SearchedEntries {
     /// How many entries there are.
     fn count(&mut self) -> Result<u32, TreeError<Self::Error>>
         ensures count { (n : ℕ) → counts self.old n → IfOk result (λ count. count ≡ n) }
-        ensures well { (xs : List (List ℕ)) → lists self.old xs → IfErr result IsOwn }
+        ensures well { (xs : List (List ℕ)) → lists self.old xs → IfErr result FromMemory }
         ensures shown { IfOk result (λ count. shows self.old (Count count)) }
         ensures same { (xs : List (List ℕ)) → lists self.old xs → lists self.new xs }
         ensures same_count { (n : ℕ) → counts self.old n → counts self.new n }
@@ -63,7 +64,7 @@ pub trait SearchedEntries {
         key: &Key,
         into: &mut Record,
     ) -> Result<Option<u32>, TreeError<Self::Error>>
-        ensures answer { (xs : List (List ℕ)) → lists self.old xs → MatchResult result (IsLast 12 xs key.now into.new) IsOwn }
+        ensures answer { (xs : List (List ℕ)) → lists self.old xs → MatchResult result (λ found. IsLastEntry 12 xs key.now into.new (is_some found)) FromMemory }
         ensures shown { IfOk result (λ found. IfSome found (λ page. shows self.old (Entry page into.new))) }
         ensures same { (xs : List (List ℕ)) → lists self.old xs → lists self.new xs }
         ensures same_count { (n : ℕ) → counts self.old n → counts self.new n }
@@ -79,7 +80,7 @@ pub trait SearchedEntries {
         key: &Key,
         into: &mut Record,
     ) -> Result<Option<u32>, TreeError<Self::Error>>
-        ensures answer { (xs : List (List ℕ)) → lists self.old xs → MatchResult result (IsFirst 12 xs key.now into.new) IsOwn }
+        ensures answer { (xs : List (List ℕ)) → lists self.old xs → MatchResult result (IsFirst 12 xs key.now into.new) FromMemory }
         ensures shown { IfOk result (λ found. IfSome found (λ page. shows self.old (Entry page into.new))) }
         ensures same { (xs : List (List ℕ)) → lists self.old xs → lists self.new xs }
         ensures same_count { (n : ℕ) → counts self.old n → counts self.new n }
@@ -123,7 +124,7 @@ pub trait SortedEntries: SearchedEntries {
 
     /// Writes an entry over the last with its key. False where there is none.
     fn replace_key(&mut self, entry: &Record) -> Result<bool, TreeError<Self::Error>>
-        ensures answer { (xs : List (List ℕ)) → Self.lists self.old xs → MatchResult result (IsReplaced 12 (Self.lists self.new) xs entry.now) IsOwn }
+        ensures answer { (xs : List (List ℕ)) → Self.lists self.old xs → MatchResult result (IsReplaced 12 (Self.lists self.new) xs entry.now) FromMemory }
         ensures same_count { IfOk result (λ done. done ≡ false → (n : ℕ) → Self.counts self.old n → Self.counts self.new n) }
         ensures same_sights { IfOk result (λ done. done ≡ false → (sight : Sight) → Self.shows self.new sight → Self.shows self.old sight) }
         ensures kept { Self.beside self.old self.new }
@@ -138,7 +139,7 @@ pub trait CutEntries: SortedEntries {
 
     /// Takes out the last entry with this key. False where there is none.
     fn remove_key(&mut self, key: &Key) -> Result<bool, TreeError<Self::Error>>
-        ensures answer { (xs : List (List ℕ)) → Self.lists self.old xs → MatchResult result (IsTakenOut 12 (Self.lists self.new) xs key.now) IsOwn }
+        ensures answer { (xs : List (List ℕ)) → Self.lists self.old xs → MatchResult result (IsTakenOut 12 (Self.lists self.new) xs key.now) FromMemory }
         ensures kept { Self.beside self.old self.new }
         ensures cause { IfErr result (IsCause ⊥ (Self.shows self.old) (Self.accounted self.old self.new)) }
         ensures cost { Self.spent self.new ≤ Self.spent self.old + remove_cost };

@@ -5,7 +5,7 @@ ghost use Rattle.labelled_disk.specs.Layout.{IsCount, vfm};
 ghost use Rattle.file_map.specs.Run.{IsRun, holds, run_bytes};
 ghost use Rattle.file_map.specs.FileMap.{Triples, IsFound, IsSize, IsNext, IsNew, no_triples, with_run, without_from, most_records};
 ghost use Rattle.file_map.specs.Entries.{Entry};
-ghost use Rattle.file_map.specs.Cause.{IsCause, IsAddCause, IsToCut, IsOwn, IsFullOr, IsMost, IfFull};
+ghost use Rattle.file_map.specs.Cause.{IsCause, IsAddCause, IsToCut, FromMemory, IsFullOr, IsMost, IfFull};
 
 use crate::error::MapError;
 use crate::run::Run;
@@ -42,7 +42,7 @@ impl<M: FlatMem> FileMap<M> {
 
     /// The run that has this page, or none where the page has no sector.
     pub fn find(&mut self, id: FileId, page: u32) -> Result<Option<Run>, MapError<M::Error>>
-        ensures found { (named : Triples) → Names self.old named → MatchResult result (IsFound named id page) IsOwn }
+        ensures found { (named : Triples) → Names self.old named → MatchResult result (IsFound named id page) FromMemory }
         ensures form { IfOk result (λ found. IfSome found (λ run. IsRun (map_sectors self.old) run)) }
         ensures holds { IfOk result (λ found. IfSome found (λ run. holds run id page ≡ true)) }
         ensures read { IfOk result (λ found. IfSome found (λ run. (at : ℕ) × Shows self.old (Entry at (run_bytes run)))) }
@@ -60,7 +60,7 @@ impl<M: FlatMem> FileMap<M> {
 
     /// One more than the highest page of the file, its leader left out, or 0.
     pub fn size(&mut self, id: FileId) -> Result<u32, MapError<M::Error>>
-        ensures size { (named : Triples) → Names self.old named → MatchResult result (IsSize named id) IsOwn }
+        ensures size { (named : Triples) → Names self.old named → MatchResult result (IsSize named id) FromMemory }
         ensures same { (named : Triples) → Names self.old named → Names self.new named }
         ensures same_count { (n : ℕ) → Counts self.old n → Counts self.new n }
         ensures same_bytes { (b : List ℕ) → M.tells (map_memory self.old) b → M.tells (map_memory self.new) b }
@@ -75,7 +75,7 @@ impl<M: FlatMem> FileMap<M> {
 
     /// The least identifier above this one, and at least 16, of which a page has a sector.
     pub fn next_file(&mut self, id: FileId) -> Result<Option<FileId>, MapError<M::Error>>
-        ensures next { (named : Triples) → Names self.old named → MatchResult result (IsNext named id) IsOwn }
+        ensures next { (named : Triples) → Names self.old named → MatchResult result (IsNext named id) FromMemory }
         ensures above { IfOk result (λ found. IfSome found (λ next. (id < next) × (16 ≤ next))) }
         ensures same { (named : Triples) → Names self.old named → Names self.new named }
         ensures same_count { (n : ℕ) → Counts self.old n → Counts self.new n }
@@ -108,7 +108,7 @@ impl<M: FlatMem> FileMap<M> {
 
     /// Takes the pages of the file from one on out of the map, the leader among them.
     pub fn cut(&mut self, id: FileId, from: u32) -> Result<(), MapError<M::Error>>
-        ensures cut { (named : Triples) → Names self.old named → MatchResult result (λ _. Names self.new (without_from named id from)) IsOwn }
+        ensures cut { (named : Triples) → Names self.old named → MatchResult result (λ _. Names self.new (without_from named id from)) FromMemory }
         ensures sectors { map_sectors self.new ≡ map_sectors self.old }
         ensures kept { M.beside (map_memory self.old) (map_memory self.new) }
         ensures cause { IfErr result (λ error. (m : M) × M.beside (map_memory self.old) m × M.beside m (map_memory self.new) × IsCause (map_sectors self.old) ⊥ (ShownBy (M.tells m) (M.size m / 512)) (M.accounted (map_memory self.old) (map_memory self.new)) error) }

@@ -3,7 +3,7 @@ ghost use Rattle.std.specs.Prelude.{◌≡◌, ℕ, ◌+◌, ◌<◌, ◌≤◌,
 ghost use Rattle.file_map.specs.Run.{IsRun, holds, run_bytes};
 ghost use Rattle.file_map.specs.FileMap.{AreNamed, Triples, IsFound, IsSize, IsNext};
 ghost use Rattle.file_map.specs.Entries.{Sight, Entry};
-ghost use Rattle.file_map.specs.Cause.{IsCause, IsOwn};
+ghost use Rattle.file_map.specs.Cause.{IsCause, FromMemory};
 
 use crate::entries::SearchedEntries;
 use crate::error::MapError;
@@ -19,7 +19,7 @@ pub fn find<T: SearchedEntries>(
     page: u32,
 ) -> Result<Option<Run>, MapError<T::Error>>
     requires { sectors ≤ 1048576 }
-    ensures found { (named : Triples) → AreNamed sectors (T.lists entries.old) named → MatchResult result (IsFound named id page) IsOwn }
+    ensures found { (named : Triples) → AreNamed sectors (T.lists entries.old) named → MatchResult result (IsFound named id page) FromMemory }
     ensures form { IfOk result (λ found. IfSome found (λ run. IsRun sectors run)) }
     ensures holds { IfOk result (λ found. IfSome found (λ run. holds run id page ≡ true)) }
     ensures read { IfOk result (λ found. IfSome found (λ run. (at : ℕ) × T.shows entries.old (Entry at (run_bytes run)))) }
@@ -48,7 +48,7 @@ pub fn size<T: SearchedEntries>(
     id: FileId,
 ) -> Result<u32, MapError<T::Error>>
     requires { sectors ≤ 1048576 }
-    ensures size { (named : Triples) → AreNamed sectors (T.lists entries.old) named → MatchResult result (IsSize named id) IsOwn }
+    ensures size { (named : Triples) → AreNamed sectors (T.lists entries.old) named → MatchResult result (IsSize named id) FromMemory }
     ensures same { (xs : List (List ℕ)) → T.lists entries.old xs → T.lists entries.new xs }
     ensures same_count { (n : ℕ) → T.counts entries.old n → T.counts entries.new n }
     ensures same_sights { (sight : Sight) → T.shows entries.new sight → T.shows entries.old sight }
@@ -74,7 +74,7 @@ pub fn next_file<T: SearchedEntries>(
     id: FileId,
 ) -> Result<Option<FileId>, MapError<T::Error>>
     requires { sectors ≤ 1048576 }
-    ensures next { (named : Triples) → AreNamed sectors (T.lists entries.old) named → MatchResult result (IsNext named id) IsOwn }
+    ensures next { (named : Triples) → AreNamed sectors (T.lists entries.old) named → MatchResult result (IsNext named id) FromMemory }
     ensures above { IfOk result (λ found. IfSome found (λ next. (id < next) × (16 ≤ next))) }
     ensures same { (xs : List (List ℕ)) → T.lists entries.old xs → T.lists entries.new xs }
     ensures same_count { (n : ℕ) → T.counts entries.old n → T.counts entries.new n }

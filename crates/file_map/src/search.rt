@@ -4,7 +4,7 @@ ghost use Rattle.file_map.specs.Run.{IsRun, run_bytes};
 ghost use Rattle.file_map.specs.FileMap.{AreRuns};
 ghost use Rattle.file_map.specs.Searches.{IsLastRun, IsFirstRun};
 ghost use Rattle.file_map.specs.Entries.{Sight, Entry};
-ghost use Rattle.file_map.specs.Cause.{IsCause, IsOwn};
+ghost use Rattle.file_map.specs.Cause.{IsCause, FromMemory};
 
 use crate::entries::SearchedEntries;
 use crate::error::MapError;
@@ -19,7 +19,7 @@ pub fn last_run<T: SearchedEntries>(
     page: u32,
 ) -> Result<Option<Run>, MapError<T::Error>>
     requires { sectors ≤ 1048576 }
-    ensures answer { (runs : List Run) → T.lists entries.old (map run_bytes runs) → AreRuns sectors runs → MatchResult result (IsLastRun runs id page) IsOwn }
+    ensures answer { (runs : List Run) → T.lists entries.old (map run_bytes runs) → AreRuns sectors runs → MatchResult result (IsLastRun runs id page) FromMemory }
     ensures form { IfOk result (λ found. IfSome found (λ run. IsRun sectors run)) }
     ensures shown { IfOk result (λ found. IfSome found (λ run. (at : ℕ) × T.shows entries.old (Entry at (run_bytes run)))) }
     ensures same { (xs : List (List ℕ)) → T.lists entries.old xs → T.lists entries.new xs }
@@ -48,7 +48,7 @@ pub fn first_run_above<T: SearchedEntries>(
     page: u32,
 ) -> Result<Option<Run>, MapError<T::Error>>
     requires { sectors ≤ 1048576 }
-    ensures answer { (runs : List Run) → T.lists entries.old (map run_bytes runs) → AreRuns sectors runs → MatchResult result (IsFirstRun runs id page) IsOwn }
+    ensures answer { (runs : List Run) → T.lists entries.old (map run_bytes runs) → AreRuns sectors runs → MatchResult result (IsFirstRun runs id page) FromMemory }
     ensures form { IfOk result (λ found. IfSome found (λ run. IsRun sectors run)) }
     ensures shown { IfOk result (λ found. IfSome found (λ run. (at : ℕ) × T.shows entries.old (Entry at (run_bytes run)))) }
     ensures same { (xs : List (List ℕ)) → T.lists entries.old xs → T.lists entries.new xs }

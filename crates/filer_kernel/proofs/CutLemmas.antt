@@ -10,7 +10,7 @@ use Rattle.labelled_disk.specs.State.{DiskState}
 use Rattle.frame_pool.specs.Frames.{Slots}
 use Rattle.file_map.specs.declared.error.MapError.{MapError}
 use Rattle.file_map.specs.declared.error.MapError.TheVariants.{Full, Malformed, Mem}
-use Rattle.file_map.specs.Cause.{IsCause, IsBroken, IsToCut, IsOwn}
+use Rattle.file_map.specs.Cause.{IsCause, IsBroken, IsToCut, FromMemory}
 use Rattle.file_map.specs.Map.{ShownBy}
 use Rattle.swapper_kernel.specs.declared.manager.Manager.{Manager}
 use Rattle.swapper_kernel.specs.declared.manager.Manager.TheVariants.{FileMap}
@@ -73,14 +73,14 @@ cut_halts (Err (Malformed page)) n x d e s t y of size is = (
 )
 cut_halts (Err (Mem h)) n x d e s t y of size is = window_halts x d e s t h is.cause.cause
 
-pub cut_sound : {T : Type 0} (r : Result T (MapError Halt)) (P : T → Type 0) (n : ℕ) (x : Layout) (d e : DiskState) (s t : Slots) (y : Layout) → MatchResult r P IsOwn → IfErr r (IsAtMoment n FileMap d s x e t y)
+pub cut_sound : {T : Type 0} (r : Result T (MapError Halt)) (P : T → Type 0) (n : ℕ) (x : Layout) (d e : DiskState) (s t : Slots) (y : Layout) → MatchResult r P FromMemory → IfErr r (IsAtMoment n FileMap d s x e t y)
     → (m : List Sector) → Stands d s m → AreNamed m (IsMapHome FileMap x) → IfErr (halted r) (λ h. h ≡ halt.Disk)
 cut_sound (Ok value) P n x d e s t y own is m stands named = tt
 cut_sound (Err Full) P n x d e s t y own is m stands named = absurd own
 cut_sound (Err (Malformed page)) P n x d e s t y own is m stands named = absurd own
 cut_sound (Err (Mem h)) P n x d e s t y own is m stands named = is.cause.sound m stands named
 
-pub cut_right : {T : Type 0} (r : Result T (MapError Halt)) (P : T → Type 0) (n : ℕ) (x : Layout) (d e : DiskState) (s t : Slots) (y : Layout) → MatchResult r P IsOwn → IfErr r (IsAtMoment n FileMap d s x e t y)
+pub cut_right : {T : Type 0} (r : Result T (MapError Halt)) (P : T → Type 0) (n : ℕ) (x : Layout) (d e : DiskState) (s t : Slots) (y : Layout) → MatchResult r P FromMemory → IfErr r (IsAtMoment n FileMap d s x e t y)
     → IfErr (halted r) IsFaultOrMismatch
 cut_right (Ok value) P n x d e s t y own is = tt
 cut_right (Err Full) P n x d e s t y own is = absurd own

@@ -14,7 +14,7 @@ use Rattle.page_tree.specs.Tells.{TellsTree}
 use Rattle.page_tree.specs.Tree.{IsTree}
 use Rattle.file_map.specs.declared.error.MapError.{MapError}
 use Rattle.file_map.specs.declared.error.MapError.TheVariants.{Full, Malformed, Mem}
-use Rattle.file_map.specs.Cause.{IsCause, IsBroken, IsOwn}
+use Rattle.file_map.specs.Cause.{IsCause, IsBroken, FromMemory}
 use Rattle.file_map.specs.declared.run.Run.{Run}
 use Rattle.file_map.specs.Run.{run_bytes}
 use Rattle.file_map.specs.Entries.{Entry}
@@ -114,7 +114,7 @@ map_halts (Err (Malformed page)) n x d e s of size is = (refl, broken_same of (w
 map_halts (Err (Mem h)) n x d e s of size is = search_halts x d e s h is.cause
 
 -- where the map is in form, and the labels of its sectors name its pages, it is a fault of the disk
-pub map_sound : {T : Type 0} (r : Result T (MapError Halt)) (P : T → Type 0) (n : ℕ) (full : Type 0) (x : Layout) (d e : DiskState) (s : Slots) → MatchResult r P IsOwn
+pub map_sound : {T : Type 0} (r : Result T (MapError Halt)) (P : T → Type 0) (n : ℕ) (full : Type 0) (x : Layout) (d e : DiskState) (s : Slots) → MatchResult r P FromMemory
     → IfErr r (IsWindowCause n full FileMap d s x e) → (m : List Sector) → Stands d s m → AreNamed m (IsMapHome FileMap x) → IfErr (halted r) (λ h. h ≡ halt.Disk)
 map_sound (Ok value) P n full x d e s own is m stands named = tt
 map_sound (Err Full) P n full x d e s own is m stands named = absurd own
@@ -129,7 +129,7 @@ window_right homes d e (halt.Damaged (MalformedPage window page)) is = is
 window_right homes d e (halt.Damaged (Missing id page)) is = is
 
 -- where the map is in form, neither is one of its calls
-pub map_right : {T : Type 0} (r : Result T (MapError Halt)) (P : T → Type 0) (n : ℕ) (full : Type 0) (x : Layout) (d e : DiskState) (s : Slots) → MatchResult r P IsOwn → IfErr r (IsWindowCause n full FileMap d s x e)
+pub map_right : {T : Type 0} (r : Result T (MapError Halt)) (P : T → Type 0) (n : ℕ) (full : Type 0) (x : Layout) (d e : DiskState) (s : Slots) → MatchResult r P FromMemory → IfErr r (IsWindowCause n full FileMap d s x e)
     → IfErr (halted r) IsFaultOrMismatch
 map_right (Ok value) P n full x d e s own is = tt
 map_right (Err Full) P n full x d e s own is = absurd own

@@ -8,7 +8,7 @@ use Rattle.std.proofs.lemmas.Option.{none-some}
 use Rattle.frame_pool.specs.Frames.{Slots, frame_at}
 use Rattle.frame_pool.specs.FrameLaws.{frame_of_has}
 use Rattle.frame_pool.specs.Lists.{fresh_lists}
-use Rattle.frame_pool.specs.Index.{bucket_in, bucket_at, IsLast}
+use Rattle.frame_pool.specs.Index.{bucket_in, bucket_at, IsLastBelow}
 use Rattle.frame_pool.specs.Pool.{IsPool}
 
 abbrev empty_slots : ℕ → Slots
@@ -22,7 +22,7 @@ none_there (suc n) (suc i) = none_there n i
 no_bucket : (n i bucket : ℕ) → bucket_at (empty_slots n) i ≡ Some bucket → ⊥
 no_bucket n i bucket is = none-some bucket (sym (ap (bucket_in (length (empty_slots n))) (none_there n i)) ∙ is)
 
-none_last : (n bucket limit : ℕ) → IsLast (bucket_at (empty_slots n)) bucket limit None
+none_last : (n bucket limit : ℕ) → IsLastBelow (bucket_at (empty_slots n)) bucket limit None
 none_last n bucket limit = record { within = tt; covers = λ other below is. no_bucket n other bucket is }
 
 in_order : (n i : ℕ) → i < n → get_or (range_with_len 0 n) i 0 ≡ i

@@ -10,7 +10,7 @@ use Rattle.frame_pool.specs.declared.home.Home.{Home}
 use Rattle.frame_pool.specs.Frames.{Frame, Slots, Has, frame_at, is_of, overwritten, IsNowhere, IsPageBytes, ArePages}
 use Rattle.frame_pool.specs.FrameLaws.{distinct_same, pages_filled, has_of_frame, frame_of_has}
 use Rattle.frame_pool.specs.Lists.{Lists}
-use Rattle.frame_pool.specs.Index.{bucket_of, bucket_in, bucket_at, IsLast, IsIndex}
+use Rattle.frame_pool.specs.Index.{bucket_of, bucket_in, bucket_at, IsLastBelow, IsIndex}
 use Rattle.frame_pool.specs.Pool.{IsPool}
 use Rattle.frame_pool.proofs.PoolLemmas.{order_kept}
 
@@ -18,7 +18,7 @@ within_same : (at also : ℕ → Option ℕ) (bucket limit : ℕ) (r : Option �
 within_same at also bucket limit None same within = tt
 within_same at also bucket limit (Some s) same within = (within.0, same s ∙ within.1)
 
-last_same : (at also : ℕ → Option ℕ) (bucket limit : ℕ) (r : Option ℕ) → ((i : ℕ) → also i ≡ at i) → IsLast at bucket limit r → IsLast also bucket limit r
+last_same : (at also : ℕ → Option ℕ) (bucket limit : ℕ) (r : Option ℕ) → ((i : ℕ) → also i ≡ at i) → IsLastBelow at bucket limit r → IsLastBelow also bucket limit r
 last_same at also bucket limit r same last = record {
   within = within_same at also bucket limit r same last.within;
   covers = λ other below is. last.covers other below (sym (same other) ∙ is);

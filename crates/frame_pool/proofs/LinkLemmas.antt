@@ -3,7 +3,7 @@ use Rattle.std.proofs.Common.{◌≡◌, ◌≢◌, ◌<◌, ◌≤◌, ◌∙�
 use Rattle.std.proofs.lemmas.Bool.{cases_eq, cases_lt}
 use Rattle.std.proofs.lemmas.Option.{same_Some, none-some}
 use Rattle.frame_pool.specs.Lists.{Lists, IsSized}
-use Rattle.frame_pool.specs.Index.{IsAtMost, IsLast, IsFirstAbove, IsIndex, Puts}
+use Rattle.frame_pool.specs.Index.{IsAtMost, IsLastBelow, IsFirstAbove, IsIndex, Puts}
 
 -- no slot of the bucket lies between the two
 abbrev Gap : (ℕ → Option ℕ) → ℕ → ℕ → ℕ → Type 0
@@ -30,7 +30,7 @@ within_put before at slot bucket c limit (Some s) puts empty within =
 
 -- the last slot stays the last one where the new slot is not above it
 last_put : (before at : ℕ → Option ℕ) (slot bucket c limit : ℕ) (r : Option ℕ) → Puts before slot (Some bucket) at → before slot ≡ None
-    → (c ≡ bucket → slot < limit → IsAtMost slot r) → IsLast before c limit r → IsLast at c limit r
+    → (c ≡ bucket → slot < limit → IsAtMost slot r) → IsLastBelow before c limit r → IsLastBelow at c limit r
 last_put before at slot bucket c limit r puts empty under last = record {
   within = within_put before at slot bucket c limit r puts empty last.within;
   covers = λ other below is. elim (cases_eq other slot) [
@@ -43,7 +43,7 @@ last_put before at slot bucket c limit r puts empty under last = record {
 }
 
 -- the new slot is the last one where none is above it
-last_new : (before at : ℕ → Option ℕ) (slot bucket limit : ℕ) → Puts before slot (Some bucket) at → slot < limit → Gap before bucket slot limit → IsLast at bucket limit (Some slot)
+last_new : (before at : ℕ → Option ℕ) (slot bucket limit : ℕ) → Puts before slot (Some bucket) at → slot < limit → Gap before bucket slot limit → IsLastBelow at bucket limit (Some slot)
 last_new before at slot bucket limit puts low gap = record {
   within = (low, puts.here);
   covers = λ other below is. elim (cases_lt slot other) [
@@ -66,7 +66,7 @@ within_below before at slot bucket limit (Some s) puts empty gap within =
 
 -- what was last below the limit is last below the new slot
 last_below : (before at : ℕ → Option ℕ) (slot bucket limit : ℕ) (r : Option ℕ) → Puts before slot (Some bucket) at → before slot ≡ None → slot < limit → Gap before bucket slot limit
-    → IsLast before bucket limit r → IsLast at bucket slot r
+    → IsLastBelow before bucket limit r → IsLastBelow at bucket slot r
 last_below before at slot bucket limit r puts empty low gap last = record {
   within = within_below before at slot bucket limit r puts empty gap last.within;
   covers = λ other below is.
@@ -165,7 +165,7 @@ left : (before at : ℕ → Option ℕ) (slot c other : ℕ) → Puts before slo
 left before at slot c other puts is same = none-some c (sym puts.here ∙ ap at (sym same) ∙ is)
 
 -- the last slot stays the last one where it is another
-last_left : (before at : ℕ → Option ℕ) (slot c limit : ℕ) (r : Option ℕ) → Puts before slot None at → (r ≡ Some slot → ⊥) → IsLast before c limit r → IsLast at c limit r
+last_left : (before at : ℕ → Option ℕ) (slot c limit : ℕ) (r : Option ℕ) → Puts before slot None at → (r ≡ Some slot → ⊥) → IsLastBelow before c limit r → IsLastBelow at c limit r
 last_left before at slot c limit r puts not_it last = record {
   within = within_left before at slot c limit r puts not_it last.within;
   covers = λ other below is. last.covers other below (sym (puts.others other (left before at slot c other puts is)) ∙ is);
@@ -180,7 +180,7 @@ within_next before at slot bucket limit (Some s) puts low within =
     (omega (arith, below, low), puts.others s apart ∙ within.1)
 
 -- the one after it takes its place
-last_next : (before at : ℕ → Option ℕ) (slot bucket limit : ℕ) (r : Option ℕ) → Puts before slot None at → slot < limit → Gap before bucket slot limit → IsLast before bucket slot r → IsLast at bucket limit r
+last_next : (before at : ℕ → Option ℕ) (slot bucket limit : ℕ) (r : Option ℕ) → Puts before slot None at → slot < limit → Gap before bucket slot limit → IsLastBelow before bucket slot r → IsLastBelow at bucket limit r
 last_next before at slot bucket limit r puts low gap last = record {
   within = within_next before at slot bucket limit r puts low last.within;
   covers = λ other below is.
@@ -193,19 +193,19 @@ last_next before at slot bucket limit r puts low gap last = record {
 }
 
 -- the last slot of a bucket below a limit is not this one, where a higher one of the bucket is below the limit
-not_last : (before : ℕ → Option ℕ) (bucket slot above limit : ℕ) (r : Option ℕ) → IsLast before bucket limit r → slot < above → above < limit → before above ≡ Some bucket → r ≡ Some slot → ⊥
+not_last : (before : ℕ → Option ℕ) (bucket slot above limit : ℕ) (r : Option ℕ) → IsLastBelow before bucket limit r → slot < above → above < limit → before above ≡ Some bucket → r ≡ Some slot → ⊥
 not_last before bucket slot above limit r last up below there is =
     let most = rw is at last.covers above below there in
     omega (arith, most, up)
 
 -- nor where the bucket is another
-not_other : (before : ℕ → Option ℕ) (bucket c slot limit : ℕ) (r : Option ℕ) → IsLast before c limit r → before slot ≡ Some bucket → c ≢ bucket → r ≡ Some slot → ⊥
+not_other : (before : ℕ → Option ℕ) (bucket c slot limit : ℕ) (r : Option ℕ) → IsLastBelow before c limit r → before slot ≡ Some bucket → c ≢ bucket → r ≡ Some slot → ⊥
 not_other before bucket c slot limit r last here apart is =
     let within = rw is at last.within in
     apart (sym (same_Some bucket c (sym here ∙ within.1)))
 
 -- the last slot of a bucket is below the limit
-is_below : (before : ℕ → Option ℕ) (c slot limit : ℕ) (r : Option ℕ) → IsLast before c limit r → r ≡ Some slot → slot < limit
+is_below : (before : ℕ → Option ℕ) (c slot limit : ℕ) (r : Option ℕ) → IsLastBelow before c limit r → r ≡ Some slot → slot < limit
 is_below before c slot limit r last is = (rw is at last.within).0
 
 pub unlinked_above : (lists : Lists) (before at : ℕ → Option ℕ) (slot bucket above : ℕ) → IsSized lists → ((i c : ℕ) → before i ≡ Some c → i < length lists.frames) → IsIndex before lists → before slot ≡ Some bucket

@@ -27,7 +27,7 @@ IsAtLeast other None = ⊥
 IsAtLeast other (Some slot) = slot ≤ other
 
 -- the answer is the last slot of the bucket below the limit, or none where there is none
-pub record IsLast (at : ℕ → Option ℕ) (bucket limit : ℕ) (answer : Option ℕ) : Type 0 where
+pub record IsLastBelow (at : ℕ → Option ℕ) (bucket limit : ℕ) (answer : Option ℕ) : Type 0 where
   pub within : IfSome answer (λ slot. (slot < limit) × (at slot ≡ Some bucket))
   pub covers : (other : ℕ) → other < limit → at other ≡ Some bucket → IsAtMost other answer
 
@@ -38,8 +38,8 @@ pub record IsFirstAbove (at : ℕ → Option ℕ) (bucket slot limit : ℕ) (ans
 
 -- each head is its bucket's last slot, and each link leads to the last slot of the same bucket below it
 pub record IsIndex (at : ℕ → Option ℕ) (lists : Lists) : Type 0 where
-  pub heads : (bucket : ℕ) → bucket < length lists.frames → IsLast at bucket (length lists.frames) (slice_index_or lists.heads bucket None)
-  pub links : (slot bucket : ℕ) → at slot ≡ Some bucket → IsLast at bucket slot (slice_index_or lists.nexts slot None)
+  pub heads : (bucket : ℕ) → bucket < length lists.frames → IsLastBelow at bucket (length lists.frames) (slice_index_or lists.heads bucket None)
+  pub links : (slot bucket : ℕ) → at slot ≡ Some bucket → IsLastBelow at bucket slot (slice_index_or lists.nexts slot None)
 
 -- the slots' buckets, with this one at the slot
 pub record Puts (before : ℕ → Option ℕ) (slot : ℕ) (bucket : Option ℕ) (after : ℕ → Option ℕ) : Type 0 where

@@ -20,7 +20,7 @@ use Rattle.labelled_disk.proofs.RisingLemmas.{same_by_look_up}
 use Rattle.labelled_disk.proofs.RootLemmas.{root_written}
 use Rattle.labelled_disk.proofs.RunLemmas as run
 use Rattle.labelled_disk.proofs.WriteLemmas as laws
-use Rattle.label_laws.specs.Unseen.{IsOwn}
+use Rattle.label_laws.specs.Unseen.{IsOfNoOther}
 use Rattle.label_laws.specs.StayLaws.{StayLaws}
 use Rattle.label_laws.proofs.FileLemmas.{reserved_have_none}
 use Rattle.label_laws.proofs.NeededLemmas.{freed_moments, freed_stay_right}
@@ -49,7 +49,7 @@ grown_data : (d : List Sector) (id kind page : ℕ) (is : List ℕ) → AreUnuse
 grown_data d id kind page [] unused = tt
 grown_data d id kind page (i ∷ is) unused = (unused.0.there.is_data, grown_data d id kind (page + 1) is unused.2)
 
-own_data : (d : List Sector) (id kind page : ℕ) (is : List ℕ) → AllByRecursion (IsOwn id d) is → AllByRecursion (λ one. first_data (length d) ≤ sector_of one) (growth id kind page is)
+own_data : (d : List Sector) (id kind page : ℕ) (is : List ℕ) → AllByRecursion (IsOfNoOther id d) is → AllByRecursion (λ one. first_data (length d) ≤ sector_of one) (growth id kind page is)
 own_data d id kind page [] own = tt
 own_data d id kind page (i ∷ is) own = (own.0.1.is_data, own_data d id kind (page + 1) is own.1)
 

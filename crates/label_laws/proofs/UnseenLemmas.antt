@@ -20,7 +20,7 @@ use Rattle.labelled_disk.proofs.Finds.{none_passes, get_set_same, get_set_other}
 use Rattle.labelled_disk.proofs.SectorWrites as w
 use Rattle.labelled_disk.proofs.WriteLemmas as laws
 use Rattle.labelled_disk.proofs.RootLemmas.{only_self}
-use Rattle.label_laws.specs.Unseen.{IsOwn, IsUnseen, AreUnseen, UnseenAppended, UnseenMoments, UnseenOrders, UnseenCreation}
+use Rattle.label_laws.specs.Unseen.{IsOfNoOther, IsUnseen, AreUnseen, UnseenAppended, UnseenMoments, UnseenOrders, UnseenCreation}
 use Rattle.label_laws.proofs.FileLemmas.{label_written, page_written}
 
 pub unseen_append : (temps : Bool) (id : ℕ) → UnseenAppended temps id
@@ -74,12 +74,12 @@ module _ (temps : Bool) (id serial counter : ℕ) where
 -- The orders of a file that does not count.
 
 -- sectors of the file or of none, after one got a label that is so too
-own_still : (id : ℕ) (d : List Sector) (i : ℕ) (s t : Sector) (is : List ℕ) → HasData d i s → IsOnlyOf id t → AllByRecursion (IsOwn id d) is → AllByRecursion (IsOwn id (slice_set d i t)) is
+own_still : (id : ℕ) (d : List Sector) (i : ℕ) (s t : Sector) (is : List ℕ) → HasData d i s → IsOnlyOf id t → AllByRecursion (IsOfNoOther id d) is → AllByRecursion (IsOfNoOther id (slice_set d i t)) is
 own_still id d i s t [] holds only own = tt
 own_still id d i s t (j ∷ js) holds only own = (one (cases_eq j i), own_still id d i s t js holds only own.1)
   where
-    one : (j ≡ i) ⊎ (j ≢ i) → IsOwn id (slice_set d i t) j
-    one (inl e) = subst (IsOwn id (slice_set d i t)) (sym e) (
+    one : (j ≡ i) ⊎ (j ≢ i) → IsOfNoOther id (slice_set d i t) j
+    one (inl e) = subst (IsOfNoOther id (slice_set d i t)) (sym e) (
       t,
       record { is_data = subst (λ (n : ℕ). first_data n ≤ i) (sym (length-set d i t)) holds.is_data; here = get_set_same d i t (slice_get_within d i s holds.here) },
       only,
@@ -94,7 +94,7 @@ module _ (temps : Bool) (id : ℕ) where
   free_only : (page : List ℕ) → IsOnlyOf id (free_label, page)
   free_only page = laws.only_none temps 0 0 id (free_label, page) refl
 
-  freed_unseen : (d : List Sector) (is : List ℕ) → AllByRecursion (IsOwn id d) is → AreUnseen temps id d (freeing is)
+  freed_unseen : (d : List Sector) (is : List ℕ) → AllByRecursion (IsOfNoOther id d) is → AreUnseen temps id d (freeing is)
   freed_unseen d [] own = tt
   freed_unseen d (i ∷ is) own =
       let s : Sector = own.0.0 in (
@@ -103,7 +103,7 @@ module _ (temps : Bool) (id : ℕ) where
             (freed_unseen (slice_set d i (free_label, s.1)) is (own_still id d i s (free_label, s.1) is own.0.1 (free_only s.1) own.1)),
       )
 
-  grown_unseen : (d : List Sector) (kind page : ℕ) (is : List ℕ) → AllByRecursion (IsOwn id d) is → page + length is ≤ leader_page → AreUnseen temps id d (growth id kind page is)
+  grown_unseen : (d : List Sector) (kind page : ℕ) (is : List ℕ) → AllByRecursion (IsOfNoOther id d) is → page + length is ≤ leader_page → AreUnseen temps id d (growth id kind page is)
   grown_unseen d kind page [] own few = tt
   grown_unseen d kind page (i ∷ is) own few =
       let t : Sector = (page_label id kind page, zero_bytes) in (

@@ -11,7 +11,7 @@ use Rattle.labelled_disk.specs.Root.{IsRoot, LabelsRight, number_at, serial_of, 
 use Rattle.labelled_disk.specs.RootLaws.{StaysRight}
 use Rattle.labelled_disk.specs.Runs.{growth, creation, freeing, AreUnused}
 use Rattle.label_laws.specs.Unneeded.{IsUnneeded}
-use Rattle.label_laws.specs.Unseen.{IsOwn}
+use Rattle.label_laws.specs.Unseen.{IsOfNoOther}
 
 pub record StayLaws : Type 0 where
   -- a root that counts on, and then a new file, which is temporary
@@ -21,4 +21,4 @@ pub record StayLaws : Type 0 where
   -- sectors that no permanent file needs are freed: those of temporary files, and of the space tables
   pub freed : (d : List Sector) (is : List ℕ) → LabelsRight d → AllByRecursion (IsUnneeded false d) is → (k : ℕ) → StaysRight false d (moment d (freeing is) k)
   -- pages of the space tables are made
-  pub tables : (d : List Sector) (page : ℕ) (is : List ℕ) → LabelsRight d → AllByRecursion (IsOwn 3 d) is → page + length is ≤ leader_page → (k : ℕ) → StaysRight false d (moment d (growth 3 0 page is) k)
+  pub tables : (d : List Sector) (page : ℕ) (is : List ℕ) → LabelsRight d → AllByRecursion (IsOfNoOther 3 d) is → page + length is ≤ leader_page → (k : ℕ) → StaysRight false d (moment d (growth 3 0 page is) k)

@@ -24,7 +24,7 @@ use Rattle.swapper_kernel.specs.Goes.{is_page_write}
 use Rattle.swapper_kernel.specs.Stands.{labels_of}
 use Rattle.session_words.proofs.RunStopLemmas.{run_stops}
 use Rattle.label_laws.specs.LawfulRuns.{AreLawful}
-use Rattle.label_laws.specs.Unseen.{IsOwn}
+use Rattle.label_laws.specs.Unseen.{IsOfNoOther}
 use Rattle.label_laws.proofs.FileLemmas.{free_none}
 use Rattle.label_laws.proofs.LawfulLemmas.{by_each}
 use Rattle.label_laws.proofs.MixedLemmas.{labels_whole, labels_only, labels_page}
@@ -76,13 +76,13 @@ label_row (Page sector wanted page ∷ writes) d e same lawful =
     label_row writes (written (Page sector wanted page) d) e (same ∙ sym (labels_page d sector wanted page)) lawful.1
 
 -- a free data sector is no file's
-free_own : (d : List Sector) (i : ℕ) (s : Sector) → HasData d i s → is_free s.0 ≡ true → IsOwn 3 d i
+free_own : (d : List Sector) (i : ℕ) (s : Sector) → HasData d i s → is_free s.0 ≡ true → IsOfNoOther 3 d i
 free_own d i s has free = (s, has, λ other apart. ap (λ (b : Bool). b && s.0.id == other) (free_none s.0 free))
 
 -- a sector that was relabelled was free, so it is the space tables' own or none's
-own_before : (d : List Sector) (i j : ℕ) (s t : Sector) → HasData d i s → is_free s.0 ≡ true → IsOwn 3 (slice_set d i t) j → IsOwn 3 d j
+own_before : (d : List Sector) (i j : ℕ) (s t : Sector) → HasData d i s → is_free s.0 ≡ true → IsOfNoOther 3 (slice_set d i t) j → IsOfNoOther 3 d j
 own_before d i j s t has free own = elim (cases_eq j i) [
-  | inl here ↦ subst (IsOwn 3 d) (sym here) (free_own d i s has free)
+  | inl here ↦ subst (IsOfNoOther 3 d) (sym here) (free_own d i s has free)
   | inr other ↦ (
     own.0,
     record {
@@ -93,12 +93,12 @@ own_before d i j s t has free own = elim (cases_eq j i) [
   )
 ]
 
-all_before : (is : List ℕ) (d : List Sector) (i : ℕ) (s t : Sector) → HasData d i s → is_free s.0 ≡ true → AllByRecursion (IsOwn 3 (slice_set d i t)) is → AllByRecursion (IsOwn 3 d) is
+all_before : (is : List ℕ) (d : List Sector) (i : ℕ) (s t : Sector) → HasData d i s → is_free s.0 ≡ true → AllByRecursion (IsOfNoOther 3 (slice_set d i t)) is → AllByRecursion (IsOfNoOther 3 d) is
 all_before [] d i s t has free all = tt
 all_before (j ∷ is) d i s t has free all = (own_before d i j s t has free all.0, all_before is d i s t has free all.1)
 
 -- so pages of the space tables that are made lawfully come into such sectors
-grown_own : (is : List ℕ) (page : ℕ) (d : List Sector) → AreLawful d (growth 3 0 page is) → AllByRecursion (IsOwn 3 d) is
+grown_own : (is : List ℕ) (page : ℕ) (d : List Sector) → AreLawful d (growth 3 0 page is) → AllByRecursion (IsOfNoOther 3 d) is
 grown_own [] page d lawful = tt
 grown_own (i ∷ is) page d lawful = elim lawful.0 [
   | inl root ↦ absurd (not_root (ap (λ (l : Label). l.id) root.root_label))

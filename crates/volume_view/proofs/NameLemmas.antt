@@ -13,7 +13,7 @@ use Rattle.file_map.specs.declared.run.Run.{Run}
 use Rattle.file_map.specs.Run.{IsRun, holds, sector_at}
 use Rattle.file_map.specs.FileMap.{Triples, AreNamed, IsFound, IsNowhere, names_triple, run_names, run_at}
 use Rattle.file_map.specs.InSectors.{label_triples, map_bytes, MapNames}
-use Rattle.file_map.specs.Cause.{IsOwn}
+use Rattle.file_map.specs.Cause.{FromMemory}
 use Rattle.file_map.specs.declared.error.MapError.{MapError}
 use Rattle.file_map.specs.declared.error.MapError.TheVariants.{Malformed}
 use Rattle.file_map.proofs.Runs.{HasPage, has_page, and_parts}
@@ -343,8 +343,8 @@ found_some named id page o r is found = subst (IsFound named id page) is found
 pub found_none : (named : Triples) (id page : ℕ) (o : Option Run) → o ≡ None → IsFound named id page o → IsNowhere named id page
 found_none named id page o is found = subst (IsFound named id page) is found
 
-pub never_broken : {X : Type 0} (e : MapError X) (page : ℕ) → e ≡ Malformed page → IsOwn e → ⊥
-never_broken {X} e page is says = subst (λ (x : MapError X). IsOwn x) is says
+pub never_broken : {X : Type 0} (e : MapError X) (page : ℕ) → e ≡ Malformed page → FromMemory e → ⊥
+never_broken {X} e page is says = subst (λ (x : MapError X). FromMemory x) is says
 
 -- the map of a disk, in the memory that it was read into
 pub names_in : (d : List Sector) (n : ℕ) (bytes : List ℕ) (named : Triples) → length d ≡ n → bytes ≡ map_bytes d → MapNames d named → NamesIn n bytes named

@@ -1,7 +1,7 @@
 use Rattle.std.proofs.Common.{rules, List, IfErr, MatchResult, ◌∙◌, ap}
 use Rattle.labelled_disk.specs.declared.layout.Layout.{Layout}
 use Rattle.labelled_disk.specs.Sectors.{Sector}
-use Rattle.file_map.specs.Cause.{IsOwn}
+use Rattle.file_map.specs.Cause.{FromMemory}
 use Rattle.file_map.specs.FileMap.{Triples, IsFound}
 use Rattle.swapper_kernel.specs.declared.manager.Manager.TheVariants.{FileMap}
 use Rattle.swapper_kernel.specs.Stands.{Stands}
@@ -16,7 +16,7 @@ use Rattle.filer_kernel.proofs.filer.FilerOver.search.Goals as goal
 
 -- what the map answers
 answer : (g : given.Over) (c : goal.After-halted g) (m : List Sector) (named : Triples) → Stands (g.D.Disk.state c.args.self.now.swapper.under) c.args.self.now.swapper.pool m → MapIs c.args.self.now.swapper.layout named m
-    → MatchResult c.find.result (IsFound named c.args.id c.args.page) IsOwn
+    → MatchResult c.find.result (IsFound named c.args.id c.args.page) FromMemory
 answer g c m named stands map =
     let told = names_told c.requires.size m named stands map in
     c.find.ensures.found named (rw (c.over-map.ensures.sectors, c.layout-layout.ensures, c.over-map.ensures.memory, c.window0.ensures.value, c.window0.ensures.which) told)
