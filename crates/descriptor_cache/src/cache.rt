@@ -1,6 +1,6 @@
 //! The cache.
 ghost use Rattle.std.specs.Prelude.{◌≡◌, ℕ, ◌<◌, ◌≤◌, List, [], ◌∷◌, ◌++◌, length, drop, find};
-ghost use Rattle.descriptor_cache.specs.Pages.{has_page};
+ghost use Rattle.swap_units.specs.Unit.{has_page};
 
 use arrayvec::ArrayVec;
 use swap_units::Interval;
@@ -12,13 +12,6 @@ const MOST: usize = 16;
 pub struct DescriptorCache {
     kept: ArrayVec<Interval, 16>,
     ghost few: { length kept.items ≤ 16 },
-}
-
-fn has_page(interval: &Interval, page: u32) -> bool
-    ensures { result ≡ has_page page interval.now }
-{
-    let end = u64::from(interval.first) + u64::from(interval.pages);
-    interval.first <= page && u64::from(page) < end
 }
 
 impl DescriptorCache {
@@ -38,7 +31,7 @@ impl DescriptorCache {
         ensures found { result ≡ find (has_page page) (kept_in self.old) }
         ensures kept { kept_in self.new ≡ kept_in self.old }
     {
-        self.kept.iter().copied().find(|x| has_page(x, page))
+        self.kept.iter().copied().find(|x| x.has_page(page))
     }
 
     /// Keeps an interval, and lets the oldest go where there are 16.

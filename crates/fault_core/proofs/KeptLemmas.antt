@@ -7,8 +7,7 @@ use Rattle.std.proofs.lemmas.Option.{same_Some, none-some}
 use Rattle.labelled_disk.specs.declared.evidence.Halt.{Halt}
 use Rattle.frame_pool.specs.Frames.{Slots}
 use Rattle.swap_units.specs.declared.interval.Interval.{Interval}
-use Rattle.swap_units.specs.Unit.{Holds}
-use Rattle.descriptor_cache.specs.Pages.{has_page}
+use Rattle.swap_units.specs.Unit.{Holds, has_page}
 use Rattle.fault_core.specs.Kept.{IsKept, IsFormed, AreFormed, AreApart}
 use Rattle.fault_core.specs.Unit.{IsReady}
 

@@ -21,7 +21,7 @@ use Rattle.swapper_kernel.specs.Stands.{Stands}
 use Rattle.session_words.specs.CellLaws.{Kills, is_killed}
 use Rattle.session_words.specs.Volume.{volume_page}
 use Rattle.session_words.proofs.FoundLemmas.{above_reserved}
-use Rattle.descriptor_cache.specs.Pages.{has_page}
+use Rattle.swap_units.specs.Unit.{has_page}
 use Rattle.fault_core.specs.Kept.{AreFound}
 use Rattle.fault_core.specs.Kill.{AreWritableSo, BreaksWithin, LeavesCore, is_absent}
 use Rattle.fault_core.specs.Range.{IsNextPart}

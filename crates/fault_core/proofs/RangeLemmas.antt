@@ -10,7 +10,7 @@ use Rattle.frame_pool.specs.ListLaws.{below_of}
 use Rattle.flat_machine.specs.declared.space.Space.{Space}
 use Rattle.flat_machine.specs.Space.{root_pages}
 use Rattle.swap_units.specs.declared.interval.Interval.{Interval}
-use Rattle.swap_units.specs.Unit.{Holds}
+use Rattle.swap_units.specs.Unit.{Holds, has_page}
 use Rattle.swapper_kernel.specs.Homes.{IsLayout}
 use Rattle.swapper_kernel.specs.HaltLaws.{brings_itself, brings_then}
 use Rattle.projection_laws.specs.Sight.{AreIntervals}
@@ -18,7 +18,6 @@ use Rattle.projection_laws.proofs.Finds.{firsts_are_rising}
 use Rattle.projection_laws.proofs.OneLemmas.{intervals_are_one}
 use Rattle.space_tables.specs.Stored.{TellSpaces}
 use Rattle.fault_core.specs.declared.range.Way.{Way}
-use Rattle.descriptor_cache.specs.Pages.{has_page}
 use Rattle.frame_pool.specs.Frames.{Slots}
 use Rattle.fault_core.specs.declared.range.Way.TheVariants.{Force}
 use Rattle.fault_core.specs.Kill.{BreaksWithin}

@@ -5,8 +5,8 @@ use Rattle.labelled_disk.specs.Sectors.{Sector}
 use Rattle.file_map.specs.FileMap.{Triples}
 use Rattle.flat_machine.specs.declared.space.Space.{Space}
 use Rattle.swap_units.specs.declared.interval.Interval.{Interval}
-use Rattle.swap_units.specs.Unit.{Holds}
-use Rattle.space_tables.specs.Form.{in_form, has_page}
+use Rattle.swap_units.specs.Unit.{Holds, has_page}
+use Rattle.space_tables.specs.Form.{in_form}
 use Rattle.space_tables.specs.SpaceTables.{IsIntervalAt}
 use Rattle.space_tables.specs.Stored.{TellSpaces}
 use Rattle.swapper_kernel.specs.Homes.{IsLayout}
@@ -56,5 +56,5 @@ formed_of x is = record {
   shows = λ mapped. (grind (arith, nat_tests, is, mapped), grind (arith, nat_tests, is, mapped));
 }
 
-pub holds_it : (x : Interval) (page : ℕ) → has_page x page ≡ true → Holds x page
+pub holds_it : (x : Interval) (page : ℕ) → has_page page x ≡ true → Holds x page
 holds_it x page is = (grind (arith, nat_tests, is), grind (arith, nat_tests, is))

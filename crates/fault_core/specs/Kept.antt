@@ -3,8 +3,7 @@ use Rattle.std.specs.Prelude.{◌≡◌, ◌≢◌, ℕ, ◌+◌, ◌^◌, ◌<�
 use Rattle.std.proofs.Math.Nat.{ℕ_set}
 use Rattle.std.specs.Coded.{le_prop}
 use Rattle.swap_units.specs.declared.interval.Interval.{Interval}
-use Rattle.swap_units.specs.Unit.{Holds}
-use Rattle.descriptor_cache.specs.Pages.{has_page}
+use Rattle.swap_units.specs.Unit.{Holds, has_page}
 
 -- the interval is one of these
 abbrev pub IsKept : List Interval → Interval → Type 0

@@ -11,7 +11,7 @@ ghost use Rattle.swapper_kernel.specs.Stands.{Stands};
 ghost use Rattle.session_words.specs.CellLaws.{Kills, is_killed};
 ghost use Rattle.session_words.specs.Volume.{volume_page};
 ghost use Rattle.swap_units.specs.declared.interval.Interval.{Interval as IntervalIs};
-ghost use Rattle.descriptor_cache.specs.Pages.{has_page};
+ghost use Rattle.swap_units.specs.Unit.{has_page};
 ghost use Rattle.fault_core.specs.Kept.{AreFound};
 ghost use Rattle.fault_core.specs.Kill.{AreWritableSo, BreaksWithin, LeavesCore, ShowsPart, is_absent, may_store, of_part};
 ghost use Rattle.fault_core.specs.Moves.{Leaves};

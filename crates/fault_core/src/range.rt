@@ -7,7 +7,7 @@ ghost use Rattle.flat_machine.specs.declared.space.Space.{Space};
 ghost use Rattle.fault_core.specs.declared.range.Way.TheVariants as way_is;
 ghost use Rattle.force_calls.specs.Run.{OnlyRun, Stay};
 ghost use Rattle.swap_units.specs.declared.interval.Interval.{Interval as IntervalIs};
-ghost use Rattle.descriptor_cache.specs.Pages.{has_page};
+ghost use Rattle.swap_units.specs.Unit.{has_page};
 ghost use Rattle.fault_core.specs.Kill.{BreaksWithin};
 ghost use Rattle.fault_core.specs.Range.{AreAtRest, IsAtRest, IsNextPart, LeavesFrames};
 ghost use Rattle.fault_core.specs.Unit.{file_page};

@@ -12,7 +12,7 @@ use Rattle.flat_machine.specs.declared.space.Window.{Window}
 use Rattle.flat_machine.specs.Space.{root_pages, space_at, innermost, overlap, is_mapped}
 use Rattle.flat_machine.specs.Refusal.{Test, first_of, is_root, past_root, no_unit}
 use Rattle.flat_machine.proofs.Lists.{find_in, look_up}
-use Rattle.swap_units.specs.Unit.{Holds}
+use Rattle.swap_units.specs.Unit.{Holds, has_page}
 use Rattle.projection_laws.specs.Sight.{Interval}
 use Rattle.projection_laws.specs.Slots.{listed}
 use Rattle.projection_laws.specs.Tests.{no_space, path_mapped, not_mapped}
@@ -21,7 +21,7 @@ use Rattle.projection_laws.proofs.TellLemmas.{intervals_tell}
 use Rattle.space_tables.specs.declared.error.SpaceError.{SpaceError}
 use Rattle.space_tables.specs.declared.error.SpaceError.TheVariants.{Refused, Malformed, Mem}
 use Rattle.space_tables.specs.Answer.{FromMemory, IfMalformed, Refuses, Answers, Replies}
-use Rattle.space_tables.specs.Form.{has_page, interval_record, is_interval_record, BreaksInterval, BreaksProjection, Breaks}
+use Rattle.space_tables.specs.Form.{interval_record, is_interval_record, BreaksInterval, BreaksProjection, Breaks}
 use Rattle.space_tables.specs.Stored.{HoldTables, TellSpaces}
 
 -- ---- tests in a row

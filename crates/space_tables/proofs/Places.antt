@@ -21,7 +21,7 @@ use Rattle.projection_laws.proofs.SlotLemmas.{slot_found, slot_free}
 use Rattle.projection_laws.proofs.Gaps.{fits_in_one, gap_is_first}
 use Rattle.projection_laws.proofs.Inside.{in_the_root}
 use Rattle.flat_machine.proofs.Lists.{find_in}
-use Rattle.space_tables.specs.Form.{has_page}
+use Rattle.swap_units.specs.Unit.{has_page}
 use Rattle.space_tables.proofs.ReadBack.{held}
 use Rattle.space_tables.specs.Scan.{AreTaken, IsLowestFree, IsFirstGap, ends_in}
 use Rattle.space_tables.specs.Stored.{AreRight}
@@ -90,7 +90,7 @@ module _ (slots : List (Option Space)) (xs : List Interval) (r : AreRight slots 
   place_is first b e =
       ap (λ (o : Option Space). option_and_then (λ (p : Space). then_some (not (fits (listed slots) p pages first)) why.Range) o) at ∙ ap (λ (b : Bool). then_some (not b) why.Range) e
 
-  pub place_found : (k first : ℕ) (i : Interval) → slice_get xs k ≡ Some i → has_page i first ≡ true → (b : Bool) → ends_in h pages first i ≡ b
+  pub place_found : (k first : ℕ) (i : Interval) → slice_get xs k ≡ Some i → has_page first i ≡ true → (b : Bool) → ends_in h pages first i ≡ b
       → no_place (listed slots) h pages (Some first) ≡ then_some (not b) why.Range
   place_found k first i e has b is =
       let low = (held i first has).0 in

@@ -4,7 +4,7 @@ use Rattle.std.specs.Prelude.{nat_le, nat_lt, slice_get, if◌then◌else◌, �
 use Rattle.std.proofs.lemmas.Option.{same_Some, none-some}
 use Rattle.std.proofs.lemmas.Bool.{and_from, and_parts}
 use Rattle.std.proofs.lemmas.Bool.Decides.{nat_tests}
-use Rattle.swap_units.specs.Unit.{Holds}
+use Rattle.swap_units.specs.Unit.{Holds, has_page}
 use Rattle.record_table.specs.Field.{field}
 use Rattle.flat_machine.specs.declared.space.Space.{Space}
 use Rattle.projection_laws.specs.Sight.{Interval}
@@ -12,7 +12,7 @@ use Rattle.flat_machine.specs.declared.space.Window.{Window}
 use Rattle.projection_laws.specs.Stored.{mode_number, bytes_of, slot_bytes, slot_in, space_in, interval_in, IsTyped, IsTypedSpace}
 use Rattle.projection_laws.proofs.Codes.{interval_reads_back, slot_reads_back}
 use Rattle.projection_laws.proofs.SlotLemmas.{slot_handle}
-use Rattle.space_tables.specs.Form.{in_form, space_in_form, is_interval_record, is_slot_record, has_plain_bytes, slot_record, interval_record, has_page}
+use Rattle.space_tables.specs.Form.{in_form, space_in_form, is_interval_record, is_slot_record, has_plain_bytes, slot_record, interval_record}
 use Rattle.space_tables.specs.Stored.{AreTables, HoldTables, AreReadable, IsReadable}
 
 -- there is an element at each index below the length
@@ -95,7 +95,7 @@ some_of true x y e = same_Some x y e
 some_of false x y e = absurd (none-some x (sym e))
 
 -- a page that passes the test is held
-pub held : (x : Interval) (page : ℕ) → has_page x page ≡ true → Holds x page
+pub held : (x : Interval) (page : ℕ) → has_page page x ≡ true → Holds x page
 held x page e =
     let p = and_parts (nat_le x.first page) (nat_lt page (x.first + x.pages)) e in
     let low = p.0 in

@@ -27,7 +27,8 @@ use Rattle.projection_laws.proofs.Forms.{intervals_are_formed}
 use Rattle.projection_laws.proofs.Windows.{windows_are_formed}
 use Rattle.projection_laws.proofs.StoredLemmas.{entries_rise, looked_up_holds, some_is_looked_up}
 use Rattle.projection_laws.proofs.Inside.{in_the_root}
-use Rattle.space_tables.specs.Form.{lies_in_root, is_unit, may_be_shown, in_form, window_in_form, space_in_form, has_page, interval_record}
+use Rattle.space_tables.specs.Form.{lies_in_root, is_unit, may_be_shown, in_form, window_in_form, space_in_form, interval_record}
+use Rattle.swap_units.specs.Unit.{has_page}
 use Rattle.space_tables.specs.Stored.{AreTables, HoldTables, AreReadable, AreRight}
 use Rattle.space_tables.proofs.Entries.{entries_are, entry_of, record_is}
 
@@ -133,12 +134,12 @@ key_is page = refl
 
 module _ (b : List ℕ) (slots : List (Option Space)) (xs : List Interval) (are : AreTables b slots xs) (r : AreRight slots xs) (count page : ℕ) (few : count ≤ 1023) (long : length xs ≡ count) (inside : page < root_pages) where
   -- where an entry was found, it is the interval that holds the page
-  pub entry_holds : (into : List ℕ) (i : ℕ) (x : Interval) → IsAnswer 4 (entries 32 (part b 16384 32768) count) count (to_be_bytes w32 page) into (Entry i) → slice_get xs i ≡ Some x → has_page x page ≡ true
+  pub entry_holds : (into : List ℕ) (i : ℕ) (x : Interval) → IsAnswer 4 (entries 32 (part b 16384 32768) count) count (to_be_bytes w32 page) into (Entry i) → slice_get xs i ≡ Some x → has_page page x ≡ true
   entry_holds into i x answer e =
       let same = entries_are b slots xs count are long (omega (arith, few)) in
       let found = looked_up_holds (listed slots) xs page i r.intervals inside ((rw same at answer.3) (entries_rise (listed slots) xs r.intervals)) in
       let is : found.0 ≡ x = same_Some found.0 x (sym found.1 ∙ e) in
-      subst (λ (y : Interval). has_page y page ≡ true) is (and_from _ _ (le found.0.first page found.2) (lt page (end_of found.0) found.3))
+      subst (λ (y : Interval). has_page page y ≡ true) is (and_from _ _ (le found.0.first page found.2) (lt page (end_of found.0) found.3))
 
   -- some entry is found
   pub some_found : (into : List ℕ) → IsAnswer 4 (entries 32 (part b 16384 32768) count) count (to_be_bytes w32 page) into Before → ⊥

@@ -69,10 +69,6 @@ has_plain_bytes r = field 1 0 r == 1 && nat_le (field 1 2 r) 4 && field 1 3 r ==
 abbrev pub is_slot_record : List ℕ → Bool
 is_slot_record r = field 1 0 r == 0 || (has_plain_bytes r && space_in_form (space_in 0 r))
 
--- the interval has the page
-abbrev pub has_page : Interval → ℕ → Bool
-has_page x page = nat_le x.first page && nat_lt page (end_of x)
-
 -- The page of the hierarchy that has the record of this handle breaks its form there.
 pub record BreaksSlot (b : List ℕ) (page h : ℕ) : Type 0 where
   pub handle : h < 512
@@ -92,7 +88,7 @@ pub record Misses (count : ℕ) (b : List ℕ) (page k asked : ℕ) : Type 0 whe
   pub on : page ≡ 32 + k / 16
   pub begins : at_most (key_in b k) (to_be_bytes w32 asked) ≡ true
   pub ends : k + 1 < count → at_most (key_in b (k + 1)) (to_be_bytes w32 asked) ≡ false
-  pub misses : has_page (interval_in (interval_record b k)) asked ≡ false
+  pub misses : has_page asked (interval_in (interval_record b k)) ≡ false
 
 -- The page has the first record, whose key is above the page that was looked up.
 pub record BeginsBehind (b : List ℕ) (page asked : ℕ) : Type 0 where

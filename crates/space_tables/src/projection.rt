@@ -12,7 +12,8 @@ ghost use Rattle.record_table.specs.declared.look.Look.TheVariants.{Before};
 ghost use Rattle.record_table.specs.Edits.{IfMem as IfTableMem};
 ghost use Rattle.projection_laws.specs.Sight.{Interval};
 ghost use Rattle.projection_laws.specs.Stored.{bytes_of, interval_in};
-ghost use Rattle.space_tables.specs.Form.{interval_record, in_form, has_page, BreaksLookUp};
+ghost use Rattle.space_tables.specs.Form.{interval_record, in_form, BreaksLookUp};
+ghost use Rattle.swap_units.specs.Unit.{has_page};
 ghost use Rattle.space_tables.specs.Answer.{FromMemory, NotRefused, IfMem, IfMalformed};
 ghost use Rattle.space_tables.specs.Stored.{HoldTables, AreRight};
 
@@ -57,7 +58,7 @@ pub fn find<M: FlatMem>(
     requires few { count ≤ 1023 }
     ensures found { (slots : List (Option Space)) (xs : List Interval) → HoldTables (M.tells mem.old) slots xs → AreRight slots xs
         → length xs ≡ count → page < root_pages → MatchResult result (λ at. slice_get xs at.0 ≡ Some at.1) FromMemory }
-    ensures form { IfOk result (λ at. (at.0 < count) × (in_form at.1 ≡ true) × (has_page at.1 page ≡ true)) }
+    ensures form { IfOk result (λ at. (at.0 < count) × (in_form at.1 ≡ true) × (has_page page at.1 ≡ true)) }
     ensures read { (b : List ℕ) → M.tells mem.old b → IfOk result (λ at. at.1 ≡ interval_in (interval_record b at.0)) }
     ensures malformed { (b : List ℕ) → M.tells mem.old b → IfErr result (IfMalformed (BreaksLookUp page count b)) }
     ensures refused { IfErr result NotRefused }
@@ -74,18 +75,11 @@ pub fn find<M: FlatMem>(
         Err(error) => return Err(SpaceError::Mem(error)),
     };
     match read_interval(&bytes) {
-        Some(interval) if has_page(&interval, page) => Ok((index, interval)),
+        Some(interval) if interval.has_page(page) => Ok((index, interval)),
         _ => Err(SpaceError::Malformed {
             page: 32 + index / 16,
         }),
     }
-}
-
-fn has_page(interval: &Interval, page: u32) -> bool
-    requires { in_form interval.now ≡ true }
-    ensures { result ≡ has_page interval.now page }
-{
-    interval.first <= page && page < interval.first + interval.pages
 }
 
 // Puts a record at an index, and moves those from there on one place up.

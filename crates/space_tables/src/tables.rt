@@ -7,7 +7,8 @@ ghost use Rattle.flat_machine.specs.Next.{put_space, without_space, change_space
 ghost use Rattle.projection_laws.specs.Spaces.{MayHaveWindow};
 ghost use Rattle.projection_laws.specs.Laws.{WindowFits};
 ghost use Rattle.projection_laws.specs.Tests.{no_space, add_row, made, remove_row, unit_row, map_row, window_row};
-ghost use Rattle.space_tables.specs.Form.{in_form, has_page, lies_in_root, first_in_slot, IsRecorded, Breaks, BreaksSlot, BreaksHierarchy, BreaksLookUp, BreaksFor, BreaksAt, MakesTooMany};
+ghost use Rattle.space_tables.specs.Form.{in_form, lies_in_root, first_in_slot, IsRecorded, Breaks, BreaksSlot, BreaksHierarchy, BreaksLookUp, BreaksFor, BreaksAt, MakesTooMany};
+ghost use Rattle.swap_units.specs.Unit.{has_page};
 ghost use Rattle.space_tables.specs.Shows.{window_of, shows, IsFirstWith, IsShownAt, IsRunAt};
 ghost use Rattle.space_tables.specs.Answer.{FromMemory, NotRefused, IfMem, IfMalformed, Answers, Replies};
 ghost use Rattle.space_tables.specs.Stored.{TellSpaces};
@@ -93,7 +94,7 @@ impl<M: FlatMem> SpaceTables<M> {
         ensures interval { (ss : List Space) → Tells self.old ss → IfOk result (λ o. IfSome o (IsIntervalAt ss page)) }
         ensures right { (ss : List Space) → Tells self.old ss → IfErr result FromMemory }
         ensures none { IfOk result (λ o. (o ≡ None) ↔ (root_pages ≤ page)) }
-        ensures form { IfOk result (λ o. IfSome o (λ x. (in_form x ≡ true) × (has_page x page ≡ true))) }
+        ensures form { IfOk result (λ o. IfSome o (λ x. (in_form x ≡ true) × (has_page page x ≡ true))) }
         ensures read { (b : List ℕ) → M.tells (tables_memory self.old) b → IfOk result (λ o. IfSome o (IsRecorded (interval_count self.old) b)) }
         ensures malformed { (b : List ℕ) → M.tells (tables_memory self.old) b → IfErr result (IfMalformed (BreaksLookUp page (interval_count self.old) b)) }
         ensures refused { IfErr result NotRefused }

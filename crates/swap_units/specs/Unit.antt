@@ -1,10 +1,14 @@
 -- The swap unit of a page: the pages of its interval that lie in the same block.
-use Rattle.std.specs.Prelude.{◌≡◌, ◌<◌, ◌≤◌, ◌+◌, ◌-◌, ◌/◌, ◌↔◌, ℕ}
+use Rattle.std.specs.Prelude.{◌≡◌, ◌<◌, ◌≤◌, ◌+◌, ◌-◌, ◌/◌, ◌↔◌, ℕ, Bool, ◌&&◌, nat_le, nat_lt}
 use Rattle.swap_units.specs.declared.interval.Interval.{Interval}
 
 -- the page is one of the interval's
 abbrev pub Holds : Interval → ℕ → Type 0
 Holds interval page = (interval.first ≤ page) × (page < interval.first + interval.pages)
+
+-- the same as a test
+abbrev pub has_page : ℕ → Interval → Bool
+has_page page interval = nat_le interval.first page && nat_lt page (interval.first + interval.pages)
 
 -- the number of the page's block, counted in unit sizes from the first page of the innermost space
 abbrev pub block_of : Interval → ℕ → ℕ

@@ -1,6 +1,6 @@
 //! An interval of the projection, and the swap unit of one of its pages.
 ghost use Rattle.std.specs.Prelude.{◌≡◌, ◌+◌, ◌<◌, ◌≤◌};
-ghost use Rattle.swap_units.specs.Unit.{Holds, IsUnit, IsAmong, LiesIn};
+ghost use Rattle.swap_units.specs.Unit.{Holds, has_page, IsUnit, IsAmong, LiesIn};
 
 use labelled_disk::FileId;
 
@@ -23,6 +23,16 @@ pub struct Interval {
     pub page: u32,
     /// The handle of the mapped space, or 0.
     pub mapped: u16,
+}
+
+impl Interval {
+    /// Whether the page is one of the interval's.
+    pub fn has_page(&self, page: u32) -> bool
+        ensures { result ≡ has_page page self.now }
+    {
+        let end = u64::from(self.first) + u64::from(self.pages);
+        self.first <= page && u64::from(page) < end
+    }
 }
 
 /// The first page and the number of pages of the swap unit that a page is in.

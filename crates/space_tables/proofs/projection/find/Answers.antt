@@ -8,7 +8,8 @@ use Rattle.std.specs.Int.{w32, to_be_bytes}
 use Rattle.flat_mem.specs.Order.{at_most}
 use Rattle.projection_laws.specs.Sight.{Interval}
 use Rattle.projection_laws.specs.Stored.{interval_in}
-use Rattle.space_tables.specs.Form.{interval_record, is_interval_record, has_page}
+use Rattle.space_tables.specs.Form.{interval_record, is_interval_record}
+use Rattle.swap_units.specs.Unit.{has_page}
 use Rattle.space_tables.proofs.ReadBack.{interval_read, none_of, some_of, there}
 use Rattle.space_tables.proofs.Right.{right_reads, entry_is, entry_holds, some_found}
 use Rattle.space_tables.proofs.projection.find.Goals as goal
@@ -61,7 +62,7 @@ returns-in_default-clause-malformed g c = λ b told.
           on = refl;
           begins = ap (λ (x : List ℕ). at_most x key) (sym (key_of b c.args.count i within few)) ∙ turn.0;
           ends = λ more. ap (λ (x : List ℕ). at_most x key) (sym (key_of b c.args.count (i + 1) more few)) ∙ turn.1 (omega (arith, more, length-entries (part b 16384 32768) c.args.count));
-          misses = ap (λ (r : List ℕ). has_page (interval_in r) c.args.page) (sym is) ∙ ap (λ (y : Interval). has_page y c.args.page) (sym (some_of _ _ _ w.in-Some.ensures.interval)) ∙ sym w.has_page.ensures ∙ w.if-has_page.false;
+          misses = ap (λ (r : List ℕ). has_page c.args.page (interval_in r)) (sym is) ∙ ap (λ (y : Interval). has_page c.args.page y) (sym (some_of _ _ _ w.in-Some.ensures.interval)) ∙ sym w.has_page.ensures ∙ w.if-has_page.false;
         },
       ))
       | in_default-via-in_default w ↦ inl (i, record { counted = within; on = refl; breaks = ap is_interval_record (sym is) ∙ none_of _ _ w.in_default.ensures.interval })
