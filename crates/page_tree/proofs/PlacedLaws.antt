@@ -7,11 +7,11 @@ use Rattle.page_tree.specs.Keys.{Item, no_item, item_at}
 use Rattle.page_tree.specs.Page.{page_at, filled, record_at, record_item, IsLeaf}
 use Rattle.page_tree.specs.Tree.{Node, node_at, before, pages_to, IsTower, IsShared, IsRooted}
 use Rattle.page_tree.specs.Standing.{IsStanding}
-use Rattle.page_tree.specs.Path.{IsPath, leaf_from}
+use Rattle.page_tree.specs.Path.{IsPath, leaf_under}
 use Rattle.page_tree.proofs.Levels.{item_of_page, page_fits, before_more, before_all}
 
 -- by first children from the first page of a level one comes to the first leaf
-pub first_from : (nodes : ℕ → List Node) (l : ℕ) → leaf_from nodes l 0 0 ≡ 0
+pub first_from : (nodes : ℕ → List Node) (l : ℕ) → leaf_under nodes l 0 0 ≡ 0
 first_from nodes zero = refl
 first_from nodes (suc zero) = refl
 first_from nodes (suc (suc d)) = first_from nodes (suc d)

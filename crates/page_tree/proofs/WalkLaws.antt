@@ -5,7 +5,7 @@ use Rattle.flat_mem.specs.Memory.{part}
 use Rattle.page_tree.specs.Keys.{Item, item_at, at_most}
 use Rattle.page_tree.specs.Page.{page_at, kind_of, filled, link_at, record_at, IsLeaf, IsInner}
 use Rattle.page_tree.specs.Tree.{Node, node_at, items_of, before, heads, IsTower, IsRooted}
-use Rattle.page_tree.specs.Path.{IsPath, IsLed, first_leaf_below, leaf_from}
+use Rattle.page_tree.specs.Path.{IsPath, IsLed, first_leaf_below, leaf_under}
 use Rattle.page_tree.specs.Broken.{IsInnerForm, IsLeafForm, Meets}
 use Rattle.page_tree.specs.Met.{IsMetPath}
 use Rattle.page_tree.specs.Answer.{IfMem, IfMemory, IfFull}
@@ -48,20 +48,20 @@ pub listed_length : (e k : ℕ) (b : List ℕ) (records : List (List ℕ)) (leve
 listed_length e k b records levels nodes tower l some less = ap length (tower.listed l less ∙ rows_above k records nodes l (omega arith)) ∙ length-heads (nodes l)
 
 -- a way down, one level further
-pub leaf_step : (nodes : ℕ → List Node) (l m p c q : ℕ) → l ≡ m + 1 → 1 ≤ m → q ≡ before (nodes l) p + c → leaf_from nodes m q 0 ≡ leaf_from nodes l p c
+pub leaf_step : (nodes : ℕ → List Node) (l m p c q : ℕ) → l ≡ m + 1 → 1 ≤ m → q ≡ before (nodes l) p + c → leaf_under nodes m q 0 ≡ leaf_under nodes l p c
 leaf_step nodes l zero p c q next some is = absurd (omega (arith, some))
 leaf_step nodes l (suc d) p c q next some is =
     let two : l ≡ suc (suc d) = omega (arith, next) in
-    ap (λ (i : ℕ). leaf_from nodes (suc d) i 0) (is ∙ ap (λ (i : ℕ). before (nodes i) p + c) two) ∙ ap (λ (i : ℕ). leaf_from nodes i p c) (sym two)
+    ap (λ (i : ℕ). leaf_under nodes (suc d) i 0) (is ∙ ap (λ (i : ℕ). before (nodes i) p + c) two) ∙ ap (λ (i : ℕ). leaf_under nodes i p c) (sym two)
 
-pub leaf_end : (nodes : ℕ → List Node) (l p c : ℕ) → l ≡ 1 → leaf_from nodes l p c ≡ p
-leaf_end nodes l p c one = ap (λ (i : ℕ). leaf_from nodes i p c) one
+pub leaf_end : (nodes : ℕ → List Node) (l p c : ℕ) → l ≡ 1 → leaf_under nodes l p c ≡ p
+leaf_end nodes l p c one = ap (λ (i : ℕ). leaf_under nodes i p c) one
 
-leaf_below : (nodes : ℕ → List Node) (d q : ℕ) → leaf_from nodes (suc d) q 0 ≡ first_leaf_below nodes d q
+leaf_below : (nodes : ℕ → List Node) (d q : ℕ) → leaf_under nodes (suc d) q 0 ≡ first_leaf_below nodes d q
 leaf_below nodes zero q = refl
 leaf_below nodes (suc d) q =
     let plus : suc (suc d) ≡ suc d + 1 = omega arith in
-    ap (λ (i : ℕ). leaf_from nodes (suc d) i 0) (add-zero (before (nodes (suc (suc d))) q))
+    ap (λ (i : ℕ). leaf_under nodes (suc d) i 0) (add-zero (before (nodes (suc (suc d))) q))
     ∙ leaf_below nodes d (before (nodes (suc (suc d))) q)
     ∙ ap (λ (i : ℕ). first_leaf_below nodes d (before (nodes i) q)) plus
 
@@ -78,7 +78,7 @@ path_cut nodes levels m n paths index home place path above most = record {
 
 -- where the path chose last children below a level, the next child there leads to the leaf behind
 pub leads_behind : (nodes : ℕ → List Node) (levels : ℕ) (paths index : List ℕ) (at : ℕ) (home : ℕ → ℕ) → IsPath nodes levels 1 paths index at home → (level : ℕ) → 2 ≤ level → level ≤ levels
-    → ((n : ℕ) → 1 < n → n < level → get_or index n 0 + 1 ≡ length (node_at (nodes n) (home n)).items) → leaf_from nodes level (home level) (get_or index level 0 + 1) ≡ home 1 + 1
+    → ((n : ℕ) → 1 < n → n < level → get_or index n 0 + 1 ≡ length (node_at (nodes n) (home n)).items) → leaf_under nodes level (home level) (get_or index level 0 + 1) ≡ home 1 + 1
 leads_behind nodes levels paths index at home path zero some most last = absurd (omega (arith, some))
 leads_behind nodes levels paths index at home path (suc zero) some most last = absurd (omega (arith, some))
 leads_behind nodes levels paths index at home path (suc (suc d)) some most last =
@@ -99,7 +99,7 @@ pub leaf_of_path : (e k pages : ℕ) (b : List ℕ) (records : List (List ℕ)) 
 leaf_of_path e k pages b records levels root nodes rooted l at paths index home one most path =
     subst (λ (i : ℕ). IsLeafForm e (page_at b i)) (sym path.here) (leaf_is_form e k _ _ ((rooted.tower.stored l (home l) (omega (arith, one)) most (path.inside l (omega arith) most)).leaf one))
 
-pub led_to : (b : List ℕ) (levels : ℕ) (nodes : ℕ → List Node) (page paths index : List ℕ) (l at p c : ℕ) (home : ℕ → ℕ) → l ≡ 1 → IsPath nodes levels l paths index at home → leaf_from nodes l (home l) c ≡ p → page ≡ page_at b at → IsLed b levels nodes page paths index at p
+pub led_to : (b : List ℕ) (levels : ℕ) (nodes : ℕ → List Node) (page paths index : List ℕ) (l at p c : ℕ) (home : ℕ → ℕ) → l ≡ 1 → IsPath nodes levels l paths index at home → leaf_under nodes l (home l) c ≡ p → page ≡ page_at b at → IsLed b levels nodes page paths index at p
 led_to b levels nodes page paths index l at p c home one path is read = record {
   home = home;
   path = subst (λ (i : ℕ). IsPath nodes levels i paths index at home) one path;

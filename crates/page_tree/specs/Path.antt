@@ -30,10 +30,10 @@ abbrev pub with_place : (ℕ → ℕ) → ℕ → ℕ → ℕ → ℕ
 with_place place m q n = if n == m then q else place n
 
 -- the leaf at the end of the way that goes down to child c of page p, and on by first children
-abbrev pub leaf_from : (ℕ → List Node) → ℕ → ℕ → ℕ → ℕ
-leaf_from nodes zero p c = p
-leaf_from nodes (suc zero) p c = p
-leaf_from nodes (suc (suc d)) p c = leaf_from nodes (suc d) (before (nodes (suc (suc d))) p + c) 0
+abbrev pub leaf_under : (ℕ → List Node) → ℕ → ℕ → ℕ → ℕ
+leaf_under nodes zero p c = p
+leaf_under nodes (suc zero) p c = p
+leaf_under nodes (suc (suc d)) p c = leaf_under nodes (suc d) (before (nodes (suc (suc d))) p + c) 0
 
 -- the path ends in the leaf `at`, which is leaf p and has these bytes
 pub record IsLed (b : List ℕ) (levels : ℕ) (nodes : ℕ → List Node) (page pages index : List ℕ) (at p : ℕ) : Type 0 where

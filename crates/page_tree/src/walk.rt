@@ -2,7 +2,7 @@
 ghost use Rattle.std.specs.Prelude.{◌≡◌, ℕ, ◌+◌, ◌-◌, ◌*◌, ◌/◌, ◌^◌, ◌<◌, ◌≤◌, List, length, get_or, IfOk, IfErr, IfSome, OnOk, MatchResult};
 ghost use Rattle.page_tree.specs.Page.{IsWidths, page_at, filled, record_at, leaf_room};
 ghost use Rattle.page_tree.specs.Tree.{Node, node_at, IsRooted};
-ghost use Rattle.page_tree.specs.Path.{IsPath, IsLed, IsLedOn, Turns, leaf_from};
+ghost use Rattle.page_tree.specs.Path.{IsPath, IsLed, IsLedOn, Turns, leaf_under};
 ghost use Rattle.page_tree.specs.Answer.{FromMemory, IfMem};
 ghost use Rattle.page_tree.specs.Broken.{IsInnerForm, IsLeafForm, Meets, Breaks, IfMalformed};
 ghost use Rattle.page_tree.specs.Met.{IsMetPath};
@@ -83,7 +83,7 @@ pub fn go_down<M: FlatMem, const E: usize, const K: usize>(
     requires some { 1 ≤ level }
     requires most { level ≤ 6 }
     requires inside { at < M.size mem.old / 512 }
-    ensures leaf { (b : List ℕ) → M.tells mem.old b → (records : List (List ℕ)) (levels root : ℕ) (nodes : ℕ → List Node) (home : ℕ → ℕ) → IsRooted E K (M.size mem.old / 512) b records levels root nodes → level ≤ levels → IsPath nodes levels level path.old.pages path.old.index at home → (1 < level → place < length (node_at (nodes level) (home level)).items) → MatchResult result (λ leaf. IsLed b levels nodes page.new path.new.pages path.new.index leaf (leaf_from nodes level (home level) place)) FromMemory }
+    ensures leaf { (b : List ℕ) → M.tells mem.old b → (records : List (List ℕ)) (levels root : ℕ) (nodes : ℕ → List Node) (home : ℕ → ℕ) → IsRooted E K (M.size mem.old / 512) b records levels root nodes → level ≤ levels → IsPath nodes levels level path.old.pages path.old.index at home → (1 < level → place < length (node_at (nodes level) (home level)).items) → MatchResult result (λ leaf. IsLed b levels nodes page.new path.new.pages path.new.index leaf (leaf_under nodes level (home level) place)) FromMemory }
     ensures met { (b : List ℕ) → M.tells mem.old b → (levels root : ℕ) → level ≤ levels → Meets K b level at → IsMetPath K b levels level root path.old.pages path.old.index → (1 < level → place ≤ filled (page_at b at)) → (level ≡ levels → at ≡ root) → MatchResult result (λ leaf. Meets K b 1 leaf × IsMetPath K b levels 1 root path.new.pages path.new.index) (IfMalformed (Breaks E K (M.size mem.old / 512) b)) }
     ensures thread { (b : List ℕ) → M.tells mem.old b → (levels root : ℕ) → level ≤ levels → IsThread K b levels level root path.old.pages path.old.index at → IfOk result (IsThread K b levels 1 root path.new.pages path.new.index) }
     ensures down { IfOk result (λ _. IsLedDown level at place path.old.pages path.old.index path.new.pages path.new.index) }

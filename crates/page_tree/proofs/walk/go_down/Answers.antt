@@ -1,7 +1,7 @@
 use Rattle.std.proofs.Common.{rules, inl, inr, ◌≡◌, ℕ, ◌+◌, ◌-◌, ◌/◌, ◌<◌, ◌≤◌, List, length, arith, refl, sym, ◌∙◌, ap, subst}
 use Rattle.page_tree.specs.Page.{page_at, filled, link_at}
 use Rattle.page_tree.specs.Tree.{node_at, before}
-use Rattle.page_tree.specs.Path.{with_place, leaf_from}
+use Rattle.page_tree.specs.Path.{with_place, leaf_under}
 use Rattle.page_tree.specs.Broken.{IsInnerForm}
 use Rattle.page_tree.proofs.Descent.{affords, path_down, place_at_down, none_empty}
 use Rattle.page_tree.proofs.MetLaws.{met_child, met_down, met_end, path_inside, link_broken}
@@ -46,7 +46,7 @@ down-preserved g c = record {
         with_place was.0 (c.down.level - 1) q,
         path_down nodes levels c.down.level (c.down.level - 1) _ _ c.down.at c.link_of-child.result c.down.place q was.0 was.1 next here c_below (search rules) (search rules) refl there child,
         λ above. subst (λ (i : ℕ). 0 < length (node_at (nodes (c.down.level - 1)) i).items) (sym home_is) (none_empty g.row.E g.row.K b records levels nodes rooted.tower (c.down.level - 1) some (omega (arith, here)) q there),
-        ap (λ (i : ℕ). leaf_from nodes (c.down.level - 1) i 0) home_is ∙ leaf_step nodes c.down.level (c.down.level - 1) (was.0 c.down.level) c.down.place q next some refl ∙ was.3,
+        ap (λ (i : ℕ). leaf_under nodes (c.down.level - 1) i 0) home_is ∙ leaf_step nodes c.down.level (c.down.level - 1) (was.0 c.down.level) c.down.place q next some refl ∙ was.3,
       );
   met = λ b h levels root most met path fits top.
       let was = c.down.invariant.met b h levels root most met path fits top in

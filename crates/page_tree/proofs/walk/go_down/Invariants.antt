@@ -1,7 +1,7 @@
 use Rattle.std.proofs.Common.{◌≡◌, ℕ, ◌+◌, ◌*◌, ◌/◌, ◌<◌, ◌≤◌, List, length, get_or}
 use Rattle.page_tree.specs.Page.{page_at, filled}
 use Rattle.page_tree.specs.Tree.{Node, node_at, IsRooted}
-use Rattle.page_tree.specs.Path.{IsPath, leaf_from}
+use Rattle.page_tree.specs.Path.{IsPath, leaf_under}
 use Rattle.page_tree.specs.Broken.{Meets}
 use Rattle.page_tree.specs.Met.{IsMetPath}
 use Rattle.page_tree.specs.Walked.{IsThread}
@@ -16,7 +16,7 @@ invariant-down g l = record {
   led : (b : List ℕ) → g.M.FlatMem.tells l.initial.mem b → (records : List (List ℕ)) (levels root : ℕ) (nodes : ℕ → List Node) (home : ℕ → ℕ) → IsRooted g.row.E g.row.K (g.M.FlatMem.size l.initial.mem / 512) b records levels root nodes → l.initial.level ≤ levels
       → IsPath nodes levels l.initial.level l.initial.path.pages l.initial.path.index l.initial.at home → (1 < l.initial.level → l.initial.place < length (node_at (nodes l.initial.level) (home l.initial.level)).items)
       → (now : ℕ → ℕ) × IsPath nodes levels l.level l.path.pages l.path.index l.at now × (1 < l.level → l.place < length (node_at (nodes l.level) (now l.level)).items)
-      × (leaf_from nodes l.level (now l.level) l.place ≡ leaf_from nodes l.initial.level (home l.initial.level) l.initial.place);
+      × (leaf_under nodes l.level (now l.level) l.place ≡ leaf_under nodes l.initial.level (home l.initial.level) l.initial.place);
   met : (b : List ℕ) → g.M.FlatMem.tells l.initial.mem b → (levels root : ℕ) → l.initial.level ≤ levels → Meets g.row.K b l.initial.level l.initial.at → IsMetPath g.row.K b levels l.initial.level root l.initial.path.pages l.initial.path.index
       → (1 < l.initial.level → l.initial.place ≤ filled (page_at b l.initial.at)) → (l.initial.level ≡ levels → l.initial.at ≡ root)
       → Meets g.row.K b l.level l.at × IsMetPath g.row.K b levels l.level root l.path.pages l.path.index × (1 < l.level → l.place ≤ filled (page_at b l.at)) × (l.level ≡ levels → l.at ≡ root);
