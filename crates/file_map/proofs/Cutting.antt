@@ -3,7 +3,7 @@ use Rattle.std.proofs.Common.{◌≡◌, ◌≢◌, ◌⊎◌, inl, inr, ℕ, �
 use Rattle.std.proofs.lemmas.Bool.{cases_lt, false≢true, eqb-true, eq-eqb, leb-true, le-leb}
 use Rattle.std.proofs.lemmas.List.{length-map, map-set, length-set}
 use Rattle.std.proofs.lemmas.List.Edits.{length-remove}
-use Rattle.flat_mem.specs.Order.{IsRising, key_at}
+use Rattle.flat_mem.specs.Order.{IsInKeyOrder, key_at}
 use Rattle.file_map.specs.declared.run.Run.{Run}
 use Rattle.file_map.specs.Run.{IsRun, holds, sector_at, key_bytes, run_bytes}
 use Rattle.file_map.specs.FileMap.{AreNamed, Triples, run_names, names_triple, run_at, without_from}
@@ -47,7 +47,7 @@ none_to_cut named file from none id page sector = kept_or_not _ _ (λ h. not_nam
 pub uncut : (n : ℕ) (lists now : List (List ℕ) → Type 0) (named : Triples) (map_is : AreNamed n lists named) (file from : ℕ) → now (map run_bytes map_is.runs) → ((page sector : ℕ) → from ≤ page → named file page sector ≡ true → ⊥) → AreNamed n now (without_from named file from)
 uncut n lists now named map_is file from listed none = renamed n now named (without_from named file from) (relisted n lists now named map_is listed) (none_to_cut named file from none)
 
-module _ (n : ℕ) (lists : List (List ℕ) → Type 0) (named : Triples) (map_is : AreNamed n lists named) (rising : (xs : List (List ℕ)) → lists xs → IsRising 12 xs) (file from : ℕ) (file_fits : file < 2 ^ 64) where
+module _ (n : ℕ) (lists : List (List ℕ) → Type 0) (named : Triples) (map_is : AreNamed n lists named) (rising : (xs : List (List ℕ)) → lists xs → IsInKeyOrder 12 xs) (file from : ℕ) (file_fits : file < 2 ^ 64) where
   abbrev runs : List Run
   runs = map_is.runs
 

@@ -2,7 +2,7 @@
 use Rattle.std.proofs.Common.{◌≡◌, ◌≢◌, inl, inr, ℕ, ◌+◌, ◌<◌, ◌≤◌, ◌^◌, min, max, Bool, true, false, List, length, map, Some, None, refl, sym, ◌∙◌, ap, subst, arith}
 use Rattle.std.proofs.lemmas.Bool.{cases_lt, false≢true}
 use Rattle.std.proofs.lemmas.List.{length-map}
-use Rattle.flat_mem.specs.Order.{IsRising}
+use Rattle.flat_mem.specs.Order.{IsInKeyOrder}
 use Rattle.file_map.specs.declared.run.Run.{Run}
 use Rattle.file_map.specs.Run.{IsRun, holds, sector_at, run_bytes}
 use Rattle.file_map.specs.FileMap.{AreNamed, Triples, run_at, IsFound, IsNowhere, IsSize, IsNext}
@@ -15,7 +15,7 @@ pub not_named : (b : Bool) → (b ≡ true → ⊥) → b ≡ false
 not_named true h = absurd (h refl)
 not_named false h = refl
 
-module _ (n : ℕ) (lists : List (List ℕ) → Type 0) (named : Triples) (map_is : AreNamed n lists named) (rising : (xs : List (List ℕ)) → lists xs → IsRising 12 xs) where
+module _ (n : ℕ) (lists : List (List ℕ) → Type 0) (named : Triples) (map_is : AreNamed n lists named) (rising : (xs : List (List ℕ)) → lists xs → IsInKeyOrder 12 xs) where
   abbrev runs : List Run
   runs = map_is.runs
 

@@ -2,7 +2,7 @@
 use Rattle.std.proofs.Common.{◌≡◌, inl, inr, ℕ, suc, ◌+◌, ◌<◌, ◌≤◌, Bool, true, false, ◌&&◌, ◌==◌, nat_lt, nat_le, List, [], length, map, take, refl, sym, ◌∙◌, ap, arith}
 use Rattle.std.proofs.lemmas.Bool.{cases_lt, false≢true, eqb-true, eq-eqb, leb-true, le-leb}
 use Rattle.std.proofs.lemmas.List.{get_or-map, length-map}
-use Rattle.flat_mem.specs.Order.{key_at, at_most, IsRising}
+use Rattle.flat_mem.specs.Order.{key_at, at_most, IsInKeyOrder}
 use Rattle.file_map.specs.declared.run.Run.{Run}
 use Rattle.file_map.specs.Run.{IsRun, holds, key_bytes, run_bytes}
 use Rattle.file_map.specs.FileMap.{AreRuns, run_at, no_run}
@@ -55,7 +55,7 @@ key_of_entry runs j below = ap (take 12) (get_or-map run_bytes runs j no_run [] 
 
 pub record AreSorted (n : ℕ) (runs : List Run) : Type 0 where
   pub form : AreRuns n runs
-  pub rising : IsRising 12 (map run_bytes runs)
+  pub rising : IsInKeyOrder 12 (map run_bytes runs)
 
 -- the first page of each run is above all pages of the runs before it
 abbrev pub AreSpread : List Run → Type 0

@@ -1,6 +1,6 @@
 //! A sorted list of entries, as the map uses it.
 ghost use Rattle.std.specs.Prelude.{◌≡◌, ℕ, ◌+◌, ◌≤◌, List, length, false, IfOk, IfErr, IfSome, MatchResult, is_some};
-ghost use Rattle.flat_mem.specs.Order.{IsRising};
+ghost use Rattle.flat_mem.specs.Order.{IsInKeyOrder};
 ghost use Rattle.file_map.specs.Entries.{Sight, Entry, Count, IsFirst, IsPut, IsReplaced, IsTakenOut, IsCause, IsPutCause, IsFullOr};
 ghost use Rattle.page_tree.specs.Answer.{FromMemory, IsLastEntry};
 
@@ -90,7 +90,7 @@ pub trait SearchedEntries {
         ensures cause { IfErr result (IsCause ⊥ (shows self.old) (accounted self.old self.new)) }
         ensures cost { spent self.new ≤ spent self.old + after_cost };
 
-    ghost rising: { (t : Self) (xs : List (List ℕ)) → lists t xs → IsRising 12 xs };
+    ghost rising: { (t : Self) (xs : List (List ℕ)) → lists t xs → IsInKeyOrder 12 xs };
 
     ghost counted: { (t : Self) (xs : List (List ℕ)) → lists t xs → counts t (length xs) };
 

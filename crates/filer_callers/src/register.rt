@@ -1,6 +1,6 @@
 //! A filer, and how many entries a table in its space tables has.
 ghost use Rattle.std.specs.Prelude.{◌≡◌, ◌≤◌, ◌+◌, ◌*◌, ◌↔◌, ℕ, if◌then◌else◌, List, Err, IfOk, IfErr, OnOk, is_ok};
-ghost use Rattle.flat_mem.specs.Order.{IsFound, IsRising};
+ghost use Rattle.flat_mem.specs.Order.{IsFound, IsInKeyOrder};
 ghost use Rattle.record_table.specs.Edits.{IfMem};
 ghost use Rattle.record_table.specs.InPart.{IsInsertedIn, entries_in};
 ghost use Rattle.filer_kernel.specs.Tables.{BesideTables, IsTableAccounted, TablesTell};
@@ -26,7 +26,7 @@ impl<D: Disk, A: Allocator> RegisterOver<D, A> {
     pub fn find(&mut self, key: &[u8; 4]) -> Result<Option<u32>, Halt>
         requires size { (D.state self.old.filer.swapper.under).sectors ≡ self.old.filer.swapper.layout.sectors }
         requires few { self.old.count ≤ 1024 }
-        ensures found { (b : List ℕ) → TablesTell (D.state self.old.filer.swapper.under) self.old.filer.swapper.pool self.old.filer.swapper.layout self.old.filer.runs b → IsRising 4 (entries_in 32 32 64 self.old.count b) → IfOk result (IsFound 4 (entries_in 32 32 64 self.old.count b) key.now) }
+        ensures found { (b : List ℕ) → TablesTell (D.state self.old.filer.swapper.under) self.old.filer.swapper.pool self.old.filer.swapper.layout self.old.filer.runs b → IsInKeyOrder 4 (entries_in 32 32 64 self.old.count b) → IfOk result (IsFound 4 (entries_in 32 32 64 self.old.count b) key.now) }
         ensures same { (b : List ℕ) → TablesTell (D.state self.old.filer.swapper.under) self.old.filer.swapper.pool self.old.filer.swapper.layout self.old.filer.runs b → TablesTell (D.state self.new.filer.swapper.under) self.new.filer.swapper.pool self.new.filer.swapper.layout self.new.filer.runs b }
         ensures count { self.new.count ≡ self.old.count }
         ensures kept { BesideTables (D.state self.old.filer.swapper.under) self.old.filer.swapper.pool self.old.filer.swapper.layout self.old.filer.runs (D.state self.new.filer.swapper.under) self.new.filer.swapper.pool self.new.filer.swapper.layout self.new.filer.runs }

@@ -16,8 +16,8 @@ unfoldable pub at_most : List ℕ → List ℕ → Bool
 at_most x y = is_le (slice_cmp nat_cmp x y)
 
 -- no entry has a key above that of a later entry
-abbrev pub IsRising : ℕ → List (List ℕ) → Type 0
-IsRising k xs = (i j : ℕ) → i ≤ j → j < length xs → at_most (key_at k xs i) (key_at k xs j) ≡ true
+abbrev pub IsInKeyOrder : ℕ → List (List ℕ) → Type 0
+IsInKeyOrder k xs = (i j : ℕ) → i ≤ j → j < length xs → at_most (key_at k xs i) (key_at k xs j) ≡ true
 
 -- i is the last index whose key is at most this one
 pub record IsLastAtMost (k : ℕ) (xs : List (List ℕ)) (key : List ℕ) (i : ℕ) : Type 0 where

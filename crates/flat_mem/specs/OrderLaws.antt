@@ -7,7 +7,7 @@ use Rattle.std.proofs.lemmas.List.Edits.{length-insert, get_or-insert_below, get
 use Rattle.std.specs.Ordering.{is_le, is_gt, ordering_reverse}
 use Rattle.std.specs.declared.cmp.Ordering.{Ordering}
 use Rattle.std.specs.declared.cmp.Ordering.TheVariants.{Less, Equal, Greater}
-use Rattle.flat_mem.specs.Order.{entry_at, key_at, at_most, IsRising, IsLastAtMost, NoneAtMost, IsBehind}
+use Rattle.flat_mem.specs.Order.{entry_at, key_at, at_most, IsInKeyOrder, IsLastAtMost, NoneAtMost, IsBehind}
 
 -- ---- keys
 
@@ -50,7 +50,7 @@ above_through x y z above le = false_from _ (λ holds. false≢true (sym above �
 
 module _ (k : ℕ) (xs : List (List ℕ)) (key : List ℕ) where
   -- where the entry behind i is above, so are all behind it
-  pub last_at_most : (i : ℕ) → i < length xs → at_most (key_at k xs i) key ≡ true → (i + 1 < length xs → at_most (key_at k xs (i + 1)) key ≡ false) → IsRising k xs → IsLastAtMost k xs key i
+  pub last_at_most : (i : ℕ) → i < length xs → at_most (key_at k xs i) key ≡ true → (i + 1 < length xs → at_most (key_at k xs (i + 1)) key ≡ false) → IsInKeyOrder k xs → IsLastAtMost k xs key i
   last_at_most i below here next rising = record {
     below = below;
     holds = here;
@@ -58,11 +58,11 @@ module _ (k : ℕ) (xs : List (List ℕ)) (key : List ℕ) where
   }
 
   -- where the first entry is above, so are all
-  pub none_at_most : (0 < length xs → at_most (key_at k xs 0) key ≡ false) → IsRising k xs → NoneAtMost k xs key
+  pub none_at_most : (0 < length xs → at_most (key_at k xs 0) key ≡ false) → IsInKeyOrder k xs → NoneAtMost k xs key
   none_at_most first rising = λ j inside. above_through (key_at k xs 0) key (key_at k xs j) (first (omega arith)) (rising 0 j (omega arith) inside)
 
   -- behind the last entry that is not above is where an entry with the key goes
-  pub behind_last : (i : ℕ) → IsRising k xs → IsLastAtMost k xs key i → IsBehind k xs key (i + 1)
+  pub behind_last : (i : ℕ) → IsInKeyOrder k xs → IsLastAtMost k xs key i → IsBehind k xs key (i + 1)
   behind_last i rising last = record {
     below = λ j before. at_most_through _ (key_at k xs i) key (rising j i (omega arith) last.below) last.holds;
     above = λ j past below. last.above j (omega arith) below;
@@ -74,9 +74,9 @@ module _ (k : ℕ) (xs : List (List ℕ)) (key : List ℕ) where
 
 -- ---- edits
 
-module _ (k : ℕ) (xs : List (List ℕ)) (rising : IsRising k xs) where
+module _ (k : ℕ) (xs : List (List ℕ)) (rising : IsInKeyOrder k xs) where
   -- an entry that is put behind the last whose key is at most its own keeps the order
-  pub rising-insert : (at : ℕ) (new : List ℕ) → at ≤ length xs → IsBehind k xs (take k new) at → IsRising k (insert xs at new)
+  pub rising-insert : (at : ℕ) (new : List ℕ) → at ≤ length xs → IsBehind k xs (take k new) at → IsInKeyOrder k (insert xs at new)
   rising-insert at new within behind i j order inside = elim (cases_lt j at) [
     | inl early ↦
         rw (get_or-insert_below xs at new [] i (omega (arith, order, early)) within, get_or-insert_below xs at new [] j early within) (rising i j order (omega (arith, early, within)))
@@ -105,7 +105,7 @@ module _ (k : ℕ) (xs : List (List ℕ)) (rising : IsRising k xs) where
   ]
 
   -- an entry of the same key in the place of another keeps it
-  pub rising-set : (at : ℕ) (new : List ℕ) → at < length xs → take k new ≡ key_at k xs at → IsRising k (set xs at new)
+  pub rising-set : (at : ℕ) (new : List ℕ) → at < length xs → take k new ≡ key_at k xs at → IsInKeyOrder k (set xs at new)
   rising-set at new within same i j order inside =
       rw (same_key i (omega (arith, order, inside, length-set xs at new)), same_key j (omega (arith, inside, length-set xs at new))) (rising i j order (omega (arith, inside, length-set xs at new)))
     where
@@ -116,7 +116,7 @@ module _ (k : ℕ) (xs : List (List ℕ)) (rising : IsRising k xs) where
       ]
 
   -- and so does taking an entry out
-  pub rising-remove : (at : ℕ) → at < length xs → IsRising k (remove xs at)
+  pub rising-remove : (at : ℕ) → at < length xs → IsInKeyOrder k (remove xs at)
   rising-remove at within i j order inside = elim (cases_lt j at) [
     | inl early ↦
         rw (get_or-remove_below xs at [] i (omega (arith, order, early)) within, get_or-remove_below xs at [] j early within) (rising i j order (omega (arith, early, within)))

@@ -2,7 +2,7 @@
 use Rattle.std.proofs.Common.{◌≡◌, ◌≢◌, inl, inr, ℕ, zero, suc, ◌+◌, ◌-◌, ◌*◌, ◌<◌, ◌≤◌, if◌then◌else◌, Bool, true, false, List, [], length, take, map, set, get_or, arith, refl, sym, ◌∙◌, ap, subst, add-zero}
 use Rattle.std.proofs.lemmas.Bool.{cases_lt, cases_eq, false≢true, eq-eqb, ne_eqb}
 use Rattle.std.proofs.lemmas.List.{get_or-set_same, get_or-set_other, length-map, get_or-map}
-use Rattle.page_tree.specs.Keys.{Item, no_item, item_at, at_most, IsRising, IsPlace}
+use Rattle.page_tree.specs.Keys.{Item, no_item, item_at, at_most, AreInKeyOrder, IsPlace}
 use Rattle.page_tree.specs.Page.{page_at, kind_of, filled, record_at, key_at, link_at, record_item, IsLeaf, IsInner, root_in, levels_in}
 use Rattle.page_tree.specs.Tree.{Node, node_at, items_of, before, heads, rows, IsTower, uses, IsShared, IsRooted, IsTree}
 use Rattle.page_tree.specs.Path.{IsPath, IsReached, with_place}
@@ -24,16 +24,16 @@ module _ (e k : ℕ) (b : List ℕ) (records : List (List ℕ)) (levels : ℕ) (
     | inr more ↦ let inner = (tower.stored l q some most below).inner (omega (arith, more)) in omega (arith, inner.some)
   ]
 
-  pub rows_rising : (l : ℕ) → l ≤ levels → IsRising (rows k records nodes l)
+  pub rows_rising : (l : ℕ) → l ≤ levels → AreInKeyOrder (rows k records nodes l)
   rows_rising zero most = tower.rising
   rows_rising (suc l) most =
       let next : suc l ≡ l + 1 = omega arith in
       let listed : items_of (nodes (suc l)) ≡ rows k records nodes l = ap (λ (m : ℕ). items_of (nodes m)) next ∙ tower.listed l (omega arith) in
-      heads_rising (nodes (suc l)) (none_empty (suc l) (omega arith) most) (subst IsRising (sym listed) (rows_rising l (omega arith)))
+      heads_rising (nodes (suc l)) (none_empty (suc l) (omega arith) most) (subst AreInKeyOrder (sym listed) (rows_rising l (omega arith)))
 
-  pub level_rising : (l below : ℕ) → l ≡ below + 1 → l ≤ levels → IsRising (items_of (nodes l))
+  pub level_rising : (l below : ℕ) → l ≡ below + 1 → l ≤ levels → AreInKeyOrder (items_of (nodes l))
   level_rising l below is most =
-      subst IsRising (sym (ap (λ (m : ℕ). items_of (nodes m)) is ∙ tower.listed below (omega arith))) (rows_rising below (omega arith))
+      subst AreInKeyOrder (sym (ap (λ (m : ℕ). items_of (nodes m)) is ∙ tower.listed below (omega arith))) (rows_rising below (omega arith))
 
 pub rows_above : (k : ℕ) (records : List (List ℕ)) (nodes : ℕ → List Node) (l : ℕ) → 0 < l → rows k records nodes l ≡ heads (nodes l)
 rows_above k records nodes zero some = absurd (omega arith)
@@ -221,8 +221,8 @@ module _ (e k : ℕ) (b : List ℕ) (records : List (List ℕ)) (levels : ℕ) (
   some : NoneEmpty (nodes 1)
   some = none_empty e k b records levels nodes tower 1 (omega arith) (omega arith)
 
-  rising : IsRising (items_of (nodes 1))
-  rising = subst IsRising (sym listed) tower.rising
+  rising : AreInKeyOrder (items_of (nodes 1))
+  rising = subst AreInKeyOrder (sym listed) tower.rising
 
   -- the key of record j of the leaf
   leaf_key : (j : ℕ) → j < length (node_at (nodes 1) p_of).items → (item_at (node_at (nodes 1) p_of).items j).key ≡ take k (record_at e page j)

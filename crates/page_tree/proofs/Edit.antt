@@ -1,7 +1,7 @@
 -- A record more in the list.
 use Rattle.std.proofs.Common.{◌≡◌, ℕ, ◌<◌, ◌≤◌, List, [], ◌∷◌, ◌++◌, length, map, take, drop, insert, arith, sym, ◌∙◌, ap, subst}
 use Rattle.std.proofs.lemmas.List.{length-map, map-append, take-map, drop-map, get_or-map}
-use Rattle.page_tree.specs.Keys.{Item, no_item, item_at, at_most, IsRising}
+use Rattle.page_tree.specs.Keys.{Item, no_item, item_at, at_most, AreInKeyOrder}
 use Rattle.page_tree.specs.Page.{record_item}
 use Rattle.flat_mem.specs.Order.{entry_at}
 use Rattle.page_tree.specs.Answer.{GoesTo}
@@ -14,8 +14,8 @@ map_insert f xs i x =
     ∙ ap (λ (ys : List _). take i (map f xs) ++ f x ∷ ys) (sym (drop-map f i xs))
 
 -- the records stay in order
-pub rising_put : (k : ℕ) (records : List (List ℕ)) (at : ℕ) (r : List ℕ) → IsRising (map (record_item k) records) → GoesTo k records (take k r) at → IsRising (map (record_item k) (insert records at r))
-rising_put k records at r rising behind = subst IsRising (sym (map_insert (record_item k) records at r))
+pub rising_put : (k : ℕ) (records : List (List ℕ)) (at : ℕ) (r : List ℕ) → AreInKeyOrder (map (record_item k) records) → GoesTo k records (take k r) at → AreInKeyOrder (map (record_item k) (insert records at r))
+rising_put k records at r rising behind = subst AreInKeyOrder (sym (map_insert (record_item k) records at r))
     (rising_insert (map (record_item k) records) at (record_item k r) rising (omega (arith, behind.within, length-map records (record_item k)))
     (λ (q : ℕ) (less : q < at). ap (λ (x : List ℕ). at_most x (take k r)) (item_record q (omega (arith, behind.within, less))) ∙ behind.behind.below q less)
     (λ (q : ℕ) (more : at ≤ q) (below : q < length (map (record_item k) records)).

@@ -3,7 +3,7 @@ use Rattle.std.proofs.Common.{◌≡◌, ◌≢◌, inl, inr, ℕ, zero, suc, �
 use Rattle.std.proofs.lemmas.Nat.{mul-le, div-add-mod', mod_below}
 use Rattle.std.proofs.lemmas.List.{length-map}
 use Rattle.flat_mem.specs.Memory.{overwritten}
-use Rattle.page_tree.specs.Keys.{Item, IsRising}
+use Rattle.page_tree.specs.Keys.{Item, AreInKeyOrder}
 use Rattle.page_tree.specs.Page.{page_at, IsWidths, leaf_room, record_item, IsPageOf, IsInner, IsLeaf, count_in, root_in, top_in, free_in, levels_in, IsBlank}
 use Rattle.page_tree.specs.Tree.{Node, node_at, items_of, heads, rows, frees, IsSettled, IsFilled, IsTree}
 use Rattle.page_tree.specs.Change.{with_level}
@@ -128,7 +128,7 @@ seventh e k pages b records levels level paths index key page root first top cli
 
 -- the first record of all
 pub first_closed : (e k pages : ℕ) (b : List ℕ) (r : List ℕ) (nodes : ℕ → List Node) (free : List ℕ) (first top : ℕ) → IsOpen e k b 0 nodes free first top → top < pages → 512 * pages ≤ length b
-    → (new above under : ℕ) (taken : IsTaken b free top under above new) → new < pages → (bytes : List ℕ) → length bytes ≡ 512 → IsLeaf e k bytes (record_item k r ∷ []) → IsRising (map (record_item k) (r ∷ []))
+    → (new above under : ℕ) (taken : IsTaken b free top under above new) → new < pages → (bytes : List ℕ) → length bytes ≡ 512 → IsLeaf e k bytes (record_item k r ∷ []) → AreInKeyOrder (map (record_item k) (r ∷ []))
     → IsClosed e k pages (overwritten b (512 * new) bytes) (r ∷ []) 1 new under above
 first_closed e k pages b r nodes free first top opened top_below size new above under taken new_small bytes long leaf order = record {
   nodes = with_level nodes 1 (node ∷ []);

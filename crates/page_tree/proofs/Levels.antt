@@ -3,7 +3,7 @@ use Rattle.std.proofs.Common.{◌≡◌, inl, inr, ℕ, zero, suc, ◌+◌, ◌<
 use Rattle.std.proofs.lemmas.Bool.{cases_lt, cases_eq}
 use Rattle.std.proofs.lemmas.List.{take_more, take_all, take-append-drop, length-map, get_or-map}
 use Rattle.std.proofs.lemmas.List.Concat.{flat_map-append, get_or-flat_map}
-use Rattle.page_tree.specs.Keys.{Item, no_item, item_at, at_most, IsRising, IsPlace}
+use Rattle.page_tree.specs.Keys.{Item, no_item, item_at, at_most, AreInKeyOrder, IsPlace}
 use Rattle.page_tree.specs.Tree.{Node, no_node, node_at, items_of, before, head_of, heads}
 use Rattle.page_tree.proofs.Order.{above_from, nil_at_most}
 
@@ -63,7 +63,7 @@ head_key ns p some pos below =
     heads_behind ns p pos below
     ∙ sym (ap (λ (i : ℕ). (item_at (items_of ns) i).key) (sym (add-zero (before ns p))) ∙ ap (λ (x : Item). x.key) (item_of_page ns p 0 below (some p below)))
 
-module _ (ns : List Node) (some : NoneEmpty ns) (rising : IsRising (items_of ns)) where
+module _ (ns : List Node) (some : NoneEmpty ns) (rising : AreInKeyOrder (items_of ns)) where
   before_rises : (i j : ℕ) → i ≤ j → j ≤ length ns → before ns i ≤ before ns j
   before_rises i zero order inside = let same : i ≡ 0 = omega arith in rw same (omega arith)
   before_rises i (suc j) order inside = elim (cases_eq i (suc j)) [
@@ -74,7 +74,7 @@ module _ (ns : List Node) (some : NoneEmpty ns) (rising : IsRising (items_of ns)
         omega (arith, before_rises i j (omega arith) (omega arith), more)
   ]
 
-  pub heads_rising : IsRising (heads ns)
+  pub heads_rising : AreInKeyOrder (heads ns)
   heads_rising i j order inside = elim (cases_eq i 0) [
     | inl first ↦ ap (λ (m : ℕ). at_most (item_at (heads ns) m).key (item_at (heads ns) j).key) first ∙ ap (λ (x : List ℕ). at_most x (item_at (heads ns) j).key) (heads_first ns) ∙ nil_at_most (item_at (heads ns) j).key
     | inr other ↦

@@ -2,7 +2,7 @@
 use Rattle.std.proofs.Common.{◌≡◌, ℕ, ◌<◌, ◌/◌, Bool, true, false, List, [], length, map, insert, remove, slice_set, arith, ap, subst}
 use Rattle.std.proofs.lemmas.List.{length-map, get_or-map}
 use Rattle.std.proofs.lemmas.List.Edits.{length-insert}
-use Rattle.flat_mem.specs.Order.{key_at, IsRising}
+use Rattle.flat_mem.specs.Order.{key_at, IsInKeyOrder}
 use Rattle.page_tree.specs.Keys.{Item, no_item, item_at}
 use Rattle.page_tree.specs.Page.{record_item}
 use Rattle.page_tree.specs.Tree.{IsTree}
@@ -14,7 +14,7 @@ use Rattle.page_tree.specs.declared.error.TreeError.{TreeError}
 use Rattle.page_tree.specs.declared.error.TreeError.TheVariants.{Full, Malformed, Mem}
 
 -- the entries of a well-formed tree are in rising order
-pub rising_tree : (e k pages : ℕ) (b : List ℕ) (xs : List (List ℕ)) → IsTree e k pages b xs → IsRising k xs
+pub rising_tree : (e k pages : ℕ) (b : List ℕ) (xs : List (List ℕ)) → IsTree e k pages b xs → IsInKeyOrder k xs
 rising_tree e k pages b xs tree i j order below =
     rw (← key_is i (omega (arith, order, below)), ← key_is j below) (tree.tower.rising i j order (omega (arith, below, length-map xs (record_item k))))
   where

@@ -3,7 +3,7 @@ use Rattle.std.proofs.Common.{◌≡◌, inl, inr, ℕ, ◌+◌, ◌-◌, ◌*�
 use Rattle.std.proofs.lemmas.Bool.{cases_eq}
 use Rattle.std.proofs.lemmas.List.{take-take}
 use Rattle.flat_mem.specs.Memory.{part, overwritten}
-use Rattle.page_tree.specs.Keys.{item_at, at_most, IsRising}
+use Rattle.page_tree.specs.Keys.{item_at, at_most, AreInKeyOrder}
 use Rattle.page_tree.specs.Page.{IsWidths, leaf_room, page_at, filled, record_at, record_item, IsLeaf}
 use Rattle.page_tree.specs.Tree.{Node, node_at, before, IsTower, IsTree, IsShared, IsChain}
 use Rattle.page_tree.specs.Path.{IsReached}
@@ -69,7 +69,7 @@ module _ (e k pages : ℕ) (b : List ℕ) (records : List (List ℕ)) (levels ro
   opened : IsOpen e k b levels ready_now.nodes ready_now.free first top
   opened = record { stored = tower.stored; filled = tower.filled; chain = ready_now.chain; shared = ready_now.shared }
 
-  order : IsRising (map (record_item k) (insert records (before (ready_now.nodes 1) (reached.place 1) + c) r))
+  order : AreInKeyOrder (map (record_item k) (insert records (before (ready_now.nodes 1) (reached.place 1) + c) r))
   order = rising_put k records (before (ready_now.nodes 1) (reached.place 1) + c) r tower.rising (subst (λ (x : List ℕ). GoesTo k records x (before (ready_now.nodes 1) (reached.place 1) + c)) key_is behind_key)
 
   inside : c ≤ length (node_at (ready_now.nodes 1) (reached.place 1)).items
@@ -158,7 +158,7 @@ first_put e k pages b records count root top first levels tree is none nine size
     empty : records ≡ []
     empty = opened_now.1
 
-    rising_one : IsRising (map (record_item k) (r ∷ []))
+    rising_one : AreInKeyOrder (map (record_item k) (r ∷ []))
     rising_one i j order below =
         let i_none : i ≡ 0 = omega (arith, order, below) in
         let j_none : j ≡ 0 = omega (arith, below) in

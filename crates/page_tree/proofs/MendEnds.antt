@@ -2,7 +2,7 @@
 use Rattle.std.proofs.Common.{◌≡◌, ◌≢◌, inl, inr, ℕ, zero, suc, ◌+◌, ◌<◌, ◌≤◌, List, [], ◌∷◌, length, map, arith, refl, sym, ◌∙◌, ap, subst}
 use Rattle.std.proofs.lemmas.Bool.{cases_lt}
 use Rattle.std.proofs.lemmas.List.{append-nil, length-map}
-use Rattle.page_tree.specs.Keys.{Item, IsRising}
+use Rattle.page_tree.specs.Keys.{Item, AreInKeyOrder}
 use Rattle.page_tree.specs.Page.{page_at, kind_of, next_in, record_item}
 use Rattle.page_tree.specs.Tree.{Node, node_at, items_of, before}
 use Rattle.page_tree.specs.Change.{without}
@@ -19,7 +19,7 @@ map_without f [] p below = absurd (omega arith)
 map_without f (x ∷ xs) zero below = refl
 map_without f (x ∷ xs) (suc p) below = ap (λ (ys : List _). f x ∷ ys) (map_without f xs p (omega arith))
 
-pub rising_without : (xs : List Item) (p : ℕ) → IsRising xs → p < length xs → IsRising (without xs p)
+pub rising_without : (xs : List Item) (p : ℕ) → AreInKeyOrder xs → p < length xs → AreInKeyOrder (without xs p)
 rising_without xs p rising below i j order inside = elim (cases_lt j p) [
   | inl j_low ↦
       let left = without_below xs p i below (omega (arith, j_low, order)) in
@@ -45,7 +45,7 @@ begin_mend e k pages b records levels root first top ready paths index home plac
   owed = begin_lack k records levels ready.nodes pos below ready.rooted.tower.listed;
   path = path;
   pos_is = is;
-  order = subst IsRising (sym (map_without (record_item k) records pos below)) (rising_without (map (record_item k) records) pos ready.rooted.tower.rising (omega (arith, below, length-map records (record_item k))));
+  order = subst AreInKeyOrder (sym (map_without (record_item k) records pos below)) (rising_without (map (record_item k) records) pos ready.rooted.tower.rising (omega (arith, below, length-map records (record_item k))));
   one = ready.rooted.one;
   root_is = ready.rooted.root_is;
   top_below = ready.top_below;

@@ -8,7 +8,7 @@ use Rattle.byteorder.specs.Endian.{big_number}
 use Rattle.flat_mem.specs.Memory.{overwritten}
 use Rattle.flat_mem.specs.Parts.{length-overwritten, part-overwritten_same, part-overwritten_below, part-overwritten_above}
 use Rattle.flat_mem.specs.Order.{key_at, entry_at}
-use Rattle.page_tree.specs.Keys.{Item, no_item, item_at, at_most, IsRising}
+use Rattle.page_tree.specs.Keys.{Item, no_item, item_at, at_most, AreInKeyOrder}
 use Rattle.page_tree.specs.Page.{leaf_room, filled, record_at, record_item, IsLeaf}
 use Rattle.page_tree.specs.Tree.{before}
 use Rattle.page_tree.specs.Change.{splice, without}
@@ -80,8 +80,8 @@ module _ (e k : ℕ) (page : List ℕ) (xs : List Item) (at : ℕ) (entry : List
       ]
 
 -- an item that stands between its neighbours
-pub rising_between : (xs : List Item) (p : ℕ) (x : Item) → IsRising xs → p < length xs → ((q : ℕ) → q < p → at_most (item_at xs q).key x.key ≡ true) → ((q : ℕ) → p < q → q < length xs → at_most x.key (item_at xs q).key ≡ true) → at_most x.key x.key ≡ true
-    → IsRising (splice xs p (x ∷ []))
+pub rising_between : (xs : List Item) (p : ℕ) (x : Item) → AreInKeyOrder xs → p < length xs → ((q : ℕ) → q < p → at_most (item_at xs q).key x.key ≡ true) → ((q : ℕ) → p < q → q < length xs → at_most x.key (item_at xs q).key ≡ true) → at_most x.key x.key ≡ true
+    → AreInKeyOrder (splice xs p (x ∷ []))
 rising_between xs p x rising below low high itself i j order inside = elim (cases_eq i p) [
   | inl i_is ↦ elim (cases_eq j p) [
     | inl j_is ↦ let a = spliced_here xs p i x below i_is in let c = spliced_here xs p j x below j_is in rw (a, c) itself
@@ -110,7 +110,7 @@ begin_set e k pages b records levels root first top ready paths index home place
   owed = subst (λ (xs : List (List ℕ)). IsOwed k xs levels ready.nodes 1 pos 1 (record_item k entry ∷ [])) (sym (set_is records pos entry below)) (begin_owed k records levels ready.nodes pos 1 (entry ∷ []) ready.rooted.tower.listed);
   path = path;
   pos_is = is;
-  order = subst IsRising (sym items_are)
+  order = subst AreInKeyOrder (sym items_are)
       (rising_between (map (record_item k) records) pos (record_item k entry) ready.rooted.tower.rising (omega (arith, below, long))
       (λ (q : ℕ) (less : q < pos). ap (λ (x : Item). at_most x.key (take k entry)) (item q (omega (arith, less, below))) ∙ low q less)
       (λ (q : ℕ) (more : pos < q) (inside : q < length (map (record_item k) records)). ap (λ (x : Item). at_most (take k entry) x.key) (item q (omega (arith, inside, long))) ∙ high q more (omega (arith, inside, long)))
@@ -142,7 +142,7 @@ begin_out e k pages b records levels root first top standing paths index home pl
   owed = subst (λ (xs : List (List ℕ)). IsOwed k xs levels standing.nodes 1 pos 1 []) (sym (removed_is records pos below)) (begin_lack k records levels standing.nodes pos below standing.rooted.tower.listed);
   path = path;
   pos_is = is;
-  order = subst IsRising (sym (ap (map (record_item k)) (removed_is records pos below) ∙ map_without (record_item k) records pos below))
+  order = subst AreInKeyOrder (sym (ap (map (record_item k)) (removed_is records pos below) ∙ map_without (record_item k) records pos below))
       (rising_without (map (record_item k) records) pos standing.rooted.tower.rising (omega (arith, below, length-map records (record_item k))));
   one = standing.rooted.one;
   root_is = standing.rooted.root_is;

@@ -2,7 +2,7 @@
 use Rattle.std.proofs.Common.{◌≡◌, ◌≢◌, inl, inr, ℕ, zero, suc, ◌+◌, ◌<◌, ◌≤◌, ◌⊎◌, List, [], ◌∷◌, length, map, remove, slice_set, arith, refl, sym, ◌∙◌, ap, subst}
 use Rattle.std.proofs.lemmas.List.{length-map}
 use Rattle.flat_mem.specs.Order.{entry_at}
-use Rattle.page_tree.specs.Keys.{Item, item_at, IsRising}
+use Rattle.page_tree.specs.Keys.{Item, item_at, AreInKeyOrder}
 use Rattle.page_tree.specs.Page.{IsWidths, page_at, filled, record_item, IsLeaf, IsEnough}
 use Rattle.page_tree.specs.Tree.{node_at, before}
 use Rattle.page_tree.specs.Change.{without}
@@ -95,7 +95,7 @@ kept_pending e k pages w c records levels paths index at root first top pos xs k
     owed = subst (λ (ys : List (List ℕ)). IsOwed k ys levels kept.closed.nodes 1 (pos + 1) 1 []) (sym (removed_is records (pos + 1) below)) (begin_lack k records levels kept.closed.nodes (pos + 1) below kept.closed.listed);
     path = kept.whole;
     pos_is = omega (arith, kept.starts);
-    order = subst IsRising (sym (ap (map (record_item k)) (removed_is records (pos + 1) below) ∙ map_without (record_item k) records (pos + 1) below))
+    order = subst AreInKeyOrder (sym (ap (map (record_item k)) (removed_is records (pos + 1) below) ∙ map_without (record_item k) records (pos + 1) below))
         (rising_without (map (record_item k) records) (pos + 1) kept.closed.order (omega (arith, below, length-map records (record_item k))));
     one = kept.closed.one;
     root_is = kept.closed.root_is;

@@ -1,6 +1,6 @@
 -- An insertion on its way up.
 use Rattle.std.specs.Prelude.{◌≡◌, ℕ, ◌+◌, ◌-◌, ◌*◌, ◌<◌, ◌≤◌, Bool, true, false, List, [], ◌∷◌, length, map, take, drop, insert}
-use Rattle.page_tree.specs.Keys.{Item, item_at, IsRising}
+use Rattle.page_tree.specs.Keys.{Item, item_at, AreInKeyOrder}
 use Rattle.page_tree.specs.Page.{record_item, IsPageOf, IsEnough, count_in, root_in, top_in, free_in, levels_in}
 use Rattle.page_tree.specs.Tree.{Node, node_at, heads, IsFilled, IsSettled, IsChain, IsShared, IsRooted}
 use Rattle.page_tree.specs.Answer.{GoesTo}
@@ -23,7 +23,7 @@ pub record IsClimb (e k pages : ℕ) (c : List ℕ) (records : List (List ℕ)) 
   pub opened : IsOpen e k c levels nodes free first top
   pub carry : IsCarry k records levels nodes (level + 1) (place level + 1) (child_item key page)
   pub path : IsPath nodes levels level paths index home place
-  pub order : IsRising (map (record_item k) records)
+  pub order : AreInKeyOrder (map (record_item k) records)
   pub one : level < levels → length (nodes levels) ≡ 1
   pub root_is : level < levels → root ≡ (node_at (nodes levels) 0).page
   pub tops : level ≡ levels → heads (nodes levels) ≡ child_item [] root ∷ child_item key page ∷ []
@@ -39,7 +39,7 @@ pub record IsClosed (e k pages : ℕ) (c : List ℕ) (records : List (List ℕ))
   pub free : List ℕ
   pub opened : IsOpen e k c levels nodes free first top
   pub listed : IsSettled k records levels nodes
-  pub order : IsRising (map (record_item k) records)
+  pub order : AreInKeyOrder (map (record_item k) records)
   pub one : length (nodes levels) ≡ 1
   pub root_is : root ≡ (node_at (nodes levels) 0).page
   pub top_below : top < pages

@@ -15,8 +15,8 @@ abbrev pub item_at : List Item → ℕ → Item
 item_at xs i = get_or xs i no_item
 
 -- the keys of the items rise
-abbrev pub IsRising : List Item → Type 0
-IsRising xs = (i j : ℕ) → i ≤ j → j < length xs → at_most (item_at xs i).key (item_at xs j).key ≡ true
+abbrev pub AreInKeyOrder : List Item → Type 0
+AreInKeyOrder xs = (i j : ℕ) → i ≤ j → j < length xs → at_most (item_at xs i).key (item_at xs j).key ≡ true
 
 -- item p is the last whose key is at most this one, or it is the first and all behind it are above
 pub record IsPlace (xs : List Item) (key : List ℕ) (p : ℕ) : Type 0 where

@@ -1,6 +1,6 @@
 -- A memory that tells a tree, and what a call makes of its list.
 use Rattle.std.specs.Prelude.{◌≡◌, ℕ, ◌<◌, ◌≤◌, Bool, true, false, List, length, take, insert, remove, slice_set}
-use Rattle.flat_mem.specs.Order.{IsRising, IsBehind}
+use Rattle.flat_mem.specs.Order.{IsInKeyOrder, IsBehind}
 use Rattle.page_tree.specs.Page.{page_at, kind_of, filled, record_at}
 use Rattle.page_tree.specs.Tree.{IsTree}
 use Rattle.page_tree.specs.Broken.{Meets}
@@ -14,7 +14,7 @@ pub record TellsTree (e k pages : ℕ) (tells : List ℕ → Type 0) (xs : List 
   pub bytes : List ℕ
   pub told : tells bytes
   pub tree : IsTree e k pages bytes xs
-  pub rising : IsRising k xs
+  pub rising : IsInKeyOrder k xs
 
 -- the list with one entry more, behind the last whose key is at most its own. There was room for it
 pub record IsInserted (e k pages : ℕ) (lists : List (List ℕ) → Type 0) (xs : List (List ℕ)) (new : List ℕ) : Type 0 where

@@ -2,7 +2,7 @@
 use Rattle.std.specs.Prelude.{◌≡◌, ℕ, suc, ◌^◌, ◌<◌, ◌≤◌, ◌==◌, ◌||◌, nat_lt, if◌then◌else◌, List, [], ◌∷◌, ◌++◌, length, map, replicate, Option, Some, None, IfSome, slice_get}
 use Rattle.std.specs.Option.{option_map_or}
 use Rattle.byteorder.specs.Endian.{big_bytes}
-use Rattle.flat_mem.specs.Order.{IsRising, IsLastAtMost, NoneAtMost, IsBehind}
+use Rattle.flat_mem.specs.Order.{IsInKeyOrder, IsLastAtMost, NoneAtMost, IsBehind}
 use Rattle.flat_machine.specs.declared.space.Space.{Space}
 use Rattle.flat_machine.specs.Space.{root_pages}
 use Rattle.flat_machine.specs.declared.space.Window.{Window}
@@ -88,7 +88,7 @@ SlotReadsBack = (s : Space) → IsTypedSpace s → (slot_in s.handle (slot_bytes
 
 -- the entries rise
 abbrev pub EntriesRise : Type 0
-EntriesRise = (ss : List Space) (xs : List Interval) → AreIntervals ss xs → IsRising 4 (map bytes_of xs)
+EntriesRise = (ss : List Space) (xs : List Interval) → AreIntervals ss xs → IsInKeyOrder 4 (map bytes_of xs)
 
 -- the interval at an index holds the page
 abbrev pub HoldsAt : List Interval → ℕ → ℕ → Type 0

@@ -5,7 +5,7 @@ use Rattle.std.proofs.lemmas.List.{length-set, get_or-set_same, get_or-set_other
 use Rattle.std.proofs.lemmas.List.FromFn.{fill_by_all}
 use Rattle.flat_mem.specs.Memory.{overwritten}
 use Rattle.flat_mem.specs.Parts.{part-overwritten_below, part-overwritten_above, part-overwritten_same}
-use Rattle.flat_mem.specs.Order.{entry_at, key_at, IsRising, IsBehind}
+use Rattle.flat_mem.specs.Order.{entry_at, key_at, IsInKeyOrder, IsBehind}
 use Rattle.flat_mem.specs.OrderLaws.{rising-insert, rising-set, rising-remove}
 use Rattle.record_table.specs.Table.{place, capacity_of, entry, entries, TellsEntries}
 use Rattle.record_table.specs.Edits.{IsInserted, IsReplaced, IsRemoved}
@@ -54,7 +54,7 @@ module _ (e : ℕ) (some : 1 ≤ e) (most : e ≤ 64) (b piece : List ℕ) (long
 
 -- ---- edits
 
-pub is_inserted : (k : ℕ) (lists : List (List ℕ) → Type 0) (xs : List (List ℕ)) (new : List ℕ) (at : ℕ) → at ≤ length xs → lists (insert xs at new) → (IsRising k xs → IsBehind k xs (take k new) at) → IsInserted k lists xs new
+pub is_inserted : (k : ℕ) (lists : List (List ℕ) → Type 0) (xs : List (List ℕ)) (new : List ℕ) (at : ℕ) → at ≤ length xs → lists (insert xs at new) → (IsInKeyOrder k xs → IsBehind k xs (take k new) at) → IsInserted k lists xs new
 is_inserted k lists xs new at within listed behind = record {
   at = at;
   within = within;

@@ -3,7 +3,7 @@ ghost use Rattle.std.specs.Prelude.{◌≡◌, ◌<◌, ◌≤◌, ◌+◌, ◌*
 ghost use Rattle.labelled_disk.specs.Calls.{Rose};
 ghost use Rattle.record_table.specs.Table.{TellsEntries, capacity_of, pages_of, entries};
 ghost use Rattle.record_table.specs.Edits.{IsInserted, IfMem as IfTable};
-ghost use Rattle.flat_mem.specs.Order.{IsFound, IsRising};
+ghost use Rattle.flat_mem.specs.Order.{IsFound, IsInKeyOrder};
 ghost use Rattle.alloc_map.specs.Pages.{pages_to};
 ghost use Rattle.alloc_map.specs.Runs.{IsDataRun, IfMem, IsLowestFree, TellsTaken};
 ghost use Rattle.alloc_map.specs.Bits.{AreAll, TellsMarked};
@@ -31,7 +31,7 @@ impl<D: Disk, A: Allocator> BookOver<D, A> {
     pub fn find(&mut self, key: &[u8; 12]) -> Result<Option<u32>, Halt>
         requires count { self.old.count ≤ capacity_of 24 (size_in FileMap (D.state self.old.swapper.under).sectors self.old.swapper.layout) }
         requires small { size_in FileMap (D.state self.old.swapper.under).sectors self.old.swapper.layout ≤ 2 ^ 31 }
-        ensures found { (b : List ℕ) → Tells FileMap (D.state self.old.swapper.under) self.old.swapper.pool self.old.swapper.layout b → IsRising 12 (entries 24 b self.old.count) → IfOk result (IsFound 12 (entries 24 b self.old.count) key.now) }
+        ensures found { (b : List ℕ) → Tells FileMap (D.state self.old.swapper.under) self.old.swapper.pool self.old.swapper.layout b → IsInKeyOrder 12 (entries 24 b self.old.count) → IfOk result (IsFound 12 (entries 24 b self.old.count) key.now) }
         ensures shows { (b : List ℕ) → Tells FileMap (D.state self.old.swapper.under) self.old.swapper.pool self.old.swapper.layout b → Tells FileMap (D.state self.new.swapper.under) self.new.swapper.pool self.new.swapper.layout b }
         ensures count { self.new.count ≡ self.old.count }
         ensures layout { self.new.swapper.layout ≡ self.old.swapper.layout }

@@ -7,7 +7,7 @@ use Rattle.std.proofs.lemmas.List.Elements.{All-from_recursion}
 use Rattle.flat_mem.specs.Order.{at_most}
 use Rattle.flat_mem.specs.OrderLaws.{at_most_itself}
 use Rattle.labelled_disk.specs.Layout.{first_data}
-use Rattle.page_tree.specs.Keys.{Item, no_item, item_at, IsRising}
+use Rattle.page_tree.specs.Keys.{Item, no_item, item_at, AreInKeyOrder}
 use Rattle.page_tree.specs.Page.{page_at, record_item, record_at, IsLeaf, IsPageOf, IsBlank, zero_page}
 use Rattle.page_tree.specs.Tree.{Node, node_at, items_of, rows, uses, frees, IsHeader, IsTree}
 use Rattle.file_map.specs.declared.run.Run.{Run}
@@ -80,14 +80,14 @@ abbrev IsRisingRow : List Item → Type 0
 IsRisingRow [] = Unit {0}
 IsRisingRow (x ∷ xs) = AllByRecursion (λ y. at_most x.key y.key ≡ true) xs × IsRisingRow xs
 
-rising_at : (xs : List Item) → IsRisingRow xs → IsRising xs
+rising_at : (xs : List Item) → IsRisingRow xs → AreInKeyOrder xs
 rising_at [] rise i j order below = absurd (omega (arith, below))
 rising_at (x ∷ xs) rise zero zero order below = at_most_itself x.key
 rising_at (x ∷ xs) rise zero (suc j) order below = All-from_recursion (λ (y : Item). at_most x.key y.key ≡ true) xs rise.0 j no_item (omega (arith, below))
 rising_at (x ∷ xs) rise (suc i) zero order below = absurd (omega (arith, order))
 rising_at (x ∷ xs) rise (suc i) (suc j) order below = rising_at xs rise.1 i j (omega (arith, order)) (omega (arith, below))
 
-rising : IsRising items
+rising : AreInKeyOrder items
 unfolding run_bytes at_most
 rising = rising_at items ((refl, (refl, (refl, (refl, tt)))), ((refl, (refl, (refl, tt))), ((refl, (refl, tt)), ((refl, tt), (tt, tt)))))
 
