@@ -23,7 +23,7 @@ use Rattle.swapper_kernel.specs.Goes.{Makes}
 use Rattle.swapper_kernel.specs.GoesLaws.{goes_then, makes_then}
 use Rattle.swapper_kernel.specs.HaltLaws.{brings_then}
 use Rattle.filer_kernel.specs.declared.cached.CachedRuns.{CachedRuns}
-use Rattle.session_words.specs.Parts.{Shape, Shapes, HasLabels, HasMapLabels, HasBits, HasTriples, is_owned, is_marked}
+use Rattle.session_words.specs.Parts.{Shape, Shapes, HasLabels, HasMapLabels, MarksFit, HasTriples, is_owned, is_marked}
 use Rattle.session_words.specs.Found.{AreShapes}
 use Rattle.session_words.specs.PlaceLaws.{IsMade, with_shape, shape_by}
 use Rattle.session_words.specs.GrowLaws.{Grows, grown_labels, grown_marks, grown_names}
@@ -98,7 +98,7 @@ module _ (layout : Layout) (is_layout : IsLayout layout) (kept : CachedRuns) (sh
       } in
       let long : length (grown_labels id kind leader_page (leader ∷ []) (labels_of x)) ≡ length x = grown_long id kind leader_page (leader ∷ []) (labels_of x) ∙ length-map x (λ s. s.0) in
       let some : 1 ≤ length (grown_labels id kind leader_page (leader ∷ []) (labels_of x)) = let b = booked.long in let c = is_layout.0.0 in omega (arith, long, b, c) in
-      let bits : HasBits (grown_marks (leader ∷ []) (is_marked x)) (grown_labels id kind leader_page (leader ∷ []) (labels_of x)) =
+      let bits : MarksFit (grown_marks (leader ∷ []) (is_marked x)) (grown_labels id kind leader_page (leader ∷ []) (labels_of x)) =
       bits_set (labels_of x) (is_marked x) (λ k. k == leader || is_marked x k) leader (page_label id kind leader_page) free.label booked.bits free.there
       (ap (λ (b : Bool). b || is_marked x leader) (eq-eqb leader leader refl) ∙ ap not (sym taken))
       (λ k below other. ap (λ (b : Bool). b || is_marked x k) (ne_eqb k leader other)) in
@@ -116,7 +116,7 @@ module _ (layout : Layout) (is_layout : IsLayout layout) (kept : CachedRuns) (sh
             map_labels = subst HasMapLabels (sym g.grown.labels) (map_labels_grown id kind leader_page (leader ∷ []) (labels_of x) g.grown.free booked.map_labels);
             labels = subst (λ (l : List Label). HasLabels l (with_shape shapes id (shape_by (page_label id kind leader_page)))) (sym g.grown.labels)
                 (labels_created (labels_of x) leader (page_label id kind leader_page) shapes booked.labels made (λ q. omega (arith, q, high)) may.none refl);
-            bits = subst (HasBits (is_marked led.0)) (sym g.grown.labels) (bits_alike (grown_labels id kind leader_page (leader ∷ []) (labels_of x)) (grown_marks (leader ∷ []) (is_marked x)) (is_marked led.0) some
+            bits = subst (MarksFit (is_marked led.0)) (sym g.grown.labels) (bits_alike (grown_labels id kind leader_page (leader ∷ []) (labels_of x)) (grown_marks (leader ∷ []) (is_marked x)) (is_marked led.0) some
                 (λ k below. g.bits k (subst (λ (n : ℕ). k < 4096 * vam n) long below)) bits);
             named = grown_names id leader_page (leader ∷ []) booked.named;
             map = g.triples booked.named booked.map;

@@ -29,7 +29,7 @@ use Rattle.filer_kernel.specs.Becomes.{Becomes}
 use Rattle.filer_kernel.specs.Cached.{runs_of}
 use Rattle.filer_kernel.specs.Triples.{MapIs, AreOf}
 use Rattle.filer_kernel.proofs.LawLemmas.{are_of_fewer}
-use Rattle.session_words.specs.Parts.{Shapes, HasLabels, HasMapLabels, HasBits, HasTriples, is_owned, is_marked}
+use Rattle.session_words.specs.Parts.{Shapes, HasLabels, HasMapLabels, MarksFit, HasTriples, is_owned, is_marked}
 use Rattle.session_words.proofs.BitLemmas.{bits_alike}
 use Rattle.session_words.proofs.FoundLemmas.{owner}
 use Rattle.session_words.proofs.RootLabelLemmas.{labels_then, map_labels_then, bits_then, triples_then}
@@ -132,7 +132,7 @@ module _ (layout : Layout) (is : IsLayout layout) (kept : CachedRuns) (shapes : 
                 (subst (λ o. IsSomeAnd o (λ m. IsTrue (names m (record { id = 4; page = 0 })))) (sym (get_set_same (labels_of x) 0 root_label (let one = some in let same = length-set (labels_of x) 0 root_label in omega (arith, one, same)))) refl);
             map_labels = subst HasMapLabels (sym labels_cut) (map_labels_then (labels_of x) root_label b.map_labels);
             labels = subst (λ (l : List Label). HasLabels l shapes) (sym labels_cut) (labels_then (labels_of x) root_label 96 shapes b.labels);
-            bits = subst (HasBits (is_marked cut.memory)) (sym labels_cut) (bits_alike (slice_set (labels_of x) 0 root_label) (is_marked x) (is_marked cut.memory) some
+            bits = subst (MarksFit (is_marked cut.memory)) (sym labels_cut) (bits_alike (slice_set (labels_of x) 0 root_label) (is_marked x) (is_marked cut.memory) some
                 (λ k below. mark_cut k (subst (λ (v : ℕ). k < 4096 * v) (sym (vam_is layout is (runs_of layout.sectors kept) shapes x b)) (subst (λ (n : ℕ). k < 4096 * vam n) long below))) (bits_then (labels_of x) root_label (is_marked x) b.bits));
             named = b.named;
             map = map_cut;

@@ -17,7 +17,7 @@ use Rattle.file_map.specs.declared.run.Run.{Run}
 use Rattle.flat_machine.specs.Start.{start}
 use Rattle.flat_machine.proofs.StartMachine.{start_is_machine}
 use Rattle.swapper_kernel.specs.Stands.{labels_of}
-use Rattle.session_words.specs.Parts.{shapes_of, is_marked, HasLabel, HasLabelsUpto, HasMapLabels, HasBits, HasTriples}
+use Rattle.session_words.specs.Parts.{shapes_of, is_marked, HasLabel, HasLabelsUpto, HasMapLabels, MarksFit, HasTriples}
 use Rattle.session_words.specs.OpenLaws.{CanOpen, FlagCleared}
 use Rattle.session_words.proofs.MapLemmas.{names_alike}
 use Rattle.session_words.proofs.OpenLemmas.{same_map_bytes}
@@ -65,7 +65,7 @@ module _ (d x : List Sector) (o : CanOpen d) (c : FlagCleared d x) where
   marks_same : (i : ℕ) → is_marked x i ≡ is_marked d i
   marks_same i = ap (λ (o : Option Sector). is_used (page_in o) (i % 4096)) (c.others (1 + i / 4096) (λ e. omega (arith, e)))
 
-  bits_then : HasBits (is_marked x) (labels_of x)
+  bits_then : MarksFit (is_marked x) (labels_of x)
   bits_then = record {
     low = λ k below. marks_same k ∙ o.bits.low k (subst (λ (n : ℕ). k < first_data n) long below);
     bits = λ k l has. marks_same k ∙ o.bits.bits k l (back k l has);

@@ -27,7 +27,7 @@ use Rattle.swapper_kernel.specs.HaltLaws.{brings_itself, brings_then}
 use Rattle.filer_kernel.specs.declared.cached.CachedRuns.{CachedRuns}
 use Rattle.filer_kernel.specs.Cached.{runs_of}
 use Rattle.session_words.specs.Found.{AreShapes}
-use Rattle.session_words.specs.Parts.{Shape, Shapes, is_owned_upto, is_marked, HasPages, HasLeaders, HasMapLabels, HasBits, HasTriples}
+use Rattle.session_words.specs.Parts.{Shape, Shapes, is_owned_upto, is_marked, HasPages, HasLeaders, HasMapLabels, MarksFit, HasTriples}
 use Rattle.session_words.specs.PlaceLaws.{IsMade}
 use Rattle.session_words.specs.GrowLaws.{AreFree, Grows, grown_labels, grown_marks, grown_names}
 use Rattle.session_words.specs.StartLaws.{table_label}
@@ -66,7 +66,7 @@ unowned_from n shapes page none above =
 record IsTabled (n : ℕ) (shapes : Shapes) (labels : List Label) (marks : ℕ → Bool) (named : Triples) : Type 0 where
   pages : HasPages labels (is_owned_upto n shapes)
   leaders : HasLeaders labels shapes
-  bits : HasBits marks labels
+  bits : MarksFit marks labels
   triples : HasTriples named labels
 
 -- page by page
@@ -137,7 +137,7 @@ module _ (layout : Layout) (is_layout : IsLayout layout) (kept : CachedRuns) (sh
             pages = subst (λ (l : List Label). HasPages l (is_owned_upto page shapes)) (sym after.2.grown.labels) tabled.pages;
             leaders = subst (λ (l : List Label). HasLeaders l shapes) (sym after.2.grown.labels) tabled.leaders;
           };
-          bits = subst (HasBits (is_marked after.0)) (sym after.2.grown.labels) (bits_alike (grown_labels 3 0 0 is (labels_of x)) (grown_marks is (is_marked x)) (is_marked after.0) some
+          bits = subst (MarksFit (is_marked after.0)) (sym after.2.grown.labels) (bits_alike (grown_labels 3 0 0 is (labels_of x)) (grown_marks is (is_marked x)) (is_marked after.0) some
               (λ k below. after.2.bits k (subst (λ (n : ℕ). k < 4096 * vam n) long_labels below)) tabled.bits);
           named = grown_names 3 0 is booked.named;
           map = after.2.triples booked.named booked.map;

@@ -26,7 +26,7 @@ use Rattle.swapper_kernel.specs.HaltLaws.{brings_then}
 use Rattle.filer_kernel.specs.declared.cached.CachedRuns.{CachedRuns}
 use Rattle.filer_kernel.specs.Cached.{runs_of}
 use Rattle.flat_machine.specs.declared.space.Space.{Space}
-use Rattle.session_words.specs.Parts.{Shape, Shapes, HasLabel, HasLabels, HasMapLabels, HasBits, HasTriples, is_owned, is_marked}
+use Rattle.session_words.specs.Parts.{Shape, Shapes, HasLabel, HasLabels, HasMapLabels, MarksFit, HasTriples, is_owned, is_marked}
 use Rattle.session_words.specs.PlaceLaws.{with_shape, sized}
 use Rattle.session_words.specs.GrowLaws.{IsBook, AreFree, Grows, grown_labels, grown_marks, grown_names}
 use Rattle.session_words.specs.Volume.{volume_page}
@@ -174,7 +174,7 @@ module _ (layout : Layout) (is_layout : IsLayout layout) (kept : CachedRuns) (sh
           map_labels = subst HasMapLabels (sym after.2.grown.labels) (map_labels_grown id kind f.size is (labels_of x) after.2.grown.free booked.map_labels);
           labels = subst (λ (l : List Label). HasLabels l (with_shape shapes id (sized page f))) (sym after.2.grown.labels)
               (subst (λ (n : ℕ). HasLabels (grown_labels id kind f.size is (labels_of x)) (with_shape shapes id (sized n f))) reached grown_book.labels_right);
-          bits = subst (HasBits (is_marked after.0)) (sym after.2.grown.labels) (bits_alike (grown_labels id kind f.size is (labels_of x)) (grown_marks is (is_marked x)) (is_marked after.0) some
+          bits = subst (MarksFit (is_marked after.0)) (sym after.2.grown.labels) (bits_alike (grown_labels id kind f.size is (labels_of x)) (grown_marks is (is_marked x)) (is_marked after.0) some
               (λ k below. after.2.bits k (subst (λ (n : ℕ). k < 4096 * vam n) long_labels below)) grown_book.bits);
           named = grown_names id f.size is booked.named;
           map = after.2.triples booked.named booked.map;

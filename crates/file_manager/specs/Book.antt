@@ -17,7 +17,7 @@ use Rattle.swapper_kernel.specs.Goes.{Goes, Change}
 use Rattle.swapper_kernel.specs.Homes.{Brings}
 use Rattle.filer_kernel.specs.declared.cached.CachedRuns.{CachedRuns}
 use Rattle.filer_kernel.specs.Cached.{runs_of}
-use Rattle.session_words.specs.Parts.{Shapes, HasLabelsUpto, HasMapLabels, HasBits, HasTriples, IsTriple, is_marked}
+use Rattle.session_words.specs.Parts.{Shapes, HasLabelsUpto, HasMapLabels, MarksFit, HasTriples, IsTriple, is_marked}
 use Rattle.session_words.specs.Found.{AreShapes}
 use Rattle.session_words.specs.FrameLaws.{HasFrames}
 use Rattle.session_words.specs.Volume.{volume_page}
@@ -35,7 +35,7 @@ pub record IsBookedUpto (tables : ℕ) (layout : Layout) (runs : List Run) (shap
   pub root_label : IsSomeAnd (slice_get (labels_of memory) 0) (λ l. IsTrue (names l wanted_root))
   pub map_labels : HasMapLabels (labels_of memory)
   pub labels : HasLabelsUpto tables (labels_of memory) shapes
-  pub bits : HasBits (is_marked memory) (labels_of memory)
+  pub bits : MarksFit (is_marked memory) (labels_of memory)
   pub named : Triples
   pub map : MapNames memory named
   pub triples : HasTriples named (labels_of memory)

@@ -7,7 +7,7 @@ use Rattle.labelled_disk.specs.declared.label.Label.{Label}
 use Rattle.labelled_disk.specs.Label.{is_free}
 use Rattle.labelled_disk.specs.Layout.{first_data, vam}
 use Rattle.labelled_disk.proofs.Finds.{get_set_same, get_set_other}
-use Rattle.session_words.specs.Parts.{HasLabel, HasBits, HasTriples, IsTriple}
+use Rattle.session_words.specs.Parts.{HasLabel, MarksFit, HasTriples, IsTriple}
 use Rattle.session_words.specs.PlaceLaws.{PlaceLaws}
 use Rattle.session_words.proofs.BitLemmas.{inside_has_bit, low_has_bit}
 use Rattle.session_words.proofs.PlaceLemmas.{and_not, label_new, label_old, label_other, label_set, labels_created, labels_grown, labels_shrunk, or_right, page_freed, page_made}
@@ -15,7 +15,7 @@ use Rattle.session_words.proofs.PlaceLemmas.{and_not, label_new, label_old, labe
 -- Bits and triples.
 
 module _ (labels : List Label) (marks later : ℕ → Bool) (k : ℕ) (new : Label) where
-  pub bits_set : (old : Label) → HasBits marks labels → HasLabel labels k old → later k ≡ not (is_free new) → ((i : ℕ) → i < 4096 * vam (length labels) → i ≢ k → later i ≡ marks i) → HasBits later (slice_set labels k new)
+  pub bits_set : (old : Label) → MarksFit marks labels → HasLabel labels k old → later k ≡ not (is_free new) → ((i : ℕ) → i < 4096 * vam (length labels) → i ≢ k → later i ≡ marks i) → MarksFit later (slice_set labels k new)
   bits_set old h there own others = record {
     low = λ j below.
         let low : j < first_data (length labels) = subst (λ (n : ℕ). j < first_data n) long below in

@@ -29,7 +29,7 @@ use Rattle.flat_machine.proofs.TestLemmas.{two_none, then_none}
 use Rattle.swapper_kernel.specs.Stands.{labels_of}
 use Rattle.session_words.specs.Volume.{volume_page}
 use Rattle.swapper_kernel.specs.Kinds.{Kind, kind_of, HasKind, the_tables, a_file, files_alone, tables_alone, maps_alone}
-use Rattle.session_words.specs.Parts.{Shape, Shapes, shape_of, shapes_of, HasLabel, HasLabels, HasMapLabels, HasBits, HasTriples, TablesMeaning, is_owned, is_marked}
+use Rattle.session_words.specs.Parts.{Shape, Shapes, shape_of, shapes_of, HasLabel, HasLabels, HasMapLabels, MarksFit, HasTriples, TablesMeaning, is_owned, is_marked}
 use Rattle.session_words.specs.PlaceLaws.{IsMade, with_shape, shape_by}
 use Rattle.session_words.specs.StandsFor.{IsForBy, StandsFor}
 use Rattle.session_words.specs.GrowLaws.{IsFree, grown_names}
@@ -138,7 +138,7 @@ module _ (spaces_of : TablesMeaning) (marks : ℕ → Bool) (named : Triples) (x
     labels = subst (λ (l : List Label). HasLabels l (shapes_of (put_file (new_file m 0 kind) m.files))) (sym g.labels)
         (subst (λ (s : Shapes). HasLabels (slice_set (slice_set (labels_of x) 0 root_label) leader (page_label (new_id m) kind leader_page)) s) (sym shapes_made)
         (labels_created (slice_set (labels_of x) 0 root_label) leader (page_label (new_id m) kind leader_page) (shapes_of m.files) (labels_then (labels_of x) root_label 96 (shapes_of m.files) h.labels) made not_three no_shape refl));
-    bits = subst (HasBits (λ k. k == leader || marks k)) (sym g.labels)
+    bits = subst (MarksFit (λ k. k == leader || marks k)) (sym g.labels)
         (bits_set (slice_set (labels_of x) 0 root_label) marks (λ k. k == leader || marks k) leader (page_label (new_id m) kind leader_page) free.label (bits_then (labels_of x) root_label marks h.bits) free.there
         (ap (λ (b : Bool). b || marks leader) (eq-eqb leader leader refl) ∙ ap not (sym taken))
         (λ k below other. ap (λ (b : Bool). b || marks k) (ne_eqb k leader other)));

@@ -12,7 +12,7 @@ use Rattle.labelled_disk.specs.Sectors.{Sector, free_label}
 use Rattle.file_map.specs.FileMap.{Triples}
 use Rattle.swapper_kernel.specs.Stands.{labels_of}
 use Rattle.swapper_kernel.specs.Kinds.{Kind, kind_of, HasKind, maps_alone}
-use Rattle.session_words.specs.Parts.{Shape, Shapes, HasRoot, HasLabel, HasPages, HasLeaders, HasMapLabels, HasBits, HasTriples, IsBesideData, is_marked}
+use Rattle.session_words.specs.Parts.{Shape, Shapes, HasRoot, HasLabel, HasPages, HasLeaders, HasMapLabels, MarksFit, HasTriples, IsBesideData, is_marked}
 use Rattle.session_words.specs.FreeLaws.{free_where, AreOfFiles, Frees}
 use Rattle.swapper_kernel.specs.DiffersLaws.{label_here, sector_of_label}
 use Rattle.swapper_kernel.proofs.KindLemmas.{root_kind}
@@ -93,8 +93,8 @@ module _ (labels : List Label) (gone : ℕ → ℕ → Bool) where
         (cases_eq l.id 0);
   }
 
-  pub bits_gone : (marks later : ℕ → Bool) → HasBits marks labels → ((k : ℕ) (l : Label) → HasLabel labels k l → later k ≡ (not (gone l.id l.page) && marks k)) → ((k : ℕ) → IsBesideData (length labels) k → later k ≡ marks k)
-      → HasBits later (map (free_where gone) labels)
+  pub bits_gone : (marks later : ℕ → Bool) → MarksFit marks labels → ((k : ℕ) (l : Label) → HasLabel labels k l → later k ≡ (not (gone l.id l.page) && marks k)) → ((k : ℕ) → IsBesideData (length labels) k → later k ≡ marks k)
+      → MarksFit later (map (free_where gone) labels)
   bits_gone marks later h says others = record {
     low = λ k below.
         let low : k < first_data (length labels) = subst (λ (n : ℕ). k < first_data n) long below in
@@ -175,8 +175,8 @@ module _ (gone : ℕ → ℕ → Bool) (reserved : AreOfFiles gone) (x y : List 
       (record { here = s.1 ∙ ap (λ (z : Sector). Some z) same; is = is }, was.1)
 
   -- the bits, by the labels
-  pub bits_freed : HasBits (is_marked x) (labels_of x) → HasBits (is_marked y) (labels_of y)
-  bits_freed h = subst (HasBits (is_marked y)) (sym d.labels)
+  pub bits_freed : MarksFit (is_marked x) (labels_of x) → MarksFit (is_marked y) (labels_of y)
+  bits_freed h = subst (MarksFit (is_marked y)) (sym d.labels)
       (bits_gone (labels_of x) gone (is_marked x) (is_marked y) h d.bits (λ k beside. d.others k (subst (λ (n : ℕ). IsBesideData n k) (length-map x (λ s. s.0)) beside)))
 
   -- and the triples

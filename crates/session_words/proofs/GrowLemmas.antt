@@ -21,7 +21,7 @@ use Rattle.flat_machine.specs.Settled.{PageAgrees, CellAgrees}
 use Rattle.flat_machine.proofs.FileLemmas.{look_up_changed, one_id, changed_here, unchanged}
 use Rattle.swapper_kernel.specs.Stands.{labels_of}
 use Rattle.swapper_kernel.specs.Kinds.{Kind, kind_of, HasKind, the_tables, a_file, files_alone, maps_alone}
-use Rattle.session_words.specs.Parts.{Shape, Shapes, shape_of, shapes_of, HasRoot, HasLabel, HasLabels, HasMapLabels, HasBits, HasTriples, HasCells, TablesMeaning, is_marked, but_none}
+use Rattle.session_words.specs.Parts.{Shape, Shapes, shape_of, shapes_of, HasRoot, HasLabel, HasLabels, HasMapLabels, MarksFit, HasTriples, HasCells, TablesMeaning, is_marked, but_none}
 use Rattle.session_words.specs.Found.{AreShapes}
 use Rattle.session_words.specs.PlaceLaws.{with_shape, sized}
 use Rattle.session_words.specs.GrowLaws.{grown_labels, grown_marks, grown_names, GrowsPages, GrowLaws}
@@ -175,7 +175,7 @@ module _ (spaces_of : TablesMeaning) (marks later : ℕ → Bool) (named : Tripl
   long_labels : length (grown_labels id f.kind (size f) is (labels_of x)) ≡ length x
   long_labels = grown_long id f.kind (size f) is (labels_of x) ∙ length-map x (λ s. s.0)
 
-  bits_grown : HasBits (grown_marks is marks) (grown_labels id f.kind (size f) is (labels_of x)) → HasBits later (grown_labels id f.kind (size f) is (labels_of x))
+  bits_grown : MarksFit (grown_marks is marks) (grown_labels id f.kind (size f) is (labels_of x)) → MarksFit later (grown_labels id f.kind (size f) is (labels_of x))
   bits_grown = bits_alike (grown_labels id f.kind (size f) is (labels_of x)) (grown_marks is marks) later (omega (arith, long_labels, h.root.valid.accepted))
       (λ k below. says_bits k (subst (λ (n : ℕ). k < 4096 * vam n) long_labels below))
 
@@ -194,7 +194,7 @@ module _ (spaces_of : TablesMeaning) (marks later : ℕ → Bool) (named : Tripl
         map_labels = map_labels_kept;
         labels = subst (λ (s : Shapes). HasLabels (labels_of y) s) (sym shapes_grown)
             (subst (λ (l : List Label). HasLabels l (with_shape (shapes_of m.files) id (sized (size f + length is) (shape_of f)))) (sym g.labels) book.labels_right);
-        bits = subst (HasBits later) (sym g.labels) (bits_grown book.bits);
+        bits = subst (MarksFit later) (sym g.labels) (bits_grown book.bits);
         triples = subst (HasTriples (grown_names id (size f) is named)) (sym g.labels) book.triples;
         cells = cells_grown;
         tables = record {

@@ -16,7 +16,7 @@ use Rattle.labelled_disk.proofs.WriteLemmas.{get_drop, first_positive}
 use Rattle.volume_root.specs.Sound as sound
 use Rattle.alloc_map.specs.Bits.{is_used}
 use Rattle.swapper_kernel.specs.Stands.{labels_of}
-use Rattle.session_words.specs.Parts.{HasBits, is_marked}
+use Rattle.session_words.specs.Parts.{MarksFit, is_marked}
 use Rattle.swapper_kernel.specs.DiffersLaws.{label_here, sector_of_label}
 use Rattle.session_words.proofs.StayLemmas.{get_take, get_take_past}
 use Rattle.session_words.proofs.BitLemmas.{inside_has_bit, low_has_bit}
@@ -65,7 +65,7 @@ mark_of_bytes d are k inside =
     ap (λ (o : Option Sector). slice_index (page_in o) (k % 4096 / 8)) (sym page) ∙ sym (byte_of_map d are (k / 4096) (k % 4096 / 8) small) ∙ ap (slice_index (sound.map_bytes d)) place in
     λ i. byte i / 2 ^ (7 - bit i) % 2 == 1
 
-pub bits_by_page : (d : List Sector) → AreSectors d → sound.HasBits d → HasBits (is_marked d) (labels_of d)
+pub bits_by_page : (d : List Sector) → AreSectors d → sound.HasBits d → MarksFit (is_marked d) (labels_of d)
 bits_by_page d are h = record {
   low = λ k below.
       let low : k < first_data (length d) = subst (λ (n : ℕ). k < first_data n) long below in
@@ -102,7 +102,7 @@ beyond d are k far =
     ap (λ (b : ℕ). bit_at b (7 - k % 8) == 1) byte ∙ ap (λ (b : ℕ). b == 1) (bit_at-zero (7 - k % 8))
 
 -- and back: the bits in the map's bytes, in order
-pub bits_in_order : (d : List Sector) → AreSectors d → 1 ≤ length d → HasBits (is_marked d) (labels_of d) → sound.HasBits d
+pub bits_in_order : (d : List Sector) → AreSectors d → 1 ≤ length d → MarksFit (is_marked d) (labels_of d) → sound.HasBits d
 bits_in_order d are some h = record {
   low = λ i below. sym (mark_of_bytes d are i (low_has_bit (length d) i some below)) ∙ h.low i (subst (λ (n : ℕ). i < first_data n) (sym long) below);
   by_label = λ i s there.

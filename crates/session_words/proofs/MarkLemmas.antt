@@ -27,7 +27,7 @@ use Rattle.label_laws.specs.Marks.{permanent_label, immutable_label}
 use Rattle.swapper_kernel.specs.Stands.{labels_of}
 use Rattle.session_words.specs.Volume.{volume_page}
 use Rattle.swapper_kernel.specs.Kinds.{kind_of}
-use Rattle.session_words.specs.Parts.{Shape, shape_of, shapes_of, HasRoot, HasLabels, HasLeaders, HasMapLabels, HasBits, HasTriples, IsLeader, TablesMeaning, is_owned, is_marked}
+use Rattle.session_words.specs.Parts.{Shape, shape_of, shapes_of, HasRoot, HasLabels, HasLeaders, HasMapLabels, MarksFit, HasTriples, IsLeader, TablesMeaning, is_owned, is_marked}
 use Rattle.session_words.specs.StandsFor.{IsForBy, IsFor, StandsFor}
 use Rattle.session_words.specs.MarkLaws.{marked_label, pages_of, Marks, MarkLaws}
 use Rattle.swapper_kernel.specs.DiffersLaws.{label_here}
@@ -195,7 +195,7 @@ module _ (spaces_of : TablesMeaning) (id : ℕ) (mark : Label → Label) (change
     map_labels = subst HasMapLabels (sym d.labels) (map_labels_marked id mark change is given (labels_of x) h.by.map_labels);
     labels = subst (λ (l : List Label). HasLabels l (shapes_of (change_file id change m.files))) (sym d.labels)
         (record { pages = pages_marked id mark change is given (labels_of x) (is_owned (shapes_of m.files)) (is_owned (shapes_of (change_file id change m.files))) owned_same h.by.labels.pages; leaders = leaders_marked });
-    bits = subst (HasBits (is_marked y)) (sym d.labels) (bits_marked id mark change is given (labels_of x) (is_marked y) (subst (λ (b : ℕ → Bool). HasBits b (labels_of x)) (λ i k. sym (same_marks x y d.pages k) i) h.by.bits));
+    bits = subst (MarksFit (is_marked y)) (sym d.labels) (bits_marked id mark change is given (labels_of x) (is_marked y) (subst (λ (b : ℕ → Bool). MarksFit b (labels_of x)) (λ i k. sym (same_marks x y d.pages k) i) h.by.bits));
     triples = subst (HasTriples h.named) (sym d.labels) (triples_marked id mark change is given (labels_of x) h.named h.by.triples);
     cells = record {
       agrees = λ k t w p has now page firm.

@@ -12,7 +12,7 @@ use Rattle.labelled_disk.specs.File.{File}
 use Rattle.file_map.specs.FileMap.{Triples}
 use Rattle.label_laws.specs.Marks.{permanent_label, immutable_label}
 use Rattle.label_laws.proofs.FileLemmas.{marks_are_added}
-use Rattle.session_words.specs.Parts.{shape_of, HasLabel, HasPages, HasMapLabels, HasBits, HasTriples, IsLeader, IsOwned}
+use Rattle.session_words.specs.Parts.{shape_of, HasLabel, HasPages, HasMapLabels, MarksFit, HasTriples, IsLeader, IsOwned}
 use Rattle.session_words.specs.MarkLaws.{marked_label}
 use Rattle.session_words.proofs.FoundLemmas.{above_reserved}
 use Rattle.session_words.proofs.LooseLemmas.{names_id}
@@ -172,7 +172,7 @@ module _ (id : ℕ) (mark : Label → Label) (change : File → File) (is : IsMa
                 let own = names_id l w a in
                 subst (λ (o : Option Label). IsSomeAnd o (λ l. IsTrue (names l w))) (sym (to k l e ∙ ap (λ (x : Label). Some x) (reserved_still l (omega (arith, own, low))))) a
 
-    pub bits_marked : (marks : ℕ → Bool) → HasBits marks labels → HasBits marks (map (marked_label id mark) labels)
+    pub bits_marked : (marks : ℕ → Bool) → MarksFit marks labels → MarksFit marks (map (marked_label id mark) labels)
     bits_marked marks h = record {
       low = λ k below. h.low k (subst (λ (n : ℕ). k < first_data n) long below);
       bits = λ k l has. let w = has_from k l has in h.bits k w.0 w.1 ∙ ap not (free_from w.0 l w.2);

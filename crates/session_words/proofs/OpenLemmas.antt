@@ -28,7 +28,7 @@ use Rattle.swapper_kernel.specs.Stands.{labels_of}
 use Rattle.swapper_kernel.specs.Kinds.{kind_of, HasKind, a_file, files_alone, tables_alone, maps_alone}
 use Rattle.swapper_kernel.specs.DiffersLaws.{label_here, sector_of_label}
 use Rattle.swapper_kernel.proofs.KindLemmas.{root_kind, kind_is_data}
-use Rattle.session_words.specs.Parts.{is_owned_upto, Shape, Shapes, shapes_of, HasRoot, HasLabel, HasPages, HasLeaders, HasMapLabels, HasBits, HasTriples, HasCells, TablesMeaning, is_marked, but_none}
+use Rattle.session_words.specs.Parts.{is_owned_upto, Shape, Shapes, shapes_of, HasRoot, HasLabel, HasPages, HasLeaders, HasMapLabels, MarksFit, HasTriples, HasCells, TablesMeaning, is_marked, but_none}
 use Rattle.session_words.specs.PlaceLaws.{IsMade}
 use Rattle.session_words.specs.GrowLaws.{AreFree, grown_labels, grown_marks, grown_names}
 use Rattle.session_words.specs.StartLaws.{table_label}
@@ -49,7 +49,7 @@ use Rattle.session_words.proofs.StayLemmas.{stays}
 record Tabled (n : ℕ) (shapes : Shapes) (labels : List Label) (marks : ℕ → Bool) (named : Triples) : Type 0 where
   pages : HasPages labels (is_owned_upto n shapes)
   leaders : HasLeaders labels shapes
-  bits : HasBits marks labels
+  bits : MarksFit marks labels
   triples : HasTriples named labels
 
 tables_grown : (is : List ℕ) (n m : ℕ) (shapes : Shapes) (labels : List Label) (marks : ℕ → Bool) (named : Triples) → n + length is ≡ m → shapes 3 ≡ None → AreFree 3 0 n is labels → Tabled n shapes labels marks named
@@ -114,7 +114,7 @@ module _ (d x : List Sector) (c : FlagCleared d x) where
   same_marks : (i : ℕ) → is_marked x i ≡ is_marked d i
   same_marks i = ap (λ (o : Option Sector). is_used (page_in o) (i % 4096)) (c.others (1 + i / 4096) (λ e. omega (arith, e)))
 
-  bits_too : HasBits (is_marked d) (labels_of d) → HasBits (is_marked x) (labels_of x)
+  bits_too : MarksFit (is_marked d) (labels_of d) → MarksFit (is_marked x) (labels_of x)
   bits_too h = record {
     low = λ k below. same_marks k ∙ h.low k (subst (λ (n : ℕ). k < first_data n) labels_long below);
     bits = λ k l has. same_marks k ∙ h.bits k l (back k l has);
@@ -177,7 +177,7 @@ module _ (spaces_of : TablesMeaning) (d x y z : List Sector) (is : List ℕ) (o 
       record {
         pages = subst (λ (l : List Label). HasPages l (is_owned_upto 96 (shapes_of (files_on d)))) (sym t.grown.labels) grown.pages;
         leaders = subst (λ (l : List Label). HasLeaders l (shapes_of (files_on d))) (sym t.grown.labels) grown.leaders;
-        bits = subst (HasBits (is_marked y)) (sym t.grown.labels)
+        bits = subst (MarksFit (is_marked y)) (sym t.grown.labels)
             (bits_alike (grown_labels 3 0 0 is (labels_of x)) (grown_marks is (is_marked x)) (is_marked y) (omega (arith, long_labels, c.root_open.valid.accepted))
             (λ k below. t.bits k (subst (λ (n : ℕ). k < 4096 * vam n) long_labels below)) grown.bits);
         triples = subst (HasTriples (grown_names 3 0 is o.named)) (sym t.grown.labels) grown.triples;

@@ -7,7 +7,7 @@ use Rattle.labelled_disk.specs.Layout.{first_data, vam, vfm}
 use Rattle.labelled_disk.proofs.Finds.{get_set_other}
 use Rattle.labelled_disk.proofs.WriteLemmas.{first_positive}
 use Rattle.file_map.specs.FileMap.{Triples}
-use Rattle.session_words.specs.Parts.{Shapes, HasLabel, HasPages, HasLabelsUpto, HasMapLabels, HasBits, HasTriples, IsTriple}
+use Rattle.session_words.specs.Parts.{Shapes, HasLabel, HasPages, HasLabelsUpto, HasMapLabels, MarksFit, HasTriples, IsTriple}
 use Rattle.session_words.specs.GrowLaws.{IsFree}
 
 -- with another label in sector 0
@@ -65,7 +65,7 @@ module _ (labels : List Label) (root : Label) where
         (subst (λ (o : Option Label). IsSomeAnd o (λ l. IsTrue (names l (record { id = 2; page = k })))) (sym (behind_root (1 + vam (length labels) + k) some)) (h.file_map k (subst (λ (n : ℕ). k < vfm n) long below)));
   }
 
-  pub bits_then : (marks : ℕ → Bool) → HasBits marks labels → HasBits marks (slice_set labels 0 root)
+  pub bits_then : (marks : ℕ → Bool) → MarksFit marks labels → MarksFit marks (slice_set labels 0 root)
   bits_then marks h = record {
     low = λ k below. h.low k (subst (λ (n : ℕ). k < first_data n) long below);
     bits = λ k l has. h.bits k l (has_before k l has);

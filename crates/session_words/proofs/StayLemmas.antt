@@ -13,7 +13,7 @@ use Rattle.alloc_map.specs.Bits.{is_used}
 use Rattle.file_map.specs.InSectors.{map_bytes}
 use Rattle.swapper_kernel.specs.Stands.{labels_of}
 use Rattle.swapper_kernel.specs.Kinds.{Kind, SameBut, of_kinds, the_root, the_allocation_map, the_file_map, the_tables, a_file}
-use Rattle.session_words.specs.Parts.{HasRoot, HasBits, HasTriples, HasLabels, HasMapLabels, is_marked, TablesMeaning}
+use Rattle.session_words.specs.Parts.{HasRoot, MarksFit, HasTriples, HasLabels, HasMapLabels, is_marked, TablesMeaning}
 use Rattle.session_words.specs.KindLaws.{Stays}
 use Rattle.session_words.proofs.BitLemmas.{bits_alike}
 use Rattle.session_words.proofs.MapLemmas.{names_alike}
@@ -53,10 +53,10 @@ module _ (m n : List Sector) (kinds : Kind → Bool) (same : SameBut kinds m n) 
   same_mark : kinds the_allocation_map ≡ false → (k : ℕ) → k < 4096 * vam (length m) → is_marked n k ≡ is_marked m k
   same_mark other k below = ap (λ (p : Option Sector). is_used (page_in p) (k % 4096)) (marks_place other (k / 4096) (omega (arith, below)))
 
-  pub bits_stay : kinds the_allocation_map ≡ false → HasBits (is_marked m) (labels_of m) → HasBits (is_marked n) (labels_of n)
+  pub bits_stay : kinds the_allocation_map ≡ false → MarksFit (is_marked m) (labels_of m) → MarksFit (is_marked n) (labels_of n)
   bits_stay other h = ⊎_elim
-      (λ (none : length m < 1). subst (λ (z : List Sector). HasBits (is_marked z) (labels_of z)) (both_empty m n none long) h)
-      (λ (some : 1 ≤ length m). subst (HasBits (is_marked n)) (sym same.labels)
+      (λ (none : length m < 1). subst (λ (z : List Sector). MarksFit (is_marked z) (labels_of z)) (both_empty m n none long) h)
+      (λ (some : 1 ≤ length m). subst (MarksFit (is_marked n)) (sym same.labels)
       (bits_alike (labels_of m) (is_marked m) (is_marked n) (omega (arith, some, labels_long))
       (λ k below. same_mark other k (subst (λ (i : ℕ). k < 4096 * vam i) labels_long below)) h))
       (cases_lt (length m) 1)

@@ -11,7 +11,7 @@ use Rattle.flat_machine.specs.IsMachine.{IsMachine}
 use Rattle.flat_machine.specs.Next.{change_file}
 use Rattle.swapper_kernel.specs.Stands.{labels_of}
 use Rattle.swapper_kernel.specs.Kinds.{kind_of, maps_alone}
-use Rattle.session_words.specs.Parts.{TablesMeaning, HasLabel, HasPages, HasBits, HasTriples, IsBesideData, is_marked}
+use Rattle.session_words.specs.Parts.{TablesMeaning, HasLabel, HasPages, MarksFit, HasTriples, IsBesideData, is_marked}
 use Rattle.session_words.specs.StandsFor.{IsFor}
 
 -- the label is free where its page goes
@@ -42,9 +42,9 @@ cut n f = record f { pages = take n f.pages }
 
 pub record FreeLaws (spaces_of : TablesMeaning) : Type 0 where
   pub pages : (labels : List Label) (gone owned : ℕ → ℕ → Bool) → HasPages labels owned → HasPages (map (free_where gone) labels) (λ i p. not (gone i p) && owned i p)
-  pub bits : (labels : List Label) (gone : ℕ → ℕ → Bool) (marks later : ℕ → Bool) → HasBits marks labels
+  pub bits : (labels : List Label) (gone : ℕ → ℕ → Bool) (marks later : ℕ → Bool) → MarksFit marks labels
       → ((k : ℕ) (l : Label) → HasLabel labels k l → later k ≡ (not (gone l.id l.page) && marks k)) → ((k : ℕ) → IsBesideData (length labels) k → later k ≡ marks k)
-      → HasBits later (map (free_where gone) labels)
+      → MarksFit later (map (free_where gone) labels)
   pub triples : (labels : List Label) (gone : ℕ → ℕ → Bool) (named later : Triples) → HasTriples named labels
       → ((i p s : ℕ) → later i p s ≡ (not (gone i p) && named i p s)) → HasTriples later (map (free_where gone) labels)
   -- a file that is cut

@@ -13,7 +13,7 @@ use Rattle.flat_machine.specs.IsMachine.{IsMachine}
 use Rattle.flat_machine.specs.Next.{change_file}
 use Rattle.swapper_kernel.specs.Stands.{labels_of}
 use Rattle.swapper_kernel.specs.Kinds.{kind_of, maps_alone}
-use Rattle.session_words.specs.Parts.{TablesMeaning, Shape, Shapes, HasLabel, HasLabels, HasBits, HasTriples, is_marked}
+use Rattle.session_words.specs.Parts.{TablesMeaning, Shape, Shapes, HasLabel, HasLabels, MarksFit, HasTriples, is_marked}
 use Rattle.session_words.specs.Found.{AreShapes}
 use Rattle.session_words.specs.PlaceLaws.{with_shape, sized}
 use Rattle.session_words.specs.StandsFor.{IsFor}
@@ -21,7 +21,7 @@ use Rattle.session_words.specs.StandsFor.{IsFor}
 -- what labels, bits and triples say together
 pub record IsBook (labels : List Label) (shapes : Shapes) (marks : ℕ → Bool) (named : Triples) : Type 0 where
   pub labels_right : HasLabels labels shapes
-  pub bits : HasBits marks labels
+  pub bits : MarksFit marks labels
   pub triples : HasTriples named labels
 
 -- the data sector is free

@@ -7,14 +7,14 @@ use Rattle.file_map.specs.InSectors.{MapNames}
 use Rattle.flat_machine.specs.declared.space.Space.{Space}
 use Rattle.swapper_kernel.specs.Stands.{labels_of}
 use Rattle.swapper_kernel.specs.Kinds.{Kind, SameBut, the_root, the_allocation_map, the_file_map, the_tables, a_file}
-use Rattle.session_words.specs.Parts.{HasRoot, HasBits, HasTriples, HasCells, HasTables, Shapes, HasLabels, HasMapLabels, TablesMeaning, is_marked}
+use Rattle.session_words.specs.Parts.{HasRoot, MarksFit, HasTriples, HasCells, HasTables, Shapes, HasLabels, HasMapLabels, TablesMeaning, is_marked}
 
 module _ (spaces_of : TablesMeaning) (m n : List Sector) (kinds : Kind → Bool) (same : SameBut kinds m n) where
   pub record Stays : Type 0 where
     pub labels : (shapes : Shapes) → HasLabels (labels_of m) shapes → HasLabels (labels_of n) shapes
     pub map_labels : HasMapLabels (labels_of m) → HasMapLabels (labels_of n)
     pub root : (serial counter room : ℕ) → kinds the_root ≡ false → HasRoot (length m) (slice_get m 0) serial counter room → HasRoot (length n) (slice_get n 0) serial counter room
-    pub bits : kinds the_allocation_map ≡ false → HasBits (is_marked m) (labels_of m) → HasBits (is_marked n) (labels_of n)
+    pub bits : kinds the_allocation_map ≡ false → MarksFit (is_marked m) (labels_of m) → MarksFit (is_marked n) (labels_of n)
     pub map : (named : Triples) → kinds the_file_map ≡ false → MapNames m named → MapNames n named
     pub triples : (named : Triples) → HasTriples named (labels_of m) → HasTriples named (labels_of n)
     pub cells : (but : ℕ → ℕ → Bool) (files : List File) → kinds a_file ≡ false → HasCells but m files → HasCells but n files

@@ -12,7 +12,7 @@ use Rattle.flat_machine.specs.Space.{root}
 use Rattle.flat_machine.specs.Start.{start}
 use Rattle.swapper_kernel.specs.Stands.{labels_of}
 use Rattle.swapper_kernel.specs.Kinds.{SameBut, tables_alone}
-use Rattle.session_words.specs.Parts.{TablesMeaning, HasRoot, HasBits, HasTriples, HasTables, is_marked}
+use Rattle.session_words.specs.Parts.{TablesMeaning, HasRoot, MarksFit, HasTriples, HasTables, is_marked}
 use Rattle.session_words.specs.GrowLaws.{GrowsPages, grown_marks, grown_names}
 use Rattle.session_words.specs.StandsFor.{IsFor}
 
@@ -21,7 +21,7 @@ pub record CanOpen (d : List Sector) : Type 0 where
   pub sectors : AreSectors d
   pub right : LabelsRight d
   pub free_or_needed : (i : ℕ) (s : Sector) → slice_get (data_sectors d) i ≡ Some s → (is_free s.0 ≡ true) ⊎ (is_needed false (data_sectors d) i ≡ true)
-  pub bits : HasBits (is_marked d) (labels_of d)
+  pub bits : MarksFit (is_marked d) (labels_of d)
   pub named : Triples
   pub map : MapNames d named
   pub triples : HasTriples named (labels_of d)

@@ -115,7 +115,7 @@ abbrev pub IsBesideData : ℕ → ℕ → Type 0
 IsBesideData n k = (k < first_data n) ⊎ ((n ≤ k) × (k < 4096 * vam n))
 
 -- root and maps are marked, a data sector exactly where its label isn't free, and nothing past the end
-pub record HasBits (marks : ℕ → Bool) (labels : List Label) : Type 0 where
+pub record MarksFit (marks : ℕ → Bool) (labels : List Label) : Type 0 where
   pub low : (k : ℕ) → k < first_data (length labels) → marks k ≡ true
   pub bits : (k : ℕ) (l : Label) → HasLabel labels k l → marks k ≡ not (is_free l)
   pub past : (k : ℕ) → length labels ≤ k → k < 4096 * vam (length labels) → marks k ≡ false

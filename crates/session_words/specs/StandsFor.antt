@@ -12,7 +12,7 @@ use Rattle.flat_machine.specs.IsMachine.{IsMachine}
 use Rattle.flat_machine.specs.Settled.{settled, Agrees, is_unforced}
 use Rattle.swapper_kernel.specs.Stands.{Stands, labels_of}
 use Rattle.session_words.specs.FrameLaws.{HasFrames}
-use Rattle.session_words.specs.Parts.{HasRoot, HasLabels, HasLabelsUpto, HasMapLabels, HasBits, HasTriples, HasCells, HasTables, DirtyAreLoose, shapes_of, but_none, TablesMeaning, is_marked}
+use Rattle.session_words.specs.Parts.{HasRoot, HasLabels, HasLabelsUpto, HasMapLabels, MarksFit, HasTriples, HasCells, HasTables, DirtyAreLoose, shapes_of, but_none, TablesMeaning, is_marked}
 
 -- a memory stands for a machine, with these bits and these triples
 pub record IsForBy (spaces_of : TablesMeaning) (marks : ℕ → Bool) (named : Triples) (memory : List Sector) (m : Machine) : Type 0 where
@@ -21,7 +21,7 @@ pub record IsForBy (spaces_of : TablesMeaning) (marks : ℕ → Bool) (named : T
   pub root : HasRoot (length memory) (slice_get memory 0) m.serial m.counter m.capacity
   pub map_labels : HasMapLabels (labels_of memory)
   pub labels : HasLabels (labels_of memory) (shapes_of m.files)
-  pub bits : HasBits marks (labels_of memory)
+  pub bits : MarksFit marks (labels_of memory)
   pub triples : HasTriples named (labels_of memory)
   pub cells : HasCells but_none memory m.files
   pub tables : HasTables spaces_of memory m.spaces

@@ -9,7 +9,7 @@ use Rattle.labelled_disk.specs.FilesOn.{files_on}
 use Rattle.labelled_disk.specs.Root.{LabelsRight}
 use Rattle.volume_root.specs.Sound as sound
 use Rattle.swapper_kernel.specs.Stands.{labels_of}
-use Rattle.session_words.specs.Parts.{is_owned_upto, Shapes, shapes_of, HasPages, HasLeaders, HasBits, is_owned, is_marked}
+use Rattle.session_words.specs.Parts.{is_owned_upto, Shapes, shapes_of, HasPages, HasLeaders, MarksFit, is_owned, is_marked}
 use Rattle.session_words.specs.PlaceLaws.{IsMade}
 
 -- the label of a page of the space tables
@@ -22,7 +22,7 @@ pub record IsFilesAlone (d : List Sector) : Type 0 where
   pub leaders : HasLeaders (labels_of d) (shapes_of (files_on d))
 
 pub record StartLaws : Type 0 where
-  pub bits : (d : List Sector) → AreSectors d → sound.HasBits d → HasBits (is_marked d) (labels_of d)
+  pub bits : (d : List Sector) → AreSectors d → sound.HasBits d → MarksFit (is_marked d) (labels_of d)
   pub files : (d : List Sector) → LabelsRight d → ((i : ℕ) (s : Sector) → slice_get (data_sectors d) i ≡ Some s → (is_free s.0 ≡ true) ⊎ (is_needed false (data_sectors d) i ≡ true)) → IsFilesAlone d
   pub table : (labels : List Label) (k n : ℕ) (shapes : Shapes) → HasPages labels (is_owned_upto n shapes) → IsMade labels k (table_label n) (is_owned_upto n shapes)
       → HasPages (slice_set labels k (table_label n)) (is_owned_upto (suc n) shapes)
