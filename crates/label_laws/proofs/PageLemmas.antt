@@ -15,7 +15,7 @@ use Rattle.labelled_disk.proofs.Pages.{pages_each}
 use Rattle.labelled_disk.proofs.SectorWrites as w
 use Rattle.labelled_disk.proofs.WriteLemmas as laws
 use Rattle.label_laws.specs.Mixed.{labels}
-use Rattle.label_laws.specs.Shape.{Shape, shape_of, PagesBySectors}
+use Rattle.label_laws.specs.Shape.{BareFile, bare_file, PagesBySectors}
 use Rattle.label_laws.proofs.ShapeLemmas.{data_labels, labels_give_shape}
 use Rattle.label_laws.proofs.VolumeLemmas.{long_by}
 
@@ -58,13 +58,13 @@ module _ (temps : Bool) where
           long : length e ≡ length d
           long = long_by d e same
 
-      either : (o : Option File) → disk_file temps e id ≡ o → (q : Option File) → disk_file temps d id ≡ q → option_map shape_of o ≡ option_map shape_of q
+      either : (o : Option File) → disk_file temps e id ≡ o → (q : Option File) → disk_file temps d id ≡ q → option_map bare_file o ≡ option_map bare_file q
           → option_map_or (λ (f : File). slice_get f.pages p) o None ≡ option_map_or (λ (f : File). slice_get f.pages p) q None
       either None a None b shapes = refl
-      either None a (Some f) b shapes = absurd (none-some (shape_of f) shapes)
-      either (Some g) a None b shapes = absurd (none-some (shape_of g) (sym shapes))
+      either None a (Some f) b shapes = absurd (none-some (bare_file f) shapes)
+      either (Some g) a None b shapes = absurd (none-some (bare_file g) (sym shapes))
       either (Some g) a (Some f) b shapes =
-          let long : size g ≡ size f = ap (λ (s : Shape). s.pages) (same_Some (shape_of g) (shape_of f) shapes) in
+          let long : size g ≡ size f = ap (λ (s : BareFile). s.pages) (same_Some (bare_file g) (bare_file f) shapes) in
           elim (cases_lt p (size f)) [
             | inl low ↦ page_found temps e id p g a (omega (arith, low, long)) ∙ page ∙ sym (page_found temps d id p f b low)
             | inr high ↦ slice_get_past g.pages p (omega (arith, high, long)) ∙ sym (slice_get_past f.pages p high)

@@ -26,7 +26,7 @@ use Rattle.labelled_disk.specs.RootLaws.{StaysRight}
 use Rattle.labelled_disk.specs.WriteLaws.{Changed, Kept}
 use Rattle.label_laws.specs.AllPermanent.{PermanentAreAmong, if_permanent}
 use Rattle.label_laws.specs.MixedVolumes.{ShapeChanged}
-use Rattle.label_laws.specs.Shape.{Shape, shape_of}
+use Rattle.label_laws.specs.Shape.{BareFile, bare_file}
 use Rattle.label_laws.proofs.FileLemmas.{free_none}
 use Rattle.label_laws.proofs.NeededLemmas.{first_passes, needed_at, needs}
 
@@ -220,14 +220,14 @@ permanent_volume d right = record { has_root = right.has_root; has_maps = right.
 -- What is said of all files, of the permanent ones.
 
 -- a shape, if it is permanent
-abbrev permanent_shape : Option Shape → Option Shape
-permanent_shape o = option_map_or (λ (s : Shape). if s.permanent then Some s else None) o None
+abbrev permanent_shape : Option BareFile → Option BareFile
+permanent_shape o = option_map_or (λ (s : BareFile). if s.permanent then Some s else None) o None
 
-shape_permanent : (o : Option File) → option_map shape_of (if_permanent o) ≡ permanent_shape (option_map shape_of o)
+shape_permanent : (o : Option File) → option_map bare_file (if_permanent o) ≡ permanent_shape (option_map bare_file o)
 shape_permanent None = refl
 shape_permanent (Some f) = either f.permanent
   where
-    either : (b : Bool) → option_map shape_of (if b then Some f else None) ≡ (if b then Some (shape_of f) else None)
+    either : (b : Bool) → option_map bare_file (if b then Some f else None) ≡ (if b then Some (bare_file f) else None)
     either true = refl
     either false = refl
 
@@ -247,11 +247,11 @@ shape_changed_seen serial counter d e id now right change = record {
   right = permanent_right serial counter e change.right;
 }
   where
-    seen : (other : ℕ) → option_map shape_of (disk_file false e other) ≡ permanent_shape (option_map shape_of (disk_file true e other))
-    seen other = ap (λ (o : Option File). option_map shape_of o) (one serial counter e change.right other) ∙ shape_permanent (disk_file true e other)
+    seen : (other : ℕ) → option_map bare_file (disk_file false e other) ≡ permanent_shape (option_map bare_file (disk_file true e other))
+    seen other = ap (λ (o : Option File). option_map bare_file o) (one serial counter e change.right other) ∙ shape_permanent (disk_file true e other)
 
-    before : (other : ℕ) → option_map shape_of (disk_file false d other) ≡ permanent_shape (option_map shape_of (disk_file true d other))
-    before other = ap (λ (o : Option File). option_map shape_of o) (one serial counter d right other) ∙ shape_permanent (disk_file true d other)
+    before : (other : ℕ) → option_map bare_file (disk_file false d other) ≡ permanent_shape (option_map bare_file (disk_file true d other))
+    before other = ap (λ (o : Option File). option_map bare_file o) (one serial counter d right other) ∙ shape_permanent (disk_file true d other)
 
 pub kept_seen : (serial counter : ℕ) (d e : List Sector) → FilesRight true serial counter d → Kept true serial counter d e → Kept false serial counter d e
 kept_seen serial counter d e right kept = record {

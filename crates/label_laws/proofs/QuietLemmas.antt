@@ -13,7 +13,7 @@ use Rattle.labelled_disk.specs.WriteLaws.{Kept}
 use Rattle.labelled_disk.proofs.WriteLemmas as laws
 use Rattle.label_laws.specs.MixedVolumes.{ShapesKept}
 use Rattle.label_laws.specs.Quiet.{IsQuiet, QuietAppended, QuietMoments}
-use Rattle.label_laws.specs.Shape.{shape_of}
+use Rattle.label_laws.specs.Shape.{bare_file}
 use Rattle.label_laws.proofs.MixedLemmas.{labels_page}
 use Rattle.label_laws.proofs.ShapeLemmas.{labels_give_shape}
 use Rattle.label_laws.proofs.UnseenLemmas.{unseen_one}
@@ -25,14 +25,14 @@ quiet_append temps id d (write ∷ first) next one more = (one.0, quiet_append t
 module _ (temps : Bool) (id serial counter : ℕ) where
   from_kept : (d e : List Sector) → Kept temps serial counter d e → ShapesKept temps serial counter d e
   from_kept d e kept = record {
-    shapes = λ other. ap (λ (o : Option File). option_map shape_of o)
+    shapes = λ other. ap (λ (o : Option File). option_map bare_file o)
         (sym (laws.look_up temps serial counter e other) ∙ ap (λ (l : List File). file_at l other) kept.files ∙ laws.look_up temps serial counter d other);
     right = kept.right;
   }
 
-  no_shape : (o : Option File) → option_map shape_of o ≡ None → o ≡ None
+  no_shape : (o : Option File) → option_map bare_file o ≡ None → o ≡ None
   no_shape None e = refl
-  no_shape (Some f) e = absurd (none-some (shape_of f) (sym e))
+  no_shape (Some f) e = absurd (none-some (bare_file f) (sym e))
 
   quiet_one : (d : List Sector) (one : DiskWrite) → FilesRight temps serial counter d → disk_file temps d id ≡ None → IsQuiet temps id d one → ShapesKept temps serial counter d (written one d)
   quiet_one d (Whole sector label page) right none is = from_kept d (written (Whole sector label page) d) (unseen_one temps id serial counter d (Whole sector label page) right none is)
@@ -46,6 +46,6 @@ module _ (temps : Bool) (id serial counter : ℕ) where
   quiet_moments d [] right none are (suc k) = record { shapes = λ other. refl; right = right }
   quiet_moments d (one ∷ writes) right none are (suc k) =
       let first = quiet_one d one right none are.0 in
-      let still : disk_file temps (written one d) id ≡ None = no_shape (disk_file temps (written one d) id) (first.shapes id ∙ ap (λ (o : Option File). option_map shape_of o) none) in
+      let still : disk_file temps (written one d) id ≡ None = no_shape (disk_file temps (written one d) id) (first.shapes id ∙ ap (λ (o : Option File). option_map bare_file o) none) in
       let rest = quiet_moments (written one d) writes first.right still are.1 k in
       record { shapes = λ other. rest.shapes other ∙ first.shapes other; right = rest.right }

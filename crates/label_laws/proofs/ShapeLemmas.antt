@@ -21,7 +21,7 @@ use Rattle.labelled_disk.proofs.Pages.{pages_more, pages_end, pages_zero}
 use Rattle.labelled_disk.proofs.RisingLemmas.{zip_by_look_up}
 use Rattle.labelled_disk.proofs.WriteLemmas as laws
 use Rattle.label_laws.specs.Mixed.{labels, label_writes}
-use Rattle.label_laws.specs.Shape.{Shape, shape_of, LabelsGiveShape, MixedShapes, SameByPages}
+use Rattle.label_laws.specs.Shape.{BareFile, bare_file, LabelsGiveShape, MixedShapes, SameByPages}
 use Rattle.label_laws.proofs.MixedLemmas.{labels_by_label_writes}
 
 -- Tests of labels.
@@ -115,35 +115,35 @@ whole_alike xs ys same f g ids long whole = record {
     back u s is of = ap (λ (l : Label). is_of f.id (l, [])) is ∙ ap (λ (n : ℕ). is_of n u) (sym ids) ∙ of
 
 -- files of the same shapes need as much room
-room_zip : (fs gs : List File) → AllZip (λ f g. shape_of f ≡ shape_of g) fs gs → total_room fs ≡ total_room gs
+room_zip : (fs gs : List File) → AllZip (λ f g. bare_file f ≡ bare_file g) fs gs → total_room fs ≡ total_room gs
 room_zip [] [] all = refl
 room_zip [] (g ∷ gs) all = absurd all
 room_zip (f ∷ fs) [] all = absurd all
-room_zip (f ∷ fs) (g ∷ gs) all = omega (arith, sum_by-cons room_of f fs, sum_by-cons room_of g gs, ap (λ (s : Shape). s.pages) all.0, room_zip fs gs all.1)
+room_zip (f ∷ fs) (g ∷ gs) all = omega (arith, sum_by-cons room_of f fs, sum_by-cons room_of g gs, ap (λ (s : BareFile). s.pages) all.0, room_zip fs gs all.1)
 
-both_shapes : (o p : Option File) → option_map shape_of o ≡ option_map shape_of p → BothBy (λ f g. shape_of f ≡ shape_of g) o p
+both_shapes : (o p : Option File) → option_map bare_file o ≡ option_map bare_file p → BothBy (λ f g. bare_file f ≡ bare_file g) o p
 both_shapes None None e = tt
-both_shapes None (Some g) e = none-some (shape_of g) e
-both_shapes (Some f) None e = none-some (shape_of f) (sym e)
-both_shapes (Some f) (Some g) e = same_Some (shape_of f) (shape_of g) e
+both_shapes None (Some g) e = none-some (bare_file g) e
+both_shapes (Some f) None e = none-some (bare_file f) (sym e)
+both_shapes (Some f) (Some g) e = same_Some (bare_file f) (bare_file g) e
 
 pub same_by_pages : SameByPages
 same_by_pages f g alike pages = whole f g alike (laws.same_elements true 0 0 g.pages f.pages (λ p. at p (cases_lt p (size f))))
   where
     at : (p : ℕ) → (p < size f) ⊎ (size f ≤ p) → slice_get g.pages p ≡ slice_get f.pages p
     at p (inl low) = pages p low
-    at p (inr high) = slice_get_past g.pages p (omega (arith, high, ap (λ (s : Shape). s.pages) alike)) ∙ sym (slice_get_past f.pages p high)
+    at p (inr high) = slice_get_past g.pages p (omega (arith, high, ap (λ (s : BareFile). s.pages) alike)) ∙ sym (slice_get_past f.pages p high)
 
-    whole : (f g : File) → shape_of g ≡ shape_of f → g.pages ≡ f.pages → g ≡ f
+    whole : (f g : File) → bare_file g ≡ bare_file f → g.pages ≡ f.pages → g ≡ f
     whole f g alike same = λ x. record { id = (alike x).id; kind = (alike x).kind; permanent = (alike x).permanent; immutable = (alike x).immutable; pages = same x }
 
 module _ (temps : Bool) where
-  shapes : (xs ys : List Sector) → labels ys ≡ labels xs → (id : ℕ) → option_map shape_of (file_among temps ys id) ≡ option_map shape_of (file_among temps xs id)
+  shapes : (xs ys : List Sector) → labels ys ≡ labels xs → (id : ℕ) → option_map bare_file (file_among temps ys id) ≡ option_map bare_file (file_among temps xs id)
   shapes xs ys same id =
-      ap (λ (o : Option Label). option_map shape_of (option_map (file_by ys) o)) (find_alike (λ (l : Label). leads_file temps id (l, [])) xs ys same)
+      ap (λ (o : Option Label). option_map bare_file (option_map (file_by ys) o)) (find_alike (λ (l : Label). leads_file temps id (l, [])) xs ys same)
       ∙ either (leader_among temps xs id)
     where
-      either : (o : Option Label) → option_map shape_of (option_map (file_by ys) o) ≡ option_map shape_of (option_map (file_by xs) o)
+      either : (o : Option Label) → option_map bare_file (option_map (file_by ys) o) ≡ option_map bare_file (option_map (file_by xs) o)
       either None = refl
       either (Some l) =
           ap (λ (n : ℕ). Some (record { id = l.id; kind = l.kind; permanent = is_permanent l; immutable = is_immutable l; pages = n })) (pages_alike xs ys same l.id 0 leader_page)
@@ -151,11 +151,11 @@ module _ (temps : Bool) where
   room_alike : (d e : List Sector) → labels e ≡ labels d → total_room (files_among temps e) ≡ total_room (files_among temps d)
   room_alike d e same =
       room_zip (files_among temps e) (files_among temps d)
-      (zip_by_look_up (λ f g. shape_of f ≡ shape_of g) (λ f g is. ap (λ (s : Shape). s.id) is) (files_among temps e) (files_among temps d)
+      (zip_by_look_up (λ f g. bare_file f ≡ bare_file g) (λ f g is. ap (λ (s : BareFile). s.id) is) (files_among temps e) (files_among temps d)
       (laws.files_on_rise temps 0 0 e) (laws.files_on_rise temps 0 0 d)
       (λ id. both_shapes (file_at (files_among temps e) id) (file_at (files_among temps d) id)
-      (ap (λ (o : Option File). option_map shape_of o) (laws.look_up temps 0 0 e id) ∙ shapes (data_sectors d) (data_sectors e) (data_labels d e same) id
-      ∙ ap (λ (o : Option File). option_map shape_of o) (sym (laws.look_up temps 0 0 d id)))))
+      (ap (λ (o : Option File). option_map bare_file o) (laws.look_up temps 0 0 e id) ∙ shapes (data_sectors d) (data_sectors e) (data_labels d e same) id
+      ∙ ap (λ (o : Option File). option_map bare_file o) (sym (laws.look_up temps 0 0 d id)))))
 
   -- what labels say of need
   abbrev needs_by : List Sector → ℕ → Label → ℕ → Bool
@@ -172,19 +172,19 @@ module _ (temps : Bool) where
       at : List Sector → ℕ → Option Sector → Bool
       at zs i o = option_map_or (λ s. option_map_or (λ f. needs_by zs i s.0 (size f)) (file_among temps zs s.0.id) false) o false
 
-      by_shape : (zs : List Sector) (l : Label) (o : Option File) → option_map_or (λ f. needs_by zs i l (size f)) o false ≡ option_map_or (λ (s : Shape). needs_by zs i l s.pages) (option_map shape_of o) false
+      by_shape : (zs : List Sector) (l : Label) (o : Option File) → option_map_or (λ f. needs_by zs i l (size f)) o false ≡ option_map_or (λ (s : BareFile). needs_by zs i l s.pages) (option_map bare_file o) false
       by_shape zs l None = refl
       by_shape zs l (Some f) = refl
 
-      by_need : (l : Label) (o : Option Shape) → option_map_or (λ (s : Shape). needs_by ys i l s.pages) o false ≡ option_map_or (λ (s : Shape). needs_by xs i l s.pages) o false
+      by_need : (l : Label) (o : Option BareFile) → option_map_or (λ (s : BareFile). needs_by ys i l s.pages) o false ≡ option_map_or (λ (s : BareFile). needs_by xs i l s.pages) o false
       by_need l None = refl
       by_need l (Some s) = needs_alike xs ys same i l s.pages
 
       by_label : (l : Label) → option_map_or (λ f. needs_by ys i l (size f)) (file_among temps ys l.id) false ≡ option_map_or (λ f. needs_by xs i l (size f)) (file_among temps xs l.id) false
       by_label l =
           by_shape ys l (file_among temps ys l.id)
-          ∙ ap (λ (o : Option Shape). option_map_or (λ (s : Shape). needs_by ys i l s.pages) o false) (shapes xs ys same l.id)
-          ∙ by_need l (option_map shape_of (file_among temps xs l.id))
+          ∙ ap (λ (o : Option BareFile). option_map_or (λ (s : BareFile). needs_by ys i l s.pages) o false) (shapes xs ys same l.id)
+          ∙ by_need l (option_map bare_file (file_among temps xs l.id))
           ∙ sym (by_shape xs l (file_among temps xs l.id))
 
       either : (o : Option Sector) → slice_get ys i ≡ o → is_needed temps ys i ≡ is_needed temps xs i
@@ -202,15 +202,15 @@ module _ (temps : Bool) where
   right_alike d e same serial counter right =
       let long : length e ≡ length d = sym (length-map e (λ (s : Sector). s.0)) ∙ ap (λ (l : List Label). length l) same ∙ length-map d (λ (s : Sector). s.0) in
       laws.labels_kept temps serial counter d e long
-      (λ id g is. either id g (disk_file temps d id) refl (sym (ap (λ (o : Option File). option_map shape_of o) is) ∙ shapes (data_sectors d) (data_sectors e) (data_labels d e same) id))
+      (λ id g is. either id g (disk_file temps d id) refl (sym (ap (λ (o : Option File). option_map bare_file o) is) ∙ shapes (data_sectors d) (data_sectors e) (data_labels d e same) id))
       (omega (arith, room_alike d e same, right.room)) right
     where
-      either : (id : ℕ) (g : File) (o : Option File) → disk_file temps d id ≡ o → Some (shape_of g) ≡ option_map shape_of (disk_file temps d id) → IsWhole (data_sectors e) g × IsGiven serial counter g
-      either id g None e1 h = absurd (none-some (shape_of g) (sym (h ∙ ap (λ (o : Option File). option_map shape_of o) e1)))
+      either : (id : ℕ) (g : File) (o : Option File) → disk_file temps d id ≡ o → Some (bare_file g) ≡ option_map bare_file (disk_file temps d id) → IsWhole (data_sectors e) g × IsGiven serial counter g
+      either id g None e1 h = absurd (none-some (bare_file g) (sym (h ∙ ap (λ (o : Option File). option_map bare_file o) e1)))
       either id g (Some f) e1 h =
-          let alike : shape_of g ≡ shape_of f = same_Some (shape_of g) (shape_of f) (h ∙ ap (λ (o : Option File). option_map shape_of o) e1) in
-          let ids : g.id ≡ f.id = ap (λ (s : Shape). s.id) alike in (
-            whole_alike (data_sectors d) (data_sectors e) (data_labels d e same) f g ids (ap (λ (s : Shape). s.pages) alike)
+          let alike : bare_file g ≡ bare_file f = same_Some (bare_file g) (bare_file f) (h ∙ ap (λ (o : Option File). option_map bare_file o) e1) in
+          let ids : g.id ≡ f.id = ap (λ (s : BareFile). s.id) alike in (
+            whole_alike (data_sectors d) (data_sectors e) (data_labels d e same) f g ids (ap (λ (s : BareFile). s.pages) alike)
                 (laws.of_file temps serial counter (IsWhole (data_sectors d)) d right.whole_files id f e1),
             subst (λ (n : ℕ). n / 2 ^ 32 ≡ serial → n % 2 ^ 32 < counter) (sym ids) (laws.of_file temps serial counter (IsGiven serial counter) d right.ids_given id f e1),
           )

@@ -14,7 +14,7 @@ use Rattle.labelled_disk.proofs.Finds.{find_none}
 use Rattle.labelled_disk.proofs.SectorWrites as w
 use Rattle.label_laws.specs.AllPermanent.{if_permanent}
 use Rattle.label_laws.specs.MixedVolumes.{ShapeChanged, ShapesKept, label_count}
-use Rattle.label_laws.specs.Shape.{SameShape, shape_of}
+use Rattle.label_laws.specs.Shape.{SameShape, bare_file}
 use Rattle.label_laws.specs.TemporaryRuns.{TemporaryRunLaws}
 use Rattle.label_laws.proofs.MixedRunLemmas.{mixed_runs}
 use Rattle.label_laws.proofs.PermanentLemmas.{one, shape_changed_seen}
@@ -36,7 +36,7 @@ module _ (serial counter : ℕ) (d : List Sector) (right : FilesRight true seria
   kept_by : (e : List Sector) (id : ℕ) (now : Option File) → disk_file false d id ≡ if_permanent now → ShapeChanged true serial counter d e id now → ShapesKept false serial counter d e
   kept_by e id now same change =
       let seen : ShapeChanged false serial counter d e id (if_permanent now) = shape_changed_seen serial counter d e id now right change in
-      let own : SameShape false d e id = seen.file ∙ ap (λ (o : Option File). option_map shape_of o) (sym same) in
+      let own : SameShape false d e id = seen.file ∙ ap (λ (o : Option File). option_map bare_file o) (sym same) in
       record {
         shapes = λ other. elim (cases_eq other id) [ inl is ↦ subst (λ (n : ℕ). SameShape false d e n) (sym is) own | inr apart ↦ seen.others other apart ];
         right = seen.right;

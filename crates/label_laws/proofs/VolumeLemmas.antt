@@ -19,7 +19,7 @@ use Rattle.labelled_disk.proofs.WriteLemmas as laws
 use Rattle.labelled_disk.proofs.RootLemmas.{right_still}
 use Rattle.label_laws.specs.Mixed.{labels, label_writes}
 use Rattle.label_laws.specs.MixedVolumes.{LeavesLow, ShapeChanged, label_count, MixedLaws}
-use Rattle.label_laws.specs.Shape.{shape_of}
+use Rattle.label_laws.specs.Shape.{bare_file}
 use Rattle.label_laws.proofs.MixedLemmas.{labels_page, written_other, moment_long}
 use Rattle.label_laws.proofs.ShapeLemmas.{right_alike, mixed_shapes}
 
@@ -87,8 +87,8 @@ module _ (temps : Bool) where
   changes serial counter d writes k id now change =
       let alike = mixed_shapes temps d writes k in
       record {
-        file = alike.shapes id ∙ ap (λ (o : Option File). option_map shape_of o) change.file;
-        others = λ other apart. alike.shapes other ∙ ap (λ (o : Option File). option_map shape_of o) (change.others other apart);
+        file = alike.shapes id ∙ ap (λ (o : Option File). option_map bare_file o) change.file;
+        others = λ other apart. alike.shapes other ∙ ap (λ (o : Option File). option_map bare_file o) (change.others other apart);
         right = alike.right serial counter change.right;
       }
 

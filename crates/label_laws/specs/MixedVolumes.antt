@@ -13,7 +13,7 @@ use Rattle.labelled_disk.specs.Right.{FilesRight}
 use Rattle.labelled_disk.specs.Root.{RightFor, serial_of, counter_of}
 use Rattle.labelled_disk.specs.WriteLaws.{Changed}
 use Rattle.label_laws.specs.Mixed.{labels, label_writes}
-use Rattle.label_laws.specs.Shape.{SameShape, shape_of}
+use Rattle.label_laws.specs.Shape.{SameShape, bare_file}
 
 -- the write leaves the root and the labels of both maps
 abbrev pub LeavesLow : ℕ → DiskWrite → Type 0
@@ -23,7 +23,7 @@ LeavesLow first (Page sector wanted page) = 0 < sector
 
 -- one file has this shape now, all others have those that they had, and the labels of the files are right
 pub record ShapeChanged (temps : Bool) (serial counter : ℕ) (d e : List Sector) (id : ℕ) (now : Option File) : Type 0 where
-  pub file : option_map shape_of (disk_file temps e id) ≡ option_map shape_of now
+  pub file : option_map bare_file (disk_file temps e id) ≡ option_map bare_file now
   pub others : (other : ℕ) → other ≢ id → SameShape temps d e other
   pub right : FilesRight temps serial counter e
 

@@ -13,24 +13,24 @@ use Rattle.labelled_disk.specs.WriteLaws.{HasData}
 use Rattle.label_laws.specs.Mixed.{labels, label_writes}
 
 -- a file without its bytes
-pub record Shape : Type 0 where
+pub record BareFile : Type 0 where
   pub id : ℕ
   pub kind : ℕ
   pub permanent : Bool
   pub immutable : Bool
   pub pages : ℕ
 
-abbrev pub shape_of : File → Shape
-shape_of f = record { id = f.id; kind = f.kind; permanent = f.permanent; immutable = f.immutable; pages = size f }
+abbrev pub bare_file : File → BareFile
+bare_file f = record { id = f.id; kind = f.kind; permanent = f.permanent; immutable = f.immutable; pages = size f }
 
 -- files of one shape are the same where each page is
 abbrev pub SameByPages : Type 0
-SameByPages = (f g : File) → shape_of g ≡ shape_of f → ((p : ℕ) → p < size f → slice_get g.pages p ≡ slice_get f.pages p) → g ≡ f
+SameByPages = (f g : File) → bare_file g ≡ bare_file f → ((p : ℕ) → p < size f → slice_get g.pages p ≡ slice_get f.pages p) → g ≡ f
 
 module _ (temps : Bool) where
   -- the file of an identifier has this shape on both disks, or there is none on either
   abbrev pub SameShape : List Sector → List Sector → ℕ → Type 0
-  SameShape d e id = option_map shape_of (disk_file temps e id) ≡ option_map shape_of (disk_file temps d id)
+  SameShape d e id = option_map bare_file (disk_file temps e id) ≡ option_map bare_file (disk_file temps d id)
 
   -- two disks with the same labels
   pub record LabelLaws (d e : List Sector) : Type 0 where

@@ -212,13 +212,13 @@ files_same d e differs =
         let b : nat_le 16 s.0.id ≡ true = grind arith in
         rw (a, b) refl
 
-    either : (id : ℕ) (o : Option File) → disk_file false e id ≡ o → (q : Option File) → disk_file false d id ≡ q → option_map shapes.shape_of o ≡ option_map shapes.shape_of q → o ≡ q
+    either : (id : ℕ) (o : Option File) → disk_file false e id ≡ o → (q : Option File) → disk_file false d id ≡ q → option_map shapes.bare_file o ≡ option_map shapes.bare_file q → o ≡ q
     either id None a None b same = refl
-    either id None a (Some f) b same = absurd (none-some (shapes.shape_of f) same)
-    either id (Some g) a None b same = absurd (none-some (shapes.shape_of g) (sym same))
+    either id None a (Some f) b same = absurd (none-some (shapes.bare_file f) same)
+    either id (Some g) a None b same = absurd (none-some (shapes.bare_file g) (sym same))
     either id (Some g) a (Some f) b same =
         ap (λ (x : File). Some x)
-        (same_by_pages f g (same_Some (shapes.shape_of g) (shapes.shape_of f) same)
+        (same_by_pages f g (same_Some (shapes.bare_file g) (shapes.bare_file f) same)
         (λ p low. sym (ap (λ (o : Option File). option_map_or (λ (x : File). slice_get x.pages p) o None) a)
         ∙ pages_by_sectors false d e id p differs.labels (λ i s there is. differs.pages i s there.here (firm id p i s is))
         ∙ ap (λ (o : Option File). option_map_or (λ (x : File). slice_get x.pages p) o None) b))
