@@ -10,7 +10,7 @@ use Rattle.flat_machine.specs.Space.{Space, Window, FilePage}
 use Rattle.flat_machine.specs.Machine.{Machine, IsWindow, is_shown_writable}
 use Rattle.flat_machine.specs.IsMachine.{IsMachine, AreOnce}
 use Rattle.flat_machine.specs.Refusal.{refusal}
-use Rattle.flat_machine.specs.Next.{change, is_page}
+use Rattle.flat_machine.specs.Next.{change, is_same_page}
 use Rattle.flat_machine.proofs.Lists.{In, all_in, in_all, in_filter, any_not, not_any}
 use Rattle.flat_machine.proofs.FileLemmas.{AreFiles, Follows, window_kept}
 use Rattle.flat_machine.specs.Spaces.{AreAlone}
@@ -112,5 +112,5 @@ once_filter p [] h = tt
 once_filter p (u ∷ us) h = either (p u) (once_filter p us h.1)
   where
     either : (b : Bool) → AreOnce (filter p us) → AreOnce (cond b (u ∷ filter p us) (filter p us))
-    either true more = (fewer_any (is_page u) p us h.0, more)
+    either true more = (fewer_any (is_same_page u) p us h.0, more)
     either false more = more

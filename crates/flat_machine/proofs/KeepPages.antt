@@ -12,7 +12,7 @@ use Rattle.flat_machine.specs.Machine.{Machine, is_shown_writable}
 use Rattle.flat_machine.specs.IsMachine.{IsMachine, AreOnce}
 use Rattle.flat_machine.specs.At.{page_through, shown_at, pages_of}
 use Rattle.flat_machine.specs.Refusal.{refusal, no_map, read_only, is_read_only}
-use Rattle.flat_machine.specs.Next.{next, change, is_page, mark, mark_page, store_bytes, is_shown_within, without_shown_within}
+use Rattle.flat_machine.specs.Next.{next, change, is_same_page, mark, mark_page, store_bytes, is_shown_within, without_shown_within}
 use Rattle.flat_machine.proofs.Lists.{In, in_any, find_in, not_found}
 use Rattle.flat_machine.proofs.TestLemmas.{two_none, map_none, is_there}
 use Rattle.flat_machine.proofs.FileLemmas.{fewer_files}
@@ -60,7 +60,7 @@ marked ss us page at shown = either at.0.window refl
         let mode : w.writable ≡ true = sym (ap (λ (o : Option Window). option_map_or (λ v. v.writable) o false) e) ∙ at.2 in
         let held = (and_parts (is_mapped at.0) (holds at.0 page) found).1 in
         subst (λ (o : Option FilePage). Shown ss (option_map_or (λ u. mark u us) o us)) (sym here)
-        (add (page_through at.0 w page) (list_any (is_page (page_through at.0 w page)) us)
+        (add (page_through at.0 w page) (list_any (is_same_page (page_through at.0 w page)) us)
         (in_any (λ s. is_writable s && shows w.file (w.first + (page - at.0.first)) s) ss at.0 (find_in (λ s. is_mapped s && holds s page) ss at.0 at.1).0 (through_shown at.0 w page e mode held)))
 
 all_marked : (ss : List Space) (pages : List ℕ) (us : List FilePage) → ((p : ℕ) → In p pages → IsStored ss p) → Shown ss us → Shown ss (fold (mark_page ss) us pages)
@@ -68,29 +68,29 @@ all_marked ss [] us f shown = shown
 all_marked ss (p ∷ ps) us f shown = all_marked ss ps (mark_page ss us p) (λ q i. f q (inr i)) (marked ss us p (f p (inl refl)) shown)
 
 -- none of a list, and not the one behind it
-last_not : (v u : FilePage) (ws : List FilePage) → list_any (is_page v) ws ≡ false → is_page v u ≡ false → list_any (is_page v) (ws ++ u ∷ []) ≡ false
+last_not : (v u : FilePage) (ws : List FilePage) → list_any (is_same_page v) ws ≡ false → is_same_page v u ≡ false → list_any (is_same_page v) (ws ++ u ∷ []) ≡ false
 last_not v u [] a b = rw b refl
-last_not v u (w ∷ ws) a b = either (is_page v w) a (last_not v u ws)
+last_not v u (w ∷ ws) a b = either (is_same_page v w) a (last_not v u ws)
   where
-    either : (c : Bool) → c || list_any (is_page v) ws ≡ false → (list_any (is_page v) ws ≡ false → is_page v u ≡ false → list_any (is_page v) (ws ++ u ∷ []) ≡ false) → c || list_any (is_page v) (ws ++ u ∷ []) ≡ false
+    either : (c : Bool) → c || list_any (is_same_page v) ws ≡ false → (list_any (is_same_page v) ws ≡ false → is_same_page v u ≡ false → list_any (is_same_page v) (ws ++ u ∷ []) ≡ false) → c || list_any (is_same_page v) (ws ++ u ∷ []) ≡ false
     either true e more = absurd (true≢false e)
     either false e more = more e b
 
 -- a page is added where it is not there
-added_once : (u : FilePage) (us : List FilePage) → list_any (is_page u) us ≡ false → AreOnce us → AreOnce (us ++ u ∷ [])
+added_once : (u : FilePage) (us : List FilePage) → list_any (is_same_page u) us ≡ false → AreOnce us → AreOnce (us ++ u ∷ [])
 added_once u [] e h = (refl, tt)
 added_once u (v ∷ vs) e h =
-    let parts = neither (is_page u v) (list_any (is_page u) vs) e in
+    let parts = neither (is_same_page u v) (list_any (is_same_page u) vs) e in
     (last_not v u vs h.0 (other u v parts.0), added_once u vs parts.1 h.1)
   where
     neither : (a b : Bool) → a || b ≡ false → (a ≡ false) × (b ≡ false)
     neither true b e = absurd (true≢false e)
     neither false b e = (refl, e)
 
-    other : (u v : FilePage) → is_page u v ≡ false → is_page v u ≡ false
-    other u v e = either (is_page v u) refl
+    other : (u v : FilePage) → is_same_page u v ≡ false → is_same_page v u ≡ false
+    other u v e = either (is_same_page v u) refl
       where
-        same : is_page v u ≡ true → is_page u v ≡ true
+        same : is_same_page v u ≡ true → is_same_page u v ≡ true
         same t =
             let p = and_parts (v.file == u.file) (v.page == u.page) t in
             both (u.file == v.file) (u.page == v.page) (eq-eqb u.file v.file (sym (eqb-true v.file u.file p.0))) (eq-eqb u.page v.page (sym (eqb-true v.page u.page p.1)))
@@ -99,20 +99,20 @@ added_once u (v ∷ vs) e h =
             both true b x y = y
             both false b x y = absurd (true≢false (sym x))
 
-        either : (b : Bool) → is_page v u ≡ b → is_page v u ≡ false
+        either : (b : Bool) → is_same_page v u ≡ b → is_same_page v u ≡ false
         either true t = absurd (true≢false (sym (same t) ∙ e))
         either false t = t
 
 marked_once : (ss : List Space) (us : List FilePage) (page : ℕ) → AreOnce us → AreOnce (mark_page ss us page)
 marked_once ss us page h = either (shown_at ss page)
   where
-    add : (u : FilePage) (b : Bool) → list_any (is_page u) us ≡ b → AreOnce (if b then us else us ++ u ∷ [])
+    add : (u : FilePage) (b : Bool) → list_any (is_same_page u) us ≡ b → AreOnce (if b then us else us ++ u ∷ [])
     add u true e = h
     add u false e = added_once u us e h
 
     either : (o : Option FilePage) → AreOnce (option_map_or (λ u. mark u us) o us)
     either None = h
-    either (Some u) = add u (list_any (is_page u) us) refl
+    either (Some u) = add u (list_any (is_same_page u) us) refl
 
 all_once : (ss : List Space) (pages : List ℕ) (us : List FilePage) → AreOnce us → AreOnce (fold (mark_page ss) us pages)
 all_once ss [] us h = h

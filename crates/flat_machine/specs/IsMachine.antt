@@ -3,12 +3,12 @@ use Rattle.std.specs.Prelude.{List, [], ◌∷◌, ◌&&◌, ◌≡◌, ◌≤�
 use Rattle.std.specs.List.{list_any, AllByRecursion}
 use Rattle.flat_machine.specs.Space.{FilePage, root, overlap, space_at, is_mapped}
 use Rattle.flat_machine.specs.Machine.{Machine, AreRising, IsRising, IsFileId, IsFile, IsSpace, IsWindow, EachTwo, used, are_siblings, shares_anonymous, is_shown_writable}
-use Rattle.flat_machine.specs.Next.{is_page}
+use Rattle.flat_machine.specs.Next.{is_same_page}
 
 -- no page stands there twice
 abbrev pub AreOnce : List FilePage → Type 0
 AreOnce [] = Unit {0}
-AreOnce (u ∷ us) = IsFalse (list_any (is_page u) us) × AreOnce us
+AreOnce (u ∷ us) = IsFalse (list_any (is_same_page u) us) × AreOnce us
 
 -- Two spaces that share a page lie on one path from the root, one above the other.
 pub record IsMachine (m : Machine) : Type 0 where

@@ -94,12 +94,12 @@ at_space m handle change = option_map_or change (space_at m.spaces handle) m
 -- Unforced pages.
 
 -- they are the same file page
-abbrev pub is_page : FilePage → FilePage → Bool
-is_page u v = u.file == v.file && u.page == v.page
+abbrev pub is_same_page : FilePage → FilePage → Bool
+is_same_page u v = u.file == v.file && u.page == v.page
 
 -- the page is unforced too
 abbrev pub mark : FilePage → List FilePage → List FilePage
-mark u unforced = if list_any (is_page u) unforced then unforced else unforced ++ u ∷ []
+mark u unforced = if list_any (is_same_page u) unforced then unforced else unforced ++ u ∷ []
 
 -- the file page that is shown at a page of the virtual memory is unforced
 abbrev pub mark_page : List Space → List FilePage → ℕ → List FilePage

@@ -4,11 +4,11 @@ use Rattle.std.specs.List.{list_any, AllZip}
 use Rattle.flat_machine.specs.File.{File, Cell, Page, byte, size}
 use Rattle.flat_machine.specs.Space.{FilePage}
 use Rattle.flat_machine.specs.Machine.{Machine}
-use Rattle.flat_machine.specs.Next.{with_any, is_page}
+use Rattle.flat_machine.specs.Next.{with_any, is_same_page}
 
 -- the page was stored to and not forced since
 abbrev pub is_unforced : List FilePage → ℕ → ℕ → Bool
-is_unforced unforced file page = list_any (is_page (record { file = file; page = page })) unforced
+is_unforced unforced file page = list_any (is_same_page (record { file = file; page = page })) unforced
 
 -- any in every cell of an unforced page
 abbrev pub settled_file : List FilePage → File → File

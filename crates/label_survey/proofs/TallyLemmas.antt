@@ -14,7 +14,7 @@ use Rattle.label_survey.specs.declared.standing.Standing.{Standing}
 use Rattle.label_survey.specs.declared.standing.Standing.TheVariants.{Free, Stray, Lost, Leader, Page}
 use Rattle.label_survey.specs.declared.tally.Tally.{Tally}
 use Rattle.label_survey.specs.Standings.{standing, AreStandings}
-use Rattle.label_survey.specs.Survey.{is_leader, is_page, is_freed, is_lost, places_by, IsTally, counted, Tells}
+use Rattle.label_survey.specs.Survey.{is_leader, is_kept_page, is_freed, is_lost, places_by, IsTally, counted, Tells}
 use Rattle.label_survey.proofs.StandingLemmas.{file_not_free}
 
 -- One more.
@@ -88,34 +88,34 @@ none_counted standings = record { files = λ n. refl; pages = λ n. refl; freed 
 pub one_counted : (xs : List Standing) (k : ℕ) (x : Standing) (t : Tally) → slice_get xs k ≡ Some x → IsTally (take k xs) t → IsTally (take (k + 1) xs) (counted x t)
 one_counted xs k Leader t here is = record {
   files = λ n. let l = length_more is_leader n xs k Leader here refl in omega (arith, is.files n, l);
-  pages = λ n. is.pages n ∙ sym (length_same is_page n xs k Leader here refl);
+  pages = λ n. is.pages n ∙ sym (length_same is_kept_page n xs k Leader here refl);
   freed = λ n. is.freed n ∙ sym (length_same is_freed n xs k Leader here refl);
 }
 one_counted xs k Page t here is = record {
   files = λ n. is.files n ∙ sym (length_same is_leader n xs k Page here refl);
-  pages = λ n. let l = length_more is_page n xs k Page here refl in omega (arith, is.pages n, l);
+  pages = λ n. let l = length_more is_kept_page n xs k Page here refl in omega (arith, is.pages n, l);
   freed = λ n. is.freed n ∙ sym (length_same is_freed n xs k Page here refl);
 }
 one_counted xs k Free t here is = record {
   files = λ n. is.files n ∙ sym (length_same is_leader n xs k Free here refl);
-  pages = λ n. is.pages n ∙ sym (length_same is_page n xs k Free here refl);
+  pages = λ n. is.pages n ∙ sym (length_same is_kept_page n xs k Free here refl);
   freed = λ n. is.freed n ∙ sym (length_same is_freed n xs k Free here refl);
 }
 one_counted xs k Lost t here is = record {
   files = λ n. is.files n ∙ sym (length_same is_leader n xs k Lost here refl);
-  pages = λ n. is.pages n ∙ sym (length_same is_page n xs k Lost here refl);
+  pages = λ n. is.pages n ∙ sym (length_same is_kept_page n xs k Lost here refl);
   freed = λ n. let l = length_more is_freed n xs k Lost here refl in omega (arith, is.freed n, l);
 }
 one_counted xs k Stray t here is = record {
   files = λ n. is.files n ∙ sym (length_same is_leader n xs k Stray here refl);
-  pages = λ n. is.pages n ∙ sym (length_same is_page n xs k Stray here refl);
+  pages = λ n. is.pages n ∙ sym (length_same is_kept_page n xs k Stray here refl);
   freed = λ n. let l = length_more is_freed n xs k Stray here refl in omega (arith, is.freed n, l);
 }
 
 pub few_counted : (xs : List Standing) (k : ℕ) (t : Tally) → IsTally (take k xs) t → (t.files ≤ k) × (t.pages ≤ k) × (t.freed ≤ k)
 few_counted xs k t is = (
   (let l = length_most is_leader 0 k xs in omega (arith, l, is.files 0)),
-  (let l = length_most is_page 0 k xs in omega (arith, l, is.pages 0)),
+  (let l = length_most is_kept_page 0 k xs in omega (arith, l, is.pages 0)),
   (let l = length_most is_freed 0 k xs in omega (arith, l, is.freed 0)),
 )
 
@@ -128,7 +128,7 @@ leader_stands false l true o = refl
 leader_stands false l false true = refl
 leader_stands false l false false = refl
 
-page_stands : (n l f o : Bool) → is_page (cond n (cond l Leader Page) (cond f Free (cond o Lost Stray))) ≡ (n && not l)
+page_stands : (n l f o : Bool) → is_kept_page (cond n (cond l Leader Page) (cond f Free (cond o Lost Stray))) ≡ (n && not l)
 page_stands true true f o = refl
 page_stands true false f o = refl
 page_stands false l true o = refl
@@ -160,8 +160,8 @@ module _ (d : List Sector) (standings : List Standing) (are : AreStandings d sta
   leaders = places_agree is_leader (λ m s. standing d (m - first_data (length d)) s) (λ i s. needs_place false d i && eqb s.0.page leader_page) (first_data (length d)) standings (data_sectors d) by_place
       (λ m s. leader_stands (needs_place false d m) (eqb s.0.page leader_page) (is_free s.0) (is_of_some_file false d s))
 
-  pages : places_by is_page (first_data (length d)) standings ≡ needed_pages false d
-  pages = places_agree is_page (λ m s. standing d (m - first_data (length d)) s) (λ i s. needs_place false d i && not (eqb s.0.page leader_page)) (first_data (length d)) standings (data_sectors d) by_place
+  pages : places_by is_kept_page (first_data (length d)) standings ≡ needed_pages false d
+  pages = places_agree is_kept_page (λ m s. standing d (m - first_data (length d)) s) (λ i s. needs_place false d i && not (eqb s.0.page leader_page)) (first_data (length d)) standings (data_sectors d) by_place
       (λ m s. page_stands (needs_place false d m) (eqb s.0.page leader_page) (is_free s.0) (is_of_some_file false d s))
 
   pub freed : places_by is_freed (first_data (length d)) standings ≡ unneeded_sectors false d

@@ -15,12 +15,13 @@ is_leader Free = false
 is_leader Lost = false
 is_leader Stray = false
 
-abbrev pub is_page : Standing → Bool
-is_page Leader = false
-is_page Page = true
-is_page Free = false
-is_page Lost = false
-is_page Stray = false
+-- a page of a file that stays
+abbrev pub is_kept_page : Standing → Bool
+is_kept_page Leader = false
+is_kept_page Page = true
+is_kept_page Free = false
+is_kept_page Lost = false
+is_kept_page Stray = false
 
 -- a file needs it
 abbrev pub is_kept : Standing → Bool
@@ -53,7 +54,7 @@ places_by test n (x ∷ xs) = if test x then n ∷ places_by test (n + 1) xs els
 -- how many are leaders, pages, and freed
 pub record IsTally (standings : List Standing) (tally : Tally) : Type 0 where
   pub files : (n : ℕ) → tally.files ≡ length (places_by is_leader n standings)
-  pub pages : (n : ℕ) → tally.pages ≡ length (places_by is_page n standings)
+  pub pages : (n : ℕ) → tally.pages ≡ length (places_by is_kept_page n standings)
   pub freed : (n : ℕ) → tally.freed ≡ length (places_by is_freed n standings)
 
 -- one sector more

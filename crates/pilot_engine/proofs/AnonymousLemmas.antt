@@ -19,7 +19,7 @@ use Rattle.flat_machine.specs.declared.space.Window.{Window}
 use Rattle.flat_machine.specs.Allows.{Allows, Answers}
 use Rattle.flat_machine.specs.IsMachine.{IsMachine}
 use Rattle.flat_machine.specs.Machine.{Machine, shares_anonymous}
-use Rattle.flat_machine.specs.Next.{next, change, is_page, set_window, unmapped, at_space, without_anonymous, without_file, without_window_of}
+use Rattle.flat_machine.specs.Next.{next, change, is_same_page, set_window, unmapped, at_space, without_anonymous, without_file, without_window_of}
 use Rattle.flat_machine.specs.Refusal.{first_of, refusal, file_mapped}
 use Rattle.projection_laws.specs.Tests.{window_row}
 use Rattle.table_calls.specs.Answers.{Tells}
@@ -118,8 +118,8 @@ module _ (m : Machine) (h : IsMachine m) (space : ℕ) (s : Space) (here : space
       fewer : (id page : ℕ) → is_unforced left.unforced id page ≡ true → is_unforced m.unforced id page ≡ true
       fewer id page is =
           let u : FilePage = record { file = id; page = page } in
-          let at = any_in (is_page u) left.unforced is in
-          in_any (is_page u) m.unforced at.0 (in_filter (λ v. not (shows v.file v.page s)) m.unforced at.0 at.1).0 at.2
+          let at = any_in (is_same_page u) left.unforced is in
+          in_any (is_same_page u) m.unforced at.0 (in_filter (λ v. not (shows v.file v.page s)) m.unforced at.0 at.1).0 at.2
 
   module _ (anonymous : shown.anonymous ≡ true) where
     -- no other window shows it

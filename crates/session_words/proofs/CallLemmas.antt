@@ -11,7 +11,7 @@ use Rattle.flat_machine.specs.declared.space.FilePage.{FilePage}
 use Rattle.flat_machine.specs.declared.call.Call.TheVariants.{ForceOut}
 use Rattle.flat_machine.specs.Machine.{Machine}
 use Rattle.flat_machine.specs.IsMachine.{IsMachine}
-use Rattle.flat_machine.specs.Next.{next, is_shown_within, without_shown_within, is_page}
+use Rattle.flat_machine.specs.Next.{next, is_shown_within, without_shown_within, is_same_page}
 use Rattle.flat_machine.specs.Settled.{is_unforced}
 use Rattle.flat_machine.proofs.Lists.{any_in, in_any, filter_in}
 use Rattle.flat_machine.proofs.NextLemmas.{next_keeps_machine}
@@ -72,10 +72,10 @@ module _ (spaces_of : TablesMeaning) where
 still_unforced : (spaces : List Space) (range : Space) (us : List FilePage) (id page : ℕ) → is_unforced us id page ≡ true → is_shown_within spaces range (record { file = id; page = page }) ≡ false
     → is_unforced (without_shown_within spaces range us) id page ≡ true
 still_unforced spaces range us id page is hidden =
-    let u = any_in (is_page (record { file = id; page = page })) us is in
+    let u = any_in (is_same_page (record { file = id; page = page })) us is in
     let parts = and_parts (id == u.0.file) (page == u.0.page) u.2 in
     let same : is_shown_within spaces range u.0 ≡ false = (λ i. is_shown_within spaces range (record { file = sym (eqb-true id u.0.file parts.0) i; page = sym (eqb-true page u.0.page parts.1) i })) ∙ hidden in
-    in_any (is_page (record { file = id; page = page })) (without_shown_within spaces range us) u.0 (filter_in (λ v. not (is_shown_within spaces range v)) us u.0 u.1 (ap not same)) u.2
+    in_any (is_same_page (record { file = id; page = page })) (without_shown_within spaces range us) u.0 (filter_in (λ v. not (is_shown_within spaces range v)) us u.0 u.1 (ap not same)) u.2
 
 module _ (spaces_of : TablesMeaning) where
   pub force_stands : ForceStands spaces_of

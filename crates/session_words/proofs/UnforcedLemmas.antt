@@ -12,7 +12,7 @@ use Rattle.flat_machine.specs.declared.space.FilePage.{FilePage}
 use Rattle.flat_machine.specs.Machine.{Machine, IsFileId}
 use Rattle.flat_machine.specs.IsMachine.{IsMachine}
 use Rattle.flat_machine.specs.At.{shown_at}
-use Rattle.flat_machine.specs.Next.{mark, mark_page, is_page}
+use Rattle.flat_machine.specs.Next.{mark, mark_page, is_same_page}
 use Rattle.flat_machine.specs.Settled.{is_unforced}
 use Rattle.flat_machine.proofs.MoreLaws.{shown_is_there}
 use Rattle.session_words.specs.Parts.{is_loose}
@@ -36,21 +36,21 @@ any_last p (u ∷ us) v h = either (p u) (any_last p us v h)
     either false more = more
 
 mark_stays : (u : FilePage) (us : List FilePage) (id page : ℕ) → is_unforced us id page ≡ true → is_unforced (mark u us) id page ≡ true
-mark_stays u us id page h = either (list_any (is_page u) us)
+mark_stays u us id page h = either (list_any (is_same_page u) us)
   where
     either : (b : Bool) → is_unforced (if b then us else us ++ u ∷ []) id page ≡ true
     either true = h
-    either false = any_more (is_page (record { file = id; page = page })) us u h
+    either false = any_more (is_same_page (record { file = id; page = page })) us u h
 
 mark_there : (u : FilePage) (us : List FilePage) → is_unforced (mark u us) u.file u.page ≡ true
-mark_there u us = either (list_any (is_page u) us) refl
+mark_there u us = either (list_any (is_same_page u) us) refl
   where
-    self : is_page u u ≡ true
+    self : is_same_page u u ≡ true
     self = let a : eqb u.file u.file ≡ true = eq-eqb u.file u.file refl in let b : eqb u.page u.page ≡ true = eq-eqb u.page u.page refl in rw (a, b) refl
 
-    either : (b : Bool) → list_any (is_page u) us ≡ b → is_unforced (if b then us else us ++ u ∷ []) u.file u.page ≡ true
+    either : (b : Bool) → list_any (is_same_page u) us ≡ b → is_unforced (if b then us else us ++ u ∷ []) u.file u.page ≡ true
     either true e = e
-    either false e = any_last (is_page u) us u self
+    either false e = any_last (is_same_page u) us u self
 
 module _ (spaces : List Space) where
   page_stays : (p : ℕ) (us : List FilePage) (id page : ℕ) → is_unforced us id page ≡ true → is_unforced (mark_page spaces us p) id page ≡ true

@@ -11,7 +11,7 @@ use std::alloc::{AllocError, Allocator};
 
 /// Whether the page is among them.
 fn is_marked(unforced: &[FilePage], page: &FilePage) -> bool
-    ensures { result ≡ list_any (after.is_page page.now) unforced.now }
+    ensures { result ≡ list_any (after.is_same_page page.now) unforced.now }
 {
     unforced
         .iter()

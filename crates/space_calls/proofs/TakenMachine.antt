@@ -10,7 +10,7 @@ use Rattle.flat_machine.specs.declared.space.Space.{Space}
 use Rattle.flat_machine.specs.declared.space.Window.{Window}
 use Rattle.flat_machine.specs.IsMachine.{IsMachine}
 use Rattle.flat_machine.specs.Machine.{IsWindow, Machine}
-use Rattle.flat_machine.specs.Next.{is_page, next, set_window, unmapped, without_window_of}
+use Rattle.flat_machine.specs.Next.{is_same_page, next, set_window, unmapped, without_window_of}
 use Rattle.flat_machine.specs.Refusal.{first_of}
 use Rattle.flat_machine.specs.Settled.{is_unforced}
 use Rattle.flat_machine.specs.Space.{shows, space_at}
@@ -65,10 +65,10 @@ module _ (m : Machine) (is : IsMachine m) (k : ℕ) (s : Space) (w : Window) (at
 pub still_unforced : (s : Space) (us : List FilePage) (id page : ℕ) → is_unforced us id page ≡ true → shows id page s ≡ false → is_unforced (without_window_of s us) id page ≡ true
 still_unforced s us id page is bare =
     let u : FilePage = record { file = id; page = page } in
-    let r = any_in (is_page u) us is in
+    let r = any_in (is_same_page u) us is in
     let v : FilePage = r.0 in
     let both = and_parts (id == v.file) (page == v.page) r.2 in
     let file : id ≡ v.file = eqb-true id v.file both.0 in
     let number : page ≡ v.page = eqb-true page v.page both.1 in
     let hidden : shows v.file v.page s ≡ false = sym (λ i. shows (file i) (number i) s) ∙ bare in
-    in_any (is_page u) (without_window_of s us) v (filter_in (λ x. not (shows x.file x.page s)) us v r.1 (ap not hidden)) r.2
+    in_any (is_same_page u) (without_window_of s us) v (filter_in (λ x. not (shows x.file x.page s)) us v r.1 (ap not hidden)) r.2
