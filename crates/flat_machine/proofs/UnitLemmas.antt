@@ -12,8 +12,8 @@ pub unit_holds_its_page : UnitHoldsItsPage
 unit_holds_its_page s i page low some from to =
     let b = block s.first s.unit page low some in
     record {
-      lies_in_interval = omega (arith, from, to, b.0, b.1);
-      ends_in_interval = omega (arith, from, to, b.0, b.1);
+      lies_in_span = omega (arith, from, to, b.0, b.1);
+      ends_in_span = omega (arith, from, to, b.0, b.1);
       begins_before = omega (arith, from, b.0);
       ends_behind = omega (arith, from, to, b.0, b.1);
       short = omega (arith, from, to, b.0, b.1);

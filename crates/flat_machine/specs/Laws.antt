@@ -21,7 +21,7 @@ use Rattle.flat_machine.specs.Allows.{Allows, reply_of}
 use Rattle.flat_machine.specs.After.{TraceLine, AllowsLine, next_line, after, Transcript}
 use Rattle.flat_machine.specs.Settled.{settled, Agrees, FileStandsFor}
 use Rattle.flat_machine.specs.Start.{opened, start}
-use Rattle.flat_machine.specs.Projection.{Interval, IsProjection, end_of, unit}
+use Rattle.flat_machine.specs.Projection.{Span, IsProjection, end_of, unit}
 
 -- some reply is allowed, whatever the machine and the call
 abbrev pub SomeReplyIsAllowed : Type 0
@@ -61,7 +61,7 @@ StartIsMachine = (d : List Sector) → AreSectors d → LabelsRight d → IsMach
 
 -- the spaces have one projection at most
 abbrev pub ProjectionIsUnique : Type 0
-ProjectionIsUnique = (spaces : List Space) (is js : List Interval) → IsProjection spaces is → IsProjection spaces js → is ≡ js
+ProjectionIsUnique = (spaces : List Space) (is js : List Span) → IsProjection spaces is → IsProjection spaces js → is ≡ js
 
 -- where so many pages fit, they fit at the lowest gap, and it is no higher
 abbrev pub LowestGapIsLeast : Type 0
@@ -77,26 +77,26 @@ LowestUnusedIsLeast = (spaces : List Space) (handle : ℕ) → is_unused spaces 
 abbrev pub NextKeepsMachine : Type 0
 NextKeepsMachine = (m : Machine) (call : Call) → IsTyped call → IsMachine m → IsMachine (next m call)
 
--- the unit of a page: it lies in the interval, holds the page, and has no more pages than the space's unit size
-pub record IsUnitOf (space : Space) (i : Interval) (page : ℕ) : Type 0 where
-  pub lies_in_interval : i.first ≤ (unit space i page).0
-  pub ends_in_interval : (unit space i page).0 + (unit space i page).1 ≤ end_of i
+-- the unit of a page: it lies in the span, holds the page, and has no more pages than the space's unit size
+pub record IsUnitOf (space : Space) (i : Span) (page : ℕ) : Type 0 where
+  pub lies_in_span : i.first ≤ (unit space i page).0
+  pub ends_in_span : (unit space i page).0 + (unit space i page).1 ≤ end_of i
   pub begins_before : (unit space i page).0 ≤ page
   pub ends_behind : page < (unit space i page).0 + (unit space i page).1
   pub short : (unit space i page).1 ≤ space.unit
 
--- it is so for each page of an interval that lies in the space
+-- it is so for each page of a span that lies in the space
 abbrev pub UnitHoldsItsPage : Type 0
-UnitHoldsItsPage = (space : Space) (i : Interval) (page : ℕ) → space.first ≤ page → 1 ≤ space.unit → i.first ≤ page → page < end_of i → IsUnitOf space i page
+UnitHoldsItsPage = (space : Space) (i : Span) (page : ℕ) → space.first ≤ page → 1 ≤ space.unit → i.first ≤ page → page < end_of i → IsUnitOf space i page
 
--- each page of the root is in one of the intervals
+-- each page of the root is in one of the spans
 abbrev pub ProjectionCovers : Type 0
-ProjectionCovers = (spaces : List Space) (is : List Interval) → IsProjection spaces is → (page : ℕ) → page < root_pages
-    → (k : ℕ) × (i : Interval) × (slice_get is k ≡ Some i) × (i.first ≤ page) × (page < end_of i)
+ProjectionCovers = (spaces : List Space) (is : List Span) → IsProjection spaces is → (page : ℕ) → page < root_pages
+    → (k : ℕ) × (i : Span) × (slice_get is k ≡ Some i) × (i.first ≤ page) × (page < end_of i)
 
 -- the spaces have a projection
 abbrev pub ProjectionExists : Type 0
-ProjectionExists = (spaces : List Space) → (is : List Interval) × IsProjection spaces is
+ProjectionExists = (spaces : List Space) → (is : List Span) × IsProjection spaces is
 
 -- some number of steps up from the second leads to the first
 abbrev pub IsAtOrAbove : List Space → Space → Space → Type 0

@@ -10,7 +10,7 @@ use Rattle.flat_machine.specs.Machine.{Machine}
 use Rattle.flat_machine.specs.Next.{next}
 use Rattle.flat_machine.specs.Start.{opened}
 use Rattle.flat_machine.specs.Settled.{settled, Agrees}
-use Rattle.flat_machine.specs.Projection.{Interval, view_at, unit}
+use Rattle.flat_machine.specs.Projection.{Span, view_at, unit}
 use Rattle.flat_machine.specs.Rows.{Gives, volume_124, f1, f2, filled, cells_after}
 
 abbrev pub machine_after : List Call → Machine
@@ -183,12 +183,12 @@ StopLeaves =
 abbrev pub space_3 : Space
 space_3 = record { handle = 1; parent = 0; first = 3; pages = 5; unit = 2; window = None }
 
-abbrev pub interval_3 : Interval
-interval_3 = record { first = 3; pages = 5; view = view_at (root ∷ space_3 ∷ []) 3 }
+abbrev pub span_3 : Span
+span_3 = record { first = 3; pages = 5; view = view_at (root ∷ space_3 ∷ []) 3 }
 
 -- blocks are counted from the first page of the innermost space
 unfoldable pub BlocksOfTheSpace : Type 0
-BlocksOfTheSpace = (unit space_3 interval_3 4 ≡ (3, 2)) × (unit space_3 interval_3 5 ≡ (5, 2)) × (unit space_3 interval_3 7 ≡ (7, 1))
+BlocksOfTheSpace = (unit space_3 span_3 4 ≡ (3, 2)) × (unit space_3 span_3 5 ≡ (5, 2)) × (unit space_3 span_3 7 ≡ (7, 1))
 
 -- a file of one page, cut to its first cell
 abbrev pub one_cell : Cell → List File

@@ -15,44 +15,44 @@ view_at spaces page = record {
 }
 
 -- pages in a row that have one view
-pub record Interval : Type 0 where
+pub record Span : Type 0 where
   pub first : ℕ
   pub pages : ℕ
   pub view : View
 
--- the first page behind an interval
-abbrev pub end_of : Interval → ℕ
+-- the first page behind a span
+abbrev pub end_of : Span → ℕ
 end_of i = i.first + i.pages
 
--- the interval begins at the page, each of its pages has its view, and the page behind it, if it is one of the root, has another
-pub record IsMaximalFrom (spaces : List Space) (page : ℕ) (i : Interval) : Type 0 where
+-- the span begins at the page, each of its pages has its view, and the page behind it, if it is one of the root, has another
+pub record IsMaximalFrom (spaces : List Space) (page : ℕ) (i : Span) : Type 0 where
   pub begins : i.first ≡ page
   pub not_empty : 1 ≤ i.pages
   pub in_root : end_of i ≤ root_pages
   pub one_view : (p : ℕ) → page ≤ p → p < end_of i → view_at spaces p ≡ i.view
   pub maximal : end_of i < root_pages → view_at spaces (end_of i) ≢ i.view
 
--- the maximal intervals from a page on to the end of the root, in order
-abbrev pub IsProjectionFrom : List Space → ℕ → List Interval → Type 0
+-- the maximal spans from a page on to the end of the root, in order
+abbrev pub IsProjectionFrom : List Space → ℕ → List Span → Type 0
 IsProjectionFrom spaces page [] = page ≡ root_pages
 IsProjectionFrom spaces page (i ∷ is) = IsMaximalFrom spaces page i × IsProjectionFrom spaces (end_of i) is
 
--- the maximal intervals of the root
-abbrev pub IsProjection : List Space → List Interval → Type 0
-IsProjection spaces intervals = IsProjectionFrom spaces 0 intervals
+-- the maximal spans of the root
+abbrev pub IsProjection : List Space → List Span → Type 0
+IsProjection spaces spans = IsProjectionFrom spaces 0 spans
 
 -- where the block of a page starts, counted in units from the first page of its innermost space
 abbrev pub block_start : Space → ℕ → ℕ
 block_start space page = space.first + space.unit * ((page - space.first) / space.unit)
 
--- the first page of the block, cut to the interval
-abbrev pub unit_first : Space → Interval → ℕ → ℕ
+-- the first page of the block, cut to the span
+abbrev pub unit_first : Space → Span → ℕ → ℕ
 unit_first space i page = max i.first (block_start space page)
 
--- the first page behind the block, cut to the interval
-abbrev pub unit_end : Space → Interval → ℕ → ℕ
+-- the first page behind the block, cut to the span
+abbrev pub unit_end : Space → Span → ℕ → ℕ
 unit_end space i page = min (end_of i) (block_start space page + space.unit)
 
--- the swap unit of a page, by its innermost space and its interval: the unit's first page, and how many pages it has
-abbrev pub unit : Space → Interval → ℕ → ℕ × ℕ
+-- the swap unit of a page, by its innermost space and its span: the unit's first page, and how many pages it has
+abbrev pub unit : Space → Span → ℕ → ℕ × ℕ
 unit space i page = (unit_first space i page, unit_end space i page - unit_first space i page)

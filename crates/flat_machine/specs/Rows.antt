@@ -12,7 +12,7 @@ use Rattle.flat_machine.specs.At.{cells_at}
 use Rattle.flat_machine.specs.Next.{next}
 use Rattle.flat_machine.specs.Allows.{reply_of}
 use Rattle.flat_machine.specs.Start.{opened}
-use Rattle.flat_machine.specs.Projection.{Interval, view_at, unit}
+use Rattle.flat_machine.specs.Projection.{Span, view_at, unit}
 
 -- a volume of serial 7 without files
 abbrev pub volume_124 : Machine
@@ -280,15 +280,15 @@ space_1 = record { handle = 1; parent = 0; first = 0; pages = 32; unit = 4; wind
 abbrev pub space_2 : Space
 space_2 = record { handle = 2; parent = 1; first = 3; pages = 3; unit = 3; window = None }
 
--- an interval of these spaces
-abbrev pub interval : ℕ → ℕ → Interval
-interval first pages = record { first = first; pages = pages; view = view_at (root ∷ space_1 ∷ space_2 ∷ []) first }
+-- a span of these spaces
+abbrev pub span : ℕ → ℕ → Span
+span first pages = record { first = first; pages = pages; view = view_at (root ∷ space_1 ∷ space_2 ∷ []) first }
 
 -- the units of pages 2, 4, 6 and 8
 unfoldable pub UnitsCut : Type 0
 UnitsCut =
-    (unit space_1 (interval 0 3) 2 ≡ (0, 3)) × (unit space_2 (interval 3 3) 4 ≡ (3, 3))
-    × (unit space_1 (interval 6 26) 6 ≡ (6, 2)) × (unit space_1 (interval 6 26) 8 ≡ (8, 4))
+    (unit space_1 (span 0 3) 2 ≡ (0, 3)) × (unit space_2 (span 3 3) 4 ≡ (3, 3))
+    × (unit space_1 (span 6 26) 6 ≡ (6, 2)) × (unit space_1 (span 6 26) 8 ≡ (8, 4))
 
 -- so many numbers in a row
 abbrev pub numbers_from : ℕ → ℕ → List ℕ

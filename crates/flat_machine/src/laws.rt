@@ -103,7 +103,7 @@ pub fn start_is_machine()
     ensures { StartIsMachine }
 {}
 
-/// A swap unit lies in its interval, and holds its page.
+/// A swap unit lies in its span, and holds its page.
 pub fn unit_holds_its_page()
     ensures { UnitHoldsItsPage }
 {}

@@ -10,7 +10,7 @@ use Rattle.flat_machine.specs.Projection.{unit}
 use Rattle.swap_units.specs.Unit.{Holds, IsUnit}
 use Rattle.flat_machine.specs.Next.{put_space, without_space, change_space, set_window}
 use Rattle.projection_laws.specs.Spaces.{AreSpaces, MayBeAdded, MayBeRemoved, MayHaveWindow}
-use Rattle.projection_laws.specs.Sight.{Interval, AreIntervals, end_of, interval_of, run_of, inner_of}
+use Rattle.projection_laws.specs.Sight.{Interval, AreIntervals, end_of, interval_of, span_of, inner_of}
 use Rattle.projection_laws.specs.Edits.{replaced, pieces, rejoined, inside, reshown_in, refitted, through, alike, longer, paired, paired_before}
 
 -- the spaces have a machine's form again, and these intervals
@@ -123,7 +123,7 @@ WindowsAreFormed = (ss : List Space) (xs : List Interval) (k : ℕ) (x : Interva
 -- the unit of a page by its innermost space is the unit by its interval
 abbrev pub UnitsAgree : Type 0
 UnitsAgree = (ss : List Space) (xs : List Interval) (k page : ℕ) (x : Interval) (s : Space) → AreSpaces ss → AreIntervals ss xs → slice_get xs k ≡ Some x
-    → Holds x page → innermost ss page ≡ Some s → IsUnit x page (unit s (run_of x) page)
+    → Holds x page → innermost ss page ≡ Some s → IsUnit x page (unit s (span_of x) page)
 
 -- Places, by the intervals.
 
