@@ -71,7 +71,7 @@ fn set(page: &mut Page, sector: u32, used: bool)
 }
 
 /// Marks these sectors used or free.
-pub fn mark(page: &mut Page, from: u32, end: u32, used: bool)
+pub fn set_range(page: &mut Page, from: u32, end: u32, used: bool)
     requires order { from ≤ end }
     requires inside { end ≤ 4096 }
     ensures { IsMarked used page.old page.new from end }

@@ -111,7 +111,7 @@ impl<M: FlatMem> AllocMap<M> {
             Ok(end) => end,
             Err(error) => return Err(AllocError::Mem(error)),
         };
-        match pages::mark(&mut self.mem, sector, end, true) {
+        match pages::set_range(&mut self.mem, sector, end, true) {
             Ok(()) => Ok((sector, end - sector)),
             Err(error) => Err(AllocError::Mem(error)),
         }
@@ -133,6 +133,6 @@ impl<M: FlatMem> AllocMap<M> {
         ensures cost { M.spent (map_memory self.new)
             ≤ M.spent (map_memory self.old) + 2 * pages_between sector (sector + pages) * M.cost }
     {
-        pages::mark(&mut self.mem, sector, sector + pages, false)
+        pages::set_range(&mut self.mem, sector, sector + pages, false)
     }
 }

@@ -105,7 +105,7 @@ pub fn count_free<M: FlatMem>(mem: &mut M, from: u32, end: u32) -> Result<u32, M
 }
 
 // Marks these sectors used or free. They lie in one page.
-fn mark_in_page<M: FlatMem>(mem: &mut M, at: u32, stop: u32, used: bool) -> Result<(), M::Error>
+fn set_in_page<M: FlatMem>(mem: &mut M, at: u32, stop: u32, used: bool) -> Result<(), M::Error>
     requires order { at < stop }
     requires one_page { stop ≤ next_page at }
     requires inside { 512 * (at / 4096) + 512 ≤ M.size mem.old }
@@ -120,12 +120,12 @@ fn mark_in_page<M: FlatMem>(mem: &mut M, at: u32, stop: u32, used: bool) -> Resu
     let mut page = [0; 512];
     mem.read(place, &mut page)?;
     let from = at % 4096;
-    bits::mark(&mut page, from, from + (stop - at), used);
+    bits::set_range(&mut page, from, from + (stop - at), used);
     mem.write(place, &page)
 }
 
 /// Marks these sectors used or free.
-pub fn mark<M: FlatMem>(mem: &mut M, from: u32, end: u32, used: bool) -> Result<(), M::Error>
+pub fn set_range<M: FlatMem>(mem: &mut M, from: u32, end: u32, used: bool) -> Result<(), M::Error>
     requires order { from ≤ end }
     requires inside { 512 * pages_to end ≤ M.size mem.old }
     ensures marked { (b : List ℕ) → M.tells mem.old b
@@ -140,7 +140,7 @@ pub fn mark<M: FlatMem>(mem: &mut M, from: u32, end: u32, used: bool) -> Result<
     let mut at = from;
     'marking: while at < end {
         let stop = page_stop(at, end);
-        mark_in_page(mem, at, stop, used)?;
+        set_in_page(mem, at, stop, used)?;
         at = stop;
     }
     Ok(())

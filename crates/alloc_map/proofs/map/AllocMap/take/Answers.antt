@@ -11,22 +11,22 @@ returns-in-Err-find-clause-cost g c =
     spent_taken (pages_between c.args.self.now.first sectors) (pages_between (c.in-Ok.sector + 1) limit) 0 (pages_to sectors) g.M.FlatMem.cost _ _ _ _
     (pages_of_part _ sectors sectors (omega arith)) (pages_of_part _ limit sectors inside) (omega arith) c.find.ensures.cost c.find-2.ensures.cost (omega arith)
 
-pub returns-in-Ok-mark-clause-cost : goal.returns-in-Ok-mark-clause-cost
-returns-in-Ok-mark-clause-cost g c =
+pub returns-in-Ok-set_range-clause-cost : goal.returns-in-Ok-set_range-clause-cost
+returns-in-Ok-set_range-clause-cost g c =
     let sectors = c.args.self.now.sectors in
     let end = c.in-Ok-find.end in
     let limit : ℕ = c.in-Ok.sector + c.min.result in
     let inside : limit ≤ sectors = omega (arith, c.min.ensures, c.in-Ok.ensures.range.1) in
     spent_taken (pages_between c.args.self.now.first sectors) (pages_between (c.in-Ok.sector + 1) limit) (pages_between c.in-Ok.sector end) (pages_to sectors) g.M.FlatMem.cost _ _ _ _
     (pages_of_part _ sectors sectors (omega arith)) (pages_of_part _ limit sectors inside) (pages_of_part _ end sectors (omega (arith, inside, c.in-Ok-find.ensures.range.1)))
-    c.find.ensures.cost c.find-2.ensures.cost c.mark.ensures.cost
+    c.find.ensures.cost c.find-2.ensures.cost c.set_range.ensures.cost
 
-pub returns-in-Err-mark-clause-cost : goal.returns-in-Err-mark-clause-cost
-returns-in-Err-mark-clause-cost g c =
+pub returns-in-Err-set_range-clause-cost : goal.returns-in-Err-set_range-clause-cost
+returns-in-Err-set_range-clause-cost g c =
     let sectors = c.args.self.now.sectors in
     let end = c.in-Ok-find.end in
     let limit : ℕ = c.in-Ok.sector + c.min.result in
     let inside : limit ≤ sectors = omega (arith, c.min.ensures, c.in-Ok.ensures.range.1) in
     spent_taken (pages_between c.args.self.now.first sectors) (pages_between (c.in-Ok.sector + 1) limit) (pages_between c.in-Ok.sector end) (pages_to sectors) g.M.FlatMem.cost _ _ _ _
     (pages_of_part _ sectors sectors (omega arith)) (pages_of_part _ limit sectors inside) (pages_of_part _ end sectors (omega (arith, inside, c.in-Ok-find.ensures.range.1)))
-    c.find.ensures.cost c.find-2.ensures.cost c.mark.ensures.cost
+    c.find.ensures.cost c.find-2.ensures.cost c.set_range.ensures.cost

@@ -1,6 +1,6 @@
 use Rattle.std.proofs.Common.{◌≤◌, ◌-◌}
 use Rattle.alloc_map.specs.Bits.{IsMarked}
-use Rattle.alloc_map.proofs.bits.mark.Given as goal
+use Rattle.alloc_map.proofs.bits.set_range.Given as goal
 
 abbrev pub invariant-marking : goal.invariant-marking
 invariant-marking l = record {

@@ -1,7 +1,7 @@
 use Rattle.std.proofs.Common.{ℕ, ◌*◌, ◌≤◌, ◌-◌, List}
 use Rattle.alloc_map.specs.Bits.{TellsMarked}
 use Rattle.alloc_map.proofs.Spending.{HasSpent}
-use Rattle.alloc_map.proofs.pages.mark.Given as goal
+use Rattle.alloc_map.proofs.pages.set_range.Given as goal
 
 abbrev pub invariant-marking : goal.invariant-marking
 invariant-marking g l = record {
