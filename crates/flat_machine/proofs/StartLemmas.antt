@@ -33,14 +33,14 @@ opened_is_machine serial counter capacity a b c d = record {
 }
 
 -- what holds of the file of each leader holds of all files
-pub each_by_leaders : (P : File → Type 0) (temps : Bool) (all ss : List Sector) → ((s : Sector) → leads temps s ≡ true → P (file_by all s.0))
-    → AllByRecursion P (files_by temps all ss)
-each_by_leaders P temps all [] each = tt
-each_by_leaders P temps all (s ∷ ss) each = either (leads temps s) refl (each_by_leaders P temps all ss each)
+pub each_by_leaders : (P : File → Type 0) (with_temporary : Bool) (all ss : List Sector) → ((s : Sector) → leads with_temporary s ≡ true → P (file_by all s.0))
+    → AllByRecursion P (files_by with_temporary all ss)
+each_by_leaders P with_temporary all [] each = tt
+each_by_leaders P with_temporary all (s ∷ ss) each = either (leads with_temporary s) refl (each_by_leaders P with_temporary all ss each)
   where
-    either : (b : Bool) → leads temps s ≡ b → AllByRecursion P (files_by temps all ss)
-        → AllByRecursion P (if b then put_file (file_by all s.0) (files_by temps all ss) else files_by temps all ss)
-    either true e more = each_put P (file_by all s.0) (files_by temps all ss) (each s e) more
+    either : (b : Bool) → leads with_temporary s ≡ b → AllByRecursion P (files_by with_temporary all ss)
+        → AllByRecursion P (if b then put_file (file_by all s.0) (files_by with_temporary all ss) else files_by with_temporary all ss)
+    either true e more = each_put P (file_by all s.0) (files_by with_temporary all ss) (each s e) more
     either false e more = more
 
 permanent_leader : (s : Sector) → leads false s ≡ true → is_permanent s.0 ≡ true

@@ -65,14 +65,14 @@ root_bytes d each = either (slice_get d 0) refl
 -- Files.
 
 -- what holds of the file of each leader holds of all files
-each_leader : (P : File → Type 0) (temps : Bool) (all ss : List Sector) → ((s : Sector) → In s ss → leads temps s ≡ true → P (file_by all s.0))
-    → AllByRecursion P (files_by temps all ss)
-each_leader P temps all [] each = tt
-each_leader P temps all (s ∷ ss) each = either (leads temps s) refl (each_leader P temps all ss (λ t i. each t (inr i)))
+each_leader : (P : File → Type 0) (with_temporary : Bool) (all ss : List Sector) → ((s : Sector) → In s ss → leads with_temporary s ≡ true → P (file_by all s.0))
+    → AllByRecursion P (files_by with_temporary all ss)
+each_leader P with_temporary all [] each = tt
+each_leader P with_temporary all (s ∷ ss) each = either (leads with_temporary s) refl (each_leader P with_temporary all ss (λ t i. each t (inr i)))
   where
-    either : (b : Bool) → leads temps s ≡ b → AllByRecursion P (files_by temps all ss)
-        → AllByRecursion P (if b then put_file (file_by all s.0) (files_by temps all ss) else files_by temps all ss)
-    either true e more = each_put P (file_by all s.0) (files_by temps all ss) (each s (inl refl) e) more
+    either : (b : Bool) → leads with_temporary s ≡ b → AllByRecursion P (files_by with_temporary all ss)
+        → AllByRecursion P (if b then put_file (file_by all s.0) (files_by with_temporary all ss) else files_by with_temporary all ss)
+    either true e more = each_put P (file_by all s.0) (files_by with_temporary all ss) (each s (inl refl) e) more
     either false e more = more
 
 data_in : (d : List Sector) → AreSectors d → (s : Sector) → In s (data_sectors d) → IsSector s

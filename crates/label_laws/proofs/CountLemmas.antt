@@ -30,49 +30,49 @@ not_false false e = refl
 at_place : (d : List Sector) (n j : ℕ) (s : Sector) → n ≡ first_data (length d) + j → slice_get (data_sectors d) j ≡ Some s → HasData d n s
 at_place d n j s is here = record { is_data = omega (arith, is); here = ap (λ (m : ℕ). slice_get d m) is ∙ sym (laws.get_drop (first_data (length d)) d j) ∙ here }
 
-module _ (temps : Bool) where
-  each_unneeded : (d : List Sector) → AllByRecursion (IsUnneeded temps d) (unneeded_sectors temps d)
-  each_unneeded d = places_each (IsUnneeded temps d) (λ i s. not (is_free s.0) && not (needs_place temps d i)) (first_data (length d)) (data_sectors d)
+module _ (with_temporary : Bool) where
+  each_unneeded : (d : List Sector) → AllByRecursion (IsUnneeded with_temporary d) (unneeded_sectors with_temporary d)
+  each_unneeded d = places_each (IsUnneeded with_temporary d) (λ i s. not (is_free s.0) && not (needs_place with_temporary d i)) (first_data (length d)) (data_sectors d)
       (λ n j s is here passes.
       let there = at_place d n j s is here in
-      record { is_data = there.is_data; within = slice_get_within d n s there.here; unneeded = not_false (needs_place temps d n) (and_parts (not (is_free s.0)) (not (needs_place temps d n)) passes).1 })
+      record { is_data = there.is_data; within = slice_get_within d n s there.here; unneeded = not_false (needs_place with_temporary d n) (and_parts (not (is_free s.0)) (not (needs_place with_temporary d n)) passes).1 })
 
-  all_unneeded : (d : List Sector) → AreAllUnneeded temps d (unneeded_sectors temps d)
+  all_unneeded : (d : List Sector) → AreAllUnneeded with_temporary d (unneeded_sectors with_temporary d)
   all_unneeded d i s there taken free =
       let behind = there.is_data in
-      places_all (λ i s. not (is_free s.0) && not (needs_place temps d i)) (first_data (length d)) (data_sectors d) i (i - first_data (length d)) s (omega (arith, behind))
-      (laws.data_get temps 0 0 d i s there.is_data there.here)
-      (and_from (not (is_free s.0)) (not (needs_place temps d i)) (not_from_false (is_free s.0) taken) (not_from_false (needs_place temps d i) free))
+      places_all (λ i s. not (is_free s.0) && not (needs_place with_temporary d i)) (first_data (length d)) (data_sectors d) i (i - first_data (length d)) s (omega (arith, behind))
+      (laws.data_get with_temporary 0 0 d i s there.is_data there.here)
+      (and_from (not (is_free s.0)) (not (needs_place with_temporary d i)) (not_from_false (is_free s.0) taken) (not_from_false (needs_place with_temporary d i) free))
 
-  each_lost : (d : List Sector) → AllByRecursion (IsLost temps d) (lost_sectors temps d)
-  each_lost d = places_each (IsLost temps d) (λ i s. not (needs_place temps d i) && is_of_some_file temps d s) (first_data (length d)) (data_sectors d)
+  each_lost : (d : List Sector) → AllByRecursion (IsLost with_temporary d) (lost_sectors with_temporary d)
+  each_lost d = places_each (IsLost with_temporary d) (λ i s. not (needs_place with_temporary d i) && is_of_some_file with_temporary d s) (first_data (length d)) (data_sectors d)
       (λ n j s is here passes.
-      let parts = and_parts (not (needs_place temps d n)) (is_of_some_file temps d s) passes in
-      let marks = and_parts (is_file s.0) (option_map_or (λ f. true) (disk_file temps d s.0.id) false) parts.1 in
-      let f = found (disk_file temps d s.0.id) marks.1 in
-      record { s = s; there = at_place d n j s is here; file_label = marks.0; f = f.0; file = f.1; unneeded = not_false (needs_place temps d n) parts.0 })
+      let parts = and_parts (not (needs_place with_temporary d n)) (is_of_some_file with_temporary d s) passes in
+      let marks = and_parts (is_file s.0) (option_map_or (λ f. true) (disk_file with_temporary d s.0.id) false) parts.1 in
+      let f = found (disk_file with_temporary d s.0.id) marks.1 in
+      record { s = s; there = at_place d n j s is here; file_label = marks.0; f = f.0; file = f.1; unneeded = not_false (needs_place with_temporary d n) parts.0 })
     where
       found : (o : Option File) → option_map_or (λ f. true) o false ≡ true → (f : File) × (o ≡ Some f)
       found None e = absurd (true≢false (sym e))
       found (Some f) e = (f, refl)
 
-  all_lost : (d : List Sector) (i : ℕ) → IsLost temps d i → Contains (lost_sectors temps d) i
+  all_lost : (d : List Sector) (i : ℕ) → IsLost with_temporary d i → Contains (lost_sectors with_temporary d) i
   all_lost d i lost =
       let behind = lost.there.is_data in
-      places_all (λ i s. not (needs_place temps d i) && is_of_some_file temps d s) (first_data (length d)) (data_sectors d) i (i - first_data (length d)) lost.s (omega (arith, behind))
-      (laws.data_get temps 0 0 d i lost.s lost.there.is_data lost.there.here)
-      (and_from (not (needs_place temps d i)) (is_of_some_file temps d lost.s) (not_from_false (needs_place temps d i) lost.unneeded)
-      (and_from (is_file lost.s.0) (option_map_or (λ f. true) (disk_file temps d lost.s.0.id) false) lost.file_label (ap (λ (o : Option File). option_map_or (λ f. true) o false) lost.file)))
+      places_all (λ i s. not (needs_place with_temporary d i) && is_of_some_file with_temporary d s) (first_data (length d)) (data_sectors d) i (i - first_data (length d)) lost.s (omega (arith, behind))
+      (laws.data_get with_temporary 0 0 d i lost.s lost.there.is_data lost.there.here)
+      (and_from (not (needs_place with_temporary d i)) (is_of_some_file with_temporary d lost.s) (not_from_false (needs_place with_temporary d i) lost.unneeded)
+      (and_from (is_file lost.s.0) (option_map_or (λ f. true) (disk_file with_temporary d lost.s.0.id) false) lost.file_label (ap (λ (o : Option File). option_map_or (λ f. true) o false) lost.file)))
 
-  pub list_laws : UnneededListLaws temps
+  pub list_laws : UnneededListLaws with_temporary
   list_laws = record {
     each = each_unneeded;
     all = all_unneeded;
-    rising = λ d. places_rise (λ i s. not (is_free s.0) && not (needs_place temps d i)) (first_data (length d)) (data_sectors d);
-    freed = λ d. freed_all temps d (unneeded_sectors temps d) (each_unneeded d) (all_unneeded d);
+    rising = λ d. places_rise (λ i s. not (is_free s.0) && not (needs_place with_temporary d i)) (first_data (length d)) (data_sectors d);
+    freed = λ d. freed_all with_temporary d (unneeded_sectors with_temporary d) (each_unneeded d) (all_unneeded d);
     lost_each = each_lost;
     lost_all = all_lost;
-    lost_rising = λ d. places_rise (λ i s. not (needs_place temps d i) && is_of_some_file temps d s) (first_data (length d)) (data_sectors d);
+    lost_rising = λ d. places_rise (λ i s. not (needs_place with_temporary d i) && is_of_some_file with_temporary d s) (first_data (length d)) (data_sectors d);
   }
 
 -- a test of the sectors of each file's identifier
@@ -113,7 +113,7 @@ any_at test (f ∷ fs) n s rise = either (eqb f.id s.0.id) refl (any_at test fs 
         let here : eqb s.0.id f.id ≡ false = ne_eqb s.0.id f.id (λ q. eqb-false f.id s.0.id e (sym q)) in
         ap (λ (b : Bool). (b && test f n s) || any_of test fs n s) here ∙ more
 
-module _ (temps : Bool) (base : ℕ) (xs : List Sector) (test : OfFile) (count : File → ℕ) where
+module _ (with_temporary : Bool) (base : ℕ) (xs : List Sector) (test : OfFile) (count : File → ℕ) where
   -- as many sectors as each file counts
   any_counts : (fs : List File) → AreRising fs → AllByRecursion (λ f. length (places (λ n s. eqb s.0.id f.id && test f n s) base xs) ≡ count f) fs
       → length (places (any_of test fs) base xs) ≡ sum_by count fs
@@ -141,7 +141,7 @@ split_page false false e one other = refl
 
 -- the sector is the leader of the file, and it is a page below page m of it, the first of each
 abbrev leads_it : Bool → List Sector → OfFile
-leads_it temps d f n s = is_first (leads_file temps f.id) (data_sectors d) (n - first_data (length d))
+leads_it with_temporary d f n s = is_first (leads_file with_temporary f.id) (data_sectors d) (n - first_data (length d))
 
 abbrev is_below : List Sector → ℕ → OfFile
 is_below d m f n s = nat_lt s.0.page m && is_first (is_page f.id s.0.page) (data_sectors d) (n - first_data (length d))
@@ -160,22 +160,22 @@ same_below p m other = either (nat_lt p m) refl
     either true e = let low = ltb-true p m e in lt-ltb p (suc m) (omega (arith, low))
     either false e = let high = ltb-false p m e in le-ltb p (suc m) (omega (arith, high, other))
 
-module _ (temps : Bool) (d : List Sector) where
+module _ (with_temporary : Bool) (d : List Sector) where
   -- a place of the data sectors
   sector_at : (n j : ℕ) (s : Sector) → n ≡ first_data (length d) + j → slice_get (data_sectors d) j ≡ Some s → slice_get (data_sectors d) (n - first_data (length d)) ≡ Some s
   sector_at n j s is here = ap (λ (m : ℕ). slice_get (data_sectors d) m) (let m : n - first_data (length d) ≡ j = omega (arith, is) in m) ∙ here
 
   -- one leader
-  leader_counts : (f : File) → IsFileOn temps (data_sectors d) f → length (places (of_file (leads_it temps d) f) (first_data (length d)) (data_sectors d)) ≡ 1
+  leader_counts : (f : File) → IsFileOn with_temporary (data_sectors d) f → length (places (of_file (leads_it with_temporary d) f) (first_data (length d)) (data_sectors d)) ≡ 1
   leader_counts f told =
       ap (λ (l : List ℕ). length l)
-      (places_same (of_file (leads_it temps d) f) (leads_it temps d f) (first_data (length d)) (data_sectors d)
-      (λ n j s is here. either s (n - first_data (length d)) (sector_at n j s is here) (is_first (leads_file temps f.id) (data_sectors d) (n - first_data (length d))) refl))
-      ∙ first_counts (leads_file temps f.id) (data_sectors d) (first_data (length d)) told.leader.0 told.leader.1 told.leader.2
+      (places_same (of_file (leads_it with_temporary d) f) (leads_it with_temporary d f) (first_data (length d)) (data_sectors d)
+      (λ n j s is here. either s (n - first_data (length d)) (sector_at n j s is here) (is_first (leads_file with_temporary f.id) (data_sectors d) (n - first_data (length d))) refl))
+      ∙ first_counts (leads_file with_temporary f.id) (data_sectors d) (first_data (length d)) told.leader.0 told.leader.1 told.leader.2
     where
-      either : (s : Sector) (j : ℕ) → slice_get (data_sectors d) j ≡ Some s → (b : Bool) → is_first (leads_file temps f.id) (data_sectors d) j ≡ b → (eqb s.0.id f.id && b) ≡ b
+      either : (s : Sector) (j : ℕ) → slice_get (data_sectors d) j ≡ Some s → (b : Bool) → is_first (leads_file with_temporary f.id) (data_sectors d) j ≡ b → (eqb s.0.id f.id && b) ≡ b
       either s j here true e =
-          ap (λ (b : Bool). b && true) (eq-eqb s.0.id f.id (w.leader_id temps f.id s (first_passes (leads_file temps f.id) (data_sectors d) j s here e)))
+          ap (λ (b : Bool). b && true) (eq-eqb s.0.id f.id (w.leader_id with_temporary f.id s (first_passes (leads_file with_temporary f.id) (data_sectors d) j s here e)))
       either s j here false e = and_false (eqb s.0.id f.id)
 
   -- page m more
@@ -189,8 +189,8 @@ module _ (temps : Bool) (d : List Sector) where
           ≡ ((eqb s.0.id f.id && (nat_lt s.0.page m && is_first (is_page f.id s.0.page) (data_sectors d) j)) || b)
       either true e =
           let passes : is_page f.id m s ≡ true = first_passes (is_page f.id m) (data_sectors d) j s here e in
-          let page : s.0.page ≡ m = w.page_number temps f.id m s passes in
-          let own : eqb s.0.id f.id ≡ true = (and_parts (is_file s.0) (eqb s.0.id f.id) (w.page_of temps f.id m s passes)).1 in
+          let page : s.0.page ≡ m = w.page_number with_temporary f.id m s passes in
+          let own : eqb s.0.id f.id ≡ true = (and_parts (is_file s.0) (eqb s.0.id f.id) (w.page_of with_temporary f.id m s passes)).1 in
           let first : is_first (is_page f.id s.0.page) (data_sectors d) j ≡ true = ap (λ (p : ℕ). is_first (is_page f.id p) (data_sectors d) j) page ∙ e in
           and_from (eqb s.0.id f.id) (nat_lt s.0.page (suc m) && is_first (is_page f.id s.0.page) (data_sectors d) j) own
           (and_from (nat_lt s.0.page (suc m)) (is_first (is_page f.id s.0.page) (data_sectors d) j) (lt-ltb s.0.page (suc m) (omega (arith, page))) first)
@@ -219,7 +219,7 @@ module _ (temps : Bool) (d : List Sector) where
           or_same false = refl
 
   -- as many pages as the file has below m
-  pages_count : (f : File) → IsFileOn temps (data_sectors d) f → (m : ℕ) → m ≤ size f → length (places (of_file (is_below d m) f) (first_data (length d)) (data_sectors d)) ≡ m
+  pages_count : (f : File) → IsFileOn with_temporary (data_sectors d) f → (m : ℕ) → m ≤ size f → length (places (of_file (is_below d m) f) (first_data (length d)) (data_sectors d)) ≡ m
   pages_count f told zero low =
       ap (λ (l : List ℕ). length l)
       (places_same (of_file (is_below d 0) f) (λ n s. false) (first_data (length d)) (data_sectors d)
@@ -236,43 +236,43 @@ module _ (temps : Bool) (d : List Sector) where
       (λ n j s is here below is_m.
       let low_page = ltb-true s.0.page m (and_parts (nat_lt s.0.page m) (is_first (is_page f.id s.0.page) (data_sectors d) (n - first_data (length d)))
       (and_parts (eqb s.0.id f.id) (nat_lt s.0.page m && is_first (is_page f.id s.0.page) (data_sectors d) (n - first_data (length d))) below).1).0 in
-      let same = w.page_number temps f.id m s (first_passes (is_page f.id m) (data_sectors d) (n - first_data (length d)) s (sector_at n j s is here) is_m) in
+      let same = w.page_number with_temporary f.id m s (first_passes (is_page f.id m) (data_sectors d) (n - first_data (length d)) s (sector_at n j s is here) is_m) in
       omega (arith, low_page, same))
       ∙ omega (arith, fewer, last)
 
   -- each file of the disk is told
-  each_told : (P : File → Type 0) → ((f : File) → IsFileOn temps (data_sectors d) f → P f) → AllByRecursion P (files_among temps d)
-  each_told P holds = laws.each_file temps 0 0 P d (λ id f is. holds f ((lowest.files_are_as_told temps d).told id f is).0)
+  each_told : (P : File → Type 0) → ((f : File) → IsFileOn with_temporary (data_sectors d) f → P f) → AllByRecursion P (files_among with_temporary d)
+  each_told P holds = laws.each_file with_temporary 0 0 P d (λ id f is. holds f ((lowest.files_are_as_told with_temporary d).told id f is).0)
 
   -- of a sector, the leader that its file needs, or a page
   parted : (n j : ℕ) (s : Sector) → n ≡ first_data (length d) + j → slice_get (data_sectors d) j ≡ Some s
-      → ((needs_place temps d n && eqb s.0.page leader_page) ≡ any_of (leads_it temps d) (files_among temps d) n s)
-      × ((needs_place temps d n && not (eqb s.0.page leader_page)) ≡ any_of (λ f. is_below d (size f) f) (files_among temps d) n s)
+      → ((needs_place with_temporary d n && eqb s.0.page leader_page) ≡ any_of (leads_it with_temporary d) (files_among with_temporary d) n s)
+      × ((needs_place with_temporary d n && not (eqb s.0.page leader_page)) ≡ any_of (λ f. is_below d (size f) f) (files_among with_temporary d) n s)
   parted n j s is here = (
-    ap (λ (b : Bool). b && eqb s.0.page leader_page) (needed_at temps (data_sectors d) (n - first_data (length d)) s at) ∙ (by_file (file_among temps (data_sectors d) s.0.id) refl).0
-        ∙ sym (any_at (leads_it temps d) (files_among temps d) n s (laws.files_on_rise temps 0 0 d) ∙ ap (λ (o : Option File). option_map_or (λ f. leads_it temps d f n s) o false) (laws.look_up temps 0 0 d s.0.id)),
-    ap (λ (b : Bool). b && not (eqb s.0.page leader_page)) (needed_at temps (data_sectors d) (n - first_data (length d)) s at) ∙ (by_file (file_among temps (data_sectors d) s.0.id) refl).1
-        ∙ sym (any_at (λ f. is_below d (size f) f) (files_among temps d) n s (laws.files_on_rise temps 0 0 d) ∙ ap (λ (o : Option File). option_map_or (λ f. is_below d (size f) f n s) o false) (laws.look_up temps 0 0 d s.0.id)),
+    ap (λ (b : Bool). b && eqb s.0.page leader_page) (needed_at with_temporary (data_sectors d) (n - first_data (length d)) s at) ∙ (by_file (file_among with_temporary (data_sectors d) s.0.id) refl).0
+        ∙ sym (any_at (leads_it with_temporary d) (files_among with_temporary d) n s (laws.files_on_rise with_temporary 0 0 d) ∙ ap (λ (o : Option File). option_map_or (λ f. leads_it with_temporary d f n s) o false) (laws.look_up with_temporary 0 0 d s.0.id)),
+    ap (λ (b : Bool). b && not (eqb s.0.page leader_page)) (needed_at with_temporary (data_sectors d) (n - first_data (length d)) s at) ∙ (by_file (file_among with_temporary (data_sectors d) s.0.id) refl).1
+        ∙ sym (any_at (λ f. is_below d (size f) f) (files_among with_temporary d) n s (laws.files_on_rise with_temporary 0 0 d) ∙ ap (λ (o : Option File). option_map_or (λ f. is_below d (size f) f n s) o false) (laws.look_up with_temporary 0 0 d s.0.id)),
   )
     where
       at : slice_get (data_sectors d) (n - first_data (length d)) ≡ Some s
       at = sector_at n j s is here
 
-      by_file : (o : Option File) → file_among temps (data_sectors d) s.0.id ≡ o
-          → ((option_map_or (needs temps (data_sectors d) (n - first_data (length d)) s) o false && eqb s.0.page leader_page) ≡ option_map_or (λ f. leads_it temps d f n s) o false)
-          × ((option_map_or (needs temps (data_sectors d) (n - first_data (length d)) s) o false && not (eqb s.0.page leader_page)) ≡ option_map_or (λ f. is_below d (size f) f n s) o false)
+      by_file : (o : Option File) → file_among with_temporary (data_sectors d) s.0.id ≡ o
+          → ((option_map_or (needs with_temporary (data_sectors d) (n - first_data (length d)) s) o false && eqb s.0.page leader_page) ≡ option_map_or (λ f. leads_it with_temporary d f n s) o false)
+          × ((option_map_or (needs with_temporary (data_sectors d) (n - first_data (length d)) s) o false && not (eqb s.0.page leader_page)) ≡ option_map_or (λ f. is_below d (size f) f n s) o false)
       by_file None e = (refl, refl)
       by_file (Some f) e =
-          let told = (lowest.files_are_as_told temps d).told s.0.id f e in
-          let lead : is_first (leads_file temps s.0.id) (data_sectors d) (n - first_data (length d)) ≡ true → eqb s.0.page leader_page ≡ true =
-          λ h. eq-eqb s.0.page leader_page (w.leader_number temps s.0.id s (first_passes (leads_file temps s.0.id) (data_sectors d) (n - first_data (length d)) s at h)) in
+          let told = (lowest.files_are_as_told with_temporary d).told s.0.id f e in
+          let lead : is_first (leads_file with_temporary s.0.id) (data_sectors d) (n - first_data (length d)) ≡ true → eqb s.0.page leader_page ≡ true =
+          λ h. eq-eqb s.0.page leader_page (w.leader_number with_temporary s.0.id s (first_passes (leads_file with_temporary s.0.id) (data_sectors d) (n - first_data (length d)) s at h)) in
           let page : (nat_lt s.0.page (size f) && is_first (is_page s.0.id s.0.page) (data_sectors d) (n - first_data (length d))) ≡ true → eqb s.0.page leader_page ≡ false =
           λ h. ne_eqb s.0.page leader_page (λ q.
           omega (arith, q, told.0.numbered, ltb-true s.0.page (size f) (and_parts (nat_lt s.0.page (size f)) (is_first (is_page s.0.id s.0.page) (data_sectors d) (n - first_data (length d))) h).0)) in (
-            split_lead (is_first (leads_file temps s.0.id) (data_sectors d) (n - first_data (length d)))
+            split_lead (is_first (leads_file with_temporary s.0.id) (data_sectors d) (n - first_data (length d)))
                 (nat_lt s.0.page (size f) && is_first (is_page s.0.id s.0.page) (data_sectors d) (n - first_data (length d))) (eqb s.0.page leader_page) lead page
-                ∙ ap (λ (k : ℕ). is_first (leads_file temps k) (data_sectors d) (n - first_data (length d))) (sym told.1),
-            split_page (is_first (leads_file temps s.0.id) (data_sectors d) (n - first_data (length d)))
+                ∙ ap (λ (k : ℕ). is_first (leads_file with_temporary k) (data_sectors d) (n - first_data (length d))) (sym told.1),
+            split_page (is_first (leads_file with_temporary s.0.id) (data_sectors d) (n - first_data (length d)))
                 (nat_lt s.0.page (size f) && is_first (is_page s.0.id s.0.page) (data_sectors d) (n - first_data (length d))) (eqb s.0.page leader_page) lead page
                 ∙ ap (λ (k : ℕ). nat_lt s.0.page (size f) && is_first (is_page k s.0.page) (data_sectors d) (n - first_data (length d))) (sym told.1),
           )
@@ -285,20 +285,20 @@ pub rooms : (files : List File) → total_room files ≡ length files + total_pa
 rooms [] = refl
 rooms (f ∷ files) = let more = rooms files in let a = sum_by-cons room_of f files in let b = sum_by-cons size f files in omega (arith, more, a, b)
 
-module _ (temps : Bool) where
-  pub files_count : (d : List Sector) → length (needed_leaders temps d) ≡ length (files_among temps d)
+module _ (with_temporary : Bool) where
+  pub files_count : (d : List Sector) → length (needed_leaders with_temporary d) ≡ length (files_among with_temporary d)
   files_count d =
       ap (λ (l : List ℕ). length l)
-      (places_same (λ i s. needs_place temps d i && eqb s.0.page leader_page) (any_of (leads_it temps d) (files_among temps d)) (first_data (length d)) (data_sectors d) (λ n j s is here. (parted temps d n j s is here).0))
-      ∙ any_counts temps (first_data (length d)) (data_sectors d) (leads_it temps d) (λ f. 1) (files_among temps d) (laws.files_on_rise temps 0 0 d) (each_told temps d (λ f. length (places (of_file (leads_it temps d) f) (first_data (length d)) (data_sectors d)) ≡ 1) (λ f told. leader_counts temps d f told))
-      ∙ ones (files_among temps d)
+      (places_same (λ i s. needs_place with_temporary d i && eqb s.0.page leader_page) (any_of (leads_it with_temporary d) (files_among with_temporary d)) (first_data (length d)) (data_sectors d) (λ n j s is here. (parted with_temporary d n j s is here).0))
+      ∙ any_counts with_temporary (first_data (length d)) (data_sectors d) (leads_it with_temporary d) (λ f. 1) (files_among with_temporary d) (laws.files_on_rise with_temporary 0 0 d) (each_told with_temporary d (λ f. length (places (of_file (leads_it with_temporary d) f) (first_data (length d)) (data_sectors d)) ≡ 1) (λ f told. leader_counts with_temporary d f told))
+      ∙ ones (files_among with_temporary d)
 
-  pub pages_counted : (d : List Sector) → length (needed_pages temps d) ≡ total_pages (files_among temps d)
+  pub pages_counted : (d : List Sector) → length (needed_pages with_temporary d) ≡ total_pages (files_among with_temporary d)
   pages_counted d =
       ap (λ (l : List ℕ). length l)
-      (places_same (λ i s. needs_place temps d i && not (eqb s.0.page leader_page)) (any_of (λ f. is_below d (size f) f) (files_among temps d)) (first_data (length d)) (data_sectors d) (λ n j s is here. (parted temps d n j s is here).1))
-      ∙ any_counts temps (first_data (length d)) (data_sectors d) (λ f. is_below d (size f) f) size (files_among temps d) (laws.files_on_rise temps 0 0 d)
-      (each_told temps d (λ f. length (places (of_file (λ g. is_below d (size g) g) f) (first_data (length d)) (data_sectors d)) ≡ size f) (λ f told. pages_count temps d f told (size f) (omega arith)))
+      (places_same (λ i s. needs_place with_temporary d i && not (eqb s.0.page leader_page)) (any_of (λ f. is_below d (size f) f) (files_among with_temporary d)) (first_data (length d)) (data_sectors d) (λ n j s is here. (parted with_temporary d n j s is here).1))
+      ∙ any_counts with_temporary (first_data (length d)) (data_sectors d) (λ f. is_below d (size f) f) size (files_among with_temporary d) (laws.files_on_rise with_temporary 0 0 d)
+      (each_told with_temporary d (λ f. length (places (of_file (λ g. is_below d (size g) g) f) (first_data (length d)) (data_sectors d)) ≡ size f) (λ f told. pages_count with_temporary d f told (size f) (omega arith)))
 
-  pub count_laws : CountLaws temps
+  pub count_laws : CountLaws with_temporary
   count_laws = record { files = files_count; pages = pages_counted; room = rooms }

@@ -46,29 +46,29 @@ named_id l wanted is =
     let b = and_parts (eqb l.id wanted.id && eqb l.page wanted.page) (nat_lt l.flags 4) a.0 in
     eqb-true l.id wanted.id (and_parts (eqb l.id wanted.id) (eqb l.page wanted.page) b.0).0
 
-module _ (temps : Bool) where
+module _ (with_temporary : Bool) where
   -- no other file is changed where old and new label are of one
   one_sector : (d : List Sector) (i : ℕ) (s t : Sector) (id : ℕ) → slice_get d i ≡ Some s → IsOnlyOf id s → IsOnlyOf id t
-      → (other : ℕ) → other ≢ id → disk_file temps (slice_set d i t) other ≡ disk_file temps d other
+      → (other : ℕ) → other ≢ id → disk_file with_temporary (slice_set d i t) other ≡ disk_file with_temporary d other
   one_sector d i s t id here old new other apart =
-      ⊎_elim (λ (l : i < first_data (length d)). ap (λ (xs : List Sector). file_among temps xs other) (laws.data_past temps 0 0 d i t l))
-      (λ (l : first_data (length d) ≤ i). laws.others temps 0 0 d i s t id l here old new other apart)
+      ⊎_elim (λ (l : i < first_data (length d)). ap (λ (xs : List Sector). file_among with_temporary xs other) (laws.data_past with_temporary 0 0 d i t l))
+      (λ (l : first_data (length d) ≤ i). laws.others with_temporary 0 0 d i s t id l here old new other apart)
       (cases_lt i (first_data (length d)))
 
-  pub others_stay : OthersStay temps
+  pub others_stay : OthersStay with_temporary
   others_stay d (Whole sector label page) other (inl root) apart =
-      ap (λ (xs : List Sector). file_among temps xs other) (laws.data_past temps 0 0 d sector (label, page) (omega (arith, root.place, laws.first_positive temps 0 0 (length d))))
+      ap (λ (xs : List Sector). file_among with_temporary xs other) (laws.data_past with_temporary 0 0 d sector (label, page) (omega (arith, root.place, laws.first_positive with_temporary 0 0 (length d))))
   others_stay d (Whole sector label page) other (inr fresh) apart =
-      one_sector d sector fresh.old.0 (label, page) label.id fresh.old.1.here (laws.only_none temps 0 0 label.id fresh.old.0 (free_none fresh.old.0.0 fresh.old.2)) (only_self (label, page) label.id refl) other apart
+      one_sector d sector fresh.old.0 (label, page) label.id fresh.old.1.here (laws.only_none with_temporary 0 0 label.id fresh.old.0 (free_none fresh.old.0.0 fresh.old.2)) (only_self (label, page) label.id refl) other apart
   others_stay d (LabelOnly sector label) other write apart =
       let s : Sector = write.old.0 in
       let here : slice_get d sector ≡ Some s = write.old.1.here in
       let same : id_of d (LabelOnly sector label) ≡ s.0.id = ap (λ (o : Option Sector). option_map_or (λ (u : Sector). u.0.id) o 0) here in
-      ap (λ (e : List Sector). disk_file temps e other) (label_written d sector s label here)
+      ap (λ (e : List Sector). disk_file with_temporary e other) (label_written d sector s label here)
       ∙ one_sector d sector s (label, s.1) s.0.id here (only_self s s.0.id refl) (new s label write.old.3) other (λ q. apart (q ∙ sym same))
     where
       new : (s : Sector) (label : Label) → IsNextLabel s.0 label → IsOnlyOf s.0.id (label, s.1)
-      new s label (inl free) = laws.only_none temps 0 0 s.0.id (label, s.1) (free_none label (ap is_free free))
+      new s label (inl free) = laws.only_none with_temporary 0 0 s.0.id (label, s.1) (free_none label (ap is_free free))
       new s label (inr marked) = elim marked.1 [
         | inl e ↦ only_self (label, s.1) s.0.id (ap (λ (l : Label). l.id) e)
         | inr e ↦ only_self (label, s.1) s.0.id (ap (λ (l : Label). l.id) e)
@@ -77,63 +77,63 @@ module _ (temps : Bool) where
       let s : Sector = write.old.0 in
       let here : slice_get d sector ≡ Some s = write.old.1 in
       let same : s.0.id ≡ wanted.id = named_id s.0 wanted write.old.2 in
-      ap (λ (e : List Sector). disk_file temps e other) (page_written d sector s wanted page here ∙ ap (λ (b : Bool). if b then slice_set d sector (s.0, page) else d) write.old.2)
+      ap (λ (e : List Sector). disk_file with_temporary e other) (page_written d sector s wanted page here ∙ ap (λ (b : Bool). if b then slice_set d sector (s.0, page) else d) write.old.2)
       ∙ one_sector d sector s (s.0, page) s.0.id here (only_self s s.0.id refl) (only_self (s.0, page) s.0.id refl) other (λ q. apart (q ∙ same))
 
-  pub others_stay_in_runs : OthersStayInRuns temps
+  pub others_stay_in_runs : OthersStayInRuns with_temporary
   others_stay_in_runs d writes other zero lawful none = refl
   others_stay_in_runs d [] other (suc k) lawful none = refl
   others_stay_in_runs d (write ∷ writes) other (suc k) lawful none =
       others_stay_in_runs (written write d) writes other k lawful.1 none.1 ∙ others_stay d write other lawful.0 none.0
 
-  pub low_leaves : (d : List Sector) (i : ℕ) (t : Sector) → i < first_data (length d) → files_among temps (slice_set d i t) ≡ files_among temps d
-  low_leaves d i t low = laws.same_files temps 0 0 d (slice_set d i t) (λ id. ap (λ (xs : List Sector). file_among temps xs id) (laws.data_past temps 0 0 d i t low))
+  pub low_leaves : (d : List Sector) (i : ℕ) (t : Sector) → i < first_data (length d) → files_among with_temporary (slice_set d i t) ≡ files_among with_temporary d
+  low_leaves d i t low = laws.same_files with_temporary 0 0 d (slice_set d i t) (λ id. ap (λ (xs : List Sector). file_among with_temporary xs id) (laws.data_past with_temporary 0 0 d i t low))
 
-  pub page_leaves : (d : List Sector) (i : ℕ) (s : Sector) (page : List ℕ) (id k : ℕ) → HasData d i s → is_page id k s ≡ true → PageMayChange temps d (slice_set d i (s.0, page)) id k page
+  pub page_leaves : (d : List Sector) (i : ℕ) (s : Sector) (page : List ℕ) (id k : ℕ) → HasData d i s → is_page id k s ≡ true → PageMayChange with_temporary d (slice_set d i (s.0, page)) id k page
   page_leaves d i s page id k holds is =
-      let here = laws.data_get temps 0 0 d i s holds.is_data holds.here in
-      let only = laws.only_of temps 0 0 id s (w.page_of temps id k s is) in
+      let here = laws.data_get with_temporary 0 0 d i s holds.is_data holds.here in
+      let only = laws.only_of with_temporary 0 0 id s (w.page_of with_temporary id k s is) in
       record {
-        file = subst (λ (xs : List Sector). (file_among temps xs id ≡ disk_file temps d id) ⊎ (file_among temps xs id ≡ option_map (with_page k (map byte page)) (disk_file temps d id)))
-            (sym (laws.data_set temps 0 0 d i (s.0, page) holds.is_data))
-            (w.page_written temps (data_sectors d) (i - first_data (length d)) s (s.0, page) here id k is refl);
+        file = subst (λ (xs : List Sector). (file_among with_temporary xs id ≡ disk_file with_temporary d id) ⊎ (file_among with_temporary xs id ≡ option_map (with_page k (map byte page)) (disk_file with_temporary d id)))
+            (sym (laws.data_set with_temporary 0 0 d i (s.0, page) holds.is_data))
+            (w.page_written with_temporary (data_sectors d) (i - first_data (length d)) s (s.0, page) here id k is refl);
         others = λ other apart. one_sector d i s (s.0, page) id holds.here only only other apart;
       }
 
   -- no file has a reserved identifier, as those of root, maps and space tables
-  pub reserved_have_none : (d : List Sector) (id : ℕ) → is_file_id id ≡ false → disk_file temps d id ≡ None
+  pub reserved_have_none : (d : List Sector) (id : ℕ) → is_file_id id ≡ false → disk_file with_temporary d id ≡ None
   reserved_have_none d id reserved =
-      w.file_none temps (data_sectors d) id
-      (ap (λ (o : Option Sector). option_map (λ (u : Sector). u.0) o) (find_none (leads_file temps id) (data_sectors d) (λ j u at. either u (leads_file temps id u) refl)))
+      w.file_none with_temporary (data_sectors d) id
+      (ap (λ (o : Option Sector). option_map (λ (u : Sector). u.0) o) (find_none (leads_file with_temporary id) (data_sectors d) (λ j u at. either u (leads_file with_temporary id u) refl)))
     where
-      either : (u : Sector) (b : Bool) → leads_file temps id u ≡ b → leads_file temps id u ≡ false
+      either : (u : Sector) (b : Bool) → leads_file with_temporary id u ≡ b → leads_file with_temporary id u ≡ false
       either u false e = e
       either u true e =
-          let p = and_parts (leads temps u) (eqb u.0.id id) e in
-          let q = and_parts (is_file u.0 && eqb u.0.page leader_page) (temps || is_permanent u.0) p.0 in
+          let p = and_parts (leads with_temporary u) (eqb u.0.id id) e in
+          let q = and_parts (is_file u.0 && eqb u.0.page leader_page) (with_temporary || is_permanent u.0) p.0 in
           let r = and_parts (is_file u.0) (eqb u.0.page leader_page) q.0 in
           let f = and_parts (is_file_id u.0.id && nat_lt u.0.flags 4) (eqb u.0.last 0) r.0 in
           let g = and_parts (is_file_id u.0.id) (nat_lt u.0.flags 4) f.0 in
           absurd (true≢false (sym g.0 ∙ ap is_file_id (eqb-true u.0.id id p.1) ∙ reserved))
 
-  pub leader_added : (d : List Sector) (i : ℕ) (s t : Sector) (id : ℕ) → HasData d i s → is_file s.0 ≡ false → leads_file temps id t ≡ true → disk_file temps d id ≡ None
-      → FileAppears temps d (slice_set d i t) id t.0
+  pub leader_added : (d : List Sector) (i : ℕ) (s t : Sector) (id : ℕ) → HasData d i s → is_file s.0 ≡ false → leads_file with_temporary id t ≡ true → disk_file with_temporary d id ≡ None
+      → FileAppears with_temporary d (slice_set d i t) id t.0
   leader_added d i s t id holds plain led none =
       let xs : List Sector = data_sectors d in
       let j : ℕ = i - first_data (length d) in
-      let here : slice_get xs j ≡ Some s = laws.data_get temps 0 0 d i s holds.is_data holds.here in
-      let number : t.0.page ≡ leader_page = w.leader_number temps id t led in
-      let lead : leader_among temps (slice_set xs j t) id ≡ Some t.0 =
-      ap (λ (o : Option Sector). option_map (λ (u : Sector). u.0) o) (find_new (leads_file temps id) xs j t (slice_get_within xs j s here) (w.none_leads temps xs id none) led) in
+      let here : slice_get xs j ≡ Some s = laws.data_get with_temporary 0 0 d i s holds.is_data holds.here in
+      let number : t.0.page ≡ leader_page = w.leader_number with_temporary id t led in
+      let lead : leader_among with_temporary (slice_set xs j t) id ≡ Some t.0 =
+      ap (λ (o : Option Sector). option_map (λ (u : Sector). u.0) o) (find_new (leads_file with_temporary id) xs j t (slice_get_within xs j s here) (w.none_leads with_temporary xs id none) led) in
       let pages : pages_from (page_at (slice_set xs j t) t.0.id) 0 leader_page ≡ pages_from (page_at xs t.0.id) 0 leader_page =
       pages_same (page_at xs t.0.id) (page_at (slice_set xs j t) t.0.id) 0 leader_page
-      (λ k l m. w.page_past temps xs j s t here t.0.id k (and_left (is_of t.0.id s) (eqb s.0.page k) (and_left (is_file s.0) (eqb s.0.id t.0.id) plain))
-      (w.other_page temps t.0.id leader_page k t number (λ q. omega (arith, q, m)))) in
+      (λ k l m. w.page_past with_temporary xs j s t here t.0.id k (and_left (is_of t.0.id s) (eqb s.0.page k) (and_left (is_file s.0) (eqb s.0.id t.0.id) plain))
+      (w.other_page with_temporary t.0.id leader_page k t number (λ q. omega (arith, q, m)))) in
       record {
-        file = ap (λ (ys : List Sector). file_among temps ys id) (laws.data_set temps 0 0 d i t holds.is_data)
+        file = ap (λ (ys : List Sector). file_among with_temporary ys id) (laws.data_set with_temporary 0 0 d i t holds.is_data)
             ∙ ap (λ (o : Option Label). option_map (file_by (slice_set xs j t)) o) lead
             ∙ ap (λ (p : List Cells). Some (record { id = t.0.id; kind = t.0.kind; permanent = is_permanent t.0; immutable = is_immutable t.0; pages = p })) pages;
-        others = λ other apart. one_sector d i s t id holds.here (laws.only_none temps 0 0 id s plain) (laws.only_of temps 0 0 id t (laws.leader_of temps 0 0 id t led)) other apart;
+        others = λ other apart. one_sector d i s t id holds.here (laws.only_none with_temporary 0 0 id s plain) (laws.only_of with_temporary 0 0 id t (laws.leader_of with_temporary 0 0 id t led)) other apart;
       }
 
 -- The flags of a file's label.

@@ -49,19 +49,19 @@ mapped_are_maps n d = record {
       (cases_lt (vam n) i);
 }
 
-pub map_relabelled : (temps : Bool) → MapRelabelled temps
-map_relabelled temps d i t right high low named =
+pub map_relabelled : (with_temporary : Bool) → MapRelabelled with_temporary
+map_relabelled with_temporary d i t right high low named =
     let e : List Sector = slice_set d i t in
     let long : length e ≡ length d = length-set d i t in
     let root : slice_get e 0 ≡ slice_get d 0 = get_set_other d i 0 t (λ q. omega (arith, q, high)) in
-    let kept = laws.low_written temps (serial_of d) (counter_of d) d i t right.files low in
+    let kept = laws.low_written with_temporary (serial_of d) (counter_of d) d i t right.files low in
     let mapped : AreMapped (length d) d = (mapped_are_maps (length d) d).mapped right.has_maps in
     record {
       files = kept.files;
       right = record {
         has_root = subst (λ (o : Option Sector). IsRoot (length e) o) (sym root) (subst (λ (n : ℕ). IsRoot n (slice_get d 0)) (sym long) right.has_root);
         has_maps = subst (λ (n : ℕ). HasMaps n e) (sym long) ((mapped_are_maps (length d) e).maps (λ j above below. at j above below mapped (cases_eq j i)));
-        files = subst (λ (o : Option Sector). FilesRight temps (number_at (page_in o) 16) (number_at (page_in o) 20) e) (sym root) kept.right;
+        files = subst (λ (o : Option Sector). FilesRight with_temporary (number_at (page_in o) 16) (number_at (page_in o) 20) e) (sym root) kept.right;
       };
     }
   where

@@ -141,32 +141,32 @@ last_page_stands d (write.Page sector wanted page ∷ writes) (suc k) i s lawful
         ∙ get_set_same d sector (old.0, page) (slice_get_within d sector old lawful.0.old.1)
         ∙ ap (λ (u : Sector). Some (u.0, page)) same
 
-module _ (temps : Bool) (serial counter : ℕ) where
-  pub page_stands : PageStands temps serial counter
+module _ (with_temporary : Bool) (serial counter : ℕ) where
+  pub page_stands : PageStands with_temporary serial counter
   page_stands d i s id p f right holds is middle file =
-      let here = laws.data_get temps serial counter d i s holds.is_data holds.here in
-      let same : f.id ≡ id = laws.file_id_is temps serial counter d id f file in
-      let whole : IsWhole (data_sectors d) f = laws.of_file temps serial counter (IsWhole (data_sectors d)) d right.whole_files id f file in
-      let of : is_of f.id s ≡ true = ap (λ (n : ℕ). is_of n s) same ∙ w.page_of temps id p s is in
-      let number : s.0.page ≡ p = w.page_number temps id p s is in
+      let here = laws.data_get with_temporary serial counter d i s holds.is_data holds.here in
+      let same : f.id ≡ id = laws.file_id_is with_temporary serial counter d id f file in
+      let whole : IsWhole (data_sectors d) f = laws.of_file with_temporary serial counter (IsWhole (data_sectors d)) d right.whole_files id f file in
+      let of : is_of f.id s ≡ true = ap (λ (n : ℕ). is_of n s) same ∙ w.page_of with_temporary id p s is in
+      let number : s.0.page ≡ p = w.page_number with_temporary id p s is in
       let alone : IsAlone (is_page id p) (data_sectors d) (i - first_data (length d)) =
-      λ j t at passes. whole.once j (i - first_data (length d)) t s at here (ap (λ (n : ℕ). is_of n t) same ∙ w.page_of temps id p t passes) of (w.page_number temps id p t passes ∙ sym number) in
+      λ j t at passes. whole.once j (i - first_data (length d)) t s at here (ap (λ (n : ℕ). is_of n t) same ∙ w.page_of with_temporary id p t passes) of (w.page_number with_temporary id p t passes ∙ sym number) in
       let found : page_at (data_sectors d) id p ≡ Some (map byte s.1) =
       ap (λ (o : Option Sector). option_map (λ (u : Sector). map byte u.1) o) (find_alone (is_page id p) (data_sectors d) (i - first_data (length d)) s here is alone) in
-      let pages : f.pages ≡ pages_from (page_at (data_sectors d) id) 0 leader_page = w.file_pages temps (data_sectors d) id f file in
+      let pages : f.pages ≡ pages_from (page_at (data_sectors d) id) 0 leader_page = w.file_pages with_temporary (data_sectors d) id f file in
       let low : p < size f = elim (whole.no_other (i - first_data (length d)) s here of) [ inl h ↦ absurd (middle (sym number ∙ h)) | inr h ↦ omega (arith, h, number) ] in
       let z : 0 + p ≡ p = omega arith in
       ap (λ (l : List Page). slice_get l p) pages
       ∙ pages_each (page_at (data_sectors d) id) 0 leader_page p (omega (arith, low, ap (λ (l : List Page). length l) pages))
       ∙ ap (page_at (data_sectors d) id) z ∙ found
 
-  pub page_stays : PageStays temps serial counter
+  pub page_stays : PageStays with_temporary serial counter
   page_stays d writes k i s id p g holds is middle apart right file =
       page_stands (moment d writes k) i s id p g right
       (record { is_data = subst (λ (n : ℕ). first_data n ≤ i) (sym (moment_long d writes k)) holds.is_data; here = sector_stays d writes k i apart ∙ holds.here })
       is middle file
 
-  pub last_page_shows : LastPageShows temps serial counter
+  pub last_page_shows : LastPageShows with_temporary serial counter
   last_page_shows d writes k i s id p g holds is middle lawful leaves right file =
       page_stands (moment d writes k) i (s.0, page_after i s.1 (take k writes)) id p g right
       (record { is_data = subst (λ (n : ℕ). first_data n ≤ i) (sym (moment_long d writes k)) holds.is_data; here = last_page_stands d writes k i s lawful holds.here leaves })

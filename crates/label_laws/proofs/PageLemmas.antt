@@ -36,17 +36,17 @@ find_same test (x ∷ xs) (y ∷ ys) same alike =
     either false e more = ap (λ (b : Bool). cond b (Some y) (find (λ s. test s.0) ys)) (head ∙ e) ∙ more
 
 -- page p of a file on a disk is the one that is found
-page_found : (temps : Bool) (d : List Sector) (id p : ℕ) (f : File) → disk_file temps d id ≡ Some f → p < size f → slice_get f.pages p ≡ page_at (data_sectors d) id p
-page_found temps d id p f is low =
-    let pages : f.pages ≡ pages_from (page_at (data_sectors d) id) 0 leader_page = w.file_pages temps (data_sectors d) id f is in
+page_found : (with_temporary : Bool) (d : List Sector) (id p : ℕ) (f : File) → disk_file with_temporary d id ≡ Some f → p < size f → slice_get f.pages p ≡ page_at (data_sectors d) id p
+page_found with_temporary d id p f is low =
+    let pages : f.pages ≡ pages_from (page_at (data_sectors d) id) 0 leader_page = w.file_pages with_temporary (data_sectors d) id f is in
     let z : 0 + p ≡ p = omega arith in
     ap (λ (l : List Page). slice_get l p) pages
     ∙ pages_each (page_at (data_sectors d) id) 0 leader_page p (omega (arith, low, ap (λ (l : List Page). length l) pages))
     ∙ ap (page_at (data_sectors d) id) z
 
-module _ (temps : Bool) where
-  pub pages_by_sectors : PagesBySectors temps
-  pages_by_sectors d e id p same alike = either (disk_file temps e id) refl (disk_file temps d id) refl ((labels_give_shape temps d e same).shapes id)
+module _ (with_temporary : Bool) where
+  pub pages_by_sectors : PagesBySectors with_temporary
+  pages_by_sectors d e id p same alike = either (disk_file with_temporary e id) refl (disk_file with_temporary d id) refl ((labels_give_shape with_temporary d e same).shapes id)
     where
       page : page_at (data_sectors e) id p ≡ page_at (data_sectors d) id p
       page = ap (λ (o : Option Sector). option_map (λ (s : Sector). map byte s.1) o)
@@ -58,7 +58,7 @@ module _ (temps : Bool) where
           long : length e ≡ length d
           long = long_by d e same
 
-      either : (o : Option File) → disk_file temps e id ≡ o → (q : Option File) → disk_file temps d id ≡ q → option_map bare_file o ≡ option_map bare_file q
+      either : (o : Option File) → disk_file with_temporary e id ≡ o → (q : Option File) → disk_file with_temporary d id ≡ q → option_map bare_file o ≡ option_map bare_file q
           → option_map_or (λ (f : File). slice_get f.pages p) o None ≡ option_map_or (λ (f : File). slice_get f.pages p) q None
       either None a None b shapes = refl
       either None a (Some f) b shapes = absurd (none-some (bare_file f) shapes)
@@ -66,6 +66,6 @@ module _ (temps : Bool) where
       either (Some g) a (Some f) b shapes =
           let long : size g ≡ size f = ap (λ (s : BareFile). s.pages) (same_Some (bare_file g) (bare_file f) shapes) in
           elim (cases_lt p (size f)) [
-            | inl low ↦ page_found temps e id p g a (omega (arith, low, long)) ∙ page ∙ sym (page_found temps d id p f b low)
+            | inl low ↦ page_found with_temporary e id p g a (omega (arith, low, long)) ∙ page ∙ sym (page_found with_temporary d id p f b low)
             | inr high ↦ slice_get_past g.pages p (omega (arith, high, long)) ∙ sym (slice_get_past f.pages p high)
           ]

@@ -31,15 +31,15 @@ use Rattle.label_laws.proofs.FileLemmas.{free_none}
 use Rattle.label_laws.proofs.NeededLemmas.{first_passes, needed_at, needs}
 
 -- a leader that counts, and one that counts among the permanent ones
-leads_parts : (temps : Bool) (s : Sector) → leads temps s ≡ true → (is_file s.0 ≡ true) × (s.0.page ≡ leader_page) × ((temps || is_permanent s.0) ≡ true)
-leads_parts temps s is =
-    let a = and_parts (is_file s.0 && eqb s.0.page leader_page) (temps || is_permanent s.0) is in
+leads_parts : (with_temporary : Bool) (s : Sector) → leads with_temporary s ≡ true → (is_file s.0 ≡ true) × (s.0.page ≡ leader_page) × ((with_temporary || is_permanent s.0) ≡ true)
+leads_parts with_temporary s is =
+    let a = and_parts (is_file s.0 && eqb s.0.page leader_page) (with_temporary || is_permanent s.0) is in
     let b = and_parts (is_file s.0) (eqb s.0.page leader_page) a.0 in
     (b.0, eqb-true s.0.page leader_page b.1, a.1)
 
-leads_from : (temps : Bool) (s : Sector) → is_file s.0 ≡ true → s.0.page ≡ leader_page → (temps || is_permanent s.0) ≡ true → leads temps s ≡ true
-leads_from temps s file page mark =
-    and_from (is_file s.0 && eqb s.0.page leader_page) (temps || is_permanent s.0) (and_from (is_file s.0) (eqb s.0.page leader_page) file (eq-eqb s.0.page leader_page page)) mark
+leads_from : (with_temporary : Bool) (s : Sector) → is_file s.0 ≡ true → s.0.page ≡ leader_page → (with_temporary || is_permanent s.0) ≡ true → leads with_temporary s ≡ true
+leads_from with_temporary s file page mark =
+    and_from (is_file s.0 && eqb s.0.page leader_page) (with_temporary || is_permanent s.0) (and_from (is_file s.0) (eqb s.0.page leader_page) file (eq-eqb s.0.page leader_page page)) mark
 
 -- Each data sector is free or a permanent file's.
 
@@ -164,8 +164,8 @@ module _ (serial counter : ℕ) (d : List Sector) (right : FilesRight true seria
       none : ((j : ℕ) (u : Sector) → slice_get (data_sectors d) j ≡ Some u → leads_file false id u ≡ false) → file_among false (data_sectors d) id ≡ None
       none fails = w.file_none false (data_sectors d) id (ap (λ (o : Option Sector). option_map (λ (u : Sector). u.0) o) (find_none (leads_file false id) (data_sectors d) fails))
 
-      led : (temps : Bool) (s : Sector) → find (leads_file temps id) (data_sectors d) ≡ Some s → file_among temps (data_sectors d) id ≡ Some (file_by (data_sectors d) s.0)
-      led temps s e = ap (λ (o : Option Sector). option_map (file_by (data_sectors d)) (option_map (λ (u : Sector). u.0) o)) e
+      led : (with_temporary : Bool) (s : Sector) → find (leads_file with_temporary id) (data_sectors d) ≡ Some s → file_among with_temporary (data_sectors d) id ≡ Some (file_by (data_sectors d) s.0)
+      led with_temporary s e = ap (λ (o : Option Sector). option_map (file_by (data_sectors d)) (option_map (λ (u : Sector). u.0) o)) e
 
       marked : (s : Sector) (i : ℕ) → slice_get (data_sectors d) i ≡ Some s → leads_file true id s ≡ true → IsAlone (leads_file true id) (data_sectors d) i → (b : Bool) → is_permanent s.0 ≡ b
           → file_among false (data_sectors d) id ≡ cond b (Some (file_by (data_sectors d) s.0)) None

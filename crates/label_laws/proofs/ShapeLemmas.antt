@@ -137,40 +137,40 @@ same_by_pages f g alike pages = whole f g alike (laws.same_elements true 0 0 g.p
     whole : (f g : File) → bare_file g ≡ bare_file f → g.pages ≡ f.pages → g ≡ f
     whole f g alike same = λ x. record { id = (alike x).id; kind = (alike x).kind; permanent = (alike x).permanent; immutable = (alike x).immutable; pages = same x }
 
-module _ (temps : Bool) where
-  shapes : (xs ys : List Sector) → labels ys ≡ labels xs → (id : ℕ) → option_map bare_file (file_among temps ys id) ≡ option_map bare_file (file_among temps xs id)
+module _ (with_temporary : Bool) where
+  shapes : (xs ys : List Sector) → labels ys ≡ labels xs → (id : ℕ) → option_map bare_file (file_among with_temporary ys id) ≡ option_map bare_file (file_among with_temporary xs id)
   shapes xs ys same id =
-      ap (λ (o : Option Label). option_map bare_file (option_map (file_by ys) o)) (find_alike (λ (l : Label). leads_file temps id (l, [])) xs ys same)
-      ∙ either (leader_among temps xs id)
+      ap (λ (o : Option Label). option_map bare_file (option_map (file_by ys) o)) (find_alike (λ (l : Label). leads_file with_temporary id (l, [])) xs ys same)
+      ∙ either (leader_among with_temporary xs id)
     where
       either : (o : Option Label) → option_map bare_file (option_map (file_by ys) o) ≡ option_map bare_file (option_map (file_by xs) o)
       either None = refl
       either (Some l) =
           ap (λ (n : ℕ). Some (record { id = l.id; kind = l.kind; permanent = is_permanent l; immutable = is_immutable l; pages = n })) (pages_alike xs ys same l.id 0 leader_page)
 
-  room_alike : (d e : List Sector) → labels e ≡ labels d → total_room (files_among temps e) ≡ total_room (files_among temps d)
+  room_alike : (d e : List Sector) → labels e ≡ labels d → total_room (files_among with_temporary e) ≡ total_room (files_among with_temporary d)
   room_alike d e same =
-      room_zip (files_among temps e) (files_among temps d)
-      (zip_by_look_up (λ f g. bare_file f ≡ bare_file g) (λ f g is. ap (λ (s : BareFile). s.id) is) (files_among temps e) (files_among temps d)
-      (laws.files_on_rise temps 0 0 e) (laws.files_on_rise temps 0 0 d)
-      (λ id. both_shapes (file_at (files_among temps e) id) (file_at (files_among temps d) id)
-      (ap (λ (o : Option File). option_map bare_file o) (laws.look_up temps 0 0 e id) ∙ shapes (data_sectors d) (data_sectors e) (data_labels d e same) id
-      ∙ ap (λ (o : Option File). option_map bare_file o) (sym (laws.look_up temps 0 0 d id)))))
+      room_zip (files_among with_temporary e) (files_among with_temporary d)
+      (zip_by_look_up (λ f g. bare_file f ≡ bare_file g) (λ f g is. ap (λ (s : BareFile). s.id) is) (files_among with_temporary e) (files_among with_temporary d)
+      (laws.files_on_rise with_temporary 0 0 e) (laws.files_on_rise with_temporary 0 0 d)
+      (λ id. both_shapes (file_at (files_among with_temporary e) id) (file_at (files_among with_temporary d) id)
+      (ap (λ (o : Option File). option_map bare_file o) (laws.look_up with_temporary 0 0 e id) ∙ shapes (data_sectors d) (data_sectors e) (data_labels d e same) id
+      ∙ ap (λ (o : Option File). option_map bare_file o) (sym (laws.look_up with_temporary 0 0 d id)))))
 
   -- what labels say of need
   abbrev needs_by : List Sector → ℕ → Label → ℕ → Bool
-  needs_by xs i l n = is_first (leads_file temps l.id) xs i || (nat_lt l.page n && is_first (is_page l.id l.page) xs i)
+  needs_by xs i l n = is_first (leads_file with_temporary l.id) xs i || (nat_lt l.page n && is_first (is_page l.id l.page) xs i)
 
   needs_alike : (xs ys : List Sector) → labels ys ≡ labels xs → (i : ℕ) (l : Label) (n : ℕ) → needs_by ys i l n ≡ needs_by xs i l n
   needs_alike xs ys same i l n =
-      ap (λ (b : Bool). b || (nat_lt l.page n && is_first (is_page l.id l.page) ys i)) (first_alike (λ (m : Label). leads_file temps l.id (m, [])) xs ys same i)
-      ∙ ap (λ (b : Bool). is_first (leads_file temps l.id) xs i || (nat_lt l.page n && b)) (first_alike (λ (m : Label). is_page l.id l.page (m, [])) xs ys same i)
+      ap (λ (b : Bool). b || (nat_lt l.page n && is_first (is_page l.id l.page) ys i)) (first_alike (λ (m : Label). leads_file with_temporary l.id (m, [])) xs ys same i)
+      ∙ ap (λ (b : Bool). is_first (leads_file with_temporary l.id) xs i || (nat_lt l.page n && b)) (first_alike (λ (m : Label). is_page l.id l.page (m, [])) xs ys same i)
 
-  needed_alike : (xs ys : List Sector) → labels ys ≡ labels xs → (i : ℕ) → is_needed temps ys i ≡ is_needed temps xs i
+  needed_alike : (xs ys : List Sector) → labels ys ≡ labels xs → (i : ℕ) → is_needed with_temporary ys i ≡ is_needed with_temporary xs i
   needed_alike xs ys same i = either (slice_get ys i) refl
     where
       at : List Sector → ℕ → Option Sector → Bool
-      at zs i o = option_map_or (λ s. option_map_or (λ f. needs_by zs i s.0 (size f)) (file_among temps zs s.0.id) false) o false
+      at zs i o = option_map_or (λ s. option_map_or (λ f. needs_by zs i s.0 (size f)) (file_among with_temporary zs s.0.id) false) o false
 
       by_shape : (zs : List Sector) (l : Label) (o : Option File) → option_map_or (λ f. needs_by zs i l (size f)) o false ≡ option_map_or (λ (s : BareFile). needs_by zs i l s.pages) (option_map bare_file o) false
       by_shape zs l None = refl
@@ -180,42 +180,42 @@ module _ (temps : Bool) where
       by_need l None = refl
       by_need l (Some s) = needs_alike xs ys same i l s.pages
 
-      by_label : (l : Label) → option_map_or (λ f. needs_by ys i l (size f)) (file_among temps ys l.id) false ≡ option_map_or (λ f. needs_by xs i l (size f)) (file_among temps xs l.id) false
+      by_label : (l : Label) → option_map_or (λ f. needs_by ys i l (size f)) (file_among with_temporary ys l.id) false ≡ option_map_or (λ f. needs_by xs i l (size f)) (file_among with_temporary xs l.id) false
       by_label l =
-          by_shape ys l (file_among temps ys l.id)
+          by_shape ys l (file_among with_temporary ys l.id)
           ∙ ap (λ (o : Option BareFile). option_map_or (λ (s : BareFile). needs_by ys i l s.pages) o false) (shapes xs ys same l.id)
-          ∙ by_need l (option_map bare_file (file_among temps xs l.id))
-          ∙ sym (by_shape xs l (file_among temps xs l.id))
+          ∙ by_need l (option_map bare_file (file_among with_temporary xs l.id))
+          ∙ sym (by_shape xs l (file_among with_temporary xs l.id))
 
-      either : (o : Option Sector) → slice_get ys i ≡ o → is_needed temps ys i ≡ is_needed temps xs i
+      either : (o : Option Sector) → slice_get ys i ≡ o → is_needed with_temporary ys i ≡ is_needed with_temporary xs i
       either None e =
-          ap (λ (o : Option Sector). option_map_or (λ s. option_map_or (λ f. needs_by ys i s.0 (size f)) (file_among temps ys s.0.id) false) o false) e
-          ∙ sym (ap (λ (o : Option Sector). option_map_or (λ s. option_map_or (λ f. needs_by xs i s.0 (size f)) (file_among temps xs s.0.id) false) o false) (none_at xs ys same i e))
+          ap (λ (o : Option Sector). option_map_or (λ s. option_map_or (λ f. needs_by ys i s.0 (size f)) (file_among with_temporary ys s.0.id) false) o false) e
+          ∙ sym (ap (λ (o : Option Sector). option_map_or (λ s. option_map_or (λ f. needs_by xs i s.0 (size f)) (file_among with_temporary xs s.0.id) false) o false) (none_at xs ys same i e))
       either (Some u) e =
           let s = label_at xs ys same i u e in
-          ap (λ (o : Option Sector). option_map_or (λ s. option_map_or (λ f. needs_by ys i s.0 (size f)) (file_among temps ys s.0.id) false) o false) e
+          ap (λ (o : Option Sector). option_map_or (λ s. option_map_or (λ f. needs_by ys i s.0 (size f)) (file_among with_temporary ys s.0.id) false) o false) e
           ∙ by_label u.0
-          ∙ ap (λ (l : Label). option_map_or (λ f. needs_by xs i l (size f)) (file_among temps xs l.id) false) (sym s.2)
-          ∙ sym (ap (λ (o : Option Sector). option_map_or (λ s. option_map_or (λ f. needs_by xs i s.0 (size f)) (file_among temps xs s.0.id) false) o false) s.1)
+          ∙ ap (λ (l : Label). option_map_or (λ f. needs_by xs i l (size f)) (file_among with_temporary xs l.id) false) (sym s.2)
+          ∙ sym (ap (λ (o : Option Sector). option_map_or (λ s. option_map_or (λ f. needs_by xs i s.0 (size f)) (file_among with_temporary xs s.0.id) false) o false) s.1)
 
-  pub right_alike : (d e : List Sector) → labels e ≡ labels d → (serial counter : ℕ) → FilesRight temps serial counter d → FilesRight temps serial counter e
+  pub right_alike : (d e : List Sector) → labels e ≡ labels d → (serial counter : ℕ) → FilesRight with_temporary serial counter d → FilesRight with_temporary serial counter e
   right_alike d e same serial counter right =
       let long : length e ≡ length d = sym (length-map e (λ (s : Sector). s.0)) ∙ ap (λ (l : List Label). length l) same ∙ length-map d (λ (s : Sector). s.0) in
-      laws.labels_kept temps serial counter d e long
-      (λ id g is. either id g (disk_file temps d id) refl (sym (ap (λ (o : Option File). option_map bare_file o) is) ∙ shapes (data_sectors d) (data_sectors e) (data_labels d e same) id))
+      laws.labels_kept with_temporary serial counter d e long
+      (λ id g is. either id g (disk_file with_temporary d id) refl (sym (ap (λ (o : Option File). option_map bare_file o) is) ∙ shapes (data_sectors d) (data_sectors e) (data_labels d e same) id))
       (omega (arith, room_alike d e same, right.room)) right
     where
-      either : (id : ℕ) (g : File) (o : Option File) → disk_file temps d id ≡ o → Some (bare_file g) ≡ option_map bare_file (disk_file temps d id) → IsWhole (data_sectors e) g × IsGiven serial counter g
+      either : (id : ℕ) (g : File) (o : Option File) → disk_file with_temporary d id ≡ o → Some (bare_file g) ≡ option_map bare_file (disk_file with_temporary d id) → IsWhole (data_sectors e) g × IsGiven serial counter g
       either id g None e1 h = absurd (none-some (bare_file g) (sym (h ∙ ap (λ (o : Option File). option_map bare_file o) e1)))
       either id g (Some f) e1 h =
           let alike : bare_file g ≡ bare_file f = same_Some (bare_file g) (bare_file f) (h ∙ ap (λ (o : Option File). option_map bare_file o) e1) in
           let ids : g.id ≡ f.id = ap (λ (s : BareFile). s.id) alike in (
             whole_alike (data_sectors d) (data_sectors e) (data_labels d e same) f g ids (ap (λ (s : BareFile). s.pages) alike)
-                (laws.of_file temps serial counter (IsWhole (data_sectors d)) d right.whole_files id f e1),
-            subst (λ (n : ℕ). n / 2 ^ 32 ≡ serial → n % 2 ^ 32 < counter) (sym ids) (laws.of_file temps serial counter (IsGiven serial counter) d right.ids_given id f e1),
+                (laws.of_file with_temporary serial counter (IsWhole (data_sectors d)) d right.whole_files id f e1),
+            subst (λ (n : ℕ). n / 2 ^ 32 ≡ serial → n % 2 ^ 32 < counter) (sym ids) (laws.of_file with_temporary serial counter (IsGiven serial counter) d right.ids_given id f e1),
           )
 
-  pub labels_give_shape : LabelsGiveShape temps
+  pub labels_give_shape : LabelsGiveShape with_temporary
   labels_give_shape d e same = record {
     shapes = shapes (data_sectors d) (data_sectors e) (data_labels d e same);
     room = room_alike d e same;
@@ -223,5 +223,5 @@ module _ (temps : Bool) where
     right = right_alike d e same;
   }
 
-  pub mixed_shapes : MixedShapes temps
+  pub mixed_shapes : MixedShapes with_temporary
   mixed_shapes d writes k = labels_give_shape (moment d (label_writes writes) (length (label_writes (take k writes)))) (moment d writes k) (labels_by_label_writes d writes k)

@@ -25,37 +25,37 @@ not_both : (e : Bool) → e ≡ true → not e ≡ true → ⊥
 not_both true is not_is = true≢false (sym not_is)
 not_both false is not_is = true≢false (sym is)
 
-module _ (temps : Bool) (d : List Sector) (order : AreFreeOrNeeded temps d) where
-  taken_if_needed : (j : ℕ) (s : Sector) → slice_get (data_sectors d) j ≡ Some s → not (is_free s.0) ≡ is_needed temps (data_sectors d) j
+module _ (with_temporary : Bool) (d : List Sector) (order : AreFreeOrNeeded with_temporary d) where
+  taken_if_needed : (j : ℕ) (s : Sector) → slice_get (data_sectors d) j ≡ Some s → not (is_free s.0) ≡ is_needed with_temporary (data_sectors d) j
   taken_if_needed j s here = elim (order j s here) [
     | inl free ↦ ap not free ∙ sym (unneeded free)
     | inr needed ↦ either (is_free s.0) refl needed ∙ sym needed
   ]
     where
-      unneeded : is_free s.0 ≡ true → is_needed temps (data_sectors d) j ≡ false
-      unneeded free = plain_unneeded temps (data_sectors d) j s here (free_none s.0 free)
+      unneeded : is_free s.0 ≡ true → is_needed with_temporary (data_sectors d) j ≡ false
+      unneeded free = plain_unneeded with_temporary (data_sectors d) j s here (free_none s.0 free)
 
-      either : (b : Bool) → is_free s.0 ≡ b → is_needed temps (data_sectors d) j ≡ true → not b ≡ true
+      either : (b : Bool) → is_free s.0 ≡ b → is_needed with_temporary (data_sectors d) j ≡ true → not b ≡ true
       either true free needed = absurd (true≢false (sym needed ∙ unneeded free))
       either false free needed = refl
 
   abbrev leads : ℕ → Sector → Bool
-  leads i s = needs_place temps d i && eqb s.0.page leader_page
+  leads i s = needs_place with_temporary d i && eqb s.0.page leader_page
 
   abbrev pages : ℕ → Sector → Bool
-  pages i s = needs_place temps d i && not (eqb s.0.page leader_page)
+  pages i s = needs_place with_temporary d i && not (eqb s.0.page leader_page)
 
   either_one : (n j : ℕ) (s : Sector) → ◌≡◌ {A = ℕ} n (first_data (length d) + j) → slice_get (data_sectors d) j ≡ Some s → not (is_free s.0) ≡ (leads n s || pages n s)
   either_one n j s is here =
       let place : n - first_data (length d) ≡ j = omega (arith, is) in
-      taken_if_needed j s here ∙ ap (is_needed temps (data_sectors d)) (sym place) ∙ by_cases (needs_place temps d n) (eqb s.0.page leader_page)
+      taken_if_needed j s here ∙ ap (is_needed with_temporary (data_sectors d)) (sym place) ∙ by_cases (needs_place with_temporary d n) (eqb s.0.page leader_page)
 
-  pub taken_count : length (taken_sectors d) ≡ total_room (files_among temps d)
+  pub taken_count : length (taken_sectors d) ≡ total_room (files_among with_temporary d)
   taken_count =
       let both = places_or leads pages (first_data (length d)) (data_sectors d) (λ n j s is here lead page.
-      not_both (eqb s.0.page leader_page) (and_parts (needs_place temps d n) (eqb s.0.page leader_page) lead).1 (and_parts (needs_place temps d n) (not (eqb s.0.page leader_page)) page).1) in
+      not_both (eqb s.0.page leader_page) (and_parts (needs_place with_temporary d n) (eqb s.0.page leader_page) lead).1 (and_parts (needs_place with_temporary d n) (not (eqb s.0.page leader_page)) page).1) in
       ap (λ (l : List ℕ). length l) (places_same (λ i s. not (is_free s.0)) (λ i s. leads i s || pages i s) (first_data (length d)) (data_sectors d) either_one)
-      ∙ omega (arith, both, files_count temps d, pages_counted temps d, rooms (files_among temps d))
+      ∙ omega (arith, both, files_count with_temporary d, pages_counted with_temporary d, rooms (files_among with_temporary d))
 
-pub taken_by_files : (temps : Bool) → TakenByFiles temps
-taken_by_files temps d order = taken_count temps d order
+pub taken_by_files : (with_temporary : Bool) → TakenByFiles with_temporary
+taken_by_files with_temporary d order = taken_count with_temporary d order

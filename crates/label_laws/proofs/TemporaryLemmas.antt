@@ -23,10 +23,10 @@ use Rattle.label_laws.proofs.PermanentLemmas.{one, shape_changed_seen}
 not_permanent : (f : File) → f.permanent ≡ false → if_permanent (Some f) ≡ None
 not_permanent f temporary = rw temporary refl
 
-nowhere_none : (temps : Bool) (d : List Sector) (id : ℕ) → ((j : ℕ) (u : Sector) → slice_get (data_sectors d) j ≡ Some u → is_of id u ≡ false) → disk_file temps d id ≡ None
-nowhere_none temps d id nowhere =
-    w.file_none temps (data_sectors d) id
-    (ap (λ (o : Option Sector). option_map (λ (u : Sector). u.0) o) (find_none (leads_file temps id) (data_sectors d) (λ j u here. w.not_of-not_leader temps id u (nowhere j u here))))
+nowhere_none : (with_temporary : Bool) (d : List Sector) (id : ℕ) → ((j : ℕ) (u : Sector) → slice_get (data_sectors d) j ≡ Some u → is_of id u ≡ false) → disk_file with_temporary d id ≡ None
+nowhere_none with_temporary d id nowhere =
+    w.file_none with_temporary (data_sectors d) id
+    (ap (λ (o : Option Sector). option_map (λ (u : Sector). u.0) o) (find_none (leads_file with_temporary id) (data_sectors d) (λ j u here. w.not_of-not_leader with_temporary id u (nowhere j u here))))
 
 module _ (serial counter : ℕ) (d : List Sector) (right : FilesRight true serial counter d) where
   hidden : (id : ℕ) (f : File) → disk_file true d id ≡ Some f → f.permanent ≡ false → disk_file false d id ≡ None

@@ -64,33 +64,33 @@ fewer_labels (write.Whole sector label page ∷ writes) (suc k) = omega (arith, 
 fewer_labels (write.LabelOnly sector label ∷ writes) (suc k) = omega (arith, fewer_labels writes k)
 fewer_labels (write.Page sector wanted page ∷ writes) (suc k) = fewer_labels writes k
 
-module _ (temps : Bool) where
-  labels_right : (d e : List Sector) → labels e ≡ labels d → slice_get e 0 ≡ slice_get d 0 → RightFor temps d → RightFor temps e
+module _ (with_temporary : Bool) where
+  labels_right : (d e : List Sector) → labels e ≡ labels d → slice_get e 0 ≡ slice_get d 0 → RightFor with_temporary d → RightFor with_temporary e
   labels_right d e same root right =
-      right_still temps d e (long_by d e same) root (λ i high low. same_label d e i (ap (λ (l : List Label). slice_get l i) same))
-      (right_alike temps d e same (serial_of d) (counter_of d) right.files) right
+      right_still with_temporary d e (long_by d e same) root (λ i high low. same_label d e i (ap (λ (l : List Label). slice_get l i) same))
+      (right_alike with_temporary d e same (serial_of d) (counter_of d) right.files) right
 
-  page_right : (d : List Sector) (sector : ℕ) (wanted : Wanted) (page : List ℕ) → 0 < sector → RightFor temps d → RightFor temps (written (write.Page sector wanted page) d)
+  page_right : (d : List Sector) (sector : ℕ) (wanted : Wanted) (page : List ℕ) → 0 < sector → RightFor with_temporary d → RightFor with_temporary (written (write.Page sector wanted page) d)
   page_right d sector wanted page above right =
       labels_right d (written (write.Page sector wanted page) d) (labels_page d sector wanted page) (written_other d (write.Page sector wanted page) 0 (λ e. omega (arith, e, above))) right
 
-  runs_right : (d : List Sector) (writes : List DiskWrite) (k : ℕ) → RightFor temps d → AllByRecursion (LeavesLow (first_data (length d))) writes
-      → FilesRight temps (serial_of d) (counter_of d) (moment d writes k) → RightFor temps (moment d writes k)
+  runs_right : (d : List Sector) (writes : List DiskWrite) (k : ℕ) → RightFor with_temporary d → AllByRecursion (LeavesLow (first_data (length d))) writes
+      → FilesRight with_temporary (serial_of d) (counter_of d) (moment d writes k) → RightFor with_temporary (moment d writes k)
   runs_right d writes k right all files =
-      right_still temps d (moment d writes k) (moment_long d writes k)
-      (roots_left (first_data (length d)) d writes k (laws.first_positive temps 0 0 (length d)) all)
+      right_still with_temporary d (moment d writes k) (moment_long d writes k)
+      (roots_left (first_data (length d)) d writes k (laws.first_positive with_temporary 0 0 (length d)) all)
       (λ i high low. same_label d (moment d writes k) i (labels_left (first_data (length d)) d writes k i low all))
       files right
 
   pub changes : (serial counter : ℕ) (d : List Sector) (writes : List DiskWrite) (k id : ℕ) (now : Option File)
-      → Changed temps serial counter d (moment d (label_writes writes) (label_count writes k)) id now → ShapeChanged temps serial counter d (moment d writes k) id now
+      → Changed with_temporary serial counter d (moment d (label_writes writes) (label_count writes k)) id now → ShapeChanged with_temporary serial counter d (moment d writes k) id now
   changes serial counter d writes k id now change =
-      let alike = mixed_shapes temps d writes k in
+      let alike = mixed_shapes with_temporary d writes k in
       record {
         file = alike.shapes id ∙ ap (λ (o : Option File). option_map bare_file o) change.file;
         others = λ other apart. alike.shapes other ∙ ap (λ (o : Option File). option_map bare_file o) (change.others other apart);
         right = alike.right serial counter change.right;
       }
 
-  pub mixed_laws : MixedLaws temps
+  pub mixed_laws : MixedLaws with_temporary
   mixed_laws = record { labels_right = labels_right; page_right = page_right; runs_right = runs_right; changes = changes; fewer = fewer_labels }

@@ -32,10 +32,10 @@ data_places test d = places test (first_data (length d)) (data_sectors d)
 abbrev pub taken_sectors : List Sector → List ℕ
 taken_sectors d = data_places (λ i s. not (is_free s.0)) d
 
-module _ (temps : Bool) where
+module _ (with_temporary : Bool) where
   -- a file needs data sector i
   abbrev pub needs_place : List Sector → ℕ → Bool
-  needs_place d i = is_needed temps (data_sectors d) (i - first_data (length d))
+  needs_place d i = is_needed with_temporary (data_sectors d) (i - first_data (length d))
 
   -- the leaders and the pages that files need
   abbrev pub needed_leaders : List Sector → List ℕ
@@ -50,7 +50,7 @@ module _ (temps : Bool) where
 
   -- those of them with the label of a file that stays
   abbrev pub is_of_some_file : List Sector → Sector → Bool
-  is_of_some_file d s = is_file s.0 && option_map_or (λ f. true) (disk_file temps d s.0.id) false
+  is_of_some_file d s = is_file s.0 && option_map_or (λ f. true) (disk_file with_temporary d s.0.id) false
 
   abbrev pub lost_sectors : List Sector → List ℕ
   lost_sectors d = data_places (λ i s. not (needs_place d i) && is_of_some_file d s) d
@@ -61,25 +61,25 @@ module _ (temps : Bool) where
     pub there : HasData d i s
     pub file_label : is_file s.0 ≡ true
     pub f : File
-    pub file : disk_file temps d s.0.id ≡ Some f
+    pub file : disk_file with_temporary d s.0.id ≡ Some f
     pub unneeded : needs_place d i ≡ false
 
   -- on any disk, what is freed is all that no file needs, and what was lost is all that files don't need of their own
   pub record UnneededListLaws : Type 0 where
-    pub each : (d : List Sector) → AllByRecursion (IsUnneeded temps d) (unneeded_sectors d)
-    pub all : (d : List Sector) → AreAllUnneeded temps d (unneeded_sectors d)
+    pub each : (d : List Sector) → AllByRecursion (IsUnneeded with_temporary d) (unneeded_sectors d)
+    pub all : (d : List Sector) → AreAllUnneeded with_temporary d (unneeded_sectors d)
     pub rising : (d : List Sector) → IsRising (unneeded_sectors d)
-    pub freed : (d : List Sector) → AreFreeOrNeeded temps (moment d (freeing (unneeded_sectors d)) (length (unneeded_sectors d)))
+    pub freed : (d : List Sector) → AreFreeOrNeeded with_temporary (moment d (freeing (unneeded_sectors d)) (length (unneeded_sectors d)))
     pub lost_each : (d : List Sector) → AllByRecursion (IsLost d) (lost_sectors d)
     pub lost_all : (d : List Sector) (i : ℕ) → IsLost d i → Contains (lost_sectors d) i
     pub lost_rising : (d : List Sector) → IsRising (lost_sectors d)
 
   -- on any disk, as many leaders are needed as there are files, and as many pages as these have
   pub record CountLaws : Type 0 where
-    pub files : (d : List Sector) → length (needed_leaders d) ≡ length (files_among temps d)
-    pub pages : (d : List Sector) → length (needed_pages d) ≡ total_pages (files_among temps d)
+    pub files : (d : List Sector) → length (needed_leaders d) ≡ length (files_among with_temporary d)
+    pub pages : (d : List Sector) → length (needed_pages d) ≡ total_pages (files_among with_temporary d)
     pub room : (files : List File) → total_room files ≡ length files + total_pages files
 
   -- where each data sector is free or needed, as many are taken as the files have pages and leaders
   abbrev pub TakenByFiles : Type 0
-  TakenByFiles = (d : List Sector) → AreFreeOrNeeded temps d → length (taken_sectors d) ≡ total_room (files_among temps d)
+  TakenByFiles = (d : List Sector) → AreFreeOrNeeded with_temporary d → length (taken_sectors d) ≡ total_room (files_among with_temporary d)

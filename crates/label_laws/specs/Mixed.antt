@@ -52,20 +52,20 @@ abbrev pub LastPageStands : Type 0
 LastPageStands = (d : List Sector) (writes : List DiskWrite) (k i : ℕ) (s : Sector) → AreLawful d writes → slice_get d i ≡ Some s → AllByRecursion (LeavesLabel i) (take k writes)
     → slice_get (moment d writes k) i ≡ Some (s.0, page_after i s.1 (take k writes))
 
-module _ (temps : Bool) (serial counter : ℕ) where
+module _ (with_temporary : Bool) (serial counter : ℕ) where
   -- with right labels, a sector that is a page of a file has its cells
   abbrev pub PageStands : Type 0
-  PageStands = (d : List Sector) (i : ℕ) (s : Sector) (id p : ℕ) (f : File) → FilesRight temps serial counter d → HasData d i s → is_page id p s ≡ true → p ≢ leader_page
-      → disk_file temps d id ≡ Some f → slice_get f.pages p ≡ Some (map byte s.1)
+  PageStands = (d : List Sector) (i : ℕ) (s : Sector) (id p : ℕ) (f : File) → FilesRight with_temporary serial counter d → HasData d i s → is_page id p s ≡ true → p ≢ leader_page
+      → disk_file with_temporary d id ≡ Some f → slice_get f.pages p ≡ Some (map byte s.1)
 
   -- so the page of a sector that no write was made on keeps its cells, whatever else was written
   abbrev pub PageStays : Type 0
   PageStays = (d : List Sector) (writes : List DiskWrite) (k i : ℕ) (s : Sector) (id p : ℕ) (g : File) → HasData d i s → is_page id p s ≡ true → p ≢ leader_page
-      → AllByRecursion (λ write. sector_of write ≢ i) (take k writes) → FilesRight temps serial counter (moment d writes k) → disk_file temps (moment d writes k) id ≡ Some g
+      → AllByRecursion (λ write. sector_of write ≢ i) (take k writes) → FilesRight with_temporary serial counter (moment d writes k) → disk_file with_temporary (moment d writes k) id ≡ Some g
       → slice_get g.pages p ≡ Some (map byte s.1)
 
   -- or, where the writes are lawful, has the cells of the bytes that were written last
   abbrev pub LastPageShows : Type 0
   LastPageShows = (d : List Sector) (writes : List DiskWrite) (k i : ℕ) (s : Sector) (id p : ℕ) (g : File) → HasData d i s → is_page id p s ≡ true → p ≢ leader_page
-      → AreLawful d writes → AllByRecursion (LeavesLabel i) (take k writes) → FilesRight temps serial counter (moment d writes k) → disk_file temps (moment d writes k) id ≡ Some g
+      → AreLawful d writes → AllByRecursion (LeavesLabel i) (take k writes) → FilesRight with_temporary serial counter (moment d writes k) → disk_file with_temporary (moment d writes k) id ≡ Some g
       → slice_get g.pages p ≡ Some (map byte (page_after i s.1 (take k writes)))

@@ -22,30 +22,30 @@ LeavesLow first (LabelOnly sector label) = first ≤ sector
 LeavesLow first (Page sector wanted page) = 0 < sector
 
 -- one file has this shape now, all others have those that they had, and the labels of the files are right
-pub record ShapeChanged (temps : Bool) (serial counter : ℕ) (d e : List Sector) (id : ℕ) (now : Option File) : Type 0 where
-  pub file : option_map bare_file (disk_file temps e id) ≡ option_map bare_file now
-  pub others : (other : ℕ) → other ≢ id → SameShape temps d e other
-  pub right : FilesRight temps serial counter e
+pub record ShapeChanged (with_temporary : Bool) (serial counter : ℕ) (d e : List Sector) (id : ℕ) (now : Option File) : Type 0 where
+  pub file : option_map bare_file (disk_file with_temporary e id) ≡ option_map bare_file now
+  pub others : (other : ℕ) → other ≢ id → SameShape with_temporary d e other
+  pub right : FilesRight with_temporary serial counter e
 
 -- all files have the shapes that they had, and the labels of the files are right
-pub record ShapesKept (temps : Bool) (serial counter : ℕ) (d e : List Sector) : Type 0 where
-  pub shapes : (other : ℕ) → SameShape temps d e other
-  pub right : FilesRight temps serial counter e
+pub record ShapesKept (with_temporary : Bool) (serial counter : ℕ) (d e : List Sector) : Type 0 where
+  pub shapes : (other : ℕ) → SameShape with_temporary d e other
+  pub right : FilesRight with_temporary serial counter e
 
 -- the moment of the label writes alone that has the labels of moment k
 abbrev pub label_count : List DiskWrite → ℕ → ℕ
 label_count writes k = length (label_writes (take k writes))
 
-pub record MixedLaws (temps : Bool) : Type 0 where
+pub record MixedLaws (with_temporary : Bool) : Type 0 where
   -- the same labels and the same root
-  pub labels_right : (d e : List Sector) → labels e ≡ labels d → slice_get e 0 ≡ slice_get d 0 → RightFor temps d → RightFor temps e
+  pub labels_right : (d e : List Sector) → labels e ≡ labels d → slice_get e 0 ≡ slice_get d 0 → RightFor with_temporary d → RightFor with_temporary e
   -- bytes for a page, whether or not its label names it
-  pub page_right : (d : List Sector) (sector : ℕ) (wanted : Wanted) (page : List ℕ) → 0 < sector → RightFor temps d → RightFor temps (written (Page sector wanted page) d)
+  pub page_right : (d : List Sector) (sector : ℕ) (wanted : Wanted) (page : List ℕ) → 0 < sector → RightFor with_temporary d → RightFor with_temporary (written (Page sector wanted page) d)
   -- any writes that leave root and maps
-  pub runs_right : (d : List Sector) (writes : List DiskWrite) (k : ℕ) → RightFor temps d → AllByRecursion (LeavesLow (first_data (length d))) writes
-      → FilesRight temps (serial_of d) (counter_of d) (moment d writes k) → RightFor temps (moment d writes k)
+  pub runs_right : (d : List Sector) (writes : List DiskWrite) (k : ℕ) → RightFor with_temporary d → AllByRecursion (LeavesLow (first_data (length d))) writes
+      → FilesRight with_temporary (serial_of d) (counter_of d) (moment d writes k) → RightFor with_temporary (moment d writes k)
   -- what the label writes alone make of a file is what all make of its shape
   pub changes : (serial counter : ℕ) (d : List Sector) (writes : List DiskWrite) (k id : ℕ) (now : Option File)
-      → Changed temps serial counter d (moment d (label_writes writes) (label_count writes k)) id now → ShapeChanged temps serial counter d (moment d writes k) id now
+      → Changed with_temporary serial counter d (moment d (label_writes writes) (label_count writes k)) id now → ShapeChanged with_temporary serial counter d (moment d writes k) id now
   -- and there are no more of them than there are
   pub fewer : (writes : List DiskWrite) (k : ℕ) → label_count writes k ≤ length (label_writes writes)

@@ -17,7 +17,7 @@ id_of d (Page sector wanted page) = wanted.id
 
 -- a lawful write leaves all other files
 abbrev pub OthersStay : Bool → Type 0
-OthersStay temps = (d : List Sector) (write : DiskWrite) (other : ℕ) → Lawful d write → other ≢ id_of d write → disk_file temps (written write d) other ≡ disk_file temps d other
+OthersStay with_temporary = (d : List Sector) (write : DiskWrite) (other : ℕ) → Lawful d write → other ≢ id_of d write → disk_file with_temporary (written write d) other ≡ disk_file with_temporary d other
 
 -- none of these writes, each where those before it were made, is of this file
 abbrev pub NoneOf : ℕ → List Sector → List DiskWrite → Type 0
@@ -26,5 +26,5 @@ NoneOf other d (write ∷ writes) = (other ≢ id_of d write) × NoneOf other (w
 
 -- a file that no write is of stays, at each moment
 abbrev pub OthersStayInRuns : Bool → Type 0
-OthersStayInRuns temps = (d : List Sector) (writes : List DiskWrite) (other k : ℕ) → AreLawful d writes → NoneOf other d writes
-    → disk_file temps (moment d writes k) other ≡ disk_file temps d other
+OthersStayInRuns with_temporary = (d : List Sector) (writes : List DiskWrite) (other k : ℕ) → AreLawful d writes → NoneOf other d writes
+    → disk_file with_temporary (moment d writes k) other ≡ disk_file with_temporary d other

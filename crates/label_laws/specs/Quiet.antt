@@ -10,11 +10,11 @@ use Rattle.labelled_disk.specs.WriteRuns.{after_writes}
 use Rattle.label_laws.specs.MixedVolumes.{ShapesKept}
 use Rattle.label_laws.specs.Unseen.{TakesLabel}
 
-module _ (temps : Bool) (id : ℕ) where
+module _ (with_temporary : Bool) (id : ℕ) where
   -- page bytes, or a label that no file shows
   abbrev pub IsQuiet : List Sector → DiskWrite → Type 0
-  IsQuiet d (Whole sector label page) = TakesLabel temps id d sector label
-  IsQuiet d (LabelOnly sector label) = TakesLabel temps id d sector label
+  IsQuiet d (Whole sector label page) = TakesLabel with_temporary id d sector label
+  IsQuiet d (LabelOnly sector label) = TakesLabel with_temporary id d sector label
   IsQuiet d (Page sector wanted page) = Unit {0}
 
   -- each where those before it were made
@@ -27,5 +27,5 @@ module _ (temps : Bool) (id : ℕ) where
 
   -- at each moment all files have their shapes, and the labels of the files are right
   abbrev pub QuietMoments : ℕ → ℕ → Type 0
-  QuietMoments serial counter = (d : List Sector) (writes : List DiskWrite) → FilesRight temps serial counter d → disk_file temps d id ≡ None → AreQuiet d writes
-      → (k : ℕ) → ShapesKept temps serial counter d (moment d writes k)
+  QuietMoments serial counter = (d : List Sector) (writes : List DiskWrite) → FilesRight with_temporary serial counter d → disk_file with_temporary d id ≡ None → AreQuiet d writes
+      → (k : ℕ) → ShapesKept with_temporary serial counter d (moment d writes k)

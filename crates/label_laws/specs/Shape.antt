@@ -27,24 +27,24 @@ bare_file f = record { id = f.id; kind = f.kind; permanent = f.permanent; immuta
 abbrev pub SameByPages : Type 0
 SameByPages = (f g : File) → bare_file g ≡ bare_file f → ((p : ℕ) → p < size f → slice_get g.pages p ≡ slice_get f.pages p) → g ≡ f
 
-module _ (temps : Bool) where
+module _ (with_temporary : Bool) where
   -- the file of an identifier has this shape on both disks, or there is none on either
   abbrev pub SameShape : List Sector → List Sector → ℕ → Type 0
-  SameShape d e id = option_map bare_file (disk_file temps e id) ≡ option_map bare_file (disk_file temps d id)
+  SameShape d e id = option_map bare_file (disk_file with_temporary e id) ≡ option_map bare_file (disk_file with_temporary d id)
 
   -- two disks with the same labels
   pub record LabelLaws (d e : List Sector) : Type 0 where
     pub shapes : (id : ℕ) → SameShape d e id
-    pub room : total_room (files_among temps e) ≡ total_room (files_among temps d)
-    pub needed : (i : ℕ) → is_needed temps (data_sectors e) i ≡ is_needed temps (data_sectors d) i
-    pub right : (serial counter : ℕ) → FilesRight temps serial counter d → FilesRight temps serial counter e
+    pub room : total_room (files_among with_temporary e) ≡ total_room (files_among with_temporary d)
+    pub needed : (i : ℕ) → is_needed with_temporary (data_sectors e) i ≡ is_needed with_temporary (data_sectors d) i
+    pub right : (serial counter : ℕ) → FilesRight with_temporary serial counter d → FilesRight with_temporary serial counter e
 
   abbrev pub LabelsGiveShape : Type 0
   LabelsGiveShape = (d e : List Sector) → labels e ≡ labels d → LabelLaws d e
 
   -- the cells of a page of a file, if there is one
   abbrev pub page_on : List Sector → ℕ → ℕ → Option Page
-  page_on d id p = option_map_or (λ f. slice_get f.pages p) (disk_file temps d id) None
+  page_on d id p = option_map_or (λ f. slice_get f.pages p) (disk_file with_temporary d id) None
 
   -- two disks with the same labels have the same page of a file, where the sectors that are this page are the same
   abbrev pub PagesBySectors : Type 0

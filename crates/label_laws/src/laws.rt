@@ -34,71 +34,71 @@ pub fn lawful_runs()
 
 /// A lawful write changes the file of one identifier at most: that of the sector that it is made on.
 pub fn lawful_writes_leave_others()
-    ensures one { (temps : Bool) → OthersStay temps }
-    ensures runs { (temps : Bool) → OthersStayInRuns temps }
+    ensures one { (with_temporary : Bool) → OthersStay with_temporary }
+    ensures runs { (with_temporary : Bool) → OthersStayInRuns with_temporary }
 {}
 
 /// A label with a mark more.
 pub fn marks_are_added()
     ensures labels { MarksAreAdded }
-    ensures files { (temps : Bool) (serial counter : ℕ) → MarksOfFiles temps serial counter }
+    ensures files { (with_temporary : Bool) (serial counter : ℕ) → MarksOfFiles with_temporary serial counter }
 {}
 
 /// What a write of root or maps, or of a page's bytes, makes of the files of any disk.
 pub fn any_disk_keeps_files()
-    ensures any { (temps : Bool) → AnyDiskLaws temps }
-    ensures leader { (temps : Bool) (serial counter : ℕ) → LeaderAdded temps serial counter }
+    ensures any { (with_temporary : Bool) → AnyDiskLaws with_temporary }
+    ensures leader { (with_temporary : Bool) (serial counter : ℕ) → LeaderAdded with_temporary serial counter }
 {}
 
 /// Label writes mixed with writes of page bytes.
 pub fn labels_by_label_writes()
     ensures labels { LabelsByLabelWrites }
     ensures sectors { SectorStays }
-    ensures stands { (temps : Bool) (serial counter : ℕ) → PageStands temps serial counter }
-    ensures stays { (temps : Bool) (serial counter : ℕ) → PageStays temps serial counter }
+    ensures stands { (with_temporary : Bool) (serial counter : ℕ) → PageStands with_temporary serial counter }
+    ensures stays { (with_temporary : Bool) (serial counter : ℕ) → PageStays with_temporary serial counter }
     ensures last { LastPageStands }
-    ensures shows { (temps : Bool) (serial counter : ℕ) → LastPageShows temps serial counter }
-    ensures volumes { (temps : Bool) → MixedLaws temps }
+    ensures shows { (with_temporary : Bool) (serial counter : ℕ) → LastPageShows with_temporary serial counter }
+    ensures volumes { (with_temporary : Bool) → MixedLaws with_temporary }
     ensures rises { LabelCountRises }
-    ensures runs { (temps : Bool) (serial counter : ℕ) → MixedRunLaws temps serial counter }
+    ensures runs { (with_temporary : Bool) (serial counter : ℕ) → MixedRunLaws with_temporary serial counter }
 {}
 
 /// Writes in a row of a file that does not count.
 pub fn unseen_runs()
-    ensures rows { (temps : Bool) (id : ℕ) → UnseenAppended temps id }
-    ensures moments { (temps : Bool) (id serial counter : ℕ) → UnseenMoments temps id serial counter }
-    ensures orders { (temps : Bool) (id : ℕ) → UnseenOrders temps id }
+    ensures rows { (with_temporary : Bool) (id : ℕ) → UnseenAppended with_temporary id }
+    ensures moments { (with_temporary : Bool) (id serial counter : ℕ) → UnseenMoments with_temporary id serial counter }
+    ensures orders { (with_temporary : Bool) (id : ℕ) → UnseenOrders with_temporary id }
     ensures creation { (id : ℕ) → UnseenCreation id }
-    ensures quiet_rows { (temps : Bool) (id : ℕ) → QuietAppended temps id }
-    ensures quiet { (temps : Bool) (id serial counter : ℕ) → QuietMoments temps id serial counter }
+    ensures quiet_rows { (with_temporary : Bool) (id : ℕ) → QuietAppended with_temporary id }
+    ensures quiet { (with_temporary : Bool) (id serial counter : ℕ) → QuietMoments with_temporary id serial counter }
 {}
 
 /// Sectors that no file needs are freed.
 pub fn unneeded_are_freed()
-    ensures moments { (temps : Bool) → FreedMoments temps }
-    ensures all { (temps : Bool) → FreedAll temps }
-    ensures right { (temps : Bool) → FreedStayRight temps }
-    ensures needed { (temps : Bool) → NeededIfFiles temps }
+    ensures moments { (with_temporary : Bool) → FreedMoments with_temporary }
+    ensures all { (with_temporary : Bool) → FreedAll with_temporary }
+    ensures right { (with_temporary : Bool) → FreedStayRight with_temporary }
+    ensures needed { (with_temporary : Bool) → NeededIfFiles with_temporary }
 {}
 
 /// The labels of both maps.
 pub fn map_labels()
     ensures sectors { (n : ℕ) (d : List Sector) → MappedAreMaps n d }
     ensures one_more { MappedOneMore }
-    ensures written { (temps : Bool) → MapRelabelled temps }
+    ensures written { (with_temporary : Bool) → MapRelabelled with_temporary }
 {}
 
 /// What labels alone say of the files of a disk.
 pub fn labels_give_shape()
-    ensures labels { (temps : Bool) → LabelsGiveShape temps }
-    ensures mixed { (temps : Bool) → MixedShapes temps }
+    ensures labels { (with_temporary : Bool) → LabelsGiveShape with_temporary }
+    ensures mixed { (with_temporary : Bool) → MixedShapes with_temporary }
     ensures files { SameByPages }
-    ensures pages { (temps : Bool) → PagesBySectors temps }
+    ensures pages { (with_temporary : Bool) → PagesBySectors with_temporary }
 {}
 
 /// The labels of a disk that was put in order are right exactly where there is room for its files.
 pub fn right_by_room()
-    ensures { (temps : Bool) → RightByRoom temps }
+    ensures { (with_temporary : Bool) → RightByRoom with_temporary }
 {}
 
 /// What is sound but for its clean flag is sound exactly where the flag is set, and is so with a clean root.
@@ -128,9 +128,9 @@ pub fn temporary_runs_are_unseen()
 
 /// What is counted of a disk that is put in order.
 pub fn needed_sectors_are_counted()
-    ensures lists { (temps : Bool) → UnneededListLaws temps }
-    ensures counts { (temps : Bool) → CountLaws temps }
-    ensures taken { (temps : Bool) → TakenByFiles temps }
+    ensures lists { (with_temporary : Bool) → UnneededListLaws with_temporary }
+    ensures counts { (with_temporary : Bool) → CountLaws with_temporary }
+    ensures taken { (with_temporary : Bool) → TakenByFiles with_temporary }
 {}
 
 /// Runs of label writes that keep the permanent files, and right labels, at each moment.

@@ -53,7 +53,7 @@ module _ (test : Sector → Bool) where
       either true h more = refl
       either false h more = more (ne_eqb (position_or_len test xs) i (λ e. eqb-false (1 + position_or_len test xs) (suc i) h (omega (arith, e))))
 
-module _ (temps : Bool) where
+module _ (with_temporary : Bool) where
   page_there : (xs : List Sector) (id k : ℕ) (p : Page) → page_at xs id k ≡ Some p → (s : Sector) × (find (is_page id k) xs ≡ Some s) × (map byte s.1 ≡ p)
   page_there xs id k p is = either (find (is_page id k) xs) refl is
     where
@@ -66,12 +66,12 @@ module _ (temps : Bool) where
   get_some (x ∷ xs) zero below = (x, refl)
   get_some (x ∷ xs) (suc i) below = get_some xs i (omega arith)
 
-  told : (xs : List Sector) (id : ℕ) (f : File) → file_among temps xs id ≡ Some f → IsFileOn temps xs f × (f.id ≡ id)
-  told xs id f is = either (find (leads_file temps id) xs) refl is
+  told : (xs : List Sector) (id : ℕ) (f : File) → file_among with_temporary xs id ≡ Some f → IsFileOn with_temporary xs f × (f.id ≡ id)
+  told xs id f is = either (find (leads_file with_temporary id) xs) refl is
     where
-      as_told : (s : Sector) → find (leads_file temps s.0.id) xs ≡ Some s → IsFileOn temps xs (file_by xs s.0)
+      as_told : (s : Sector) → find (leads_file with_temporary s.0.id) xs ≡ Some s → IsFileOn with_temporary xs (file_by xs s.0)
       as_told s e = record {
-        leader = let l = lowest (leads_file temps s.0.id) xs s e in (l.0, s, l.1, refl, refl, refl);
+        leader = let l = lowest (leads_file with_temporary s.0.id) xs s e in (l.0, s, l.1, refl, refl, refl);
         page = λ k below.
             let one = get_some (pages_from (page_at xs s.0.id) 0 leader_page) k below in
             let z : 0 + k ≡ k = omega arith in
@@ -82,28 +82,28 @@ module _ (temps : Bool) where
         ends = ⊎_elim
             (λ (l : length (pages_from (page_at xs s.0.id) 0 leader_page) < leader_page).
             inr (none_passes (is_page s.0.id (length (pages_from (page_at xs s.0.id) 0 leader_page))) xs
-            (w.page_missing temps xs s.0.id (length (pages_from (page_at xs s.0.id) 0 leader_page))
+            (w.page_missing with_temporary xs s.0.id (length (pages_from (page_at xs s.0.id) 0 leader_page))
             (let z : 0 + length (pages_from (page_at xs s.0.id) 0 leader_page) ≡ length (pages_from (page_at xs s.0.id) 0 leader_page) = omega arith in
             ap (page_at xs s.0.id) (sym z) ∙ pages_stop (page_at xs s.0.id) 0 leader_page l))))
             (λ (l : leader_page ≤ length (pages_from (page_at xs s.0.id) 0 leader_page)). inl (omega (arith, l, pages_most (page_at xs s.0.id) 0 leader_page)))
             (cases_lt (length (pages_from (page_at xs s.0.id) 0 leader_page)) leader_page);
       }
 
-      either : (o : Option Sector) → find (leads_file temps id) xs ≡ o → option_map (file_by xs) (option_map (λ s. s.0) o) ≡ Some f → IsFileOn temps xs f × (f.id ≡ id)
+      either : (o : Option Sector) → find (leads_file with_temporary id) xs ≡ o → option_map (file_by xs) (option_map (λ s. s.0) o) ≡ Some f → IsFileOn with_temporary xs f × (f.id ≡ id)
       either None e h = absurd (none-some f h)
       either (Some s) e h =
-          let l = lowest (leads_file temps id) xs s e in
-          let same : s.0.id ≡ id = w.leader_id temps id s l.1.passes in
+          let l = lowest (leads_file with_temporary id) xs s e in
+          let same : s.0.id ≡ id = w.leader_id with_temporary id s l.1.passes in
           let eq : file_by xs s.0 ≡ f = same_Some (file_by xs s.0) f h in
-          subst (λ (g : File). IsFileOn temps xs g × (g.id ≡ id)) eq (as_told s (ap (λ (n : ℕ). find (leads_file temps n) xs) same ∙ e), same)
+          subst (λ (g : File). IsFileOn with_temporary xs g × (g.id ≡ id)) eq (as_told s (ap (λ (n : ℕ). find (leads_file with_temporary n) xs) same ∙ e), same)
 
   same_file : (f g : File) → f.id ≡ g.id → f.kind ≡ g.kind → f.permanent ≡ g.permanent → f.immutable ≡ g.immutable → f.pages ≡ g.pages → f ≡ g
   same_file f g a b c e h = λ x. record { id = a x; kind = b x; permanent = c x; immutable = e x; pages = h x }
 
-  all_told : (xs : List Sector) (f : File) → IsFileOn temps xs f → file_among temps xs f.id ≡ Some f
+  all_told : (xs : List Sector) (f : File) → IsFileOn with_temporary xs f → file_among with_temporary xs f.id ≡ Some f
   all_told xs f is =
-      let lead : leader_among temps xs f.id ≡ Some is.leader.1.0 = ap (λ (o : Option Sector). option_map (λ (s : Sector). s.0) o) (find_lowest (leads_file temps f.id) xs is.leader.0 is.leader.1 is.leader.2) in
-      let same : is.leader.1.0.id ≡ f.id = w.leader_id temps f.id is.leader.1 is.leader.2.passes in
+      let lead : leader_among with_temporary xs f.id ≡ Some is.leader.1.0 = ap (λ (o : Option Sector). option_map (λ (s : Sector). s.0) o) (find_lowest (leads_file with_temporary f.id) xs is.leader.0 is.leader.1 is.leader.2) in
+      let same : is.leader.1.0.id ≡ f.id = w.leader_id with_temporary f.id is.leader.1 is.leader.2.passes in
       ap (λ (o : Option Label). option_map (file_by xs) o) lead
       ∙ ap (λ (g : File). Some g) (same_file (file_by xs is.leader.1.0) f same (sym is.leader.3) (sym is.leader.4) (sym is.leader.5)
       (ap (λ (n : ℕ). pages_from (page_at xs n) 0 leader_page) same ∙ pages))
@@ -133,22 +133,22 @@ module _ (temps : Bool) where
               absurd (none-some (map byte p.1.1) (sym end ∙ ap (page_at xs f.id) z ∙ there (length (pages_from (page_at xs f.id) 0 leader_page)) l ∙ p.3))
 
       pages : pages_from (page_at xs f.id) 0 leader_page ≡ f.pages
-      pages = laws.same_elements temps 0 0 (pages_from (page_at xs f.id) 0 leader_page) f.pages (λ k. at k (cases_lt k (size f)))
+      pages = laws.same_elements with_temporary 0 0 (pages_from (page_at xs f.id) 0 leader_page) f.pages (λ k. at k (cases_lt k (size f)))
         where
           at : (k : ℕ) → (k < size f) ⊎ (size f ≤ k) → slice_get (pages_from (page_at xs f.id) 0 leader_page) k ≡ slice_get f.pages k
           at k (inl l) = let z : 0 + k ≡ k = omega arith in pages_each (page_at xs f.id) 0 leader_page k (omega (arith, l, long)) ∙ ap (page_at xs f.id) z ∙ there k l
           at k (inr l) = slice_get_past (pages_from (page_at xs f.id) 0 leader_page) k (omega (arith, l, long)) ∙ sym (slice_get_past f.pages k l)
 
-  pub files_are_as_told : (d : List Sector) → FilesAreAsTold temps d
+  pub files_are_as_told : (d : List Sector) → FilesAreAsTold with_temporary d
   files_are_as_told d = record { told = told (data_sectors d); all = all_told (data_sectors d) }
 
   -- Sectors that no file needs.
 
-  needed_at : (xs : List Sector) (i : ℕ) (s : Sector) (f : File) → slice_get xs i ≡ Some s → file_among temps xs s.0.id ≡ Some f
-      → is_needed temps xs i ≡ (is_first (leads_file temps s.0.id) xs i || (nat_lt s.0.page (size f) && is_first (is_page s.0.id s.0.page) xs i))
+  needed_at : (xs : List Sector) (i : ℕ) (s : Sector) (f : File) → slice_get xs i ≡ Some s → file_among with_temporary xs s.0.id ≡ Some f
+      → is_needed with_temporary xs i ≡ (is_first (leads_file with_temporary s.0.id) xs i || (nat_lt s.0.page (size f) && is_first (is_page s.0.id s.0.page) xs i))
   needed_at xs i s f here is =
-      ap (λ (o : Option Sector). option_map_or (λ s. option_map_or (λ f. is_first (leads_file temps s.0.id) xs i || (nat_lt s.0.page (size f) && is_first (is_page s.0.id s.0.page) xs i)) (file_among temps xs s.0.id) false) o false) here
-      ∙ ap (λ (o : Option File). option_map_or (λ f. is_first (leads_file temps s.0.id) xs i || (nat_lt s.0.page (size f) && is_first (is_page s.0.id s.0.page) xs i)) o false) is
+      ap (λ (o : Option Sector). option_map_or (λ s. option_map_or (λ f. is_first (leads_file with_temporary s.0.id) xs i || (nat_lt s.0.page (size f) && is_first (is_page s.0.id s.0.page) xs i)) (file_among with_temporary xs s.0.id) false) o false) here
+      ∙ ap (λ (o : Option File). option_map_or (λ f. is_first (leads_file with_temporary s.0.id) xs i || (nat_lt s.0.page (size f) && is_first (is_page s.0.id s.0.page) xs i)) o false) is
 
   or_false : (a b : Bool) → (a || b) ≡ false → (a ≡ false) × (b ≡ false)
   or_false false b h = (refl, h)
@@ -158,19 +158,19 @@ module _ (temps : Bool) where
   and_true_false true b h e = h
   and_true_false false b h e = absurd (false≢true e)
 
-  freed_own : (xs : List Sector) (i : ℕ) (s t : Sector) → slice_get xs i ≡ Some s → is_needed temps xs i ≡ false → is_file t.0 ≡ false → file_among temps (slice_set xs i t) s.0.id ≡ file_among temps xs s.0.id
-  freed_own xs i s t here free new = either (file_among temps xs s.0.id) refl
+  freed_own : (xs : List Sector) (i : ℕ) (s t : Sector) → slice_get xs i ≡ Some s → is_needed with_temporary xs i ≡ false → is_file t.0 ≡ false → file_among with_temporary (slice_set xs i t) s.0.id ≡ file_among with_temporary xs s.0.id
+  freed_own xs i s t here free new = either (file_among with_temporary xs s.0.id) refl
     where
       not_of : is_of s.0.id t ≡ false
       not_of = and_left (is_file t.0) (eqb t.0.id s.0.id) new
 
-      either : (o : Option File) → file_among temps xs s.0.id ≡ o → file_among temps (slice_set xs i t) s.0.id ≡ file_among temps xs s.0.id
-      either None e = w.temporary_stays temps xs i s t here s.0.id e (w.not_of-not_leader temps s.0.id t not_of) ∙ sym e
+      either : (o : Option File) → file_among with_temporary xs s.0.id ≡ o → file_among with_temporary (slice_set xs i t) s.0.id ≡ file_among with_temporary xs s.0.id
+      either None e = w.temporary_stays with_temporary xs i s t here s.0.id e (w.not_of-not_leader with_temporary s.0.id t not_of) ∙ sym e
       either (Some f) e =
-          let parts = or_false (is_first (leads_file temps s.0.id) xs i) (nat_lt s.0.page (size f) && is_first (is_page s.0.id s.0.page) xs i) (sym (needed_at xs i s f here e) ∙ free) in
-          let long : size f ≡ length (w.all_pages temps xs s.0.id) = ap (λ (l : List Page). length l) (w.file_pages temps xs s.0.id f e) in
-          w.by_same_pages temps xs (slice_set xs i t) s.0.id
-          (ap (λ (o : Option Sector). option_map (λ (u : Sector). u.0) o) (find_later (leads_file temps s.0.id) xs i s t here parts.0 (w.not_of-not_leader temps s.0.id t not_of)))
+          let parts = or_false (is_first (leads_file with_temporary s.0.id) xs i) (nat_lt s.0.page (size f) && is_first (is_page s.0.id s.0.page) xs i) (sym (needed_at xs i s f here e) ∙ free) in
+          let long : size f ≡ length (w.all_pages with_temporary xs s.0.id) = ap (λ (l : List Page). length l) (w.file_pages with_temporary xs s.0.id f e) in
+          w.by_same_pages with_temporary xs (slice_set xs i t) s.0.id
+          (ap (λ (o : Option Sector). option_map (λ (u : Sector). u.0) o) (find_later (leads_file with_temporary s.0.id) xs i s t here parts.0 (w.not_of-not_leader with_temporary s.0.id t not_of)))
           (pages_stay (page_at xs s.0.id) (page_at (slice_set xs i t) s.0.id) 0 leader_page
           (λ j l m o. page f long parts.1 j (omega (arith, m, long)) (omega (arith, o)) (cases_eq j s.0.page) (cases_lt j (size f)) (cases_is (is_page s.0.id j s))))
         where
@@ -178,31 +178,31 @@ module _ (temps : Bool) where
           cases_is true = inl refl
           cases_is false = inr refl
 
-          page : (f : File) → size f ≡ length (w.all_pages temps xs s.0.id) → (nat_lt s.0.page (size f) && is_first (is_page s.0.id s.0.page) xs i) ≡ false
+          page : (f : File) → size f ≡ length (w.all_pages with_temporary xs s.0.id) → (nat_lt s.0.page (size f) && is_first (is_page s.0.id s.0.page) xs i) ≡ false
               → (j : ℕ) → j ≤ size f → j < leader_page → (j ≡ s.0.page) ⊎ (j ≢ s.0.page) → (j < size f) ⊎ (size f ≤ j) → (is_page s.0.id j s ≡ true) ⊎ (is_page s.0.id j s ≡ false)
               → page_at (slice_set xs i t) s.0.id j ≡ page_at xs s.0.id j
-          page f long later j most low (inr apart) m is = w.page_past temps xs i s t here s.0.id j (w.other_page temps s.0.id s.0.page j s refl apart) (and_left (is_of s.0.id t) (eqb t.0.page j) not_of)
+          page f long later j most low (inr apart) m is = w.page_past with_temporary xs i s t here s.0.id j (w.other_page with_temporary s.0.id s.0.page j s refl apart) (and_left (is_of s.0.id t) (eqb t.0.page j) not_of)
           page f long later j most low (inl e) (inl l) is =
               let first : is_first (is_page s.0.id s.0.page) xs i ≡ false = and_true_false (nat_lt s.0.page (size f)) (is_first (is_page s.0.id s.0.page) xs i) later (lt-ltb s.0.page (size f) (omega (arith, e, l))) in
               ap (λ (o : Option Sector). option_map (λ (u : Sector). map byte u.1) o)
               (find_later (is_page s.0.id j) xs i s t here (ap (λ (k : ℕ). is_first (is_page s.0.id k) xs i) e ∙ first) (and_left (is_of s.0.id t) (eqb t.0.page j) not_of))
-          page f long later j most low (inl e) (inr l) (inr fails) = w.page_past temps xs i s t here s.0.id j fails (and_left (is_of s.0.id t) (eqb t.0.page j) not_of)
+          page f long later j most low (inl e) (inr l) (inr fails) = w.page_past with_temporary xs i s t here s.0.id j fails (and_left (is_of s.0.id t) (eqb t.0.page j) not_of)
           page f long later j most low (inl e) (inr l) (inl is) =
-              let z : 0 + length (w.all_pages temps xs s.0.id) ≡ j = omega (arith, l, most, long) in
+              let z : 0 + length (w.all_pages with_temporary xs s.0.id) ≡ j = omega (arith, l, most, long) in
               let end : page_at xs s.0.id j ≡ None = ap (page_at xs s.0.id) (sym z) ∙ pages_stop (page_at xs s.0.id) 0 leader_page (omega (arith, z, low)) in
-              absurd (true≢false (sym is ∙ none_passes (is_page s.0.id j) xs (w.page_missing temps xs s.0.id j end) i s here))
+              absurd (true≢false (sym is ∙ none_passes (is_page s.0.id j) xs (w.page_missing with_temporary xs s.0.id j end) i s here))
 
-  pub unneeded_freed : UnneededFreed temps
+  pub unneeded_freed : UnneededFreed with_temporary
   unneeded_freed d i s t holds free new =
-      let here = laws.data_get temps 0 0 d i s holds.is_data holds.here in
-      laws.same_files temps 0 0 d (slice_set d i t) (λ id. ap (λ (xs : List Sector). file_among temps xs id) (laws.data_set temps 0 0 d i t holds.is_data) ∙ one id here (is_of id s) refl)
+      let here = laws.data_get with_temporary 0 0 d i s holds.is_data holds.here in
+      laws.same_files with_temporary 0 0 d (slice_set d i t) (λ id. ap (λ (xs : List Sector). file_among with_temporary xs id) (laws.data_set with_temporary 0 0 d i t holds.is_data) ∙ one id here (is_of id s) refl)
     where
       one : (id : ℕ) → slice_get (data_sectors d) (i - first_data (length d)) ≡ Some s → (b : Bool) → is_of id s ≡ b
-          → file_among temps (slice_set (data_sectors d) (i - first_data (length d)) t) id ≡ file_among temps (data_sectors d) id
-      one id here false e = w.others_stay temps (data_sectors d) (i - first_data (length d)) s t here id e (and_left (is_file t.0) (eqb t.0.id id) new)
+          → file_among with_temporary (slice_set (data_sectors d) (i - first_data (length d)) t) id ≡ file_among with_temporary (data_sectors d) id
+      one id here false e = w.others_stay with_temporary (data_sectors d) (i - first_data (length d)) s t here id e (and_left (is_file t.0) (eqb t.0.id id) new)
       one id here true e =
           let same : s.0.id ≡ id = eqb-true s.0.id id (and_parts (is_file s.0) (eqb s.0.id id) e).1 in
-          subst (λ (n : ℕ). file_among temps (slice_set (data_sectors d) (i - first_data (length d)) t) n ≡ file_among temps (data_sectors d) n) same
+          subst (λ (n : ℕ). file_among with_temporary (slice_set (data_sectors d) (i - first_data (length d)) t) n ≡ file_among with_temporary (data_sectors d) n) same
           (freed_own (data_sectors d) (i - first_data (length d)) s t here free new)
 
   -- Files of which each sector is needed.
@@ -225,26 +225,26 @@ module _ (temps : Bool) where
   or_true false b h = inr h
 
   abbrev Part : List Sector → File → ℕ → Sector → Type 0
-  Part d f i s = ((s.0.page ≡ leader_page) × (position_or_len (leads_file temps f.id) (data_sectors d) ≡ i)) ⊎ ((s.0.page < size f) × (position_or_len (is_page f.id s.0.page) (data_sectors d) ≡ i))
+  Part d f i s = ((s.0.page ≡ leader_page) × (position_or_len (leads_file with_temporary f.id) (data_sectors d) ≡ i)) ⊎ ((s.0.page < size f) × (position_or_len (is_page f.id s.0.page) (data_sectors d) ≡ i))
 
-  pub needed_are_whole : NeededAreWhole temps
-  needed_are_whole d needed = laws.each_file temps 0 0 (IsWhole (data_sectors d)) d (λ id f is.
-      let own : file_among temps (data_sectors d) f.id ≡ Some f = ap (λ (n : ℕ). file_among temps (data_sectors d) n) (told (data_sectors d) id f is).1 ∙ is in
+  pub needed_are_whole : NeededAreWhole with_temporary
+  needed_are_whole d needed = laws.each_file with_temporary 0 0 (IsWhole (data_sectors d)) d (λ id f is.
+      let own : file_among with_temporary (data_sectors d) f.id ≡ Some f = ap (λ (n : ℕ). file_among with_temporary (data_sectors d) n) (told (data_sectors d) id f is).1 ∙ is in
       record {
         no_other = λ i s at of. elim (part f own i s at of) [ inl h ↦ inl h.0 | inr h ↦ inr h.0 ];
         once = λ i j s t at_i at_j of_s of_t same. together f own i j s t same (part f own i s at_i of_s) (part f own j t at_j of_t);
       })
     where
-      part : (f : File) → file_among temps (data_sectors d) f.id ≡ Some f → (i : ℕ) (s : Sector) → slice_get (data_sectors d) i ≡ Some s → is_of f.id s ≡ true → Part d f i s
+      part : (f : File) → file_among with_temporary (data_sectors d) f.id ≡ Some f → (i : ℕ) (s : Sector) → slice_get (data_sectors d) i ≡ Some s → is_of f.id s ≡ true → Part d f i s
       part f own i s at of =
           let parts = and_parts (is_file s.0) (eqb s.0.id f.id) of in
           let same : s.0.id ≡ f.id = eqb-true s.0.id f.id parts.1 in
-          let here : file_among temps (data_sectors d) s.0.id ≡ Some f = ap (λ (n : ℕ). file_among temps (data_sectors d) n) same ∙ own in
-          elim (or_true (is_first (leads_file temps s.0.id) (data_sectors d) i) (nat_lt s.0.page (size f) && is_first (is_page s.0.id s.0.page) (data_sectors d) i)
+          let here : file_among with_temporary (data_sectors d) s.0.id ≡ Some f = ap (λ (n : ℕ). file_among with_temporary (data_sectors d) n) same ∙ own in
+          elim (or_true (is_first (leads_file with_temporary s.0.id) (data_sectors d) i) (nat_lt s.0.page (size f) && is_first (is_page s.0.id s.0.page) (data_sectors d) i)
           (sym (needed_at (data_sectors d) i s f at here) ∙ needed i s at parts.0)) [
             | inl h ↦ inl (
-              w.leader_number temps s.0.id s (first_passes (leads_file temps s.0.id) (data_sectors d) i s at h),
-              ap (λ (n : ℕ). position_or_len (leads_file temps n) (data_sectors d)) (sym same) ∙ eqb-true (position_or_len (leads_file temps s.0.id) (data_sectors d)) i h,
+              w.leader_number with_temporary s.0.id s (first_passes (leads_file with_temporary s.0.id) (data_sectors d) i s at h),
+              ap (λ (n : ℕ). position_or_len (leads_file with_temporary n) (data_sectors d)) (sym same) ∙ eqb-true (position_or_len (leads_file with_temporary s.0.id) (data_sectors d)) i h,
             )
             | inr h ↦ let both = and_parts (nat_lt s.0.page (size f)) (is_first (is_page s.0.id s.0.page) (data_sectors d) i) h in
                 inr (
@@ -253,10 +253,10 @@ module _ (temps : Bool) where
                 )
           ]
 
-      numbered : (f : File) → file_among temps (data_sectors d) f.id ≡ Some f → size f ≤ leader_page
+      numbered : (f : File) → file_among with_temporary (data_sectors d) f.id ≡ Some f → size f ≤ leader_page
       numbered f own = (told (data_sectors d) f.id f own).0.numbered
 
-      together : (f : File) → file_among temps (data_sectors d) f.id ≡ Some f → (i j : ℕ) (s t : Sector) → s.0.page ≡ t.0.page → Part d f i s → Part d f j t → i ≡ j
+      together : (f : File) → file_among with_temporary (data_sectors d) f.id ≡ Some f → (i j : ℕ) (s t : Sector) → s.0.page ≡ t.0.page → Part d f i s → Part d f j t → i ≡ j
       together f own i j s t same (inl a) (inl b) = sym a.1 ∙ b.1
       together f own i j s t same (inr a) (inr b) = sym a.1 ∙ ap (λ (k : ℕ). position_or_len (is_page f.id k) (data_sectors d)) same ∙ b.1
       together f own i j s t same (inl a) (inr b) = absurd (omega (arith, a.0, b.0, same, numbered f own))
@@ -264,13 +264,13 @@ module _ (temps : Bool) where
 
   -- No file, and files with right labels.
 
-  no_files : (all rest : List Sector) → ((i : ℕ) (s : Sector) → slice_get rest i ≡ Some s → is_file s.0 ≡ false) → files_by temps all rest ≡ []
+  no_files : (all rest : List Sector) → ((i : ℕ) (s : Sector) → slice_get rest i ≡ Some s → is_file s.0 ≡ false) → files_by with_temporary all rest ≡ []
   no_files all [] none = refl
   no_files all (s ∷ rest) none =
-      let fails : leads temps s ≡ false = and_left (is_file s.0 && eqb s.0.page leader_page) (temps || is_permanent s.0) (and_left (is_file s.0) (eqb s.0.page leader_page) (none 0 s refl)) in
+      let fails : leads with_temporary s ≡ false = and_left (is_file s.0 && eqb s.0.page leader_page) (with_temporary || is_permanent s.0) (and_left (is_file s.0) (eqb s.0.page leader_page) (none 0 s refl)) in
       rw fails (no_files all rest (λ i t at. none (suc i) t at))
 
-  pub empty_has_none : EmptyHasNone temps
+  pub empty_has_none : EmptyHasNone with_temporary
   empty_has_none d none = no_files (data_sectors d) (data_sectors d) none
 
   -- one that passes alone is the first
@@ -294,27 +294,27 @@ module _ (temps : Bool) where
   or_right true b e = refl
   or_right false b e = e
 
-  pub right_are_needed : RightAreNeeded temps
+  pub right_are_needed : RightAreNeeded with_temporary
   right_are_needed serial counter d i s f right here is file =
-      let whole = laws.of_file temps 0 0 (IsWhole (data_sectors d)) d right.whole_files s.0.id f file in
+      let whole = laws.of_file with_temporary 0 0 (IsWhole (data_sectors d)) d right.whole_files s.0.id f file in
       let same : f.id ≡ s.0.id = (told (data_sectors d) s.0.id f file).1 in
       let of : is_of s.0.id s ≡ true = and_from (is_file s.0) (eqb s.0.id s.0.id) is (eq-eqb s.0.id s.0.id refl) in
       let mine : is_of f.id s ≡ true = ap (λ (n : ℕ). is_of n s) same ∙ of in
       needed_at (data_sectors d) i s f here file ∙ elim (whole.no_other i s here mine) [
-        | inl h ↦ or_left (is_first (leads_file temps s.0.id) (data_sectors d) i) (nat_lt s.0.page (size f) && is_first (is_page s.0.id s.0.page) (data_sectors d) i) (leads whole same mine h)
-        | inr h ↦ or_right (is_first (leads_file temps s.0.id) (data_sectors d) i) (nat_lt s.0.page (size f) && is_first (is_page s.0.id s.0.page) (data_sectors d) i)
+        | inl h ↦ or_left (is_first (leads_file with_temporary s.0.id) (data_sectors d) i) (nat_lt s.0.page (size f) && is_first (is_page s.0.id s.0.page) (data_sectors d) i) (leads whole same mine h)
+        | inr h ↦ or_right (is_first (leads_file with_temporary s.0.id) (data_sectors d) i) (nat_lt s.0.page (size f) && is_first (is_page s.0.id s.0.page) (data_sectors d) i)
             (and_from (nat_lt s.0.page (size f)) (is_first (is_page s.0.id s.0.page) (data_sectors d) i) (lt-ltb s.0.page (size f) h)
             (first_alone (is_page s.0.id s.0.page) (data_sectors d) i s here (and_from (is_of s.0.id s) (eqb s.0.page s.0.page) of (eq-eqb s.0.page s.0.page refl))
-            (λ j t at passes. whole.once j i t s at here (ap (λ (n : ℕ). is_of n t) same ∙ w.page_of temps s.0.id s.0.page t passes) mine (w.page_number temps s.0.id s.0.page t passes))))
+            (λ j t at passes. whole.once j i t s at here (ap (λ (n : ℕ). is_of n t) same ∙ w.page_of with_temporary s.0.id s.0.page t passes) mine (w.page_number with_temporary s.0.id s.0.page t passes))))
       ]
     where
-      leads : IsWhole (data_sectors d) f → f.id ≡ s.0.id → is_of f.id s ≡ true → s.0.page ≡ leader_page → is_first (leads_file temps s.0.id) (data_sectors d) i ≡ true
+      leads : IsWhole (data_sectors d) f → f.id ≡ s.0.id → is_of f.id s ≡ true → s.0.page ≡ leader_page → is_first (leads_file with_temporary s.0.id) (data_sectors d) i ≡ true
       leads whole same mine page =
           let low = lowest_leader in
-          let at : low.0 ≡ i = whole.once low.0 i low.1 s low.2.here here (ap (λ (n : ℕ). is_of n low.1) same ∙ laws.leader_of temps 0 0 s.0.id low.1 low.2.passes) mine (w.leader_number temps s.0.id low.1 low.2.passes ∙ sym page) in
+          let at : low.0 ≡ i = whole.once low.0 i low.1 s low.2.here here (ap (λ (n : ℕ). is_of n low.1) same ∙ laws.leader_of with_temporary 0 0 s.0.id low.1 low.2.passes) mine (w.leader_number with_temporary s.0.id low.1 low.2.passes ∙ sym page) in
           let eq : low.1 ≡ s = same_Some low.1 s (sym low.2.here ∙ ap (λ (j : ℕ). slice_get (data_sectors d) j) at ∙ here) in
-          first_alone (leads_file temps s.0.id) (data_sectors d) i s here (ap (leads_file temps s.0.id) (sym eq) ∙ low.2.passes)
-          (λ j t at_j passes. whole.once j i t s at_j here (ap (λ (n : ℕ). is_of n t) same ∙ laws.leader_of temps 0 0 s.0.id t passes) mine (w.leader_number temps s.0.id t passes ∙ sym page))
+          first_alone (leads_file with_temporary s.0.id) (data_sectors d) i s here (ap (leads_file with_temporary s.0.id) (sym eq) ∙ low.2.passes)
+          (λ j t at_j passes. whole.once j i t s at_j here (ap (λ (n : ℕ). is_of n t) same ∙ laws.leader_of with_temporary 0 0 s.0.id t passes) mine (w.leader_number with_temporary s.0.id t passes ∙ sym page))
         where
-          lowest_leader : (j : ℕ) × (t : Sector) × IsLowest (leads_file temps s.0.id) (data_sectors d) j t
-          lowest_leader = let l = (told (data_sectors d) s.0.id f file).0.leader in subst (λ (n : ℕ). (j : ℕ) × (t : Sector) × IsLowest (leads_file temps n) (data_sectors d) j t) (told (data_sectors d) s.0.id f file).1 (l.0, l.1, l.2)
+          lowest_leader : (j : ℕ) × (t : Sector) × IsLowest (leads_file with_temporary s.0.id) (data_sectors d) j t
+          lowest_leader = let l = (told (data_sectors d) s.0.id f file).0.leader in subst (λ (n : ℕ). (j : ℕ) × (t : Sector) × IsLowest (leads_file with_temporary n) (data_sectors d) j t) (told (data_sectors d) s.0.id f file).1 (l.0, l.1, l.2)

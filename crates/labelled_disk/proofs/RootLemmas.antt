@@ -41,13 +41,13 @@ maps_kept d e labels maps = record {
         either (Some s) (Some t) same h = subst (λ (l : Label). IsTrue (names l w)) (sym (same_Some t.0 s.0 same)) h
 
 -- another disk with the same root, and the same labels of the maps
-pub right_still : (temps : Bool) (d e : List Sector) → length e ≡ length d → slice_get e 0 ≡ slice_get d 0
+pub right_still : (with_temporary : Bool) (d e : List Sector) → length e ≡ length d → slice_get e 0 ≡ slice_get d 0
     → ((i : ℕ) → 1 ≤ i → i < first_data (length d) → label_in (slice_get e i) ≡ label_in (slice_get d i))
-    → FilesRight temps (serial_of d) (counter_of d) e → RightFor temps d → RightFor temps e
-right_still temps d e long root labels files right = record {
+    → FilesRight with_temporary (serial_of d) (counter_of d) e → RightFor with_temporary d → RightFor with_temporary e
+right_still with_temporary d e long root labels files right = record {
   has_root = subst (λ (o : Option Sector). IsRoot (length e) o) (sym root) (subst (λ (n : ℕ). IsRoot n (slice_get d 0)) (sym long) right.has_root);
   has_maps = subst (λ (n : ℕ). HasMaps n e) (sym long) (maps_kept d e labels right.has_maps);
-  files = subst (λ (o : Option Sector). FilesRight temps (number_at (page_in o) 16) (number_at (page_in o) 20) e) (sym root) files;
+  files = subst (λ (o : Option Sector). FilesRight with_temporary (number_at (page_in o) 16) (number_at (page_in o) 20) e) (sym root) files;
 }
 
 pub only_self : (s : Sector) (id : ℕ) → s.0.id ≡ id → IsOnlyOf id s
@@ -73,32 +73,32 @@ page_written d i s wanted page here named =
     ap (λ (o : Option Sector). option_map_or (λ (old : Sector). if names old.0 wanted then slice_set d i (old.0, page) else d) o d) here
     ∙ ap (λ (b : Bool). if b then slice_set d i (s.0, page) else d) named
 
-module _ (temps : Bool) where
-  pub data_written : DataWritten temps
+module _ (with_temporary : Bool) where
+  pub data_written : DataWritten with_temporary
   data_written d i s t right holds files =
-      right_still temps d (slice_set d i t) (length-set d i t)
-      (get_set_other d i 0 t (λ e. omega (arith, e, holds.is_data, laws.first_positive temps 0 0 (length d))))
+      right_still with_temporary d (slice_set d i t) (length-set d i t)
+      (get_set_other d i 0 t (λ e. omega (arith, e, holds.is_data, laws.first_positive with_temporary 0 0 (length d))))
       (λ j high low. ap label_in (get_set_other d i j t (λ e. omega (arith, e, low, holds.is_data))))
       files right
 
-  pub root_written : RootWritten temps
+  pub root_written : RootWritten with_temporary
   root_written d t right valid serials counters =
       let long = length-set d 0 t in
-      let first = laws.first_positive temps (serial_of d) (counter_of d) (length d) in
+      let first = laws.first_positive with_temporary (serial_of d) (counter_of d) (length d) in
       let within : 0 < length d = omega (arith, right.has_root.accepted.0) in
       let there : slice_get (slice_set d 0 t) 0 ≡ Some t = get_set_same d 0 t within in
-      let low = laws.low_written temps (serial_of d) (counter_of d) d 0 t right.files first in
-      let raised : FilesRight temps (serial_of d) (number_at t.1 20) (slice_set d 0 t) =
-      laws.counter_raised temps (serial_of d) (counter_of d) (slice_set d 0 t) (number_at t.1 20) counters low.right in
-      let mine : FilesRight temps (number_at t.1 16) (number_at t.1 20) (slice_set d 0 t) =
-      subst (λ (n : ℕ). FilesRight temps n (number_at t.1 20) (slice_set d 0 t)) (sym serials) raised in
+      let low = laws.low_written with_temporary (serial_of d) (counter_of d) d 0 t right.files first in
+      let raised : FilesRight with_temporary (serial_of d) (number_at t.1 20) (slice_set d 0 t) =
+      laws.counter_raised with_temporary (serial_of d) (counter_of d) (slice_set d 0 t) (number_at t.1 20) counters low.right in
+      let mine : FilesRight with_temporary (number_at t.1 16) (number_at t.1 20) (slice_set d 0 t) =
+      subst (λ (n : ℕ). FilesRight with_temporary n (number_at t.1 20) (slice_set d 0 t)) (sym serials) raised in
       record {
         files = low.files;
         right = record {
           has_root = subst (λ (o : Option Sector). IsRoot (length (slice_set d 0 t)) o) (sym there) (subst (λ (n : ℕ). IsRoot n (Some t)) (sym long) valid);
           has_maps = subst (λ (n : ℕ). HasMaps n (slice_set d 0 t)) (sym long)
               (maps_kept d (slice_set d 0 t) (λ i high l. ap label_in (get_set_other d 0 i t (λ e. omega (arith, e, high)))) right.has_maps);
-          files = subst (λ (o : Option Sector). FilesRight temps (number_at (page_in o) 16) (number_at (page_in o) 20) (slice_set d 0 t)) (sym there) mine;
+          files = subst (λ (o : Option Sector). FilesRight with_temporary (number_at (page_in o) 16) (number_at (page_in o) 20) (slice_set d 0 t)) (sym there) mine;
         };
       }
 
@@ -106,17 +106,17 @@ module _ (temps : Bool) where
   same_label d e only i =
       sym (slice_get-map (λ (s : Sector). s.0) e i) ∙ ap (λ (l : List Label). slice_get l i) only.labels ∙ slice_get-map (λ (s : Sector). s.0) d i
 
-  pub maps_differ : MapsDiffer temps
+  pub maps_differ : MapsDiffer with_temporary
   maps_differ d e only right =
-      let kept = laws.maps_may_differ temps (serial_of d) (counter_of d) d e only right.files in
+      let kept = laws.maps_may_differ with_temporary (serial_of d) (counter_of d) d e only right.files in
       record {
         files = kept.files;
-        right = right_still temps d e (laws.maps_length temps 0 0 d e only) (only.pages 0 (inl refl)) (λ i high l. same_label d e only i) kept.right right;
+        right = right_still with_temporary d e (laws.maps_length with_temporary 0 0 d e only) (only.pages 0 (inl refl)) (λ i high l. same_label d e only i) kept.right right;
       }
 
-  pub map_written : MapWritten temps
+  pub map_written : MapWritten with_temporary
   map_written d i s page right high low here =
-      maps_differ d (slice_set d i (s.0, page)) (record { labels = laws.same_elements temps 0 0 _ _ each; pages = pages }) right
+      maps_differ d (slice_set d i (s.0, page)) (record { labels = laws.same_elements with_temporary 0 0 _ _ each; pages = pages }) right
     where
       label : (j : ℕ) → (j ≡ i) ⊎ (j ≢ i) → label_in (slice_get (slice_set d i (s.0, page)) j) ≡ label_in (slice_get d j)
       label j (inr apart) = ap label_in (get_set_other d i j (s.0, page) apart)
@@ -134,27 +134,27 @@ module _ (temps : Bool) where
 
   -- no other file is changed where old and new label are of one
   one_sector : (d : List Sector) (i : ℕ) (s t : Sector) (id : ℕ) → slice_get d i ≡ Some s → IsOnlyOf id s → IsOnlyOf id t
-      → (other : ℕ) → other ≢ id → disk_file temps (slice_set d i t) other ≡ disk_file temps d other
+      → (other : ℕ) → other ≢ id → disk_file with_temporary (slice_set d i t) other ≡ disk_file with_temporary d other
   one_sector d i s t id here old new other apart =
-      ⊎_elim (λ (l : i < first_data (length d)). ap (λ (xs : List Sector). file_among temps xs other) (laws.data_past temps 0 0 d i t l))
-      (λ (l : first_data (length d) ≤ i). laws.others temps 0 0 d i s t id l here old new other apart)
+      ⊎_elim (λ (l : i < first_data (length d)). ap (λ (xs : List Sector). file_among with_temporary xs other) (laws.data_past with_temporary 0 0 d i t l))
+      (λ (l : first_data (length d) ≤ i). laws.others with_temporary 0 0 d i s t id l here old new other apart)
       (cases_lt i (first_data (length d)))
 
-  pub one_file_at_most : OneFileAtMost temps
+  pub one_file_at_most : OneFileAtMost with_temporary
   one_file_at_most d (Whole sector label page) (inl root) =
-      (0, λ other apart. ap (λ (xs : List Sector). file_among temps xs other) (laws.data_past temps 0 0 d sector (label, page) (omega (arith, root.place, laws.first_positive temps 0 0 (length d)))))
+      (0, λ other apart. ap (λ (xs : List Sector). file_among with_temporary xs other) (laws.data_past with_temporary 0 0 d sector (label, page) (omega (arith, root.place, laws.first_positive with_temporary 0 0 (length d)))))
   one_file_at_most d (Whole sector label page) (inr fresh) =
-      (label.id, one_sector d sector fresh.old.0 (label, page) label.id fresh.old.1.here (laws.only_none temps 0 0 label.id fresh.old.0 (free_none fresh.old.0.0 fresh.old.2)) (only_self (label, page) label.id refl))
+      (label.id, one_sector d sector fresh.old.0 (label, page) label.id fresh.old.1.here (laws.only_none with_temporary 0 0 label.id fresh.old.0 (free_none fresh.old.0.0 fresh.old.2)) (only_self (label, page) label.id refl))
   one_file_at_most d (LabelOnly sector label) write =
       let s : Sector = write.old.0 in (
         s.0.id,
-        λ other apart. ap (λ (e : List Sector). disk_file temps e other) (label_written d sector s label write.old.1.here)
+        λ other apart. ap (λ (e : List Sector). disk_file with_temporary e other) (label_written d sector s label write.old.1.here)
             ∙ one_sector d sector s (label, s.1) s.0.id write.old.1.here (only_self s s.0.id refl) (new s label write.old.3) other apart,
       )
     where
       new : (s : Sector) (label : Label)
           → (label ≡ free_label) ⊎ ((s.0.page ≡ leader_page) × ((label ≡ record s.0 { flags = bit_or s.0.flags 1 }) ⊎ (label ≡ record s.0 { flags = bit_or s.0.flags 2 }))) → IsOnlyOf s.0.id (label, s.1)
-      new s label (inl free) = laws.only_none temps 0 0 s.0.id (label, s.1) (free_none label (ap is_free free))
+      new s label (inl free) = laws.only_none with_temporary 0 0 s.0.id (label, s.1) (free_none label (ap is_free free))
       new s label (inr marked) = elim marked.1 [
         | inl e ↦ only_self (label, s.1) s.0.id (ap (λ (l : Label). l.id) e)
         | inr e ↦ only_self (label, s.1) s.0.id (ap (λ (l : Label). l.id) e)
@@ -162,6 +162,6 @@ module _ (temps : Bool) where
   one_file_at_most d (Page sector wanted page) write =
       let s : Sector = write.old.0 in (
         s.0.id,
-        λ other apart. ap (λ (e : List Sector). disk_file temps e other) (page_written d sector s wanted page write.old.1 write.old.2)
+        λ other apart. ap (λ (e : List Sector). disk_file with_temporary e other) (page_written d sector s wanted page write.old.1 write.old.2)
             ∙ one_sector d sector s (s.0, page) s.0.id write.old.1 (only_self s s.0.id refl) (only_self (s.0, page) s.0.id refl) other apart,
       )

@@ -74,75 +74,75 @@ up_still d id k n i s t (j ∷ js) high at is pages = (
 )
 
 -- the leader's sector is another one than a page's
-led_still : (d : List Sector) (temps : Bool) (id n : ℕ) (i : ℕ) (s t : Sector) (is : List ℕ) → HasData d i s → leads_file temps id s ≡ true → ArePagesUp d id n is → ArePagesUp (slice_set d i t) id n is
-led_still d temps id n i s t [] at is pages = tt
-led_still d temps id n i s t (j ∷ js) at is pages = (
+led_still : (d : List Sector) (with_temporary : Bool) (id n : ℕ) (i : ℕ) (s t : Sector) (is : List ℕ) → HasData d i s → leads_file with_temporary id s ≡ true → ArePagesUp d id n is → ArePagesUp (slice_set d i t) id n is
+led_still d with_temporary id n i s t [] at is pages = tt
+led_still d with_temporary id n i s t (j ∷ js) at is pages = (
   pages.0,
   record {
     s = pages.1.s;
     there = still_there d i j pages.1.s t
         (λ same.
         let one : s ≡ pages.1.s = same_Some s pages.1.s (sym at.here ∙ ap (λ (n : ℕ). slice_get d n) (sym same) ∙ pages.1.there.here) in
-        pages.0 (sym (w.page_number true id n pages.1.s pages.1.passes) ∙ ap (λ (v : Sector). v.0.page) (sym one) ∙ w.leader_number temps id s is))
+        pages.0 (sym (w.page_number true id n pages.1.s pages.1.passes) ∙ ap (λ (v : Sector). v.0.page) (sym one) ∙ w.leader_number with_temporary id s is))
         pages.1.there;
     passes = pages.1.passes;
   },
-  led_still d temps id (n + 1) i s t js at is pages.2,
+  led_still d with_temporary id (n + 1) i s t js at is pages.2,
 )
 
 free_is_none : is_file free_label ≡ false
 free_is_none = refl
 
-module _ (temps : Bool) (serial counter : ℕ) where
+module _ (with_temporary : Bool) (serial counter : ℕ) where
   -- one change after another of the same file
-  then_changed : (d e g : List Sector) (id : ℕ) (now later : Option File) → Changed temps serial counter d e id now → Changed temps serial counter e g id later → Changed temps serial counter d g id later
+  then_changed : (d e g : List Sector) (id : ℕ) (now later : Option File) → Changed with_temporary serial counter d e id now → Changed with_temporary serial counter e g id later → Changed with_temporary serial counter d g id later
   then_changed d e g id now later first second = record {
     file = second.file;
     others = λ other apart. second.others other apart ∙ first.others other apart;
     right = second.right;
   }
 
-  unchanged : (d : List Sector) (id : ℕ) (now : Option File) → FilesRight temps serial counter d → disk_file temps d id ≡ now → Changed temps serial counter d d id now
+  unchanged : (d : List Sector) (id : ℕ) (now : Option File) → FilesRight with_temporary serial counter d → disk_file with_temporary d id ≡ now → Changed with_temporary serial counter d d id now
   unchanged d id now right is = record { file = is; others = λ other apart. refl; right = right }
 
   -- the room of all files, after one was changed
-  room_after : (d e : List Sector) (id : ℕ) (now : Option File) → Changed temps serial counter d e id now
-      → total_room (files_among temps e) + laws.room_at temps serial counter (disk_file temps d id) ≡ total_room (files_among temps d) + laws.room_at temps serial counter now
+  room_after : (d e : List Sector) (id : ℕ) (now : Option File) → Changed with_temporary serial counter d e id now
+      → total_room (files_among with_temporary e) + laws.room_at with_temporary serial counter (disk_file with_temporary d id) ≡ total_room (files_among with_temporary d) + laws.room_at with_temporary serial counter now
   room_after d e id now change =
       omega (
         arith,
-        laws.room_changed temps serial counter (files_among temps d) (files_among temps e) id (laws.files_on_rise temps serial counter d) (laws.files_on_rise temps serial counter e)
-            (λ j apart. laws.look_up temps serial counter e j ∙ change.others j apart ∙ sym (laws.look_up temps serial counter d j)),
-        ap (λ (o : Option File). laws.room_at temps serial counter o) (laws.look_up temps serial counter d id),
-        ap (λ (o : Option File). laws.room_at temps serial counter o) (laws.look_up temps serial counter e id ∙ change.file),
+        laws.room_changed with_temporary serial counter (files_among with_temporary d) (files_among with_temporary e) id (laws.files_on_rise with_temporary serial counter d) (laws.files_on_rise with_temporary serial counter e)
+            (λ j apart. laws.look_up with_temporary serial counter e j ∙ change.others j apart ∙ sym (laws.look_up with_temporary serial counter d j)),
+        ap (λ (o : Option File). laws.room_at with_temporary serial counter o) (laws.look_up with_temporary serial counter d id),
+        ap (λ (o : Option File). laws.room_at with_temporary serial counter o) (laws.look_up with_temporary serial counter e id ∙ change.file),
       )
 
   -- the identifier of a file is one that a file may have
-  id_of_file : (d : List Sector) (id : ℕ) (f : File) → disk_file temps d id ≡ Some f → is_file_id id ≡ true
+  id_of_file : (d : List Sector) (id : ℕ) (f : File) → disk_file with_temporary d id ≡ Some f → is_file_id id ≡ true
   id_of_file d id f is =
-      let lead = w.file_leader temps (data_sectors d) id f is in
+      let lead = w.file_leader with_temporary (data_sectors d) id f is in
       let at = leader_sector (data_sectors d) id lead.0 lead.1 in
-      let parts = and_parts (leads temps at.0) (eqb at.0.0.id id) at.1 in
-      let marks = and_parts (is_file at.0.0 && eqb at.0.0.page leader_page) (temps || is_permanent at.0.0) parts.0 in
+      let parts = and_parts (leads with_temporary at.0) (eqb at.0.0.id id) at.1 in
+      let marks = and_parts (is_file at.0.0 && eqb at.0.0.page leader_page) (with_temporary || is_permanent at.0.0) parts.0 in
       let form = and_parts (is_file at.0.0) (eqb at.0.0.page leader_page) marks.0 in
       let flags = and_parts (is_file_id at.0.0.id && nat_lt at.0.0.flags 4) (eqb at.0.0.last 0) form.0 in
-      subst (λ (n : ℕ). is_file_id n ≡ true) (w.leader_id temps id at.0 at.1) (and_parts (is_file_id at.0.0.id) (nat_lt at.0.0.flags 4) flags.0).0
+      subst (λ (n : ℕ). is_file_id n ≡ true) (w.leader_id with_temporary id at.0 at.1) (and_parts (is_file_id at.0.0.id) (nat_lt at.0.0.flags 4) flags.0).0
     where
-      leader_sector : (xs : List Sector) (id : ℕ) (l : Label) → leader_among temps xs id ≡ Some l → (s : Sector) × (leads_file temps id s ≡ true)
-      leader_sector xs id l is = either (find (leads_file temps id) xs) refl is
+      leader_sector : (xs : List Sector) (id : ℕ) (l : Label) → leader_among with_temporary xs id ≡ Some l → (s : Sector) × (leads_file with_temporary id s ≡ true)
+      leader_sector xs id l is = either (find (leads_file with_temporary id) xs) refl is
         where
-          either : (o : Option Sector) → find (leads_file temps id) xs ≡ o → option_map (λ s. s.0) o ≡ Some l → (s : Sector) × (leads_file temps id s ≡ true)
+          either : (o : Option Sector) → find (leads_file with_temporary id) xs ≡ o → option_map (λ s. s.0) o ≡ Some l → (s : Sector) × (leads_file with_temporary id s ≡ true)
           either None e h = absurd (none-some l h)
-          either (Some s) e h = (s, (found_at (leads_file temps id) xs s e).2)
+          either (Some s) e h = (s, (found_at (leads_file with_temporary id) xs s e).2)
 
   page_is : (id kind k : ℕ) → is_file_id id ≡ true → is_page id k (page_label id kind k, zero_bytes) ≡ true
   page_is id kind k is =
       and_from (is_of id (page_label id kind k, zero_bytes)) (eqb k k)
       (and_from (is_file (page_label id kind k)) (eqb id id) (rw is refl) (eq-eqb id id refl)) (eq-eqb k k refl)
 
-  growth_from : (d : List Sector) (id kind page : ℕ) (f : File) (is : List ℕ) → page ≡ size f → FilesRight temps serial counter d → disk_file temps d id ≡ Some f → AreUnused d is
-      → length is + total_room (files_among temps d) ≤ capacity (length d) → (k : ℕ) → k ≤ length is
-      → Changed temps serial counter d (moment d (growth id kind page is) k) id (Some (lengthened k f))
+  growth_from : (d : List Sector) (id kind page : ℕ) (f : File) (is : List ℕ) → page ≡ size f → FilesRight with_temporary serial counter d → disk_file with_temporary d id ≡ Some f → AreUnused d is
+      → length is + total_room (files_among with_temporary d) ≤ capacity (length d) → (k : ℕ) → k ≤ length is
+      → Changed with_temporary serial counter d (moment d (growth id kind page is) k) id (Some (lengthened k f))
   growth_from d id kind page f is start right file unused room zero low =
       let same : f ≡ lengthened 0 f = ap (λ (p : List Page). record f { pages = p }) (sym (append-nil f.pages)) in
       unchanged d id (Some (lengthened 0 f)) right (file ∙ ap (λ (g : File). Some g) same)
@@ -150,30 +150,30 @@ module _ (temps : Bool) (serial counter : ℕ) where
   growth_from d id kind page f (i ∷ is) start right file unused room (suc k) low =
       let t : Sector = (page_label id kind page, zero_bytes) in
       let named : is_page id (size f) t ≡ true = subst (λ (n : ℕ). is_page id n t ≡ true) start (page_is id kind page (id_of_file d id f file)) in
-      let once = laws.file_grown temps serial counter d i unused.0.s t id f right unused.0.there unused.0.unused named file (omega (arith, room)) in
+      let once = laws.file_grown with_temporary serial counter d i unused.0.s t id f right unused.0.there unused.0.unused named file (omega (arith, room)) in
       let more : File = record f { pages = f.pages ++ map byte zero_bytes ∷ [] } in
       let long : size more ≡ size f + 1 = length_push f.pages (map byte zero_bytes) in
       let rest = growth_from (slice_set d i t) id kind (page + 1) more is (omega (arith, start, long)) once.right once.file (unused_still d i t is unused.1 unused.2)
-      (omega (arith, room, long, room_after d (slice_set d i t) id (Some more) once, ap (λ (o : Option File). laws.room_at temps serial counter o) file, ap (λ (n : ℕ). capacity n) (length-set d i t)))
+      (omega (arith, room, long, room_after d (slice_set d i t) id (Some more) once, ap (λ (o : Option File). laws.room_at with_temporary serial counter o) file, ap (λ (n : ℕ). capacity n) (length-set d i t)))
       k (omega (arith, low)) in
       let same : lengthened k more ≡ lengthened (suc k) f =
       ap (λ (p : List Page). record f { pages = p }) (append_assoc f.pages (map byte zero_bytes ∷ []) (replicate k zero_page) ∙ ap (λ (z : Page). f.pages ++ (z ∷ replicate k zero_page)) zero_cells) in
       then_changed d (slice_set d i t) _ id (Some more) (Some (lengthened (suc k) f)) once
-      (subst (λ (g : File). Changed temps serial counter (slice_set d i t) (moment (slice_set d i t) (growth id kind (page + 1) is) k) id (Some g)) same rest)
+      (subst (λ (g : File). Changed with_temporary serial counter (slice_set d i t) (moment (slice_set d i t) (growth id kind (page + 1) is) k) id (Some g)) same rest)
 
-  pub growth_moments : GrowthMoments temps serial counter
+  pub growth_moments : GrowthMoments with_temporary serial counter
   growth_moments d id kind f is right file unused room k low = growth_from d id kind (size f) f is refl right file unused room k low
 
-  pub creation_moments : CreationMoments temps serial counter
+  pub creation_moments : CreationMoments with_temporary serial counter
   creation_moments d id kind leader is right leads nowhere given unused room k low =
       let t : Sector = (page_label id kind leader_page, zero_bytes) in
-      let once = laws.file_created temps serial counter d leader unused.0.s t id right unused.0.there unused.0.unused leads nowhere given (omega (arith, room)) in
+      let once = laws.file_created with_temporary serial counter d leader unused.0.s t id right unused.0.there unused.0.unused leads nowhere given (omega (arith, room)) in
       let empty : File = record { id = id; kind = kind; permanent = false; immutable = false; pages = [] } in
-      let none : disk_file temps d id ≡ None =
-      w.file_none temps (data_sectors d) id (ap (λ (o : Option Sector). option_map (λ (u : Sector). u.0) o)
-      (find_none (leads_file temps id) (data_sectors d) (λ j u at. w.not_of-not_leader temps id u (nowhere j u at)))) in
+      let none : disk_file with_temporary d id ≡ None =
+      w.file_none with_temporary (data_sectors d) id (ap (λ (o : Option Sector). option_map (λ (u : Sector). u.0) o)
+      (find_none (leads_file with_temporary id) (data_sectors d) (λ j u at. w.not_of-not_leader with_temporary id u (nowhere j u at)))) in
       let rest = growth_from (slice_set d leader t) id kind 0 empty is refl once.right once.file (unused_still d leader t is unused.1 unused.2)
-      (omega (arith, room, room_after d (slice_set d leader t) id (Some empty) once, ap (λ (o : Option File). laws.room_at temps serial counter o) none, ap (λ (n : ℕ). capacity n) (length-set d leader t)))
+      (omega (arith, room, room_after d (slice_set d leader t) id (Some empty) once, ap (λ (o : Option File). laws.room_at with_temporary serial counter o) none, ap (λ (n : ℕ). capacity n) (length-set d leader t)))
       k low in
       then_changed d (slice_set d leader t) _ id (Some empty) _ once rest
 
@@ -182,8 +182,8 @@ module _ (temps : Bool) (serial counter : ℕ) where
       → moment (slice_set d i (free_label, s.1)) (freeing is) k ≡ moment d (freeing (i ∷ is)) (suc k)
   freed d i s is k here = ap (λ (e : List Sector). moment e (freeing is) k) (sym (ap (λ (o : Option Sector). option_map_or (λ (old : Sector). slice_set d i (free_label, old.1)) o d) here))
 
-  shrink_from : (d : List Sector) (id n : ℕ) (f : File) (is : List ℕ) → n ≡ size f → FilesRight temps serial counter d → disk_file temps d id ≡ Some f → ArePagesDown d id n is
-      → (k : ℕ) → k ≤ length is → Changed temps serial counter d (moment d (freeing is) k) id (Some (shortened k f))
+  shrink_from : (d : List Sector) (id n : ℕ) (f : File) (is : List ℕ) → n ≡ size f → FilesRight with_temporary serial counter d → disk_file with_temporary d id ≡ Some f → ArePagesDown d id n is
+      → (k : ℕ) → k ≤ length is → Changed with_temporary serial counter d (moment d (freeing is) k) id (Some (shortened k f))
   shrink_from d id n f is long right file pages zero low =
       let same : f ≡ shortened 0 f = ap (λ (p : List Page). record f { pages = p }) (sym (take_all (size f - 0) f.pages (omega arith))) in
       unchanged d id (Some (shortened 0 f)) right (file ∙ ap (λ (g : File). Some g) same)
@@ -194,12 +194,12 @@ module _ (temps : Bool) (serial counter : ℕ) where
       let t : Sector = (free_label, s.1) in
       let less : File = record f { pages = take n f.pages } in
       let short : n ≡ size less = sym (length-take-le n f.pages (omega (arith, long))) in
-      let once = laws.last_page_freed temps serial counter d i s t id n f right pages.0.there pages.0.passes free_is_none file (sym long) in
+      let once = laws.last_page_freed with_temporary serial counter d i s t id n f right pages.0.there pages.0.passes free_is_none file (sym long) in
       let rest = shrink_from (slice_set d i t) id n less is short once.right once.file (down_still d id n n i s t is (omega arith) pages.0.there pages.0.passes pages.1) k (omega (arith, low)) in
       let same : shortened k less ≡ shortened (suc k) f = ap (λ (p : List Page). record f { pages = p }) (fewer f n k long short) in
       then_changed d (slice_set d i t) _ id (Some less) (Some (shortened (suc k) f)) once
-      (subst (λ (e : List Sector). Changed temps serial counter (slice_set d i t) e id (Some (shortened (suc k) f))) (freed d i s is k pages.0.there.here)
-      (subst (λ (g : File). Changed temps serial counter (slice_set d i t) (moment (slice_set d i t) (freeing is) k) id (Some g)) same rest))
+      (subst (λ (e : List Sector). Changed with_temporary serial counter (slice_set d i t) e id (Some (shortened (suc k) f))) (freed d i s is k pages.0.there.here)
+      (subst (λ (g : File). Changed with_temporary serial counter (slice_set d i t) (moment (slice_set d i t) (freeing is) k) id (Some g)) same rest))
     where
       fewer : (f : File) (n k : ℕ) → suc n ≡ size f → n ≡ size (record f { pages = take n f.pages }) → take (size (record f { pages = take n f.pages }) - k) (take n f.pages) ≡ take (size f - suc k) f.pages
       fewer f n k long short =
@@ -207,59 +207,59 @@ module _ (temps : Bool) (serial counter : ℕ) where
           let g : size f - suc k ≡ n - k = omega (arith, long) in
           ap (λ (m : ℕ). take m (take n f.pages)) e ∙ take-take (n - k) n f.pages (omega arith) ∙ ap (λ (m : ℕ). take m f.pages) (sym g)
 
-  pub shrinking_moments : ShrinkingMoments temps serial counter
+  pub shrinking_moments : ShrinkingMoments with_temporary serial counter
   shrinking_moments d id f is right file pages k low = shrink_from d id (size f) f is refl right file pages k low
 
-  as_changed : (d e : List Sector) (id : ℕ) → disk_file temps d id ≡ None → Kept temps serial counter d e → Changed temps serial counter d e id None
+  as_changed : (d e : List Sector) (id : ℕ) → disk_file with_temporary d id ≡ None → Kept with_temporary serial counter d e → Changed with_temporary serial counter d e id None
   as_changed d e id none kept = record { file = each id ∙ none; others = λ other apart. each other; right = kept.right }
     where
-      each : (other : ℕ) → disk_file temps e other ≡ disk_file temps d other
-      each other = sym (laws.look_up temps serial counter e other) ∙ ap (λ (l : List File). file_at l other) kept.files ∙ laws.look_up temps serial counter d other
+      each : (other : ℕ) → disk_file with_temporary e other ≡ disk_file with_temporary d other
+      each other = sym (laws.look_up with_temporary serial counter e other) ∙ ap (λ (l : List File). file_at l other) kept.files ∙ laws.look_up with_temporary serial counter d other
 
-  gone_from : (d : List Sector) (id n : ℕ) (is : List ℕ) → FilesRight temps serial counter d → disk_file temps d id ≡ None → ArePagesUp d id n is
-      → (k : ℕ) → k ≤ length is → Changed temps serial counter d (moment d (freeing is) k) id None
+  gone_from : (d : List Sector) (id n : ℕ) (is : List ℕ) → FilesRight with_temporary serial counter d → disk_file with_temporary d id ≡ None → ArePagesUp d id n is
+      → (k : ℕ) → k ≤ length is → Changed with_temporary serial counter d (moment d (freeing is) k) id None
   gone_from d id n is right none pages zero low = unchanged d id None right none
   gone_from d id n [] right none pages (suc k) low = absurd (omega (arith, low))
   gone_from d id n (i ∷ is) right none pages (suc k) low =
       let s : Sector = pages.1.s in
       let t : Sector = (free_label, s.1) in
-      let kept = laws.temporary_written temps serial counter d i s t id right pages.1.there
-      (laws.only_of temps serial counter id s (w.page_of temps id n s pages.1.passes)) (laws.only_none temps serial counter id t free_is_none) none
-      (w.not_of-not_leader temps id t (and_left (is_file t.0) (eqb t.0.id id) free_is_none)) in
+      let kept = laws.temporary_written with_temporary serial counter d i s t id right pages.1.there
+      (laws.only_of with_temporary serial counter id s (w.page_of with_temporary id n s pages.1.passes)) (laws.only_none with_temporary serial counter id t free_is_none) none
+      (w.not_of-not_leader with_temporary id t (and_left (is_file t.0) (eqb t.0.id id) free_is_none)) in
       let once = as_changed d (slice_set d i t) id none kept in
       let rest = gone_from (slice_set d i t) id (n + 1) is once.right once.file (up_still d id n (n + 1) i s t is (omega arith) pages.1.there pages.1.passes pages.2) k (omega (arith, low)) in
       then_changed d (slice_set d i t) _ id None None once
-      (subst (λ (e : List Sector). Changed temps serial counter (slice_set d i t) e id None) (freed d i s is k pages.1.there.here) rest)
+      (subst (λ (e : List Sector). Changed with_temporary serial counter (slice_set d i t) e id None) (freed d i s is k pages.1.there.here) rest)
 
-  pub deletion_moments : DeletionMoments temps serial counter
+  pub deletion_moments : DeletionMoments with_temporary serial counter
   deletion_moments d id leader f is right file led pages k low =
       let s : Sector = led.s in
       let t : Sector = (free_label, s.1) in
-      let once = laws.leader_freed temps serial counter d leader s t id f right led.there led.passes free_is_none file in
-      let rest = gone_from (slice_set d leader t) id 0 is once.right once.file (led_still d temps id 0 leader s t is led.there led.passes pages) k low in
+      let once = laws.leader_freed with_temporary serial counter d leader s t id f right led.there led.passes free_is_none file in
+      let rest = gone_from (slice_set d leader t) id 0 is once.right once.file (led_still d with_temporary id 0 leader s t is led.there led.passes pages) k low in
       then_changed d (slice_set d leader t) _ id None None once
-      (subst (λ (e : List Sector). Changed temps serial counter (slice_set d leader t) e id None) (freed d leader s is k led.there.here) rest)
+      (subst (λ (e : List Sector). Changed with_temporary serial counter (slice_set d leader t) e id None) (freed d leader s is k led.there.here) rest)
 
   -- pages of a file that doesn't count
-  unseen_from : (d : List Sector) (id kind page : ℕ) (is : List ℕ) → FilesRight temps serial counter d → disk_file temps d id ≡ None → AreUnused d is → page + length is ≤ leader_page
-      → (k : ℕ) → k ≤ length is → Changed temps serial counter d (moment d (growth id kind page is) k) id None
+  unseen_from : (d : List Sector) (id kind page : ℕ) (is : List ℕ) → FilesRight with_temporary serial counter d → disk_file with_temporary d id ≡ None → AreUnused d is → page + length is ≤ leader_page
+      → (k : ℕ) → k ≤ length is → Changed with_temporary serial counter d (moment d (growth id kind page is) k) id None
   unseen_from d id kind page is right none unused few zero low = unchanged d id None right none
   unseen_from d id kind page [] right none unused few (suc k) low = absurd (omega (arith, low))
   unseen_from d id kind page (i ∷ is) right none unused few (suc k) low =
       let t : Sector = (page_label id kind page, zero_bytes) in
-      let kept = laws.temporary_written temps serial counter d i unused.0.s t id right unused.0.there
-      (laws.only_none temps serial counter id unused.0.s unused.0.unused) (only_self t id refl) none
-      (w.other_than_leader temps id t (λ e. omega (arith, e, few))) in
+      let kept = laws.temporary_written with_temporary serial counter d i unused.0.s t id right unused.0.there
+      (laws.only_none with_temporary serial counter id unused.0.s unused.0.unused) (only_self t id refl) none
+      (w.other_than_leader with_temporary id t (λ e. omega (arith, e, few))) in
       let once = as_changed d (slice_set d i t) id none kept in
       let rest = unseen_from (slice_set d i t) id kind (page + 1) is once.right once.file (unused_still d i t is unused.1 unused.2) (omega (arith, few)) k (omega (arith, low)) in
       then_changed d (slice_set d i t) _ id None None once rest
 
-  pub creation_unseen : CreationUnseen temps serial counter
+  pub creation_unseen : CreationUnseen with_temporary serial counter
   creation_unseen d id kind leader is right none hidden unused few zero low = unchanged d id None right none
   creation_unseen d id kind leader is right none hidden unused few (suc k) low =
       let t : Sector = (page_label id kind leader_page, zero_bytes) in
-      let kept = laws.temporary_written temps serial counter d leader unused.0.s t id right unused.0.there
-      (laws.only_none temps serial counter id unused.0.s unused.0.unused) (only_self t id refl) none hidden in
+      let kept = laws.temporary_written with_temporary serial counter d leader unused.0.s t id right unused.0.there
+      (laws.only_none with_temporary serial counter id unused.0.s unused.0.unused) (only_self t id refl) none hidden in
       let once = as_changed d (slice_set d leader t) id none kept in
       let rest = unseen_from (slice_set d leader t) id kind 0 is once.right once.file (unused_still d leader t is unused.1 unused.2) (omega (arith, few)) k (omega (arith, low)) in
       then_changed d (slice_set d leader t) _ id None None once rest
@@ -315,10 +315,10 @@ moment_low n d writes zero j low all = refl
 moment_low n d [] (suc k) j low all = refl
 moment_low n d (one ∷ writes) (suc k) j low all = moment_low n (written one d) writes k j low all.1 ∙ written_apart d one j (omega (arith, low, all.0))
 
-pub data_runs : (temps : Bool) → DataRuns temps
-data_runs temps d writes k right all files =
-    right_still temps d (moment d writes k) (moment_long d writes k)
-    (moment_low (first_data (length d)) d writes k 0 (laws.first_positive temps 0 0 (length d)) all)
+pub data_runs : (with_temporary : Bool) → DataRuns with_temporary
+data_runs with_temporary d writes k right all files =
+    right_still with_temporary d (moment d writes k) (moment_long d writes k)
+    (moment_low (first_data (length d)) d writes k 0 (laws.first_positive with_temporary 0 0 (length d)) all)
     (λ i high low. ap (λ (o : Option Sector). option_map (λ s. s.0) o) (moment_low (first_data (length d)) d writes k i low all))
     files right
 

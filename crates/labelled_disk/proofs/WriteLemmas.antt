@@ -38,52 +38,52 @@ file_id l is =
     let c = and_parts (nat_le 16 l.id) (not (eqb (l.id % 2 ^ 32) 4294967295)) b in
     (leb-true 16 l.id c.0, eqb-false (l.id % 2 ^ 32) 4294967295 (not-true (eqb (l.id % 2 ^ 32) 4294967295) c.1))
 
-module _ (temps : Bool) (serial counter : ℕ) where
-  pub rising_files : (all rest : List Sector) → AreRising (files_by temps all rest)
+module _ (with_temporary : Bool) (serial counter : ℕ) where
+  pub rising_files : (all rest : List Sector) → AreRising (files_by with_temporary all rest)
   rising_files all [] = tt
-  rising_files all (s ∷ rest) = either (leads temps s) (rising_files all rest)
+  rising_files all (s ∷ rest) = either (leads with_temporary s) (rising_files all rest)
     where
-      either : (b : Bool) → AreRising (files_by temps all rest) → AreRising (if b then put_file (file_by all s.0) (files_by temps all rest) else files_by temps all rest)
-      either true h = rising_put (file_by all s.0) (files_by temps all rest) h
+      either : (b : Bool) → AreRising (files_by with_temporary all rest) → AreRising (if b then put_file (file_by all s.0) (files_by with_temporary all rest) else files_by with_temporary all rest)
+      either true h = rising_put (file_by all s.0) (files_by with_temporary all rest) h
       either false h = h
 
-  pub look_up_files : (all rest : List Sector) (id : ℕ) → file_at (files_by temps all rest) id ≡ option_map (λ t. file_by all t.0) (find (leads_file temps id) rest)
+  pub look_up_files : (all rest : List Sector) (id : ℕ) → file_at (files_by with_temporary all rest) id ≡ option_map (λ t. file_by all t.0) (find (leads_file with_temporary id) rest)
   look_up_files all [] id = refl
-  look_up_files all (s ∷ rest) id = either (leads temps s) (look_up_files all rest id)
+  look_up_files all (s ∷ rest) id = either (leads with_temporary s) (look_up_files all rest id)
     where
       found : (c : Bool) (o : Option Sector) → cond c (Some (file_by all s.0)) (option_map (λ t. file_by all t.0) o) ≡ option_map (λ t. file_by all t.0) (cond c (Some s) o)
       found true o = refl
       found false o = refl
 
-      either : (b : Bool) → file_at (files_by temps all rest) id ≡ option_map (λ t. file_by all t.0) (find (leads_file temps id) rest)
-          → file_at (if b then put_file (file_by all s.0) (files_by temps all rest) else files_by temps all rest) id ≡ option_map (λ t. file_by all t.0) (cond (b && eqb s.0.id id) (Some s) (find (leads_file temps id) rest))
+      either : (b : Bool) → file_at (files_by with_temporary all rest) id ≡ option_map (λ t. file_by all t.0) (find (leads_file with_temporary id) rest)
+          → file_at (if b then put_file (file_by all s.0) (files_by with_temporary all rest) else files_by with_temporary all rest) id ≡ option_map (λ t. file_by all t.0) (cond (b && eqb s.0.id id) (Some s) (find (leads_file with_temporary id) rest))
       either true h =
-          at_put (file_by all s.0) (files_by temps all rest) id
+          at_put (file_by all s.0) (files_by with_temporary all rest) id
           ∙ ap (λ (o : Option File). cond (eqb s.0.id id) (Some (file_by all s.0)) o) h
-          ∙ found (eqb s.0.id id) (find (leads_file temps id) rest)
+          ∙ found (eqb s.0.id id) (find (leads_file with_temporary id) rest)
       either false h = h
 
-  pub files_on_rise : (d : List Sector) → AreRising (files_among temps d)
+  pub files_on_rise : (d : List Sector) → AreRising (files_among with_temporary d)
   files_on_rise d = rising_files (data_sectors d) (data_sectors d)
 
   -- the file of an identifier is what is looked up
-  pub look_up : (d : List Sector) (id : ℕ) → file_at (files_among temps d) id ≡ file_among temps (data_sectors d) id
-  look_up d id = look_up_files (data_sectors d) (data_sectors d) id ∙ twice (find (leads_file temps id) (data_sectors d))
+  pub look_up : (d : List Sector) (id : ℕ) → file_at (files_among with_temporary d) id ≡ file_among with_temporary (data_sectors d) id
+  look_up d id = look_up_files (data_sectors d) (data_sectors d) id ∙ twice (find (leads_file with_temporary id) (data_sectors d))
     where
       twice : (o : Option Sector) → option_map (λ t. file_by (data_sectors d) t.0) o ≡ option_map (file_by (data_sectors d)) (option_map (λ t. t.0) o)
       twice None = refl
       twice (Some t) = refl
 
   -- two disks have the same files where each identifier has the same
-  pub same_files : (d e : List Sector) → ((id : ℕ) → file_among temps (data_sectors e) id ≡ file_among temps (data_sectors d) id) → files_among temps e ≡ files_among temps d
-  same_files d e same = same_by_look_up (files_among temps e) (files_among temps d) (files_on_rise e) (files_on_rise d) (λ id. look_up e id ∙ same id ∙ sym (look_up d id))
+  pub same_files : (d e : List Sector) → ((id : ℕ) → file_among with_temporary (data_sectors e) id ≡ file_among with_temporary (data_sectors d) id) → files_among with_temporary e ≡ files_among with_temporary d
+  same_files d e same = same_by_look_up (files_among with_temporary e) (files_among with_temporary d) (files_on_rise e) (files_on_rise d) (λ id. look_up e id ∙ same id ∙ sym (look_up d id))
 
   -- of each file of a disk
-  pub each_file : (P : File → Type 0) (d : List Sector) → ((id : ℕ) (f : File) → file_among temps (data_sectors d) id ≡ Some f → P f) → AllByRecursion P (files_among temps d)
-  each_file P d each = each_by_look_up P (files_among temps d) (files_on_rise d) (λ id f is. each id f (sym (look_up d id) ∙ is))
+  pub each_file : (P : File → Type 0) (d : List Sector) → ((id : ℕ) (f : File) → file_among with_temporary (data_sectors d) id ≡ Some f → P f) → AllByRecursion P (files_among with_temporary d)
+  each_file P d each = each_by_look_up P (files_among with_temporary d) (files_on_rise d) (λ id f is. each id f (sym (look_up d id) ∙ is))
 
-  pub of_file : (P : File → Type 0) (d : List Sector) → AllByRecursion P (files_among temps d) → (id : ℕ) (f : File) → file_among temps (data_sectors d) id ≡ Some f → P f
-  of_file P d all id f is = each_at P (files_among temps d) all id f (look_up d id ∙ is)
+  pub of_file : (P : File → Type 0) (d : List Sector) → AllByRecursion P (files_among with_temporary d) → (id : ℕ) (f : File) → file_among with_temporary (data_sectors d) id ≡ Some f → P f
+  of_file P d all id f is = each_at P (files_among with_temporary d) all id f (look_up d id ∙ is)
 
   -- Lists with the same elements.
 
@@ -112,8 +112,8 @@ module _ (temps : Bool) (serial counter : ℕ) where
       ∙ same_elements (drop (first_data (length d)) e) (drop (first_data (length d)) d)
       (λ i. get_drop (first_data (length d)) e i ∙ only.pages (first_data (length d) + i) (inr (omega arith)) ∙ sym (get_drop (first_data (length d)) d i))
 
-  pub maps_files : (d e : List Sector) → OnlyMaps d e → files_among temps e ≡ files_among temps d
-  maps_files d e only = same_files d e (λ id. ap (λ (xs : List Sector). file_among temps xs id) (maps_data d e only))
+  pub maps_files : (d e : List Sector) → OnlyMaps d e → files_among with_temporary e ≡ files_among with_temporary d
+  maps_files d e only = same_files d e (λ id. ap (λ (xs : List Sector). file_among with_temporary xs id) (maps_data d e only))
 
   -- Room.
 
@@ -212,14 +212,14 @@ module _ (temps : Bool) (serial counter : ℕ) where
 
   -- the labels are right, where those of the data are
   pub labels_kept : (d e : List Sector) → length e ≡ length d
-      → ((id : ℕ) (f : File) → file_among temps (data_sectors e) id ≡ Some f → IsWhole (data_sectors e) f × IsGiven serial counter f)
-      → total_room (files_among temps e) ≤ capacity (length d)
-      → FilesRight temps serial counter d → FilesRight temps serial counter e
+      → ((id : ℕ) (f : File) → file_among with_temporary (data_sectors e) id ≡ Some f → IsWhole (data_sectors e) f × IsGiven serial counter f)
+      → total_room (files_among with_temporary e) ≤ capacity (length d)
+      → FilesRight with_temporary serial counter d → FilesRight with_temporary serial counter e
   labels_kept d e long files room right = record {
     accepted = subst IsCount (sym long) right.accepted;
     whole_files = each_file (IsWhole (data_sectors e)) e (λ id f is. (files id f is).0);
     ids_given = each_file (IsGiven serial counter) e (λ id f is. (files id f is).1);
-    room = subst (λ (n : ℕ). total_room (files_among temps e) ≤ capacity n) (sym long) room;
+    room = subst (λ (n : ℕ). total_room (files_among with_temporary e) ≤ capacity n) (sym long) room;
   }
 
   -- One data sector is written, whose old and new label are of one file at most.
@@ -229,10 +229,10 @@ module _ (temps : Bool) (serial counter : ℕ) where
     there = data_get d i s low here
 
     -- files of other identifiers
-    pub others : (other : ℕ) → other ≢ id → file_among temps (data_sectors (slice_set d i t)) other ≡ file_among temps (data_sectors d) other
+    pub others : (other : ℕ) → other ≢ id → file_among with_temporary (data_sectors (slice_set d i t)) other ≡ file_among with_temporary (data_sectors d) other
     others other apart =
-        ap (λ (xs : List Sector). file_among temps xs other) (data_set d i t low)
-        ∙ w.others_stay temps (data_sectors d) (i - first_data (length d)) s t there other (old other apart) (new other apart)
+        ap (λ (xs : List Sector). file_among with_temporary xs other) (data_set d i t low)
+        ∙ w.others_stay with_temporary (data_sectors d) (i - first_data (length d)) s t there other (old other apart) (new other apart)
 
     -- another file's sector is where it was
     was : (other j : ℕ) (u : Sector) → other ≢ id → slice_get (data_sectors (slice_set d i t)) j ≡ Some u → is_of other u ≡ true → slice_get (data_sectors d) j ≡ Some u
@@ -255,41 +255,41 @@ module _ (temps : Bool) (serial counter : ℕ) where
     }
 
     -- The labels stay right, where those of the one file are right, and there is room for it.
-    pub right_after : ((f : File) → file_among temps (data_sectors (slice_set d i t)) id ≡ Some f → IsWhole (data_sectors (slice_set d i t)) f × IsGiven (serial) (counter) f)
-        → total_room (files_among temps d) + room_at (file_among temps (data_sectors (slice_set d i t)) id) ≤ capacity (length d) + room_at (file_among temps (data_sectors d) id)
-        → FilesRight temps serial counter d → FilesRight temps serial counter (slice_set d i t)
+    pub right_after : ((f : File) → file_among with_temporary (data_sectors (slice_set d i t)) id ≡ Some f → IsWhole (data_sectors (slice_set d i t)) f × IsGiven (serial) (counter) f)
+        → total_room (files_among with_temporary d) + room_at (file_among with_temporary (data_sectors (slice_set d i t)) id) ≤ capacity (length d) + room_at (file_among with_temporary (data_sectors d) id)
+        → FilesRight with_temporary serial counter d → FilesRight with_temporary serial counter (slice_set d i t)
     right_after mine fits right =
         labels_kept d (slice_set d i t) (length-set d i t)
         (λ j f is. each j f is (cases_eq j id))
         (omega (
           arith,
-          room_changed (files_among temps d) (files_among temps (slice_set d i t)) id (files_on_rise d) (files_on_rise (slice_set d i t)) (λ j apart. look_up (slice_set d i t) j ∙ others j apart ∙ sym (look_up d j)),
+          room_changed (files_among with_temporary d) (files_among with_temporary (slice_set d i t)) id (files_on_rise d) (files_on_rise (slice_set d i t)) (λ j apart. look_up (slice_set d i t) j ∙ others j apart ∙ sym (look_up d j)),
           ap (λ (o : Option File). room_at o) (look_up d id),
           ap (λ (o : Option File). room_at o) (look_up (slice_set d i t) id),
           fits,
         ))
         right
       where
-        each : (j : ℕ) (f : File) → file_among temps (data_sectors (slice_set d i t)) j ≡ Some f → (j ≡ id) ⊎ (j ≢ id) → IsWhole (data_sectors (slice_set d i t)) f × IsGiven (serial) (counter) f
-        each j f is (inl e) = mine f (ap (λ (k : ℕ). file_among temps (data_sectors (slice_set d i t)) k) (sym e) ∙ is)
+        each : (j : ℕ) (f : File) → file_among with_temporary (data_sectors (slice_set d i t)) j ≡ Some f → (j ≡ id) ⊎ (j ≢ id) → IsWhole (data_sectors (slice_set d i t)) f × IsGiven (serial) (counter) f
+        each j f is (inl e) = mine f (ap (λ (k : ℕ). file_among with_temporary (data_sectors (slice_set d i t)) k) (sym e) ∙ is)
         each j f is (inr apart) =
-            let before : file_among temps (data_sectors d) j ≡ Some f = sym (others j apart) ∙ is in
-            let same : f.id ≡ j = at_id (files_among temps d) j f (look_up d j ∙ before) in (
+            let before : file_among with_temporary (data_sectors d) j ≡ Some f = sym (others j apart) ∙ is in
+            let same : f.id ≡ j = at_id (files_among with_temporary d) j f (look_up d j ∙ before) in (
               whole_still f (λ e. apart (sym same ∙ e)) (of_file (IsWhole (data_sectors d)) d right.whole_files j f before),
               of_file (IsGiven (serial) (counter)) d right.ids_given j f before,
             )
 
-  low_files : (d : List Sector) (i : ℕ) (t : Sector) → i < first_data (length d) → files_among temps (slice_set d i t) ≡ files_among temps d
-  low_files d i t low = same_files d (slice_set d i t) (λ id. ap (λ (xs : List Sector). file_among temps xs id) (data_past d i t low))
+  low_files : (d : List Sector) (i : ℕ) (t : Sector) → i < first_data (length d) → files_among with_temporary (slice_set d i t) ≡ files_among with_temporary d
+  low_files d i t low = same_files d (slice_set d i t) (λ id. ap (λ (xs : List Sector). file_among with_temporary xs id) (data_past d i t low))
 
-  pub low_written : LowWritten temps serial counter
+  pub low_written : LowWritten with_temporary serial counter
   low_written d i t right low =
       let same : data_sectors (slice_set d i t) ≡ data_sectors d = data_past d i t low in
       record {
         files = low_files d i t low;
         right = labels_kept d (slice_set d i t) (length-set d i t)
             (λ id f is.
-            let before : disk_file temps d id ≡ Some f = ap (λ (xs : List Sector). file_among temps xs id) (sym same) ∙ is in (
+            let before : disk_file with_temporary d id ≡ Some f = ap (λ (xs : List Sector). file_among with_temporary xs id) (sym same) ∙ is in (
               subst (λ (xs : List Sector). IsWhole xs f) (sym same) (of_file (IsWhole (data_sectors d)) d right.whole_files id f before),
               of_file (IsGiven serial counter) d right.ids_given id f before,
             ))
@@ -297,14 +297,14 @@ module _ (temps : Bool) (serial counter : ℕ) where
             right;
       }
 
-  pub maps_may_differ : MapsMayDiffer temps serial counter
+  pub maps_may_differ : MapsMayDiffer with_temporary serial counter
   maps_may_differ d e only right =
       let data_same = maps_data d e only in
       record {
         files = maps_files d e only;
         right = labels_kept d e (maps_length d e only)
             (λ id f is.
-            let before : disk_file temps d id ≡ Some f = ap (λ (xs : List Sector). file_among temps xs id) (sym data_same) ∙ is in (
+            let before : disk_file with_temporary d id ≡ Some f = ap (λ (xs : List Sector). file_among with_temporary xs id) (sym data_same) ∙ is in (
               subst (λ (xs : List Sector). IsWhole xs f) (sym data_same) (of_file (IsWhole (data_sectors d)) d right.whole_files id f before),
               of_file (IsGiven (serial) (counter)) d right.ids_given id f before,
             ))
@@ -367,7 +367,7 @@ module _ (temps : Bool) (serial counter : ℕ) where
   -- Labels of one file, or of none.
 
   pub only_of : (id : ℕ) (s : Sector) → is_of id s ≡ true → IsOnlyOf id s
-  only_of id s is other apart = w.of_one temps id other s is apart
+  only_of id s is other apart = w.of_one with_temporary id other s is apart
 
   pub only_none : (id : ℕ) (s : Sector) → is_file s.0 ≡ false → IsOnlyOf id s
   only_none id s is other apart = and_left (is_file s.0) (eqb s.0.id other) is
@@ -375,10 +375,10 @@ module _ (temps : Bool) (serial counter : ℕ) where
   not_of : (id : ℕ) (s : Sector) → is_file s.0 ≡ false → is_of id s ≡ false
   not_of id s is = and_left (is_file s.0) (eqb s.0.id id) is
 
-  pub leader_of : (id : ℕ) (s : Sector) → leads_file temps id s ≡ true → is_of id s ≡ true
+  pub leader_of : (id : ℕ) (s : Sector) → leads_file with_temporary id s ≡ true → is_of id s ≡ true
   leader_of id s is =
-      let p = and_parts (leads temps s) (eqb s.0.id id) is in
-      let q = and_parts (is_file s.0 && eqb s.0.page leader_page) (temps || is_permanent s.0) p.0 in
+      let p = and_parts (leads with_temporary s) (eqb s.0.id id) is in
+      let q = and_parts (is_file s.0 && eqb s.0.page leader_page) (with_temporary || is_permanent s.0) p.0 in
       both (is_file s.0) (eqb s.0.id id) (and_parts (is_file s.0) (eqb s.0.page leader_page) q.0).0 p.1
     where
       both : (a b : Bool) → a ≡ true → b ≡ true → (a && b) ≡ true
@@ -388,31 +388,31 @@ module _ (temps : Bool) (serial counter : ℕ) where
   -- in a whole file each page and the leader is alone
   alone_page : (xs : List Sector) (f : File) (i k : ℕ) (s : Sector) → IsWhole xs f → slice_get xs i ≡ Some s → is_page f.id k s ≡ true → IsAlone (is_page f.id k) xs i
   alone_page xs f i k s whole here is j t at passes =
-      whole.once j i t s at here (w.page_of temps f.id k t passes) (w.page_of temps f.id k s is) (w.page_number temps f.id k t passes ∙ sym (w.page_number temps f.id k s is))
+      whole.once j i t s at here (w.page_of with_temporary f.id k t passes) (w.page_of with_temporary f.id k s is) (w.page_number with_temporary f.id k t passes ∙ sym (w.page_number with_temporary f.id k s is))
 
-  pub alone_leader : (xs : List Sector) (f : File) (i : ℕ) (s : Sector) → IsWhole xs f → slice_get xs i ≡ Some s → is_of f.id s ≡ true → s.0.page ≡ leader_page → IsAlone (leads_file temps f.id) xs i
+  pub alone_leader : (xs : List Sector) (f : File) (i : ℕ) (s : Sector) → IsWhole xs f → slice_get xs i ≡ Some s → is_of f.id s ≡ true → s.0.page ≡ leader_page → IsAlone (leads_file with_temporary f.id) xs i
   alone_leader xs f i s whole here is page j t at passes =
-      whole.once j i t s at here (leader_of f.id t passes) is (w.leader_number temps f.id t passes ∙ sym page)
+      whole.once j i t s at here (leader_of f.id t passes) is (w.leader_number with_temporary f.id t passes ∙ sym page)
 
-  pub file_id_is : (d : List Sector) (id : ℕ) (f : File) → disk_file temps d id ≡ Some f → f.id ≡ id
-  file_id_is d id f is = at_id (files_among temps d) id f (look_up d id ∙ is)
+  pub file_id_is : (d : List Sector) (id : ℕ) (f : File) → disk_file with_temporary d id ≡ Some f → f.id ≡ id
+  file_id_is d id f is = at_id (files_among with_temporary d) id f (look_up d id ∙ is)
 
   given_as : (serial counter : ℕ) (f g : File) → g.id ≡ f.id → IsGiven serial counter f → IsGiven serial counter g
   given_as serial counter f g same given = subst (λ (n : ℕ). n / 2 ^ 32 ≡ serial → n % 2 ^ 32 < counter) (sym same) given
 
   -- a file needs no more room than all
-  room_one : (d : List Sector) (id : ℕ) (f : File) → disk_file temps d id ≡ Some f → room_of f ≤ total_room (files_among temps d)
-  room_one d id f is = omega (arith, room_without id (files_among temps d) (files_on_rise d), ap (λ (o : Option File). room_at o) (look_up d id ∙ is))
+  room_one : (d : List Sector) (id : ℕ) (f : File) → disk_file with_temporary d id ≡ Some f → room_of f ≤ total_room (files_among with_temporary d)
+  room_one d id f is = omega (arith, room_without id (files_among with_temporary d) (files_on_rise d), ap (λ (o : Option File). room_at o) (look_up d id ∙ is))
 
   -- One data sector is written.
-  module _ (d : List Sector) (i : ℕ) (s t : Sector) (id : ℕ) (right : FilesRight temps serial counter d) (holds : HasData d i s) (old : IsOnlyOf id s) (new : IsOnlyOf id t) where
-    pub changed : (now : Option File) → file_among temps (slice_set (data_sectors d) (i - first_data (length d)) t) id ≡ now
+  module _ (d : List Sector) (i : ℕ) (s t : Sector) (id : ℕ) (right : FilesRight with_temporary serial counter d) (holds : HasData d i s) (old : IsOnlyOf id s) (new : IsOnlyOf id t) where
+    pub changed : (now : Option File) → file_among with_temporary (slice_set (data_sectors d) (i - first_data (length d)) t) id ≡ now
         → ((g : File) → now ≡ Some g → IsWhole (slice_set (data_sectors d) (i - first_data (length d)) t) g × IsGiven (serial) (counter) g)
-        → total_room (files_among temps d) + room_at now ≤ capacity (length d) + room_at (disk_file temps d id)
-        → Changed temps serial counter d (slice_set d i t) id now
+        → total_room (files_among with_temporary d) + room_at now ≤ capacity (length d) + room_at (disk_file with_temporary d id)
+        → Changed with_temporary serial counter d (slice_set d i t) id now
     changed now file whole fits =
         let moved : data_sectors (slice_set d i t) ≡ slice_set (data_sectors d) (i - first_data (length d)) t = data_set d i t holds.is_data in
-        let is : disk_file temps (slice_set d i t) id ≡ now = ap (λ (xs : List Sector). file_among temps xs id) moved ∙ file in
+        let is : disk_file with_temporary (slice_set d i t) id ≡ now = ap (λ (xs : List Sector). file_among with_temporary xs id) moved ∙ file in
         record {
           file = is;
           others = others d i s t id holds.is_data holds.here old new;
@@ -421,45 +421,45 @@ module _ (temps : Bool) (serial counter : ℕ) where
               (omega (arith, fits, ap (λ (o : Option File). room_at o) is)) right;
         }
 
-    pub file_changed : (g : File) → file_among temps (slice_set (data_sectors d) (i - first_data (length d)) t) id ≡ Some g
+    pub file_changed : (g : File) → file_among with_temporary (slice_set (data_sectors d) (i - first_data (length d)) t) id ≡ Some g
         → IsWhole (slice_set (data_sectors d) (i - first_data (length d)) t) g → IsGiven (serial) (counter) g
-        → total_room (files_among temps d) + room_of g ≤ capacity (length d) + room_at (disk_file temps d id)
-        → Changed temps serial counter d (slice_set d i t) id (Some g)
+        → total_room (files_among with_temporary d) + room_of g ≤ capacity (length d) + room_at (disk_file with_temporary d id)
+        → Changed with_temporary serial counter d (slice_set d i t) id (Some g)
     file_changed g file whole given fits =
         changed (Some g) file
         (λ h e. subst (λ (k : File). IsWhole (slice_set (data_sectors d) (i - first_data (length d)) t) k × IsGiven (serial) (counter) k) (same_Some g h e) (whole, given))
         fits
 
     -- no file before and after
-    pub kept : disk_file temps d id ≡ None → leads_file temps id t ≡ false → Kept temps serial counter d (slice_set d i t)
+    pub kept : disk_file with_temporary d id ≡ None → leads_file with_temporary id t ≡ false → Kept with_temporary serial counter d (slice_set d i t)
     kept none plain =
-        let file = w.temporary_stays temps (data_sectors d) (i - first_data (length d)) s t (data_get d i s holds.is_data holds.here) id none plain in
+        let file = w.temporary_stays with_temporary (data_sectors d) (i - first_data (length d)) s t (data_get d i s holds.is_data holds.here) id none plain in
         let change = changed None file (λ g e. absurd (none-some g e)) (omega (arith, right.room)) in
         record {
           files = same_files d (slice_set d i t) (λ other. either other change (cases_eq other id));
           right = change.right;
         }
       where
-        either : (other : ℕ) → Changed temps serial counter d (slice_set d i t) id None → (other ≡ id) ⊎ (other ≢ id) → disk_file temps (slice_set d i t) other ≡ disk_file temps d other
-        either other change (inl e) = subst (λ (n : ℕ). disk_file temps (slice_set d i t) n ≡ disk_file temps d n) (sym e) (change.file ∙ sym none)
+        either : (other : ℕ) → Changed with_temporary serial counter d (slice_set d i t) id None → (other ≡ id) ⊎ (other ≢ id) → disk_file with_temporary (slice_set d i t) other ≡ disk_file with_temporary d other
+        either other change (inl e) = subst (λ (n : ℕ). disk_file with_temporary (slice_set d i t) n ≡ disk_file with_temporary d n) (sym e) (change.file ∙ sym none)
         either other change (inr apart) = change.others other apart
 
-  pub temporary_written : TemporaryWritten temps serial counter
+  pub temporary_written : TemporaryWritten with_temporary serial counter
   temporary_written d i s t id right holds old new none plain = kept d i s t id right holds old new none plain
 
-  pub page_written : PageWritten temps serial counter
-  page_written d i s page id k right holds is = either (disk_file temps d id) refl
+  pub page_written : PageWritten with_temporary serial counter
+  page_written d i s page id k right holds is = either (disk_file with_temporary d id) refl
     where
       here : slice_get (data_sectors d) (i - first_data (length d)) ≡ Some s
       here = data_get d i s holds.is_data holds.here
 
       only : IsOnlyOf id s
-      only = only_of id s (w.page_of temps id k s is)
+      only = only_of id s (w.page_of with_temporary id k s is)
 
-      either : (o : Option File) → disk_file temps d id ≡ o → Changed temps serial counter d (slice_set d i (s.0, page)) id (option_map (with_page k (map byte page)) o)
+      either : (o : Option File) → disk_file with_temporary d id ≡ o → Changed with_temporary serial counter d (slice_set d i (s.0, page)) id (option_map (with_page k (map byte page)) o)
       either None e =
           changed d i s (s.0, page) id right holds only only None
-          (elim (w.page_written temps (data_sectors d) (i - first_data (length d)) s (s.0, page) here id k is refl) [
+          (elim (w.page_written with_temporary (data_sectors d) (i - first_data (length d)) s (s.0, page) here id k is refl) [
             | inl h ↦ h ∙ e
             | inr h ↦ h ∙ ap (λ (o : Option File). option_map (with_page k (map byte page)) o) e
           ])
@@ -473,13 +473,13 @@ module _ (temps : Bool) (serial counter : ℕ) where
           subst (λ (n : ℕ). IsAlone (is_page n k) (data_sectors d) (i - first_data (length d))) same (alone_page (data_sectors d) f (i - first_data (length d)) k s whole here mine) in
           let long : size (with_page k (map byte page) f) ≡ size f = length-set f.pages k (map byte page) in
           file_changed d i s (s.0, page) id right holds only only (with_page k (map byte page) f)
-          (w.page_written_alone temps (data_sectors d) (i - first_data (length d)) s (s.0, page) here id k is alone refl ∙ ap (λ (o : Option File). option_map (with_page k (map byte page)) o) e)
-          (whole_relabelled (data_sectors d) (i - first_data (length d)) s (s.0, page) f (with_page k (map byte page) f) here (w.page_of temps f.id k s mine) refl whole refl long)
+          (w.page_written_alone with_temporary (data_sectors d) (i - first_data (length d)) s (s.0, page) here id k is alone refl ∙ ap (λ (o : Option File). option_map (with_page k (map byte page)) o) e)
+          (whole_relabelled (data_sectors d) (i - first_data (length d)) s (s.0, page) f (with_page k (map byte page) f) here (w.page_of with_temporary f.id k s mine) refl whole refl long)
           (of_file (IsGiven (serial) (counter)) d right.ids_given id f e)
           (omega (arith, right.room, long, ap (λ (o : Option File). room_at o) e))
 
   -- A file of a disk with right labels.
-  module _ (d : List Sector) (id : ℕ) (f : File) (right : FilesRight temps serial counter d) (is : disk_file temps d id ≡ Some f) where
+  module _ (d : List Sector) (id : ℕ) (f : File) (right : FilesRight with_temporary serial counter d) (is : disk_file with_temporary d id ≡ Some f) where
     whole_file : IsWhole (data_sectors d) f
     whole_file = of_file (IsWhole (data_sectors d)) d right.whole_files id f is
 
@@ -500,22 +500,22 @@ module _ (temps : Bool) (serial counter : ℕ) where
         fails j u at false e = e
         fails j u at true e =
             let same : f.id ≡ id = file_id_is d id f is in
-            let number : u.0.page ≡ k = w.page_number temps id k u e in
-            elim ((whole_file).no_other j u at (ap (λ (n : ℕ). is_of n u) same ∙ w.page_of temps id k u e)) [
+            let number : u.0.page ≡ k = w.page_number with_temporary id k u e in
+            elim ((whole_file).no_other j u at (ap (λ (n : ℕ). is_of n u) same ∙ w.page_of with_temporary id k u e)) [
               | inl h ↦ absurd (omega (arith, h, number, low))
               | inr h ↦ absurd (omega (arith, h, number, long))
             ]
 
-  pub file_grown : FileGrown temps serial counter
+  pub file_grown : FileGrown with_temporary serial counter
   file_grown d i s t id f right holds free is e room =
       let here = data_get d i s holds.is_data holds.here in
       let same : f.id ≡ id = file_id_is d id f e in
       let whole = whole_file d id f right e in
       let tiny = short d id f right e in
-      let page : t.0.page ≡ size f = w.page_number temps id (size f) t is in
+      let page : t.0.page ≡ size f = w.page_number with_temporary id (size f) t is in
       let long : size (record f { pages = f.pages ++ map byte t.1 ∷ [] }) ≡ size f + 1 = length_push f.pages (map byte t.1) in
-      file_changed d i s t id right holds (only_none id s free) (only_of id t (w.page_of temps id (size f) t is)) (record f { pages = f.pages ++ map byte t.1 ∷ [] })
-      (w.grown temps (data_sectors d) (i - first_data (length d)) s t here id f e (not_of id s free) is
+      file_changed d i s t id right holds (only_none id s free) (only_of id t (w.page_of with_temporary id (size f) t is)) (record f { pages = f.pages ++ map byte t.1 ∷ [] })
+      (w.grown with_temporary (data_sectors d) (i - first_data (length d)) s t here id f e (not_of id s free) is
       (beyond d id f right e (size f) (omega arith) (omega (arith, tiny))) (beyond d id f right e (size f + 1) (omega arith) (omega (arith, tiny))) (omega (arith, tiny)))
       (whole_set (data_sectors d) (i - first_data (length d)) t f (record f { pages = f.pages ++ map byte t.1 ∷ [] }) (slice_get_within (data_sectors d) (i - first_data (length d)) s here) whole refl
       (λ of_t. (
@@ -526,96 +526,96 @@ module _ (temps : Bool) (serial counter : ℕ) where
       (given_file d id f right e)
       (omega (arith, room, long, ap (λ (o : Option File). room_at o) e))
 
-  pub last_page_freed : LastPageFreed temps serial counter
+  pub last_page_freed : LastPageFreed with_temporary serial counter
   last_page_freed d i s t id k f right holds is free e long =
       let here = data_get d i s holds.is_data holds.here in
       let same : f.id ≡ id = file_id_is d id f e in
       let whole = whole_file d id f right e in
       let tiny = short d id f right e in
       let mine : is_page f.id k s ≡ true = ap (λ (n : ℕ). is_page n k s) same ∙ is in
-      let page : s.0.page ≡ k = w.page_number temps id k s is in
+      let page : s.0.page ≡ k = w.page_number with_temporary id k s is in
       let alone : IsAlone (is_page id k) (data_sectors d) (i - first_data (length d)) =
       subst (λ (n : ℕ). IsAlone (is_page n k) (data_sectors d) (i - first_data (length d))) same (alone_page (data_sectors d) f (i - first_data (length d)) k s whole here mine) in
       let less : length (take k f.pages) ≡ k = length-take-le k f.pages (omega arith) in
-      file_changed d i s t id right holds (only_of id s (w.page_of temps id k s is)) (only_none id t free) (record f { pages = take k f.pages })
-      (w.cut temps (data_sectors d) (i - first_data (length d)) s t here id k is alone (omega (arith, tiny, long)) (not_of id t free)
+      file_changed d i s t id right holds (only_of id s (w.page_of with_temporary id k s is)) (only_none id t free) (record f { pages = take k f.pages })
+      (w.cut with_temporary (data_sectors d) (i - first_data (length d)) s t here id k is alone (omega (arith, tiny, long)) (not_of id t free)
       ∙ ap (λ (o : Option File). option_map (λ (g : File). record g { pages = take k g.pages }) o) e)
       (whole_set (data_sectors d) (i - first_data (length d)) t f (record f { pages = take k f.pages }) (slice_get_within (data_sectors d) (i - first_data (length d)) s here) whole refl
       (λ of_t. absurd (true≢false (sym of_t ∙ not_of f.id t free)))
       (λ j u apart at is_u l.
-      let other : u.0.page ≢ k = λ q. apart (whole.once j (i - first_data (length d)) u s at here is_u (w.page_of temps f.id k s mine) (q ∙ sym page)) in
+      let other : u.0.page ≢ k = λ q. apart (whole.once j (i - first_data (length d)) u s at here is_u (w.page_of with_temporary f.id k s mine) (q ∙ sym page)) in
       omega (arith, l, long, less, other)))
       (given_file d id f right e)
       (omega (arith, right.room, less, long, ap (λ (o : Option File). room_at o) e))
 
-  pub leader_freed : LeaderFreed temps serial counter
+  pub leader_freed : LeaderFreed with_temporary serial counter
   leader_freed d i s t id f right holds is free e =
       let here = data_get d i s holds.is_data holds.here in
       let same : f.id ≡ id = file_id_is d id f e in
       let whole = whole_file d id f right e in
       let mine : is_of f.id s ≡ true = ap (λ (n : ℕ). is_of n s) same ∙ leader_of id s is in
-      let alone : IsAlone (leads_file temps id) (data_sectors d) (i - first_data (length d)) =
-      subst (λ (n : ℕ). IsAlone (leads_file temps n) (data_sectors d) (i - first_data (length d))) same
-      (alone_leader (data_sectors d) f (i - first_data (length d)) s whole here mine (w.leader_number temps id s is)) in
+      let alone : IsAlone (leads_file with_temporary id) (data_sectors d) (i - first_data (length d)) =
+      subst (λ (n : ℕ). IsAlone (leads_file with_temporary n) (data_sectors d) (i - first_data (length d))) same
+      (alone_leader (data_sectors d) f (i - first_data (length d)) s whole here mine (w.leader_number with_temporary id s is)) in
       changed d i s t id right holds (only_of id s (leader_of id s is)) (only_none id t free) None
-      (w.deleted temps (data_sectors d) (i - first_data (length d)) s t here id alone (w.not_of-not_leader temps id t (not_of id t free)))
+      (w.deleted with_temporary (data_sectors d) (i - first_data (length d)) s t here id alone (w.not_of-not_leader with_temporary id t (not_of id t free)))
       (λ g h. absurd (none-some g h))
       (omega (arith, right.room))
 
-  pub made_permanent : MadePermanent temps serial counter
+  pub made_permanent : MadePermanent with_temporary serial counter
   made_permanent d i s t id right holds old page new none whole given room =
       let here = data_get d i s holds.is_data holds.here in
-      let same : t.0.id ≡ id = w.leader_id temps id t new in
+      let same : t.0.id ≡ id = w.leader_id with_temporary id t new in
       let g : File = file_by (data_sectors d) t.0 in
       let mine : is_of t.0.id s ≡ true = ap (λ (n : ℕ). is_of n s) same ∙ old in
-      let alone : IsAlone (leads_file temps id) (data_sectors d) (i - first_data (length d)) =
-      λ j u at passes. absurd (true≢false (sym passes ∙ none_passes (leads_file temps id) (data_sectors d) (w.none_leads temps (data_sectors d) id none) j u at)) in
+      let alone : IsAlone (leads_file with_temporary id) (data_sectors d) (i - first_data (length d)) =
+      λ j u at passes. absurd (true≢false (sym passes ∙ none_passes (leads_file with_temporary id) (data_sectors d) (w.none_leads with_temporary (data_sectors d) id none) j u at)) in
       file_changed d i s t id right holds (only_of id s old) (only_of id t (leader_of id t new)) (file_by (data_sectors d) t.0)
-      (w.leader_marked temps (data_sectors d) (i - first_data (length d)) s t here id page alone new)
-      (whole_relabelled (data_sectors d) (i - first_data (length d)) s t (file_by (data_sectors d) t.0) (file_by (data_sectors d) t.0) here mine (w.leader_number temps id t new ∙ sym page) whole refl refl)
+      (w.leader_marked with_temporary (data_sectors d) (i - first_data (length d)) s t here id page alone new)
+      (whole_relabelled (data_sectors d) (i - first_data (length d)) s t (file_by (data_sectors d) t.0) (file_by (data_sectors d) t.0) here mine (w.leader_number with_temporary id t new ∙ sym page) whole refl refl)
       given
       (omega (arith, room))
 
-  pub leader_marked : LeaderMarked temps serial counter
+  pub leader_marked : LeaderMarked with_temporary serial counter
   leader_marked d i s t id f right holds old new kinds e =
       let here = data_get d i s holds.is_data holds.here in
       let same : f.id ≡ id = file_id_is d id f e in
       let whole = whole_file d id f right e in
       let mine : is_of f.id s ≡ true = ap (λ (n : ℕ). is_of n s) same ∙ leader_of id s old in
-      let page : s.0.page ≡ leader_page = w.leader_number temps id s old in
-      let alone : IsAlone (leads_file temps id) (data_sectors d) (i - first_data (length d)) =
-      subst (λ (n : ℕ). IsAlone (leads_file temps n) (data_sectors d) (i - first_data (length d))) same
+      let page : s.0.page ≡ leader_page = w.leader_number with_temporary id s old in
+      let alone : IsAlone (leads_file with_temporary id) (data_sectors d) (i - first_data (length d)) =
+      subst (λ (n : ℕ). IsAlone (leads_file with_temporary n) (data_sectors d) (i - first_data (length d))) same
       (alone_leader (data_sectors d) f (i - first_data (length d)) s whole here mine page) in
-      let lead : leader_among temps (data_sectors d) id ≡ Some s.0 =
-      ap (λ (o : Option Sector). option_map (λ (u : Sector). u.0) o) (find_alone (leads_file temps id) (data_sectors d) (i - first_data (length d)) s here old alone) in
+      let lead : leader_among with_temporary (data_sectors d) id ≡ Some s.0 =
+      ap (λ (o : Option Sector). option_map (λ (u : Sector). u.0) o) (find_alone (leads_file with_temporary id) (data_sectors d) (i - first_data (length d)) s here old alone) in
       let was : file_by (data_sectors d) s.0 ≡ f = same_Some (file_by (data_sectors d) s.0) f (ap (λ (o : Option Label). option_map (file_by (data_sectors d)) o) (sym lead) ∙ e) in
-      let ids : t.0.id ≡ s.0.id = w.leader_id temps id t new ∙ sym (w.leader_id temps id s old) in
+      let ids : t.0.id ≡ s.0.id = w.leader_id with_temporary id t new ∙ sym (w.leader_id with_temporary id s old) in
       let now : file_by (data_sectors d) t.0 ≡ record f { permanent = is_permanent t.0; immutable = is_immutable t.0 } =
       renamed (data_sectors d) t.0 s.0 ids kinds ∙ ap (λ (g : File). record g { permanent = is_permanent t.0; immutable = is_immutable t.0 }) was in
       file_changed d i s t id right holds (only_of id s (leader_of id s old)) (only_of id t (leader_of id t new)) (record f { permanent = is_permanent t.0; immutable = is_immutable t.0 })
-      (w.leader_marked temps (data_sectors d) (i - first_data (length d)) s t here id page alone new ∙ ap (λ (g : File). Some g) now)
-      (whole_relabelled (data_sectors d) (i - first_data (length d)) s t f (record f { permanent = is_permanent t.0; immutable = is_immutable t.0 }) here mine (w.leader_number temps id t new ∙ sym page) whole refl refl)
+      (w.leader_marked with_temporary (data_sectors d) (i - first_data (length d)) s t here id page alone new ∙ ap (λ (g : File). Some g) now)
+      (whole_relabelled (data_sectors d) (i - first_data (length d)) s t f (record f { permanent = is_permanent t.0; immutable = is_immutable t.0 }) here mine (w.leader_number with_temporary id t new ∙ sym page) whole refl refl)
       (given_file d id f right e)
       (omega (arith, right.room, ap (λ (o : Option File). room_at o) e))
     where
       renamed : (xs : List Sector) (l m : Label) → l.id ≡ m.id → l.kind ≡ m.kind → file_by xs l ≡ record (file_by xs m) { permanent = is_permanent l; immutable = is_immutable l }
       renamed xs l m same kinds = λ x. record { id = same x; kind = kinds x; permanent = is_permanent l; immutable = is_immutable l; pages = pages_from (page_at xs (same x)) 0 leader_page }
 
-  pub file_created : FileCreated temps serial counter
+  pub file_created : FileCreated with_temporary serial counter
   file_created d i s t id right holds free new nowhere given room =
       let here = data_get d i s holds.is_data holds.here in
       let within = slice_get_within (data_sectors d) (i - first_data (length d)) s here in
       let there = get_set_same (data_sectors d) (i - first_data (length d)) t within in
-      let same : t.0.id ≡ id = w.leader_id temps id t new in
-      let number : t.0.page ≡ leader_page = w.leader_number temps id t new in
-      let none : disk_file temps d id ≡ None =
-      w.file_none temps (data_sectors d) id (ap (λ (o : Option Sector). option_map (λ (u : Sector). u.0) o)
-      (find_none (leads_file temps id) (data_sectors d) (λ j u at. w.not_of-not_leader temps id u (nowhere j u at)))) in
-      let lead : leader_among temps (slice_set (data_sectors d) (i - first_data (length d)) t) id ≡ Some t.0 =
-      ap (λ (o : Option Sector). option_map (λ (u : Sector). u.0) o) (find_alone (leads_file temps id) (slice_set (data_sectors d) (i - first_data (length d)) t) (i - first_data (length d)) t there new (alone d i t id within nowhere)) in
+      let same : t.0.id ≡ id = w.leader_id with_temporary id t new in
+      let number : t.0.page ≡ leader_page = w.leader_number with_temporary id t new in
+      let none : disk_file with_temporary d id ≡ None =
+      w.file_none with_temporary (data_sectors d) id (ap (λ (o : Option Sector). option_map (λ (u : Sector). u.0) o)
+      (find_none (leads_file with_temporary id) (data_sectors d) (λ j u at. w.not_of-not_leader with_temporary id u (nowhere j u at)))) in
+      let lead : leader_among with_temporary (slice_set (data_sectors d) (i - first_data (length d)) t) id ≡ Some t.0 =
+      ap (λ (o : Option Sector). option_map (λ (u : Sector). u.0) o) (find_alone (leads_file with_temporary id) (slice_set (data_sectors d) (i - first_data (length d)) t) (i - first_data (length d)) t there new (alone d i t id within nowhere)) in
       let empty : page_at (slice_set (data_sectors d) (i - first_data (length d)) t) id 0 ≡ None =
-      w.page_past temps (data_sectors d) (i - first_data (length d)) s t here id 0 (w.not_of-not_page temps id 0 s (not_of id s free)) (w.other_page temps id leader_page 0 t number (λ q. omega (arith, q)))
-      ∙ ap (λ (o : Option Sector). option_map (λ (u : Sector). map byte u.1) o) (find_none (is_page id 0) (data_sectors d) (λ j u at. w.not_of-not_page temps id 0 u (nowhere j u at))) in
+      w.page_past with_temporary (data_sectors d) (i - first_data (length d)) s t here id 0 (w.not_of-not_page with_temporary id 0 s (not_of id s free)) (w.other_page with_temporary id leader_page 0 t number (λ q. omega (arith, q)))
+      ∙ ap (λ (o : Option Sector). option_map (λ (u : Sector). map byte u.1) o) (find_none (is_page id 0) (data_sectors d) (λ j u at. w.not_of-not_page with_temporary id 0 u (nowhere j u at))) in
       file_changed d i s t id right holds (only_none id s free) (only_of id t (leader_of id t new))
       (record { id = id; kind = t.0.kind; permanent = is_permanent t.0; immutable = is_immutable t.0; pages = [] })
       (ap (λ (o : Option Label). option_map (file_by (slice_set (data_sectors d) (i - first_data (length d)) t)) o) lead
@@ -638,7 +638,7 @@ module _ (temps : Bool) (serial counter : ℕ) where
       ]
 
       alone : (d : List Sector) (i : ℕ) (t : Sector) (id : ℕ) → i - first_data (length d) < length (data_sectors d) → ((j : ℕ) (u : Sector) → slice_get (data_sectors d) j ≡ Some u → is_of id u ≡ false)
-          → IsAlone (leads_file temps id) (slice_set (data_sectors d) (i - first_data (length d)) t) (i - first_data (length d))
+          → IsAlone (leads_file with_temporary id) (slice_set (data_sectors d) (i - first_data (length d)) t) (i - first_data (length d))
       alone d i t id within nowhere j u at passes = place d i t id within nowhere j u at (leader_of id u passes)
 
       made : (ys : List Sector) (l : Label) (id : ℕ) → l.id ≡ id → pages_from (page_at ys id) 0 leader_page ≡ []
@@ -647,7 +647,7 @@ module _ (temps : Bool) (serial counter : ℕ) where
           ap (λ (n : ℕ). Some (record { id = n; kind = l.kind; permanent = is_permanent l; immutable = is_immutable l; pages = pages_from (page_at ys n) 0 leader_page })) same
           ∙ ap (λ (p : List Page). Some (record { id = id; kind = l.kind; permanent = is_permanent l; immutable = is_immutable l; pages = p })) none
 
-  pub counter_raised : CounterRaised temps serial counter
+  pub counter_raised : CounterRaised with_temporary serial counter
   counter_raised d later above right = record {
     accepted = right.accepted;
     whole_files = right.whole_files;
@@ -659,18 +659,18 @@ module _ (temps : Bool) (serial counter : ℕ) where
       given f before same = omega (arith, above, before same)
 
   -- no file has the identifier 0
-  none_zero : (d : List Sector) → disk_file temps d 0 ≡ None
+  none_zero : (d : List Sector) → disk_file with_temporary d 0 ≡ None
   none_zero d =
-      w.file_none temps (data_sectors d) 0 (ap (λ (o : Option Sector). option_map (λ (u : Sector). u.0) o) (find_none (leads_file temps 0) (data_sectors d) (λ j u at. either u (leads_file temps 0 u) refl)))
+      w.file_none with_temporary (data_sectors d) 0 (ap (λ (o : Option Sector). option_map (λ (u : Sector). u.0) o) (find_none (leads_file with_temporary 0) (data_sectors d) (λ j u at. either u (leads_file with_temporary 0 u) refl)))
     where
-      either : (u : Sector) (b : Bool) → leads_file temps 0 u ≡ b → leads_file temps 0 u ≡ false
+      either : (u : Sector) (b : Bool) → leads_file with_temporary 0 u ≡ b → leads_file with_temporary 0 u ≡ false
       either u false e = e
       either u true e =
-          let p = and_parts (leads temps u) (eqb u.0.id 0) e in
-          let q = and_parts (is_file u.0 && eqb u.0.page leader_page) (temps || is_permanent u.0) p.0 in
+          let p = and_parts (leads with_temporary u) (eqb u.0.id 0) e in
+          let q = and_parts (is_file u.0 && eqb u.0.page leader_page) (with_temporary || is_permanent u.0) p.0 in
           let r = and_parts (is_file u.0) (eqb u.0.page leader_page) q.0 in
           absurd (omega (arith, (file_id u.0 r.0).0, eqb-true u.0.id 0 p.1))
 
-  pub plain_written : PlainWritten temps serial counter
+  pub plain_written : PlainWritten with_temporary serial counter
   plain_written d i s t right holds old new =
-      kept d i s t 0 right holds (only_none 0 s old) (only_none 0 t new) (none_zero d) (w.not_of-not_leader temps 0 t (and_left (is_file t.0) (eqb t.0.id 0) new))
+      kept d i s t 0 right holds (only_none 0 s old) (only_none 0 t new) (none_zero d) (w.not_of-not_leader with_temporary 0 t (and_left (is_file t.0) (eqb t.0.id 0) new))

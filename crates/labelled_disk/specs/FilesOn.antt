@@ -1,4 +1,4 @@
--- The files that the labels of a disk name: the permanent ones, or where `temps` is set the temporary ones too.
+-- The files that the labels of a disk name: the permanent ones, or where `with_temporary` is set the temporary ones too.
 use Rattle.std.specs.Prelude.{ℕ, zero, suc, ◌+◌, Bool, false, ◌&&◌, ◌||◌, ◌==◌, nat_lt, if◌then◌else◌, List, [], ◌∷◌, find, map, Option, option_map}
 use Rattle.std.specs.Option.{option_map_or}
 use Rattle.labelled_disk.specs.declared.label.Label.{Label}
@@ -17,15 +17,15 @@ is_page id k s = is_of id s && s.0.page == k
 
 -- it is the leader of a file, of a permanent one unless temporary ones count
 abbrev pub leads : Bool → Sector → Bool
-leads temps s = is_file s.0 && s.0.page == leader_page && (temps || is_permanent s.0)
+leads with_temporary s = is_file s.0 && s.0.page == leader_page && (with_temporary || is_permanent s.0)
 
 -- it is the leader of this file
 abbrev pub leads_file : Bool → ℕ → Sector → Bool
-leads_file temps id s = leads temps s && s.0.id == id
+leads_file with_temporary id s = leads with_temporary s && s.0.id == id
 
 -- the label of the lowest leader
 abbrev pub leader_among : Bool → List Sector → ℕ → Option Label
-leader_among temps sectors id = option_map (λ s. s.0) (find (leads_file temps id) sectors)
+leader_among with_temporary sectors id = option_map (λ s. s.0) (find (leads_file with_temporary id) sectors)
 
 -- the bytes of the lowest sector that is this page
 abbrev pub page_at : List Sector → ℕ → ℕ → Option Page
@@ -48,7 +48,7 @@ file_by sectors leader = record {
 
 -- the file of this identifier
 abbrev pub file_among : Bool → List Sector → ℕ → Option File
-file_among temps sectors id = option_map (file_by sectors) (leader_among temps sectors id)
+file_among with_temporary sectors id = option_map (file_by sectors) (leader_among with_temporary sectors id)
 
 -- into rising identifiers, in the place of one with the same identifier
 abbrev pub put_file : File → List File → List File
@@ -57,12 +57,12 @@ put_file file (f ∷ fs) = if nat_lt file.id f.id then file ∷ f ∷ fs else (i
 
 -- the files of these leaders, of two with one identifier that of the first
 abbrev pub files_by : Bool → List Sector → List Sector → List File
-files_by temps sectors [] = []
-files_by temps sectors (s ∷ rest) = if leads temps s then put_file (file_by sectors s.0) (files_by temps sectors rest) else files_by temps sectors rest
+files_by with_temporary sectors [] = []
+files_by with_temporary sectors (s ∷ rest) = if leads with_temporary s then put_file (file_by sectors s.0) (files_by with_temporary sectors rest) else files_by with_temporary sectors rest
 
 -- the files on a disk, in rising identifiers
 abbrev pub files_among : Bool → List Sector → List File
-files_among temps d = files_by temps (data_sectors d) (data_sectors d)
+files_among with_temporary d = files_by with_temporary (data_sectors d) (data_sectors d)
 
 -- the permanent files on a disk
 abbrev pub files_on : List Sector → List File
@@ -70,4 +70,4 @@ files_on d = files_among false d
 
 -- the file of this identifier on a disk
 abbrev pub disk_file : Bool → List Sector → ℕ → Option File
-disk_file temps d id = file_among temps (data_sectors d) id
+disk_file with_temporary d id = file_among with_temporary (data_sectors d) id

@@ -19,11 +19,11 @@ IsGiven serial counter f = f.id / 2 ^ 32 ≡ serial → f.id % 2 ^ 32 < counter
 
 -- The disk can hold a volume with this serial and counter; its files are whole, their identifiers were given out, and
 -- there is room for them.
-pub record FilesRight (temps : Bool) (serial counter : ℕ) (d : List Sector) : Type 0 where
+pub record FilesRight (with_temporary : Bool) (serial counter : ℕ) (d : List Sector) : Type 0 where
   pub accepted : IsCount (length d)
-  pub whole_files : AllByRecursion (IsWhole (data_sectors d)) (files_among temps d)
-  pub ids_given : AllByRecursion (IsGiven serial counter) (files_among temps d)
-  pub room : total_room (files_among temps d) ≤ capacity (length d)
+  pub whole_files : AllByRecursion (IsWhole (data_sectors d)) (files_among with_temporary d)
+  pub ids_given : AllByRecursion (IsGiven serial counter) (files_among with_temporary d)
+  pub room : total_room (files_among with_temporary d) ≤ capacity (length d)
 
 -- the same labels, and the same pages but for those of both maps
 pub record OnlyMaps (d e : List Sector) : Type 0 where

@@ -49,10 +49,10 @@ pub record HasMaps (n : ℕ) (d : List Sector) : Type 0 where
   pub file_map : (k : ℕ) → k < vfm n → IsSomeAnd (slice_get d (1 + vam n + k)) (λ s. IsTrue (names s.0 (record { id = 2; page = k })))
 
 -- The root is valid, the maps have their labels, and those of the files are right.
-pub record RightFor (temps : Bool) (d : List Sector) : Type 0 where
+pub record RightFor (with_temporary : Bool) (d : List Sector) : Type 0 where
   pub has_root : IsRoot (length d) (slice_get d 0)
   pub has_maps : HasMaps (length d) d
-  pub files : FilesRight temps (serial_of d) (counter_of d) d
+  pub files : FilesRight with_temporary (serial_of d) (counter_of d) d
 
 -- the labels of a volume's root, maps and permanent files are right
 abbrev pub LabelsRight : List Sector → Type 0

@@ -68,36 +68,36 @@ lengthened k f = record f { pages = f.pages ++ replicate k zero_page }
 abbrev pub shortened : ℕ → File → File
 shortened k f = record f { pages = take (size f - k) f.pages }
 
-module _ (temps : Bool) (serial counter : ℕ) where
+module _ (with_temporary : Bool) (serial counter : ℕ) where
   -- of a growth, after k writes: the file has k pages more
   abbrev pub GrowthMoments : Type 0
-  GrowthMoments = (d : List Sector) (id kind : ℕ) (f : File) (is : List ℕ) → FilesRight temps serial counter d → disk_file temps d id ≡ Some f → AreUnused d is
-      → length is + total_room (files_among temps d) ≤ capacity (length d) → (k : ℕ) → k ≤ length is
-      → Changed temps serial counter d (moment d (growth id kind (size f) is) k) id (Some (lengthened k f))
+  GrowthMoments = (d : List Sector) (id kind : ℕ) (f : File) (is : List ℕ) → FilesRight with_temporary serial counter d → disk_file with_temporary d id ≡ Some f → AreUnused d is
+      → length is + total_room (files_among with_temporary d) ≤ capacity (length d) → (k : ℕ) → k ≤ length is
+      → Changed with_temporary serial counter d (moment d (growth id kind (size f) is) k) id (Some (lengthened k f))
 
   -- of a creation, after the leader and k pages: the file has k pages
   abbrev pub CreationMoments : Type 0
-  CreationMoments = (d : List Sector) (id kind leader : ℕ) (is : List ℕ) → FilesRight temps serial counter d → leads_file temps id (page_label id kind leader_page, zero_bytes) ≡ true
+  CreationMoments = (d : List Sector) (id kind leader : ℕ) (is : List ℕ) → FilesRight with_temporary serial counter d → leads_file with_temporary id (page_label id kind leader_page, zero_bytes) ≡ true
       → ((j : ℕ) (u : Sector) → slice_get (data_sectors d) j ≡ Some u → is_of id u ≡ false) → (id / 2 ^ 32 ≡ serial → id % 2 ^ 32 < counter)
-      → AreUnused d (leader ∷ is) → suc (length is) + total_room (files_among temps d) ≤ capacity (length d) → (k : ℕ) → k ≤ length is
-      → Changed temps serial counter d (moment d (creation id kind leader is) (suc k)) id
+      → AreUnused d (leader ∷ is) → suc (length is) + total_room (files_among with_temporary d) ≤ capacity (length d) → (k : ℕ) → k ≤ length is
+      → Changed with_temporary serial counter d (moment d (creation id kind leader is) (suc k)) id
       (Some (record { id = id; kind = kind; permanent = false; immutable = false; pages = replicate k zero_page }))
 
   -- of a shrinking, after k writes: the file has k pages fewer
   abbrev pub ShrinkingMoments : Type 0
-  ShrinkingMoments = (d : List Sector) (id : ℕ) (f : File) (is : List ℕ) → FilesRight temps serial counter d → disk_file temps d id ≡ Some f → ArePagesDown d id (size f) is
-      → (k : ℕ) → k ≤ length is → Changed temps serial counter d (moment d (freeing is) k) id (Some (shortened k f))
+  ShrinkingMoments = (d : List Sector) (id : ℕ) (f : File) (is : List ℕ) → FilesRight with_temporary serial counter d → disk_file with_temporary d id ≡ Some f → ArePagesDown d id (size f) is
+      → (k : ℕ) → k ≤ length is → Changed with_temporary serial counter d (moment d (freeing is) k) id (Some (shortened k f))
 
   -- of a deletion, after the leader and k pages: there is no such file
   abbrev pub DeletionMoments : Type 0
-  DeletionMoments = (d : List Sector) (id leader : ℕ) (f : File) (is : List ℕ) → FilesRight temps serial counter d → disk_file temps d id ≡ Some f → IsAt (leads_file temps id) d leader
-      → ArePagesUp d id 0 is → (k : ℕ) → k ≤ length is → Changed temps serial counter d (moment d (freeing (leader ∷ is)) (suc k)) id None
+  DeletionMoments = (d : List Sector) (id leader : ℕ) (f : File) (is : List ℕ) → FilesRight with_temporary serial counter d → disk_file with_temporary d id ≡ Some f → IsAt (leads_file with_temporary id) d leader
+      → ArePagesUp d id 0 is → (k : ℕ) → k ≤ length is → Changed with_temporary serial counter d (moment d (freeing (leader ∷ is)) (suc k)) id None
 
   -- of a creation whose leader doesn't count, at each moment: there is no such file, and all others are as before
   abbrev pub CreationUnseen : Type 0
-  CreationUnseen = (d : List Sector) (id kind leader : ℕ) (is : List ℕ) → FilesRight temps serial counter d → disk_file temps d id ≡ None
-      → leads_file temps id (page_label id kind leader_page, zero_bytes) ≡ false → AreUnused d (leader ∷ is) → length is < leader_page → (k : ℕ) → k ≤ suc (length is)
-      → Changed temps serial counter d (moment d (creation id kind leader is) k) id None
+  CreationUnseen = (d : List Sector) (id kind leader : ℕ) (is : List ℕ) → FilesRight with_temporary serial counter d → disk_file with_temporary d id ≡ None
+      → leads_file with_temporary id (page_label id kind leader_page, zero_bytes) ≡ false → AreUnused d (leader ∷ is) → length is < leader_page → (k : ℕ) → k ≤ suc (length is)
+      → Changed with_temporary serial counter d (moment d (creation id kind leader is) k) id None
 
   -- what each run of writes does
   pub record RunLaws : Type 0 where
@@ -115,8 +115,8 @@ sector_of (Page sector wanted page) = sector
 
 -- writes of data sectors, at each moment, leave root and maps: only the files' labels count
 abbrev pub DataRuns : Bool → Type 0
-DataRuns temps = (d : List Sector) (writes : List DiskWrite) (k : ℕ) → RightFor temps d → AllByRecursion (λ write. first_data (length d) ≤ sector_of write) writes
-    → FilesRight temps (serial_of d) (counter_of d) (moment d writes k) → RightFor temps (moment d writes k)
+DataRuns with_temporary = (d : List Sector) (writes : List DiskWrite) (k : ℕ) → RightFor with_temporary d → AllByRecursion (λ write. first_data (length d) ≤ sector_of write) writes
+    → FilesRight with_temporary (serial_of d) (counter_of d) (moment d writes k) → RightFor with_temporary (moment d writes k)
 
 -- the label and the page of a write fit
 abbrev pub IsWriteInForm : DiskWrite → Type 0

@@ -10,33 +10,33 @@ ghost use Rattle.labelled_disk.specs.WriteLaws.{WriteLaws, FilesAreThose};
 
 /// The list of files has what each identifier has, in rising order.
 pub fn files_are_looked_up()
-    ensures { (temps : Bool) (d : List Sector) → FilesAreThose temps d }
+    ensures { (with_temporary : Bool) (d : List Sector) → FilesAreThose with_temporary d }
 {}
 
 /// What one write makes of the files of a disk whose labels are right.
 pub fn write_changes_files()
-    ensures { (temps : Bool) (serial counter : ℕ) → WriteLaws temps serial counter }
+    ensures { (with_temporary : Bool) (serial counter : ℕ) → WriteLaws with_temporary serial counter }
 {}
 
 /// What one write makes of a volume's labels and files.
 pub fn write_keeps_volume()
-    ensures { (temps : Bool) → RootLaws temps }
+    ensures { (with_temporary : Bool) → RootLaws with_temporary }
 {}
 
 /// The files of a disk are those that the words tell: of two sectors that may be a page, the lowest counts.
 pub fn files_are_as_told()
-    ensures { (temps : Bool) (d : List Sector) → FilesAreAsTold temps d }
+    ensures { (with_temporary : Bool) (d : List Sector) → FilesAreAsTold with_temporary d }
 {}
 
 /// Which sectors the files of a disk need, whatever labels it has.
 pub fn unneeded_sectors_are_free()
-    ensures { (temps : Bool) → NeededLaws temps }
+    ensures { (with_temporary : Bool) → NeededLaws with_temporary }
 {}
 
 /// The files at each moment of a creation, a growth, a shrinking and a deletion.
 pub fn runs_go_one_way()
-    ensures files { (temps : Bool) (serial counter : ℕ) → RunLaws temps serial counter }
-    ensures volume { (temps : Bool) → DataRuns temps }
+    ensures files { (with_temporary : Bool) (serial counter : ℕ) → RunLaws with_temporary serial counter }
+    ensures volume { (with_temporary : Bool) → DataRuns with_temporary }
     ensures sectors { SectorsStay }
 {}
 

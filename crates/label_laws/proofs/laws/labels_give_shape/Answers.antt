@@ -3,13 +3,13 @@ use Rattle.label_laws.proofs.PageLemmas as pages
 use Rattle.label_laws.proofs.laws.labels_give_shape.Goals as goal
 
 pub returns-clause-labels : goal.returns-clause-labels
-returns-clause-labels c temps = laws.labels_give_shape temps
+returns-clause-labels c with_temporary = laws.labels_give_shape with_temporary
 
 pub returns-clause-mixed : goal.returns-clause-mixed
-returns-clause-mixed c temps = laws.mixed_shapes temps
+returns-clause-mixed c with_temporary = laws.mixed_shapes with_temporary
 
 pub returns-clause-files : goal.returns-clause-files
 returns-clause-files c = laws.same_by_pages
 
 pub returns-clause-pages : goal.returns-clause-pages
-returns-clause-pages c temps = pages.pages_by_sectors temps
+returns-clause-pages c with_temporary = pages.pages_by_sectors with_temporary

@@ -6,4 +6,4 @@ pub returns-clause-labels : goal.returns-clause-labels
 returns-clause-labels c = labels.marks_are_added
 
 pub returns-clause-files : goal.returns-clause-files
-returns-clause-files c temps serial counter = laws.marks_of_files temps serial counter
+returns-clause-files c with_temporary serial counter = laws.marks_of_files with_temporary serial counter

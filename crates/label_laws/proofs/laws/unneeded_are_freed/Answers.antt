@@ -2,13 +2,13 @@ use Rattle.label_laws.proofs.NeededLemmas as laws
 use Rattle.label_laws.proofs.laws.unneeded_are_freed.Goals as goal
 
 pub returns-clause-moments : goal.returns-clause-moments
-returns-clause-moments c temps = laws.freed_moments temps
+returns-clause-moments c with_temporary = laws.freed_moments with_temporary
 
 pub returns-clause-all : goal.returns-clause-all
-returns-clause-all c temps = laws.freed_all temps
+returns-clause-all c with_temporary = laws.freed_all with_temporary
 
 pub returns-clause-needed : goal.returns-clause-needed
-returns-clause-needed c temps = laws.needed_if_files temps
+returns-clause-needed c with_temporary = laws.needed_if_files with_temporary
 
 pub returns-clause-right : goal.returns-clause-right
-returns-clause-right c temps = laws.freed_stay_right temps
+returns-clause-right c with_temporary = laws.freed_stay_right with_temporary

@@ -2,4 +2,4 @@ use Rattle.labelled_disk.proofs.LowestLemmas as laws
 use Rattle.labelled_disk.proofs.laws.files_are_as_told.Goals as goal
 
 pub returns : goal.returns
-returns c temps d = laws.files_are_as_told temps d
+returns c with_temporary d = laws.files_are_as_told with_temporary d
