@@ -1,2 +1,2 @@
-mod SettledLemmas
+mod HaltingLemmas
 mod AskedLemmas

@@ -17,11 +17,11 @@ use Rattle.fault_core.specs.Reach.{Reaches, BringsOwn, StayOrYield}
 use Rattle.fault_core.specs.View.{View, TablesAre}
 
 -- what the tables answered, where a refusal is told from a halt: a page that breaks its form is one of the space tables
-abbrev pub settled : {A : Type 0} → Result A (SpaceError Halt) → Result (Result A Refusal) Halt
-settled (Ok answer) = Ok (Ok answer)
-settled (Err (Refused word)) = Ok (Err word)
-settled (Err (Malformed page)) = Err (Damaged (evidence.Malformed 3 page))
-settled (Err (Mem halt)) = Err halt
+abbrev pub refused_or_halted : {A : Type 0} → Result A (SpaceError Halt) → Result (Result A Refusal) Halt
+refused_or_halted (Ok answer) = Ok (Ok answer)
+refused_or_halted (Err (Refused word)) = Ok (Err word)
+refused_or_halted (Err (Malformed page)) = Err (Damaged (evidence.Malformed 3 page))
+refused_or_halted (Err (Mem halt)) = Err halt
 
 -- the answer is the refusal, and this stays then; or, where there is none, it is this
 abbrev pub Changes : {A : Type 0} → Option Refusal → (A → Type 0) → Type 0 → Result A Refusal → Type 0

@@ -17,7 +17,7 @@ ghost use Rattle.fault_core.specs.Core.{state, Knows};
 ghost use Rattle.table_calls.specs.Answers.{Changes, Retabled, TablesBreak};
 
 use crate::opening::opened;
-use crate::settling::settle;
+use crate::halting::refused_or_halted;
 use fault_core::CoreOver;
 use filer_kernel::{FilerOver, Window1Over};
 use flat_machine::Refusal;
@@ -67,7 +67,7 @@ pub fn add<D: Disk, A: Allocator>(
     let intervals = opened(core);
     let (answer, intervals) = add_in(&mut core.filer, intervals, parent, pages, first);
     core.keep_count(intervals);
-    settle(answer)
+    refused_or_halted(answer)
 }
 
 // Changes the tables that stand in a filer's space tables. Gives how many intervals there are now besides.
@@ -107,5 +107,5 @@ pub fn remove<D: Disk, A: Allocator>(
     let intervals = opened(core);
     let (answer, intervals) = remove_in(&mut core.filer, intervals, space);
     core.keep_count(intervals);
-    settle(answer)
+    refused_or_halted(answer)
 }

@@ -16,7 +16,7 @@ ghost use Rattle.fault_core.specs.Reach.{ReachHalts};
 ghost use Rattle.fault_core.specs.Core.{state, Knows};
 ghost use Rattle.table_calls.specs.Answers.{Asked, IfGiven, Tells, TablesBreak};
 
-use crate::settling::settle;
+use crate::halting::refused_or_halted;
 use fault_core::CoreOver;
 use filer_kernel::{FilerOver, Window1Over};
 use flat_machine::Refusal;
@@ -59,7 +59,7 @@ pub fn bounds<D: Disk, A: Allocator>(
     ensures cost { (D.state core.new.filer.swapper.under).transfers ≤ (D.state core.old.filer.swapper.under).transfers + 28 }
 {
     let intervals = core.interval_count();
-    settle(ask_bounds(&mut core.filer, intervals, space))
+    refused_or_halted(ask_bounds(&mut core.filer, intervals, space))
 }
 
 // Asks the tables that stand in a filer's space tables.
@@ -97,7 +97,7 @@ pub fn place<D: Disk, A: Allocator>(
     ensures cost { (D.state core.new.filer.swapper.under).transfers ≤ (D.state core.old.filer.swapper.under).transfers + 224 }
 {
     let intervals = core.interval_count();
-    settle(ask_place(&mut core.filer, intervals, page))
+    refused_or_halted(ask_place(&mut core.filer, intervals, page))
 }
 
 // Asks the tables that stand in a filer's space tables.
@@ -135,5 +135,5 @@ pub fn can_map<D: Disk, A: Allocator>(
     ensures cost { (D.state core.new.filer.swapper.under).transfers ≤ (D.state core.old.filer.swapper.under).transfers + 14364 }
 {
     let intervals = core.interval_count();
-    settle(ask_can_map(&mut core.filer, intervals, space))
+    refused_or_halted(ask_can_map(&mut core.filer, intervals, space))
 }

@@ -20,7 +20,7 @@ ghost use Rattle.fault_core.specs.Core.{state, Knows};
 ghost use Rattle.table_calls.specs.Answers.{Changes, IsDone, Retabled, TablesBreak};
 
 use crate::opening::opened;
-use crate::settling::settle;
+use crate::halting::refused_or_halted;
 use fault_core::CoreOver;
 use filer_kernel::{FilerOver, Window1Over};
 use flat_machine::Refusal;
@@ -64,7 +64,7 @@ pub fn set_unit<D: Disk, A: Allocator>(
     ensures cost { (D.state core.new.filer.swapper.under).transfers ≤ (D.state core.old.filer.swapper.under).transfers + 57344 }
 {
     let intervals = opened(core);
-    settle(set_unit_in(&mut core.filer, intervals, space, unit))
+    refused_or_halted(set_unit_in(&mut core.filer, intervals, space, unit))
 }
 
 // Changes the tables that stand in a filer's space tables.
@@ -106,5 +106,5 @@ pub fn set_window<D: Disk, A: Allocator>(
     ensures cost { (D.state core.new.filer.swapper.under).transfers ≤ (D.state core.old.filer.swapper.under).transfers + 57344 }
 {
     let intervals = opened(core);
-    settle(set_window_in(&mut core.filer, intervals, space, shown))
+    refused_or_halted(set_window_in(&mut core.filer, intervals, space, shown))
 }

@@ -5,8 +5,8 @@ mod adding;
 mod asking;
 mod beginning;
 mod changing;
+mod halting;
 mod opening;
-mod settling;
 mod showing;
 
 pub use adding::{add, remove};

@@ -17,7 +17,7 @@ ghost use Rattle.fault_core.specs.Reach.{ReachHalts};
 ghost use Rattle.fault_core.specs.Core.{state, Knows};
 ghost use Rattle.table_calls.specs.Answers.{Asked, IfGiven, Tells, TablesBreak};
 
-use crate::settling::settle;
+use crate::halting::refused_or_halted;
 use fault_core::CoreOver;
 use filer_kernel::{FilerOver, Window1Over};
 use flat_machine::Refusal;
@@ -60,7 +60,7 @@ pub fn shown<D: Disk, A: Allocator>(
     ensures cost { (D.state core.new.filer.swapper.under).transfers ≤ (D.state core.old.filer.swapper.under).transfers + 28 }
 {
     let intervals = core.interval_count();
-    settle(ask_shown(&mut core.filer, intervals, space))
+    refused_or_halted(ask_shown(&mut core.filer, intervals, space))
 }
 
 // Asks the tables that stand in a filer's space tables.
@@ -102,7 +102,7 @@ pub fn shows_file<D: Disk, A: Allocator>(
     ensures cost { (D.state core.new.filer.swapper.under).transfers ≤ (D.state core.old.filer.swapper.under).transfers + 14336 }
 {
     let intervals = core.interval_count();
-    match settle(ask_shows_file(&mut core.filer, intervals, id, writable_only)) {
+    match refused_or_halted(ask_shows_file(&mut core.filer, intervals, id, writable_only)) {
         Ok(Ok(found)) => Ok(found),
         Ok(Err(_)) => unreachable!(),
         Err(halt) => Err(halt),

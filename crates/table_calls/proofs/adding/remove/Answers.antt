@@ -5,17 +5,17 @@ use Rattle.space_tables.specs.Form.{BreaksFor, first_in_slot}
 use Rattle.filer_kernel.specs.declared.filer.FilerOver.{FilerOver}
 use Rattle.fault_core.specs.Core.{state}
 use Rattle.fault_core.specs.View.{view_of}
-use Rattle.table_calls.proofs.SettledLemmas.{Accounted, answered, halted, whole, sound, known_spaces}
+use Rattle.table_calls.proofs.HaltingLemmas.{Accounted, answered, halted, whole, sound, known_spaces}
 use Rattle.table_calls.proofs.adding.remove.Goals as goal
 
 pub returns-clause-answer : goal.returns-clause-answer
 returns-clause-answer g c = λ m named ss knows.
-    rw (c.settle.ensures, c.keep_count.ensures.filer, c.keep_count.ensures.intervals) (answered c.remove_in-answer.result.0 _ _ _ (c.remove_in-answer.ensures.answer ss (rw (c.opened-intervals.ensures.count, c.opened-intervals.ensures.filer) (known_spaces knows))))
+    rw (c.refused_or_halted.ensures, c.keep_count.ensures.filer, c.keep_count.ensures.intervals) (answered c.remove_in-answer.result.0 _ _ _ (c.remove_in-answer.ensures.answer ss (rw (c.opened-intervals.ensures.count, c.opened-intervals.ensures.filer) (known_spaces knows))))
 
 pub returns-clause-cause : goal.returns-clause-cause
 returns-clause-cause g c =
     let cause = subst (λ (f : FilerOver _ _ _). IfErr c.remove_in-answer.result.0 (IfMem (Accounted (view_of f) (view_of c.remove_in-answer.new.filer)))) c.opened-intervals.ensures.filer c.remove_in-answer.ensures.cause in
-    rw (c.settle.ensures, c.keep_count.ensures.filer)
+    rw (c.refused_or_halted.ensures, c.keep_count.ensures.filer)
     (halted c.remove_in-answer.result.0 (state c.args.core.now) (view_of c.remove_in-answer.new.filer) (λ b page. BreaksFor (first_in_slot b c.args.space) c.args.core.now.intervals b page)
     (λ b tells. subst (λ (n : ℕ). IfErr c.remove_in-answer.result.0 (IfMalformed (λ page. BreaksFor (first_in_slot b c.args.space) n b page))) c.opened-intervals.ensures.count (c.remove_in-answer.ensures.malformed b (rw c.opened-intervals.ensures.filer tells)))
     cause)
@@ -23,4 +23,4 @@ returns-clause-cause g c =
 pub returns-clause-sound : goal.returns-clause-sound
 returns-clause-sound g c = λ m named ss knows.
     let cause = subst (λ (f : FilerOver _ _ _). IfErr c.remove_in-answer.result.0 (IfMem (Accounted (view_of f) (view_of c.remove_in-answer.new.filer)))) c.opened-intervals.ensures.filer c.remove_in-answer.ensures.cause in
-    rw c.settle.ensures (sound c.remove_in-answer.result.0 (view_of c.remove_in-answer.new.filer) knows (whole c.remove_in-answer.result.0 _ _ _ (c.remove_in-answer.ensures.answer ss (rw (c.opened-intervals.ensures.count, c.opened-intervals.ensures.filer) (known_spaces knows)))) cause)
+    rw c.refused_or_halted.ensures (sound c.remove_in-answer.result.0 (view_of c.remove_in-answer.new.filer) knows (whole c.remove_in-answer.result.0 _ _ _ (c.remove_in-answer.ensures.answer ss (rw (c.opened-intervals.ensures.count, c.opened-intervals.ensures.filer) (known_spaces knows)))) cause)

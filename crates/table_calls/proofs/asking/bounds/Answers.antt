@@ -3,18 +3,18 @@ use Rattle.space_tables.specs.Form.{BreaksSlot}
 use Rattle.fault_core.specs.Core.{state}
 use Rattle.fault_core.specs.View.{view_of}
 use Rattle.table_calls.proofs.AskedLemmas.{asked}
-use Rattle.table_calls.proofs.SettledLemmas.{answered, halted, whole, sound, known_spaces}
+use Rattle.table_calls.proofs.HaltingLemmas.{answered, halted, whole, sound, known_spaces}
 use Rattle.table_calls.proofs.asking.bounds.Goals as goal
 
 pub returns-clause-answer : goal.returns-clause-answer
-returns-clause-answer g c = λ m named ss knows. rw c.settle.ensures (answered c.ask_bounds.result _ _ _ (c.ask_bounds.ensures.answer ss (rw c.interval_count-intervals.ensures (known_spaces knows))))
+returns-clause-answer g c = λ m named ss knows. rw c.refused_or_halted.ensures (answered c.ask_bounds.result _ _ _ (c.ask_bounds.ensures.answer ss (rw c.interval_count-intervals.ensures (known_spaces knows))))
 
 pub returns-clause-cause : goal.returns-clause-cause
-returns-clause-cause g c = rw c.settle.ensures (halted c.ask_bounds.result (state c.args.core.now) (view_of c.ask_bounds.new.filer) (λ b page. BreaksSlot b page c.args.space) c.ask_bounds.ensures.malformed c.ask_bounds.ensures.cause)
+returns-clause-cause g c = rw c.refused_or_halted.ensures (halted c.ask_bounds.result (state c.args.core.now) (view_of c.ask_bounds.new.filer) (λ b page. BreaksSlot b page c.args.space) c.ask_bounds.ensures.malformed c.ask_bounds.ensures.cause)
 
 pub returns-clause-sound : goal.returns-clause-sound
 returns-clause-sound g c = λ m named ss knows.
-    rw c.settle.ensures (sound c.ask_bounds.result (view_of c.ask_bounds.new.filer) knows (whole c.ask_bounds.result _ _ _ (c.ask_bounds.ensures.answer ss (rw c.interval_count-intervals.ensures (known_spaces knows)))) c.ask_bounds.ensures.cause)
+    rw c.refused_or_halted.ensures (sound c.ask_bounds.result (view_of c.ask_bounds.new.filer) knows (whole c.ask_bounds.result _ _ _ (c.ask_bounds.ensures.answer ss (rw c.interval_count-intervals.ensures (known_spaces knows)))) c.ask_bounds.ensures.cause)
 
 pub returns-clause-asked : goal.returns-clause-asked
 returns-clause-asked g c = asked c.args.core.now _ c.ask_bounds.ensures.kept c.ask_bounds.ensures.same refl refl

@@ -5,18 +5,18 @@ use Rattle.space_tables.specs.Form.{BreaksFor}
 use Rattle.fault_core.specs.Core.{state}
 use Rattle.fault_core.specs.View.{view_of}
 use Rattle.table_calls.proofs.AskedLemmas.{asked}
-use Rattle.table_calls.proofs.SettledLemmas.{answered, halted, whole, sound, known_spaces}
+use Rattle.table_calls.proofs.HaltingLemmas.{answered, halted, whole, sound, known_spaces}
 use Rattle.table_calls.proofs.asking.place.Goals as goal
 
 pub returns-clause-answer : goal.returns-clause-answer
-returns-clause-answer g c = λ m named ss knows. rw c.settle.ensures (answered c.ask_place.result _ _ _ (c.ask_place.ensures.answer ss (rw c.interval_count-intervals.ensures (known_spaces knows))))
+returns-clause-answer g c = λ m named ss knows. rw c.refused_or_halted.ensures (answered c.ask_place.result _ _ _ (c.ask_place.ensures.answer ss (rw c.interval_count-intervals.ensures (known_spaces knows))))
 
 pub returns-clause-cause : goal.returns-clause-cause
-returns-clause-cause g c = rw c.settle.ensures (halted c.ask_place.result (state c.args.core.now) (view_of c.ask_place.new.filer) (λ b page. BreaksFor c.args.page c.args.core.now.intervals b page) (λ b tells. subst (λ (n : ℕ). IfErr c.ask_place.result (IfMalformed (λ page. BreaksFor c.args.page n b page))) c.interval_count-intervals.ensures (c.ask_place.ensures.malformed b tells)) c.ask_place.ensures.cause)
+returns-clause-cause g c = rw c.refused_or_halted.ensures (halted c.ask_place.result (state c.args.core.now) (view_of c.ask_place.new.filer) (λ b page. BreaksFor c.args.page c.args.core.now.intervals b page) (λ b tells. subst (λ (n : ℕ). IfErr c.ask_place.result (IfMalformed (λ page. BreaksFor c.args.page n b page))) c.interval_count-intervals.ensures (c.ask_place.ensures.malformed b tells)) c.ask_place.ensures.cause)
 
 pub returns-clause-sound : goal.returns-clause-sound
 returns-clause-sound g c = λ m named ss knows.
-    rw c.settle.ensures (sound c.ask_place.result (view_of c.ask_place.new.filer) knows (whole c.ask_place.result _ _ _ (c.ask_place.ensures.answer ss (rw c.interval_count-intervals.ensures (known_spaces knows)))) c.ask_place.ensures.cause)
+    rw c.refused_or_halted.ensures (sound c.ask_place.result (view_of c.ask_place.new.filer) knows (whole c.ask_place.result _ _ _ (c.ask_place.ensures.answer ss (rw c.interval_count-intervals.ensures (known_spaces knows)))) c.ask_place.ensures.cause)
 
 pub returns-clause-asked : goal.returns-clause-asked
 returns-clause-asked g c = asked c.args.core.now _ c.ask_place.ensures.kept c.ask_place.ensures.same refl refl

@@ -1,7 +1,7 @@
 use Rattle.std.proofs.Common.{subst}
 use Rattle.space_tables.specs.Answer.{IfMem}
 use Rattle.fault_core.specs.View.{view_of}
-use Rattle.table_calls.proofs.SettledLemmas.{Accounted}
+use Rattle.table_calls.proofs.HaltingLemmas.{Accounted}
 use Rattle.fault_core.proofs.ReachLemmas.{tables_of}
 use Rattle.table_calls.proofs.beginning.begin.Goals as goal
 

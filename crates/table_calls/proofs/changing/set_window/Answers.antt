@@ -5,17 +5,17 @@ use Rattle.space_tables.specs.Form.{Breaks}
 use Rattle.filer_kernel.specs.declared.filer.FilerOver.{FilerOver}
 use Rattle.fault_core.specs.Core.{state}
 use Rattle.fault_core.specs.View.{view_of}
-use Rattle.table_calls.proofs.SettledLemmas.{Accounted, done, halted, from_memory, sound, known_spaces, right}
+use Rattle.table_calls.proofs.HaltingLemmas.{Accounted, done, halted, from_memory, sound, known_spaces, right}
 use Rattle.table_calls.proofs.changing.set_window.Goals as goal
 
 pub returns-clause-done : goal.returns-clause-done
 returns-clause-done g c = λ m named ss x knows may is fits.
-    rw (c.settle.ensures, c.opened-intervals.ensures.intervals, ← c.opened-intervals.ensures.count) (done c.set_window_in.result _ (c.set_window_in.ensures.done ss x (rw (c.opened-intervals.ensures.count, c.opened-intervals.ensures.filer) (known_spaces knows)) may is fits))
+    rw (c.refused_or_halted.ensures, c.opened-intervals.ensures.intervals, ← c.opened-intervals.ensures.count) (done c.set_window_in.result _ (c.set_window_in.ensures.done ss x (rw (c.opened-intervals.ensures.count, c.opened-intervals.ensures.filer) (known_spaces knows)) may is fits))
 
 pub returns-clause-cause : goal.returns-clause-cause
 returns-clause-cause g c =
     let cause = subst (λ (f : FilerOver _ _ _). IfErr c.set_window_in.result (IfMem (Accounted (view_of f) (view_of c.set_window_in.new.filer)))) c.opened-intervals.ensures.filer c.set_window_in.ensures.cause in
-    rw c.settle.ensures
+    rw c.refused_or_halted.ensures
     (halted c.set_window_in.result (state c.args.core.now) (view_of c.set_window_in.new.filer) (Breaks c.args.core.now.intervals)
     (λ b tells. subst (λ (n : ℕ). IfErr c.set_window_in.result (IfMalformed (Breaks n b))) c.opened-intervals.ensures.count (c.set_window_in.ensures.malformed b (rw c.opened-intervals.ensures.filer tells)))
     cause)
@@ -23,4 +23,4 @@ returns-clause-cause g c =
 pub returns-clause-sound : goal.returns-clause-sound
 returns-clause-sound g c = λ m named ss x knows may is fits.
     let cause = subst (λ (f : FilerOver _ _ _). IfErr c.set_window_in.result (IfMem (Accounted (view_of f) (view_of c.set_window_in.new.filer)))) c.opened-intervals.ensures.filer c.set_window_in.ensures.cause in
-    rw c.settle.ensures (sound c.set_window_in.result (view_of c.set_window_in.new.filer) knows (from_memory c.set_window_in.result (right c.set_window_in.result _ (c.set_window_in.ensures.done ss x (rw (c.opened-intervals.ensures.count, c.opened-intervals.ensures.filer) (known_spaces knows)) may is fits))) cause)
+    rw c.refused_or_halted.ensures (sound c.set_window_in.result (view_of c.set_window_in.new.filer) knows (from_memory c.set_window_in.result (right c.set_window_in.result _ (c.set_window_in.ensures.done ss x (rw (c.opened-intervals.ensures.count, c.opened-intervals.ensures.filer) (known_spaces knows)) may is fits))) cause)

@@ -3,18 +3,18 @@ use Rattle.space_tables.specs.Form.{BreaksSlot}
 use Rattle.fault_core.specs.Core.{state}
 use Rattle.fault_core.specs.View.{view_of}
 use Rattle.table_calls.proofs.AskedLemmas.{asked}
-use Rattle.table_calls.proofs.SettledLemmas.{answered, halted, whole, sound, known_spaces}
+use Rattle.table_calls.proofs.HaltingLemmas.{answered, halted, whole, sound, known_spaces}
 use Rattle.table_calls.proofs.showing.shown.Goals as goal
 
 pub returns-clause-answer : goal.returns-clause-answer
-returns-clause-answer g c = λ m named ss knows. rw c.settle.ensures (answered c.ask_shown.result _ _ _ (c.ask_shown.ensures.answer ss (rw c.interval_count-intervals.ensures (known_spaces knows))))
+returns-clause-answer g c = λ m named ss knows. rw c.refused_or_halted.ensures (answered c.ask_shown.result _ _ _ (c.ask_shown.ensures.answer ss (rw c.interval_count-intervals.ensures (known_spaces knows))))
 
 pub returns-clause-cause : goal.returns-clause-cause
-returns-clause-cause g c = rw c.settle.ensures (halted c.ask_shown.result (state c.args.core.now) (view_of c.ask_shown.new.filer) (λ b page. BreaksSlot b page c.args.space) c.ask_shown.ensures.malformed c.ask_shown.ensures.cause)
+returns-clause-cause g c = rw c.refused_or_halted.ensures (halted c.ask_shown.result (state c.args.core.now) (view_of c.ask_shown.new.filer) (λ b page. BreaksSlot b page c.args.space) c.ask_shown.ensures.malformed c.ask_shown.ensures.cause)
 
 pub returns-clause-sound : goal.returns-clause-sound
 returns-clause-sound g c = λ m named ss knows.
-    rw c.settle.ensures (sound c.ask_shown.result (view_of c.ask_shown.new.filer) knows (whole c.ask_shown.result _ _ _ (c.ask_shown.ensures.answer ss (rw c.interval_count-intervals.ensures (known_spaces knows)))) c.ask_shown.ensures.cause)
+    rw c.refused_or_halted.ensures (sound c.ask_shown.result (view_of c.ask_shown.new.filer) knows (whole c.ask_shown.result _ _ _ (c.ask_shown.ensures.answer ss (rw c.interval_count-intervals.ensures (known_spaces knows)))) c.ask_shown.ensures.cause)
 
 pub returns-clause-asked : goal.returns-clause-asked
 returns-clause-asked g c = asked c.args.core.now _ c.ask_shown.ensures.kept c.ask_shown.ensures.same refl refl

@@ -11,7 +11,7 @@ use Rattle.fault_core.specs.Reach.{ReachHalts}
 use Rattle.fault_core.specs.View.{view_of}
 use Rattle.table_calls.specs.Answers.{IfGiven, TablesBreak}
 use Rattle.table_calls.proofs.AskedLemmas.{asked}
-use Rattle.table_calls.proofs.SettledLemmas.{given, halted, from_memory, sound, known_spaces}
+use Rattle.table_calls.proofs.HaltingLemmas.{given, halted, from_memory, sound, known_spaces}
 use Rattle.table_calls.proofs.showing.shows_file.Goals as goal
 
 abbrev Answer : Type 0
@@ -21,7 +21,7 @@ pub returns-in-Ok-Ok-clause-answer : goal.returns-in-Ok-Ok-clause-answer
 returns-in-Ok-Ok-clause-answer g c = λ m named ss knows.
     let first = IsFirstWith (shows c.args.id c.args.writable_only) ss in
     subst (IfGiven first) c.in-Ok-Ok.field-0-is
-    (subst (λ (x : Answer). IfOk x (IfGiven first)) (sym c.settle.ensures ∙ c.in-Ok-Ok.is) (given c.ask_shows_file.result first (c.ask_shows_file.ensures.answer ss (rw c.interval_count-intervals.ensures (known_spaces knows)))))
+    (subst (λ (x : Answer). IfOk x (IfGiven first)) (sym c.refused_or_halted.ensures ∙ c.in-Ok-Ok.is) (given c.ask_shows_file.result first (c.ask_shows_file.ensures.answer ss (rw c.interval_count-intervals.ensures (known_spaces knows)))))
 
 pub returns-in-Ok-Ok-clause-asked : goal.returns-in-Ok-Ok-clause-asked
 returns-in-Ok-Ok-clause-asked g c = asked c.args.core.now _ c.ask_shows_file.ensures.kept c.ask_shows_file.ensures.same refl refl
@@ -30,13 +30,13 @@ pub returns-in-Err-clause-cause : goal.returns-in-Err-clause-cause
 returns-in-Err-clause-cause g c =
     let old = state c.args.core.now in
     let new = view_of c.ask_shows_file.new.filer in
-    subst (λ (x : Answer). IfErr x (ReachHalts (TablesBreak old BreaksHierarchy) old new)) (sym c.settle.ensures ∙ c.in-Err.is)
+    subst (λ (x : Answer). IfErr x (ReachHalts (TablesBreak old BreaksHierarchy) old new)) (sym c.refused_or_halted.ensures ∙ c.in-Err.is)
     (halted c.ask_shows_file.result old new BreaksHierarchy c.ask_shows_file.ensures.malformed c.ask_shows_file.ensures.cause)
 
 pub returns-in-Err-clause-sound : goal.returns-in-Err-clause-sound
 returns-in-Err-clause-sound g c = λ m named ss knows.
     let right = from_memory c.ask_shows_file.result (c.ask_shows_file.ensures.right ss (rw c.interval_count-intervals.ensures (known_spaces knows))) in
-    subst (λ (x : Answer). IfErr x (λ e. e ≡ Disk)) (sym c.settle.ensures ∙ c.in-Err.is) (sound c.ask_shows_file.result (view_of c.ask_shows_file.new.filer) knows right c.ask_shows_file.ensures.cause)
+    subst (λ (x : Answer). IfErr x (λ e. e ≡ Disk)) (sym c.refused_or_halted.ensures ∙ c.in-Err.is) (sound c.ask_shows_file.result (view_of c.ask_shows_file.new.filer) knows right c.ask_shows_file.ensures.cause)
 
 pub returns-in-Err-clause-asked : goal.returns-in-Err-clause-asked
 returns-in-Err-clause-asked g c = asked c.args.core.now _ c.ask_shows_file.ensures.kept c.ask_shows_file.ensures.same refl refl

@@ -2,7 +2,7 @@
 ghost use Rattle.std.specs.Prelude.{◌≡◌};
 ghost use Rattle.labelled_disk.specs.declared.evidence.Evidence.TheVariants as evidence;
 ghost use Rattle.labelled_disk.specs.declared.evidence.Halt.TheVariants as halt;
-ghost use Rattle.table_calls.specs.Answers.{settled};
+ghost use Rattle.table_calls.specs.Answers.{refused_or_halted};
 
 use flat_machine::Refusal;
 use labelled_disk::{Evidence, Halt};
@@ -22,8 +22,8 @@ fn broken(page: u32) -> Halt
 }
 
 /// Tells a refusal, which the client is given, from a halt.
-pub(crate) fn settle<T>(answer: Result<T, SpaceError<Halt>>) -> Result<Result<T, Refusal>, Halt>
-    ensures { result ≡ settled answer }
+pub(crate) fn refused_or_halted<T>(answer: Result<T, SpaceError<Halt>>) -> Result<Result<T, Refusal>, Halt>
+    ensures { result ≡ refused_or_halted answer }
 {
     match answer {
         Ok(given) => Ok(Ok(given)),

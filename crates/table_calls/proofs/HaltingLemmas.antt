@@ -18,7 +18,7 @@ use Rattle.fault_core.specs.Reach.{ReachHalts}
 use Rattle.fault_core.specs.Told.{Told}
 use Rattle.fault_core.proofs.ToldLemmas.{spaces_in, tables_told}
 use Rattle.fault_core.proofs.TurnLemmas.{tables_halt}
-use Rattle.table_calls.specs.Answers.{settled, Changes, IfGiven, IsDone, TablesBreak}
+use Rattle.table_calls.specs.Answers.{refused_or_halted, Changes, IfGiven, IsDone, TablesBreak}
 
 -- an error of the memory that these states account for
 abbrev pub Accounted : View → View → Halt → Type 0
@@ -31,20 +31,20 @@ IsWhole (Malformed page) = ⊥
 IsWhole (Mem halt) = Unit {0}
 
 module _ {A : Type 0} where
-  pub answered : (r : Result A (SpaceError Halt)) (refusal : Option Refusal) (P : A → Type 0) (stays : Type 0) → Answers refusal P stays r → IfOk (settled r) (Changes refusal P stays)
+  pub answered : (r : Result A (SpaceError Halt)) (refusal : Option Refusal) (P : A → Type 0) (stays : Type 0) → Answers refusal P stays r → IfOk (refused_or_halted r) (Changes refusal P stays)
   answered (Ok answer) refusal P stays h = h
   answered (Err (Refused word)) refusal P stays h = h
   answered (Err (Malformed page)) refusal P stays h = tt
   answered (Err (Mem halt)) refusal P stays h = tt
 
-  pub given : (r : Result A (SpaceError Halt)) (P : A → Type 0) → IfOk r P → IfOk (settled r) (IfGiven P)
+  pub given : (r : Result A (SpaceError Halt)) (P : A → Type 0) → IfOk r P → IfOk (refused_or_halted r) (IfGiven P)
   given (Ok answer) P h = h
   given (Err (Refused word)) P h = tt
   given (Err (Malformed page)) P h = tt
   given (Err (Mem halt)) P h = tt
 
   pub halted : (r : Result A (SpaceError Halt)) (v w : View) (breaks : List ℕ → ℕ → Type 0) → ((b : List ℕ) → TablesAre v b → IfErr r (IfMalformed (breaks b))) → IfErr r (IfMem (Accounted v w))
-      → IfErr (settled r) (ReachHalts (TablesBreak v breaks) v w)
+      → IfErr (refused_or_halted r) (ReachHalts (TablesBreak v breaks) v w)
   halted (Ok answer) v w breaks malformed cause = tt
   halted (Err (Refused word)) v w breaks malformed cause = tt
   halted (Err (Malformed page)) v w breaks malformed cause = inr (refl, malformed)
@@ -64,7 +64,7 @@ module _ {A : Type 0} where
 
   -- where the tables are those of spaces, no page is malformed
   pub sound : (r : Result A (SpaceError Halt)) {v : View} (w : View) {kept : List Interval} {count : ℕ} {m : List Sector} {named : Triples} {ss : List Space}
-      → Told v kept count m named ss → IfErr r IsWhole → IfErr r (IfMem (Accounted v w)) → IfErr (settled r) (λ e. e ≡ Disk)
+      → Told v kept count m named ss → IfErr r IsWhole → IfErr r (IfMem (Accounted v w)) → IfErr (refused_or_halted r) (λ e. e ≡ Disk)
   sound (Ok answer) w knows right cause = tt
   sound (Err (Refused word)) w knows right cause = tt
   sound (Err (Malformed page)) w knows right cause = absurd right
@@ -75,7 +75,7 @@ pub known_spaces : {v : View} {kept : List Interval} {count : ℕ} {m : List Sec
 known_spaces knows = spaces_in _ _ _ knows.bytes (tables_told knows) knows.tables
 
 -- where an error comes from the memory alone, an answer is no refusal
-pub done : (r : Result (Unit {0}) (SpaceError Halt)) (X : Type 0) → MatchResult r (λ _. X) FromMemory → IfOk (settled r) (IsDone X)
+pub done : (r : Result (Unit {0}) (SpaceError Halt)) (X : Type 0) → MatchResult r (λ _. X) FromMemory → IfOk (refused_or_halted r) (IsDone X)
 done (Ok answer) X h = h
 done (Err (Refused word)) X h = absurd h
 done (Err (Malformed page)) X h = tt
