@@ -42,8 +42,8 @@ fn used_with(volume: &Volume, pages: u32) -> u32
     volume.used + pages + 1
 }
 
-// Writes a root to the disk. No frame is over its sector.
-fn write_over<D: Disk, A: Allocator>(filer: &mut FilerOver<D, A>, root: Root) -> Result<(), Halt>
+/// Writes a root to the disk. No frame is over its sector.
+pub fn write_over<D: Disk, A: Allocator>(filer: &mut FilerOver<D, A>, root: Root) -> Result<(), Halt>
     requires size { (D.state filer.old.swapper.under).sectors ≡ filer.old.swapper.layout.sectors }
     requires valid { IsValidRoot filer.old.swapper.layout.sectors root }
     requires serial { root.serial < 2 ^ 32 }

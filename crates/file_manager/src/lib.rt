@@ -25,7 +25,7 @@ mod tables;
 mod volume;
 
 pub use attributes::{Attributes, attributes_of};
-pub use creating::create;
+pub use creating::{create, write_over};
 pub use deleting::delete;
 pub use freeing_laws::files_may_be_freed;
 pub use growing::grow;

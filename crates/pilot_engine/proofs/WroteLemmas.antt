@@ -31,19 +31,6 @@ wrote_then h k = record { labels = h.labels ++ k.labels; makes = makes_then h.ma
 pub wrote_swapping : {a b : DiskState} {s t : Slots} → Swaps a s b t → Wrote a s b t
 wrote_swapping swaps = wrote_by (swaps_wider volume_page swaps).makes tt
 
--- a wait writes nothing
-pub wrote_settling : (old new : DiskState) (slots : Slots) (result : Result (Unit {0}) DiskError) → Settles old result new → Wrote old slots new slots
-wrote_settling old new slots result h = record {
-  labels = [];
-  makes = record {
-    went = record { sectors = h.sectors; lent = h.lent; faults = h.faults; transfers = let same = h.transfers in omega (arith, same) };
-    dirty = λ id page is. inl is;
-    wrote = wrote_none volume_page slots h.same;
-    count = refl;
-  };
-  opens = tt;
-}
-
 -- a file is created, or the creation stops
 pub wrote_file : {a b : DiskState} {s t : Slots} (root : Root) (kind pages : ℕ) → NewMade root kind pages a s b t → Wrote a s b t
 wrote_file root kind pages made = wrote_by made.makes (file_open root kind made.leader made.sectors)

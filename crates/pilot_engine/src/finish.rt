@@ -21,6 +21,7 @@ use crate::frames::look_at_frames;
 use file_manager::free_tables;
 use force_calls::force;
 use labelled_disk::{Disk, Halt};
+use space_calls::wait;
 use std::alloc::Allocator;
 use swapper_kernel::Manager;
 use volume_root::{Root, write_root};
@@ -187,22 +188,6 @@ impl<D: Disk, A: Allocator> SessionOver<D, A> {
         }
     }
 
-    // Waits until all that was written is on the medium.
-    fn settle(&mut self) -> Result<(), Halt>
-        ensures synced { OnOk result ((D.state self.new.core.filer.swapper.under).synced ≡ true) }
-        ensures same { TellsSame (D.state self.old.core.filer.swapper.under) (D.state self.new.core.filer.swapper.under) }
-        ensures fault { IfErr result (λ e. e ≡ halt.Disk) }
-        ensures counted { OnErr result (Rose (D.state self.old.core.filer.swapper.under).faults (D.state self.new.core.filer.swapper.under).faults) }
-        ensures wrote { Wrote (D.state self.old.core.filer.swapper.under) self.old.core.filer.swapper.pool (D.state self.new.core.filer.swapper.under) self.new.core.filer.swapper.pool }
-        ensures cost { (D.state self.new.core.filer.swapper.under).transfers ≤ (D.state self.old.core.filer.swapper.under).transfers }
-    {
-        let disk = self.core.filer.disk_over();
-        match disk.settle() {
-            Ok(()) => Ok(()),
-            Err(_) => Err(Halt::Disk),
-        }
-    }
-
     // Closes the volume.
     fn close(&mut self) -> Result<(), Halt>
         requires size { (D.state self.old.core.filer.swapper.under).sectors ≡ self.old.core.filer.swapper.layout.sectors }
@@ -237,7 +222,7 @@ impl<D: Disk, A: Allocator> SessionOver<D, A> {
             Ok(()) => (),
             Err(halt) => return Err(halt),
         }
-        match self.settle() {
+        match wait(&mut self.core) {
             Ok(()) => Ok(()),
             Err(halt) => Err(halt),
         }

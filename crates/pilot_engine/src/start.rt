@@ -4,18 +4,16 @@ ghost use Rattle.labelled_disk.specs.declared.evidence.Halt.TheVariants as halt;
 ghost use Rattle.labelled_disk.specs.declared.layout.RootFault.TheVariants as fault;
 ghost use Rattle.labelled_disk.specs.Calls.{OnlyReads, ReadsAtMost, Rose};
 ghost use Rattle.labelled_disk.specs.Layout.{IsCount};
-ghost use Rattle.labelled_disk.specs.Moment.{written};
 ghost use Rattle.labelled_disk.specs.Root.{LabelsRight, root_page};
 ghost use Rattle.labelled_disk.specs.Sectors.{Sector};
 ghost use Rattle.filer_kernel.specs.Evidence.{ShowsSo};
 ghost use Rattle.fault_core.specs.View.{view_of};
 ghost use Rattle.filer_kernel.specs.Cached.{runs_of};
 ghost use Rattle.flat_machine.specs.Start.{start};
-ghost use Rattle.label_calls.specs.Labels.{MayHaveWritten};
-ghost use Rattle.swapper_kernel.specs.Goes.{Goes, Makes, no_page};
+ghost use Rattle.swapper_kernel.specs.Goes.{Makes};
 ghost use Rattle.session_words.specs.Volume.{volume_page};
 ghost use Rattle.volume_root.specs.Flag.{IsRefused};
-ghost use Rattle.volume_root.specs.RootPage.{IsValidRoot, root_in, root_write};
+ghost use Rattle.volume_root.specs.RootPage.{IsValidRoot, root_in};
 ghost use Rattle.volume_root.specs.Sound.{Sound};
 ghost use Rattle.running_words.specs.Bound.{CostsOther};
 ghost use Rattle.pilot_engine.specs.declared.fault.StartFault.TheVariants as start_fault;
@@ -26,12 +24,12 @@ ghost use Rattle.running_words.specs.Session.{IsOpen, IsSession};
 use crate::frames::look_at_frames;
 use crate::{SessionOver, StartFault};
 use fault_core::CoreOver;
-use file_manager::{Volume, make_tables};
+use file_manager::{Volume, make_tables, write_over};
 use filer_kernel::FilerOver;
 use labelled_disk::{Disk, Halt, Layout, RootFault};
 use std::alloc::Allocator;
 use swapper_kernel::SwapperOver;
-use volume_root::{Root, read_root, write_root};
+use volume_root::{Root, read_root};
 
 // The same root, of a volume in use.
 fn in_use(root: Root) -> Root
@@ -53,28 +51,6 @@ fn used_of(layout: Layout, free: u32) -> u32
 {
     let used = layout.sectors - layout.first - free;
     used.min(layout.capacity)
-}
-
-// Writes a root to the disk. No frame is over its sector.
-fn write_over<D: Disk, A: Allocator>(filer: &mut FilerOver<D, A>, root: Root) -> Result<(), Halt>
-    requires size { (D.state filer.old.swapper.under).sectors ≡ filer.old.swapper.layout.sectors }
-    requires valid { IsValidRoot filer.old.swapper.layout.sectors root }
-    requires serial { root.serial < 2 ^ 32 }
-    requires counter { root.counter < 2 ^ 32 }
-    ensures made { OnOk result (Goes (λ m n. n ≡ written (root_write root) m) no_page (root_write root ∷ []) (D.state filer.old.swapper.under) filer.old.swapper.pool (D.state filer.new.swapper.under) filer.old.swapper.pool) }
-    ensures stopped { OnErr result (MayHaveWritten (root_write root) (D.state filer.old.swapper.under) filer.old.swapper.pool (D.state filer.new.swapper.under)) }
-    ensures fault { IfErr result (λ e. e ≡ halt.Disk) }
-    ensures counted { OnErr result (Rose (D.state filer.old.swapper.under).faults (D.state filer.new.swapper.under).faults) }
-    ensures frames { filer.new.swapper.pool ≡ filer.old.swapper.pool }
-    ensures layout { filer.new.swapper.layout ≡ filer.old.swapper.layout }
-    ensures runs { filer.new.runs ≡ filer.old.runs }
-    ensures cost { (D.state filer.new.swapper.under).transfers ≤ (D.state filer.old.swapper.under).transfers + 1 }
-{
-    let disk = filer.disk_over();
-    match write_root(disk, &root) {
-        Ok(()) => Ok(()),
-        Err(_) => Err(Halt::Disk),
-    }
 }
 
 // Writes the tables of the root alone into the pages of the space tables, which were made.

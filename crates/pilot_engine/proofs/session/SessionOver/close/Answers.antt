@@ -1,6 +1,7 @@
 use Rattle.std.proofs.Common.{subst, sym, arith}
 use Rattle.file_manager.specs.declared.volume.Volume.{Volume}
 use Rattle.file_manager.proofs.Faults.{counted_then}
+use Rattle.space_calls.proofs.RunLemmas.{reached_makes}
 use Rattle.pilot_engine.specs.Closing.{IsOpenStop, IsReady, IsStop}
 use Rattle.pilot_engine.specs.Opening.{root_alone}
 use Rattle.pilot_engine.proofs.AloneLemmas.{forgotten, shut_same}
@@ -11,7 +12,7 @@ use Rattle.pilot_engine.proofs.StopLemmas.{ends, open_is_stop, throughout_less, 
 use Rattle.pilot_engine.proofs.TableStops.{stops_closed, stops_forcing}
 use Rattle.pilot_engine.proofs.ShutLemmas.{any_of, shut_still, shut_then}
 use Rattle.pilot_engine.proofs.UnsetLemmas.{leaves_open, unset_then}
-use Rattle.pilot_engine.proofs.WroteLemmas.{rose_behind, wrote_swapping, wrote_then}
+use Rattle.pilot_engine.proofs.WroteLemmas.{rose_behind, wrote_by, wrote_swapping, wrote_then}
 use Rattle.pilot_engine.proofs.session.SessionOver.close.Goals as goal
 
 pub returns-in-Err-empty-clause-sound : goal.returns-in-Err-empty-clause-sound
@@ -32,17 +33,17 @@ returns-in-Err-write_maps-clause-wrote g c = any_of (wrote_then (wrote_then c.le
 pub returns-in-Err-write_clean-clause-wrote : goal.returns-in-Err-write_clean-clause-wrote
 returns-in-Err-write_clean-clause-wrote g c = shut_then (wrote_then (wrote_then c.let_all_go.ensures.wrote c.empty.ensures.wrote) (wrote_swapping c.write_maps.ensures.swaps)) c.write_clean.ensures.wrote
 
-pub returns-in-Ok-settle-clause-wrote : goal.returns-in-Ok-settle-clause-wrote
-returns-in-Ok-settle-clause-wrote g c = shut_still (shut_then (wrote_then (wrote_then c.let_all_go.ensures.wrote c.empty.ensures.wrote) (wrote_swapping c.write_maps.ensures.swaps)) c.write_clean.ensures.wrote) c.settle.ensures.same c.settle.ensures.wrote
+pub returns-in-Ok-wait-clause-wrote : goal.returns-in-Ok-wait-clause-wrote
+returns-in-Ok-wait-clause-wrote g c = shut_still (shut_then (wrote_then (wrote_then c.let_all_go.ensures.wrote c.empty.ensures.wrote) (wrote_swapping c.write_maps.ensures.swaps)) c.write_clean.ensures.wrote) c.settle.ensures.same (wrote_by (reached_makes c.settle.ensures.reaches) tt)
 
-pub returns-in-Err-settle-clause-wrote : goal.returns-in-Err-settle-clause-wrote
-returns-in-Err-settle-clause-wrote g c = shut_still (shut_then (wrote_then (wrote_then c.let_all_go.ensures.wrote c.empty.ensures.wrote) (wrote_swapping c.write_maps.ensures.swaps)) c.write_clean.ensures.wrote) c.settle.ensures.same c.settle.ensures.wrote
+pub returns-in-Err-wait-clause-wrote : goal.returns-in-Err-wait-clause-wrote
+returns-in-Err-wait-clause-wrote g c = shut_still (shut_then (wrote_then (wrote_then c.let_all_go.ensures.wrote c.empty.ensures.wrote) (wrote_swapping c.write_maps.ensures.swaps)) c.write_clean.ensures.wrote) c.settle.ensures.same (wrote_by (reached_makes c.settle.ensures.reaches) tt)
 
-pub returns-in-Ok-settle-clause-closed : goal.returns-in-Ok-settle-clause-closed
-returns-in-Ok-settle-clause-closed g c = λ m r.
+pub returns-in-Ok-wait-clause-closed : goal.returns-in-Ok-wait-clause-closed
+returns-in-Ok-wait-clause-closed g c = λ m r.
     let e = c.in-Ok-empty.ensures.emptied root_alone (forgotten m) (c.in-Ok.ensures.alone m r) in
     let ready = made_ready (forgotten m) _ _ _ _ _ e c.write_maps.ensures.swaps c.in-Ok-write_maps.ensures.clean in
-    shut_same m _ (has_shut (forgotten m) _ _ _ _ _ c.write_maps.ensures.volume ready (c.in-Ok-write_clean.ensures.made (forgotten m)) c.settle.ensures.same.contents c.in-Ok-settle.ensures.synced)
+    shut_same m _ (has_shut (forgotten m) _ _ _ _ _ c.write_maps.ensures.volume ready (c.in-Ok-write_clean.ensures.made (forgotten m)) c.settle.ensures.same.contents c.in-Ok-wait.ensures.synced)
 
 pub returns-in-Err-clause-stops : goal.returns-in-Err-clause-stops
 returns-in-Err-clause-stops g c = λ m r. throughout_less (IsOpenStop m) (IsStop m) (open_is_stop m) (c.let_all_go.ensures.stops m r)
@@ -75,8 +76,8 @@ returns-in-Err-write_clean-clause-stops g c = λ m r.
     let all = throughout_then (IsStop n) (throughout_less (IsOpenStop n) (IsStop n) (open_is_stop n) maps) (c.write_clean.ensures.stops n now (ends (IsOpenStop n) maps)) in
     stops_closed m r.session.stands.is.by.machine (c.let_all_go.ensures.stops m r) all
 
-pub returns-in-Ok-settle-clause-stops : goal.returns-in-Ok-settle-clause-stops
-returns-in-Ok-settle-clause-stops g c = λ m r.
+pub returns-in-Ok-wait-clause-stops : goal.returns-in-Ok-wait-clause-stops
+returns-in-Ok-wait-clause-stops g c = λ m r.
     let n = forgotten m in
     let s = c.in-Ok.ensures.alone m r in
     let first = c.empty.ensures.stops root_alone n s in
@@ -87,8 +88,8 @@ returns-in-Ok-settle-clause-stops g c = λ m r.
     let all = throughout_then (IsStop n) (throughout_less (IsOpenStop n) (IsStop n) (open_is_stop n) maps) (c.write_clean.ensures.stops n now (ends (IsOpenStop n) maps)) in
     throughout_still (IsStop m) (stops_closed m r.session.stands.is.by.machine (c.let_all_go.ensures.stops m r) all) c.settle.ensures.same
 
-pub returns-in-Err-settle-clause-stops : goal.returns-in-Err-settle-clause-stops
-returns-in-Err-settle-clause-stops g c = λ m r.
+pub returns-in-Err-wait-clause-stops : goal.returns-in-Err-wait-clause-stops
+returns-in-Err-wait-clause-stops g c = λ m r.
     let n = forgotten m in
     let s = c.in-Ok.ensures.alone m r in
     let first = c.empty.ensures.stops root_alone n s in
@@ -108,8 +109,8 @@ returns-in-Err-write_maps-clause-counted g c = counted_then _ _ _ (wrote_then c.
 pub returns-in-Err-write_clean-clause-counted : goal.returns-in-Err-write_clean-clause-counted
 returns-in-Err-write_clean-clause-counted g c = λ is. rose_behind _ _ _ (wrote_then (wrote_then c.let_all_go.ensures.wrote c.empty.ensures.wrote) (wrote_swapping c.write_maps.ensures.swaps)).makes.went.faults c.in-Err-write_clean.ensures.counted
 
-pub returns-in-Err-settle-clause-counted : goal.returns-in-Err-settle-clause-counted
-returns-in-Err-settle-clause-counted g c = λ is. rose_behind _ _ _ (shut_then (wrote_then (wrote_then c.let_all_go.ensures.wrote c.empty.ensures.wrote) (wrote_swapping c.write_maps.ensures.swaps)) c.write_clean.ensures.wrote).makes.went.faults c.in-Err-settle.ensures.counted
+pub returns-in-Err-wait-clause-counted : goal.returns-in-Err-wait-clause-counted
+returns-in-Err-wait-clause-counted g c = λ is. rose_behind _ _ _ (shut_then (wrote_then (wrote_then c.let_all_go.ensures.wrote c.empty.ensures.wrote) (wrote_swapping c.write_maps.ensures.swaps)) c.write_clean.ensures.wrote).makes.went.faults c.in-Err-wait.ensures.counted
 
 pub returns-in-Err-clause-cost : goal.returns-in-Err-clause-cost
 returns-in-Err-clause-cost g c = λ m r.
@@ -146,26 +147,26 @@ returns-in-Err-write_clean-clause-cost g c = λ m r.
     (g.D.Disk.state c.args.self.now.core.filer.swapper.under).transfers (g.D.Disk.state c.let_all_go.new.self.core.filer.swapper.under).transfers (g.D.Disk.state c.empty.new.self.core.filer.swapper.under).transfers (g.D.Disk.state c.write_clean.new.self.core.filer.swapper.under).transfers
     c.let_all_go.ensures.cost (c.empty.ensures.cost root_alone (forgotten m) (c.in-Ok.ensures.alone m r)) (omega (arith, maps, written)))
 
-pub returns-in-Ok-settle-clause-cost : goal.returns-in-Ok-settle-clause-cost
-returns-in-Ok-settle-clause-cost g c = λ m r.
+pub returns-in-Ok-wait-clause-cost : goal.returns-in-Ok-wait-clause-cost
+returns-in-Ok-wait-clause-cost g c = λ m r.
     let layout = c.args.self.now.core.filer.swapper.layout in
     let maps = c.write_maps.ensures.cost in
     let written = c.write_clean.ensures.cost in
     let settled = c.settle.ensures.cost in
-    on_layout layout (g.D.Disk.state c.args.self.now.core.filer.swapper.under) (g.D.Disk.state c.settle.new.self.core.filer.swapper.under) c.requires.size
+    on_layout layout (g.D.Disk.state c.args.self.now.core.filer.swapper.under) (g.D.Disk.state c.settle.new.core.filer.swapper.under) c.requires.size
     (closed_bounded layout c.args.self.now.core.filer.swapper.accepted c.let_all_go.new.self.core.filer.swapper.layout c.let_all_go.ensures.layout
-    (g.D.Disk.state c.args.self.now.core.filer.swapper.under).transfers (g.D.Disk.state c.let_all_go.new.self.core.filer.swapper.under).transfers (g.D.Disk.state c.empty.new.self.core.filer.swapper.under).transfers (g.D.Disk.state c.settle.new.self.core.filer.swapper.under).transfers
+    (g.D.Disk.state c.args.self.now.core.filer.swapper.under).transfers (g.D.Disk.state c.let_all_go.new.self.core.filer.swapper.under).transfers (g.D.Disk.state c.empty.new.self.core.filer.swapper.under).transfers (g.D.Disk.state c.settle.new.core.filer.swapper.under).transfers
     c.let_all_go.ensures.cost (c.empty.ensures.cost root_alone (forgotten m) (c.in-Ok.ensures.alone m r)) (omega (arith, maps, written, settled)))
 
-pub returns-in-Err-settle-clause-cost : goal.returns-in-Err-settle-clause-cost
-returns-in-Err-settle-clause-cost g c = λ m r.
+pub returns-in-Err-wait-clause-cost : goal.returns-in-Err-wait-clause-cost
+returns-in-Err-wait-clause-cost g c = λ m r.
     let layout = c.args.self.now.core.filer.swapper.layout in
     let maps = c.write_maps.ensures.cost in
     let written = c.write_clean.ensures.cost in
     let settled = c.settle.ensures.cost in
-    on_layout layout (g.D.Disk.state c.args.self.now.core.filer.swapper.under) (g.D.Disk.state c.settle.new.self.core.filer.swapper.under) c.requires.size
+    on_layout layout (g.D.Disk.state c.args.self.now.core.filer.swapper.under) (g.D.Disk.state c.settle.new.core.filer.swapper.under) c.requires.size
     (closed_bounded layout c.args.self.now.core.filer.swapper.accepted c.let_all_go.new.self.core.filer.swapper.layout c.let_all_go.ensures.layout
-    (g.D.Disk.state c.args.self.now.core.filer.swapper.under).transfers (g.D.Disk.state c.let_all_go.new.self.core.filer.swapper.under).transfers (g.D.Disk.state c.empty.new.self.core.filer.swapper.under).transfers (g.D.Disk.state c.settle.new.self.core.filer.swapper.under).transfers
+    (g.D.Disk.state c.args.self.now.core.filer.swapper.under).transfers (g.D.Disk.state c.let_all_go.new.self.core.filer.swapper.under).transfers (g.D.Disk.state c.empty.new.self.core.filer.swapper.under).transfers (g.D.Disk.state c.settle.new.core.filer.swapper.under).transfers
     c.let_all_go.ensures.cost (c.empty.ensures.cost root_alone (forgotten m) (c.in-Ok.ensures.alone m r)) (omega (arith, maps, written, settled)))
 
 -- where no root was written
@@ -181,11 +182,11 @@ returns-in-Err-write_maps-clause-left_open g c = λ unset. leaves_open (g.D.Disk
 pub returns-in-Err-write_clean-clause-left_open : goal.returns-in-Err-write_clean-clause-left_open
 returns-in-Err-write_clean-clause-left_open g c = λ unset. rw c.in-Err-write_clean.ensures.fault tt
 
-pub returns-in-Err-settle-clause-left_open : goal.returns-in-Err-settle-clause-left_open
-returns-in-Err-settle-clause-left_open g c = λ unset. rw c.in-Err-settle.ensures.fault tt
+pub returns-in-Err-wait-clause-left_open : goal.returns-in-Err-wait-clause-left_open
+returns-in-Err-wait-clause-left_open g c = λ unset. rw c.in-Err-wait.ensures.fault tt
 
 pub returns-in-Err-write_clean-clause-so : goal.returns-in-Err-write_clean-clause-so
 returns-in-Err-write_clean-clause-so g c = rw c.in-Err-write_clean.ensures.fault tt
 
-pub returns-in-Err-settle-clause-so : goal.returns-in-Err-settle-clause-so
-returns-in-Err-settle-clause-so g c = rw c.in-Err-settle.ensures.fault tt
+pub returns-in-Err-wait-clause-so : goal.returns-in-Err-wait-clause-so
+returns-in-Err-wait-clause-so g c = rw c.in-Err-wait.ensures.fault tt
