@@ -1,13 +1,12 @@
 -- What calls in a row have written.
-use Rattle.std.proofs.Common.{inl, ℕ, ◌≤◌, List, [], ◌∷◌, ◌++◌, Result, refl, arith}
-use Rattle.labelled_disk.specs.declared.disk.DiskError.{DiskError}
+use Rattle.std.proofs.Common.{ℕ, ◌≤◌, List, [], ◌∷◌, ◌++◌, refl, arith}
 use Rattle.labelled_disk.specs.declared.disk.DiskWrite.{DiskWrite}
-use Rattle.labelled_disk.specs.Calls.{Rose, Settles}
+use Rattle.labelled_disk.specs.Calls.{Rose}
 use Rattle.labelled_disk.specs.Runs.{creation}
 use Rattle.labelled_disk.specs.State.{DiskState}
 use Rattle.frame_pool.specs.Frames.{Slots}
 use Rattle.swapper_kernel.specs.Goes.{Makes, Swaps}
-use Rattle.swapper_kernel.specs.GoesLaws.{makes_nothing, makes_then, swaps_wider, wrote_none}
+use Rattle.swapper_kernel.specs.GoesLaws.{makes_nothing, makes_then, swaps_wider}
 use Rattle.volume_root.specs.declared.root.Root.{Root}
 use Rattle.volume_root.specs.RootPage.{root_write}
 use Rattle.session_words.specs.Volume.{volume_page}

@@ -1,7 +1,7 @@
 //! The end of a session: its temporary files and the pages of the space tables go, and the volume is closed.
 ghost use Rattle.std.specs.Prelude.{◌≡◌, ℕ, ◌+◌, ◌*◌, ◌^◌, ◌<◌, ◌≤◌, true, List, [], ◌∷◌, length, IfErr, OnOk, OnErr, Err, Some};
 ghost use Rattle.labelled_disk.specs.declared.evidence.Halt.TheVariants as halt;
-ghost use Rattle.labelled_disk.specs.Calls.{Rose, TellsSame};
+ghost use Rattle.labelled_disk.specs.Calls.{Rose};
 ghost use Rattle.labelled_disk.specs.Sectors.{Sector};
 ghost use Rattle.filer_kernel.specs.Evidence.{ShowsSo};
 ghost use Rattle.flat_machine.specs.Machine.{Machine};
