@@ -9,9 +9,9 @@ use Rattle.std.proofs.lemmas.Option.{same_Some}
 use Rattle.labelled_disk.specs.declared.label.Label.{Label}
 use Rattle.labelled_disk.specs.Label.{names, is_file_id}
 use Rattle.labelled_disk.specs.Sectors.{Sector, IsSector}
-use Rattle.flat_mem.specs.Memory.{part}
+use Rattle.flat_mem.specs.Memory.{part, overwritten}
 use Rattle.frame_pool.specs.declared.home.Home.{Home}
-use Rattle.frame_pool.specs.Frames.{Frame, Has, IsOf, changed, overwritten}
+use Rattle.frame_pool.specs.Frames.{Frame, Has, IsOf, changed}
 use Rattle.frame_pool.specs.FrameLaws.{has_set, has_below}
 use Rattle.frame_pool.specs.ListLaws.{get_same, get_other}
 use Rattle.file_map.specs.FileMap.{Triples}

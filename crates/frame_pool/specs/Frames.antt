@@ -1,5 +1,6 @@
 -- The slots of a pool: each is empty or has a frame.
 use Rattle.std.specs.Prelude.{◌≡◌, ◌<◌, ◌≤◌, ◌+◌, ◌-◌, nat_le, nat_lt, ◌++◌, ◌==◌, ◌&&◌, ℕ, Bool, true, false, List, length, take, drop, Option, Some, None, slice_get, slice_index_or, slice_set, option_map, All}
+use Rattle.flat_mem.specs.Memory.{overwritten}
 use Rattle.frame_pool.specs.declared.home.Home.{Home}
 
 -- a page of a file, its home, and whether the home may have other bytes
@@ -34,10 +35,6 @@ shown frame = (frame.home, frame.dirty)
 -- the frame of a page that was just read
 abbrev pub new_frame : Home → List ℕ → Frame
 new_frame home bytes = record { home = home; dirty = false; bytes = bytes }
-
--- the bytes with these ones over those from `at` on
-abbrev pub overwritten : List ℕ → ℕ → List ℕ → List ℕ
-overwritten page at bytes = take at page ++ bytes ++ drop (at + length bytes) page
 
 -- the frame with these bytes over those from `at` on, dirty
 abbrev pub changed : Frame → ℕ → List ℕ → Frame

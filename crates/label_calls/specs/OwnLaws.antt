@@ -14,7 +14,7 @@ use Rattle.labelled_disk.specs.Runs.{growth, creation}
 use Rattle.labelled_disk.specs.Sectors.{Sector}
 use Rattle.labelled_disk.specs.State.{DiskState, HasLabel}
 use Rattle.labelled_disk.specs.WriteRuns.{Appended, after_writes}
-use Rattle.labelled_disk.proofs.WriteRunLemmas.{appended_none, appended_one, appended_then, moment-earlier, after_writes-append}
+use Rattle.labelled_disk.proofs.WriteRunLemmas.{appended_none, appended_one, appended_then, moment-earlier, after_writes-append, moment-later}
 use Rattle.frame_pool.specs.Frames.{Slots}
 use Rattle.swapper_kernel.specs.Goes.{Pages, Makes, is_page_write}
 use Rattle.label_calls.specs.Labels.{MayHaveWritten}
@@ -61,19 +61,11 @@ place_in (y ∷ xs) ys (suc k) x is = elim (place_in xs ys k x is) [
   | inr (j, past, here) ↦ inr (j, let z : suc k ≡ suc (length xs) + j = omega arith in z, here)
 ]
 
--- later moments begin where the earlier writes end
-moment_later : (d : List Sector) (first next : List DiskWrite) (j : ℕ) → moment d (first ++ next) (length first + j) ≡ moment (after_writes first d) next j
-moment_later d first next j = ap (λ (ws : List DiskWrite). after_writes ws d) (take_past first next j) ∙ sym (after_writes-append first (take j next) d)
-  where
-    take_past : (xs ys : List DiskWrite) (j : ℕ) → take (length xs + j) (xs ++ ys) ≡ xs ++ take j ys
-    take_past [] ys j = ap (λ (k : ℕ). take k ys) (let z : 0 + j ≡ j = omega arith in z)
-    take_past (x ∷ xs) ys j = ap (λ (k : ℕ). take k (x ∷ (xs ++ ys))) (let z : suc (length xs) + j ≡ suc (length xs + j) = omega arith in z) ∙ ap (λ (l : List DiskWrite). x ∷ l) (take_past xs ys j)
-
 -- writes in a row
 pub over_then : (id : ℕ) (d : List Sector) (first next : List DiskWrite) → AreOverOwn id d first → AreOverOwn id (after_writes first d) next → AreOverOwn id d (first ++ next)
 over_then id d first next one more k sector label at s here = elim (place_in first next k (write.LabelOnly sector label) at) [
   | inl (below, there) ↦ one k sector label there s (sym (ap (λ (l : List Sector). slice_get l sector) (moment-earlier d first next k (omega (arith, below)))) ∙ here)
-  | inr (j, past, there) ↦ more j sector label there s (sym (ap (λ (l : List Sector). slice_get l sector) (ap (moment d (first ++ next)) past ∙ moment_later d first next j)) ∙ here)
+  | inr (j, past, there) ↦ more j sector label there s (sym (ap (λ (l : List Sector). slice_get l sector) (ap (moment d (first ++ next)) past ∙ moment-later d first next j)) ∙ here)
 ]
 
 -- one call, and then another

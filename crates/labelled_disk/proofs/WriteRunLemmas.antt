@@ -1,6 +1,7 @@
 -- Writes in a row, one row after the other, and a stop among them.
-use Rattle.std.proofs.Common.{◌≡◌, ℕ, zero, suc, ◌≤◌, List, [], ◌∷◌, ◌++◌, length, take, Option, Some, None, refl, sym, ◌∙◌, ap, arith, append_assoc}
+use Rattle.std.proofs.Common.{◌≡◌, ℕ, zero, suc, ◌≤◌, List, [], ◌∷◌, ◌++◌, length, take, Option, Some, None, refl, sym, ◌∙◌, ap, arith, append_assoc, ◌+◌}
 use Rattle.std.specs.Prelude.{option_map}
+use Rattle.std.proofs.Math.Seq.{take-append-add}
 use Rattle.std.proofs.lemmas.List.{take_all}
 use Rattle.std.proofs.lemmas.List.Sums.{fold-append}
 use Rattle.labelled_disk.specs.declared.disk.DiskWrite.{DiskWrite}
@@ -38,6 +39,10 @@ take-append (suc k) (x ∷ xs) ys few = ap (λ (l : _). x ∷ l) (take-append k 
 -- later writes change no earlier moment
 pub moment-earlier : (d : List Sector) (first next : List DiskWrite) (k : ℕ) → k ≤ length first → moment d (first ++ next) k ≡ moment d first k
 moment-earlier d first next k few = ap (λ (l : List DiskWrite). after_writes l d) (take-append k first next few)
+
+-- later moments begin where the earlier writes end
+pub moment-later : (d : List Sector) (first next : List DiskWrite) (j : ℕ) → moment d (first ++ next) (length first + j) ≡ moment (after_writes first d) next j
+moment-later d first next j = ap (λ (ws : List DiskWrite). after_writes ws d) (take-append-add first next j) ∙ sym (after_writes-append first (take j next) d)
 
 -- no write
 pub appended_none : {a b : DiskState} → TellsSame a b → Appended [] a b

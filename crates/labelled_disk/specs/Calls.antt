@@ -1,5 +1,6 @@
 -- What one call does to a disk.
 use Rattle.std.specs.Prelude.{◌≡◌, ◌⊎◌, ℕ, ◌+◌, ◌-◌, ◌^◌, ◌≤◌, min, true, false, List, [], ◌∷◌, ◌++◌, option_map, Result, Ok, Err, IfOk, IfErr, OnOk, OnErr}
+pub use Rattle.flat_mem.specs.Rises.{Rose}
 use Rattle.labelled_disk.specs.declared.label.Label.{Label}
 use Rattle.labelled_disk.specs.declared.label.Wanted.{Wanted}
 use Rattle.labelled_disk.specs.declared.disk.DiskError.{DiskError}
@@ -9,10 +10,6 @@ use Rattle.labelled_disk.specs.declared.disk.DiskWrite.TheVariants.{Page}
 use Rattle.labelled_disk.specs.Label.{names}
 use Rattle.labelled_disk.specs.Moment.{written}
 use Rattle.labelled_disk.specs.State.{DiskState, Holds, HasLabel, NamesThere}
-
--- a count of faults rose, or stands at the last value of u64
-abbrev pub Rose : ℕ → ℕ → Type 0
-Rose before now = min (before + 1) (2 ^ 64 - 1) ≤ now
 
 -- a count of transfers rose by one at most
 pub record Moved (before now : ℕ) : Type 0 where

@@ -1,7 +1,6 @@
 -- Writes along the places of a trace.
-use Rattle.std.proofs.Common.{◌≡◌, ◌⊎◌, inl, inr, ℕ, zero, suc, ◌+◌, ◌-◌, ◌<◌, ◌≤◌, List, [], ◌++◌, length, take, Option, Some, None, refl, sym, ◌∙◌, ap, subst, arith}
+use Rattle.std.proofs.Common.{◌≡◌, ◌⊎◌, inl, inr, ℕ, zero, suc, ◌+◌, ◌-◌, ◌<◌, ◌≤◌, List, [], ◌++◌, length, Option, Some, None, refl, sym, ◌∙◌, ap, subst, arith}
 use Rattle.std.specs.Prelude.{option_map}
-use Rattle.std.proofs.Math.Seq.{take-append-add}
 use Rattle.std.proofs.lemmas.Bool.{cases_lt}
 use Rattle.std.proofs.lemmas.Option.{same_Some, none-some}
 use Rattle.labelled_disk.specs.declared.disk.DiskWrite.{DiskWrite}
@@ -10,7 +9,7 @@ use Rattle.labelled_disk.specs.Moment.{moment}
 use Rattle.labelled_disk.specs.Sectors.{Sector}
 use Rattle.labelled_disk.specs.State.{DiskState}
 use Rattle.labelled_disk.specs.WriteRuns.{after_writes}
-use Rattle.labelled_disk.proofs.WriteRunLemmas.{after_writes-append, appended_then, appended_none, moment-earlier, moment-end}
+use Rattle.labelled_disk.proofs.WriteRunLemmas.{appended_then, appended_none, moment-earlier, moment-end, moment-later}
 use Rattle.pilot_engine.specs.Closing.{Throughout}
 use Rattle.pilot_top.specs.Moments.{Along, IsBy}
 
@@ -41,10 +40,6 @@ by_most k l le = elim (cases_lt k l) [
 ]
 
 -- Some writes and then others.
-
--- later moments begin where the earlier writes end
-pub moment_later : (d : List Sector) (first next : List DiskWrite) (j : ℕ) → moment d (first ++ next) (length first + j) ≡ moment (after_writes first d) next j
-moment_later d first next j = ap (λ (ws : List DiskWrite). after_writes ws d) (take-append-add first next j) ∙ sym (after_writes-append first (take j next) d)
 
 module _ (P : ℕ → ℕ → List Sector → Type 0) (j i k h l g : ℕ) {a b c : DiskState} (one : Along P j i k h a b) (two : Along P k h l g b c) where
   -- the place of each of them
@@ -77,7 +72,7 @@ module _ (P : ℕ → ℕ → List Sector → Type 0) (j i k h l g : ℕ) {a b c
   holds : (d : List Sector) (n : ℕ) → a.contents ≡ Some d → (s : (length one.writes < n) ⊎ (n ≤ length one.writes)) → P (line_at n s) (step_at n s) (moment d (one.writes ++ two.writes) n)
   holds d n told (inl past) =
       let at : n ≡ length one.writes + (n - length one.writes) = omega (arith, past) in
-      subst (P (two.line (n - length one.writes)) (two.step (n - length one.writes))) (sym (ap (moment d (one.writes ++ two.writes)) at ∙ moment_later d one.writes two.writes (n - length one.writes)))
+      subst (P (two.line (n - length one.writes)) (two.step (n - length one.writes))) (sym (ap (moment d (one.writes ++ two.writes)) at ∙ moment-later d one.writes two.writes (n - length one.writes)))
       (two.each (after_writes one.writes d) (n - length one.writes) (one.appended.contents ∙ ap (option_map (after_writes one.writes)) told))
   holds d n told (inr few) = subst (P (one.line n) (one.step n)) (sym (moment-earlier d one.writes two.writes n few)) (one.each d n told)
 

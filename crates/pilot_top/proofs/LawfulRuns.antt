@@ -10,7 +10,7 @@ use Rattle.labelled_disk.specs.Moment.{moment}
 use Rattle.labelled_disk.specs.Sectors.{Sector}
 use Rattle.labelled_disk.specs.State.{DiskState}
 use Rattle.labelled_disk.specs.WriteRuns.{Appended, after_writes}
-use Rattle.labelled_disk.proofs.WriteRunLemmas.{appended_none, appended_then, moment-earlier}
+use Rattle.labelled_disk.proofs.WriteRunLemmas.{appended_none, appended_then, moment-earlier, moment-later}
 use Rattle.labelled_disk.specs.Root.{root_page, short_at}
 use Rattle.labelled_disk.specs.Runs.{growth}
 use Rattle.frame_pool.specs.Frames.{Slots}
@@ -23,7 +23,6 @@ use Rattle.pilot_engine.specs.Opening.{IsUnset, WroteFirst, in_use}
 use Rattle.pilot_engine.proofs.ShutLemmas.{writes_open}
 use Rattle.pilot_engine.proofs.UnsetLemmas.{begun_flag}
 use Rattle.pilot_top.specs.Moments.{Lawfully, Openly, ShutsLast}
-use Rattle.pilot_top.proofs.AlongLemmas.{moment_later}
 
 -- an element of two lists in a row
 get_append : {X : Type 0} (xs ys : List X) (k : ℕ) (x : X) → slice_get (xs ++ ys) k ≡ Some x
@@ -49,7 +48,7 @@ AreLawful writes old = (d : List Sector) (k : ℕ) (w : DiskWrite) → old.conte
 lawful_then : {a b : DiskState} (first next : List DiskWrite) → Appended first a b → AreLawful first a → AreLawful next b → AreLawful (first ++ next) a
 lawful_then first next appended early late d i w told at = elim (get_append first next i w at) [
   | inl (below, here) ↦ subst (λ (now : List Sector). Lawful now w) (sym (moment-earlier d first next i (omega arith))) (early d i w told here)
-  | inr (j, past, here) ↦ subst (λ (now : List Sector). Lawful now w) (sym (ap (moment d (first ++ next)) past ∙ moment_later d first next j))
+  | inr (j, past, here) ↦ subst (λ (now : List Sector). Lawful now w) (sym (ap (moment d (first ++ next)) past ∙ moment-later d first next j))
       (late (after_writes first d) j w (appended.contents ∙ ap (option_map (after_writes first)) told) here)
 ]
 
@@ -134,7 +133,7 @@ module _ {a b : DiskState} (wrote : WroteFirst a b) where
       | inl past ↦
           let at : k ≡ length wrote.wrote.writes + (k - length wrote.wrote.writes) = omega (arith, past) in
           let long = length-append wrote.wrote.writes h.writes in
-          subst (λ (now : List Sector). short_at (root_page now) 10 ≡ 0) (sym (ap (moment d (wrote.wrote.writes ++ h.writes)) at ∙ moment_later d wrote.wrote.writes h.writes (k - length wrote.wrote.writes)))
+          subst (λ (now : List Sector). short_at (root_page now) 10 ≡ 0) (sym (ap (moment d (wrote.wrote.writes ++ h.writes)) at ∙ moment-later d wrote.wrote.writes h.writes (k - length wrote.wrote.writes)))
           (later_flag (after_writes wrote.wrote.writes d) (k - length wrote.wrote.writes) (wrote.wrote.appended.contents ∙ ap (option_map (after_writes wrote.wrote.writes)) told) (omega (arith, past, few, long)))
       | inr early ↦ subst (λ (now : List Sector). short_at (root_page now) 10 ≡ 0) (sym (moment-earlier d wrote.wrote.writes h.writes k early)) (first_flag d k told some early)
     ]

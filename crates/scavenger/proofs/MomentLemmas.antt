@@ -1,20 +1,15 @@
 -- The moments of two rows of writes, one after the other.
 use Rattle.std.proofs.Common.{◌≡◌, ◌⊎◌, inl, inr, ℕ, ◌+◌, ◌-◌, ◌<◌, ◌≤◌, List, [], ◌∷◌, ◌++◌, length, take, refl, sym, ◌∙◌, ap, subst, arith}
 use Rattle.std.proofs.lemmas.Bool.{cases_lt}
-use Rattle.std.proofs.Math.Seq.{take-append-add}
 use Rattle.labelled_disk.specs.declared.disk.DiskWrite.{DiskWrite}
 use Rattle.labelled_disk.specs.Moment.{moment}
 use Rattle.labelled_disk.specs.Sectors.{Sector}
 use Rattle.labelled_disk.specs.WriteRuns.{after_writes}
-use Rattle.labelled_disk.proofs.WriteRunLemmas.{after_writes-append, moment-earlier, moment-end}
+use Rattle.labelled_disk.proofs.WriteRunLemmas.{after_writes-append, moment-earlier, moment-end, moment-later}
 
 -- each moment is so
 abbrev pub AtEach : (List Sector → Type 0) → List Sector → List DiskWrite → Type 0
 AtEach P d writes = (k : ℕ) → P (moment d writes k)
-
--- a moment of the second row
-moment-later : (d : List Sector) (first next : List DiskWrite) (j : ℕ) → moment d (first ++ next) (length first + j) ≡ moment (after_writes first d) next j
-moment-later d first next j = ap (λ (ws : List DiskWrite). after_writes ws d) (take-append-add first next j) ∙ sym (after_writes-append first (take j next) d)
 
 pub each_then : (P : List Sector → Type 0) (d : List Sector) (first next : List DiskWrite) → AtEach P d first → AtEach P (after_writes first d) next → AtEach P d (first ++ next)
 each_then P d first next one more k = either (cases_lt (length first) k)

@@ -11,7 +11,7 @@ use Rattle.labelled_disk.specs.Layout.{first_data, vam, vfm}
 use Rattle.labelled_disk.specs.Sectors.{Sector, IsSector}
 use Rattle.labelled_disk.specs.File.{File, file_at}
 use Rattle.frame_pool.specs.declared.home.Home.{Home}
-use Rattle.frame_pool.specs.Frames.{overwritten}
+use Rattle.flat_mem.specs.Memory.{overwritten}
 use Rattle.flat_machine.specs.Machine.{Machine}
 use Rattle.flat_machine.proofs.Cells.{every_append}
 use Rattle.swapper_kernel.specs.Stands.{labels_of}

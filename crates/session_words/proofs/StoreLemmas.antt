@@ -6,7 +6,7 @@ use Rattle.std.proofs.lemmas.List.{length-take-le}
 use Rattle.labelled_disk.specs.declared.label.Label.{Label}
 use Rattle.labelled_disk.specs.Sectors.{Sector, AreSectors}
 use Rattle.labelled_disk.specs.File.{File}
-use Rattle.frame_pool.specs.Frames.{overwritten}
+use Rattle.flat_mem.specs.Memory.{overwritten}
 use Rattle.flat_machine.specs.declared.space.Space.{Space}
 use Rattle.flat_machine.specs.declared.space.FilePage.{FilePage}
 use Rattle.flat_machine.specs.At.{shown_at, spot_at}

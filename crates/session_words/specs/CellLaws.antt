@@ -4,7 +4,8 @@ use Rattle.labelled_disk.specs.declared.label.Label.{Label}
 use Rattle.labelled_disk.specs.Sectors.{Sector, IsSector, AreSectors}
 use Rattle.labelled_disk.specs.File.{File}
 use Rattle.labelled_disk.specs.State.{DiskState}
-use Rattle.frame_pool.specs.Frames.{Slots, overwritten}
+use Rattle.frame_pool.specs.Frames.{Slots}
+use Rattle.flat_mem.specs.Memory.{overwritten}
 use Rattle.flat_machine.specs.declared.space.Space.{Space}
 use Rattle.flat_machine.specs.declared.space.FilePage.{FilePage}
 use Rattle.flat_machine.specs.declared.call.Call.TheVariants.{Store, Kill}

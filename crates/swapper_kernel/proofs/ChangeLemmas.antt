@@ -8,7 +8,8 @@ use Rattle.labelled_disk.specs.declared.label.Label.{Label}
 use Rattle.labelled_disk.specs.Label.{names}
 use Rattle.labelled_disk.specs.Sectors.{Sector}
 use Rattle.labelled_disk.specs.State.{DiskState}
-use Rattle.frame_pool.specs.Frames.{Frame, Slots, Has, HasDistinct, changed, overwritten}
+use Rattle.frame_pool.specs.Frames.{Frame, Slots, Has, HasDistinct, changed}
+use Rattle.flat_mem.specs.Memory.{overwritten}
 use Rattle.frame_pool.specs.FrameLaws.{has_below, has_set, changed_is}
 use Rattle.frame_pool.specs.ListLaws.{get_other}
 use Rattle.swapper_kernel.specs.Homes.{Homes, wanted_at}

@@ -11,7 +11,8 @@ use Rattle.labelled_disk.specs.Label.{names}
 use Rattle.labelled_disk.specs.Sectors.{Sector}
 use Rattle.labelled_disk.specs.Moment.{written}
 use Rattle.frame_pool.specs.declared.home.Home.{Home}
-use Rattle.frame_pool.specs.Frames.{Frame, Slots, Has, IsNowhere, HasDistinct, frame_at, new_frame, clean, changed, overwritten, changed_at, cleaned_at}
+use Rattle.frame_pool.specs.Frames.{Frame, Slots, Has, IsNowhere, HasDistinct, frame_at, new_frame, clean, changed, changed_at, cleaned_at}
+use Rattle.flat_mem.specs.Memory.{overwritten}
 use Rattle.frame_pool.specs.FrameLaws.{has_below, has_set, has_other, frame_of_has}
 use Rattle.frame_pool.specs.ListLaws.{get_same, get_other, below_of}
 use Rattle.swapper_kernel.specs.Homes.{wanted_at}

@@ -4,7 +4,7 @@ use Rattle.labelled_disk.specs.declared.label.Label.{Label}
 use Rattle.labelled_disk.specs.Label.{names}
 use Rattle.labelled_disk.specs.Sectors.{Sector}
 use Rattle.frame_pool.specs.declared.home.Home.{Home}
-use Rattle.frame_pool.specs.Frames.{overwritten}
+use Rattle.flat_mem.specs.Memory.{overwritten}
 use Rattle.swapper_kernel.specs.Homes.{wanted_at}
 use Rattle.swapper_kernel.specs.Stands.{labels_of}
 

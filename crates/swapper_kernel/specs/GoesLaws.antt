@@ -11,7 +11,7 @@ use Rattle.labelled_disk.specs.Calls.{TellsSame}
 use Rattle.labelled_disk.specs.Moment.{moment}
 use Rattle.labelled_disk.specs.Lawful.{Lawful}
 use Rattle.labelled_disk.specs.WriteRuns.{after_writes}
-use Rattle.labelled_disk.proofs.WriteRunLemmas.{appended_none, appended_then, moment-earlier, after_writes-append}
+use Rattle.labelled_disk.proofs.WriteRunLemmas.{appended_none, appended_then, moment-earlier, after_writes-append, moment-later}
 use Rattle.frame_pool.specs.Frames.{Slots}
 use Rattle.swapper_kernel.specs.Stands.{Stands}
 use Rattle.swapper_kernel.specs.Goes.{Change, Pages, IsDirty, Went, Wrote, Makes, Goes, Same, no_page, Swaps, is_page_write}
@@ -36,14 +36,6 @@ get_append (y ∷ xs) ys (suc k) x is = elim (get_append xs ys k x is) [
   | inl (below, here) ↦ inl (omega arith, here)
   | inr (j, past, here) ↦ inr (j, let z : suc k ≡ suc (length xs) + j = omega arith in z, here)
 ]
-
--- later moments begin where the earlier writes end
-moment-later : (d : List Sector) (first next : List DiskWrite) (j : ℕ) → moment d (first ++ next) (length first + j) ≡ moment (after_writes first d) next j
-moment-later d first next j = ap (λ (ws : List DiskWrite). after_writes ws d) (take_past first next j) ∙ sym (after_writes-append first (take j next) d)
-  where
-    take_past : (xs ys : List DiskWrite) (j : ℕ) → take (length xs + j) (xs ++ ys) ≡ xs ++ take j ys
-    take_past [] ys j = ap (λ (k : ℕ). take k ys) (let z : 0 + j ≡ j = omega arith in z)
-    take_past (x ∷ xs) ys j = ap (λ (k : ℕ). take k (x ∷ (xs ++ ys))) (let z : suc (length xs) + j ≡ suc (length xs + j) = omega arith in z) ∙ ap (λ (l : List DiskWrite). x ∷ l) (take_past xs ys j)
 
 wrote_then : {pages : Pages} {run more : List DiskWrite} {a b c : DiskState} {s t : Slots} → ((id page : ℕ) → IsDirty t id page → IsDirty s id page ⊎ pages id page)
     → Wrote pages run a s b → Wrote pages more b t c → Wrote pages (run ++ more) a s c

@@ -6,7 +6,8 @@ use Rattle.labelled_disk.specs.Label.{names}
 use Rattle.labelled_disk.specs.Sectors.{Sector}
 use Rattle.labelled_disk.specs.Moment.{written}
 use Rattle.frame_pool.specs.declared.home.Home.{Home}
-use Rattle.frame_pool.specs.Frames.{Frame, Slots, Has, IsNowhere, HasDistinct, frame_at, new_frame, overwritten, changed_at, cleaned_at}
+use Rattle.frame_pool.specs.Frames.{Frame, Slots, Has, IsNowhere, HasDistinct, frame_at, new_frame, changed_at, cleaned_at}
+use Rattle.flat_mem.specs.Memory.{overwritten}
 use Rattle.swapper_kernel.specs.Homes.{wanted_at}
 use Rattle.swapper_kernel.specs.Stands.{IsMerged}
 
