@@ -6,7 +6,7 @@ use Rattle.std.specs.Int.{bit_at}
 use Rattle.flat_mem.specs.Memory.{part, overwritten}
 use Rattle.flat_mem.specs.Parts.{length-overwritten, part-overwritten_same}
 use Rattle.alloc_map.specs.Bits.{is_used, AreAll, free_in, IsMarked}
-use Rattle.alloc_map.specs.Pages.{next_page}
+use Rattle.alloc_map.specs.Pages.{first_sector_behind}
 use Rattle.alloc_map.proofs.BitLemmas.{free_in_same}
 
 -- a sector of the page, and the same of the whole
@@ -52,7 +52,7 @@ used_elsewhere b new n s long fits other =
     ])
 
 -- marks in a page that is written back
-pub marked_in_page : (u : Bool) (b page new : List ℕ) (at stop : ℕ) → page ≡ part b (512 * (at / 4096)) 512 → 512 * (at / 4096) + 512 ≤ length b → length new ≡ 512 → at < stop → stop ≤ next_page at
+pub marked_in_page : (u : Bool) (b page new : List ℕ) (at stop : ℕ) → page ≡ part b (512 * (at / 4096)) 512 → 512 * (at / 4096) + 512 ≤ length b → length new ≡ 512 → at < stop → stop ≤ first_sector_behind at
     → IsMarked u page new (at % 4096) (at % 4096 + (stop - at)) → IsMarked u b (overwritten b (512 * (at / 4096)) new) at stop
 marked_in_page u b page new at stop read fits long some one_page marks =
     let n : ℕ = at / 4096 in

@@ -1,7 +1,7 @@
 //! The sectors of the whole map, page by page.
 ghost use Rattle.std.specs.Prelude.{◌≡◌, ℕ, ◌+◌, ◌-◌, ◌*◌, ◌/◌, ◌≤◌, ◌<◌, Bool, true, false, not, List, IfOk, IfErr, OnOk, OnErr};
 ghost use Rattle.alloc_map.specs.Bits.{is_used, AreAll, free_in, TellsMarked, TellsOthers};
-ghost use Rattle.alloc_map.specs.Pages.{next_page, pages_to, pages_between};
+ghost use Rattle.alloc_map.specs.Pages.{first_sector_behind, pages_to, pages_between};
 
 use crate::bits;
 use flat_mem::FlatMem;
@@ -11,8 +11,8 @@ fn page_stop(at: u32, end: u32) -> u32
     requires { at < end }
     ensures more { at < result }
     ensures within { result ≤ end }
-    ensures one_page { result ≤ next_page at }
-    ensures whole { result < end → result ≡ next_page at }
+    ensures one_page { result ≤ first_sector_behind at }
+    ensures whole { result < end → result ≡ first_sector_behind at }
 {
     at + (4096 - at % 4096).min(end - at)
 }
@@ -20,7 +20,7 @@ fn page_stop(at: u32, end: u32) -> u32
 // The first sector from `at` on that is used, or is free, or `stop`. They lie in one page.
 fn find_in_page<M: FlatMem>(mem: &mut M, at: u32, stop: u32, used: bool) -> Result<u32, M::Error>
     requires order { at < stop }
-    requires one_page { stop ≤ next_page at }
+    requires one_page { stop ≤ first_sector_behind at }
     requires inside { 512 * (at / 4096) + 512 ≤ M.size mem.old }
     ensures range { IfOk result (λ s. (at ≤ s) × (s ≤ stop)) }
     ensures before { (b : List ℕ) → M.tells mem.old b → IfOk result (AreAll (not used) b at) }
@@ -66,7 +66,7 @@ pub fn find<M: FlatMem>(mem: &mut M, from: u32, end: u32, used: bool) -> Result<
 // How many of these sectors are free. They lie in one page.
 fn count_in_page<M: FlatMem>(mem: &mut M, at: u32, stop: u32) -> Result<u32, M::Error>
     requires order { at < stop }
-    requires one_page { stop ≤ next_page at }
+    requires one_page { stop ≤ first_sector_behind at }
     requires inside { 512 * (at / 4096) + 512 ≤ M.size mem.old }
     ensures count { (b : List ℕ) → M.tells mem.old b
         → IfOk result (λ n. n ≡ free_in b at (stop - at)) }
@@ -107,7 +107,7 @@ pub fn count_free<M: FlatMem>(mem: &mut M, from: u32, end: u32) -> Result<u32, M
 // Marks these sectors used or free. They lie in one page.
 fn set_in_page<M: FlatMem>(mem: &mut M, at: u32, stop: u32, used: bool) -> Result<(), M::Error>
     requires order { at < stop }
-    requires one_page { stop ≤ next_page at }
+    requires one_page { stop ≤ first_sector_behind at }
     requires inside { 512 * (at / 4096) + 512 ≤ M.size mem.old }
     ensures marked { (b : List ℕ) → M.tells mem.old b
         → OnOk result (TellsMarked used (M.tells mem.new) b at stop) }

@@ -17,8 +17,8 @@ use Rattle.fault_core.specs.Unit.{file_page}
 pub one_page : (address count : ℕ) → 1 ≤ count → address % 512 + count ≤ 512 → address / 512 ≡ last_page address count
 one_page address count some fits = omega (arith, some, fits)
 
-pub next_page : (address count : ℕ) → count ≤ 512 → 512 < address % 512 + count → address / 512 + 1 ≡ last_page address count
-next_page address count few past = omega (arith, few, past)
+pub last_is_next : (address count : ℕ) → count ≤ 512 → 512 < address % 512 + count → address / 512 + 1 ≡ last_page address count
+last_is_next address count few past = omega (arith, few, past)
 
 pub next_address : (address : ℕ) → (address + (512 - address % 512)) / 512 ≡ address / 512 + 1
 next_address address = omega arith

@@ -7,7 +7,7 @@ use Rattle.std.proofs.lemmas.List.FromFn.{fill_by_all}
 use Rattle.std.proofs.lemmas.List.Edits.{length-remove, get_or-remove_below, get_or-remove_above}
 use Rattle.flat_mem.specs.Order.{entry_at}
 use Rattle.record_table.specs.Table.{per_page, pages_of, entry, entries, TellsEntries}
-use Rattle.record_table.specs.Moves.{next_page, MovesDown}
+use Rattle.record_table.specs.Moves.{first_place_behind, MovesDown}
 use Rattle.record_table.proofs.Places.{per_page_some, length-entries, entry_of, below_from_product}
 
 -- the memory tells bytes whose entries from the end on are those of the list of n - 1 entries. The others are the old ones, and the one at the end is carried
@@ -28,8 +28,8 @@ IsEnd e at n end = (at < end) → (end ≡ n) ⊎ ((s : ℕ) × (end ≡ s * per
 pub record IsRow (e at n end from : ℕ) : Type 0 where
   pub before : from < end
   pub at_least : at ≤ from
-  pub reaches : end ≤ next_page e from
-  pub even : end < n → next_page e from ≡ end
+  pub reaches : end ≤ first_place_behind e from
+  pub even : end < n → first_place_behind e from ≡ end
   pub pages : pages_of e end ≡ from / per_page e + 1
   pub row : (from ≡ at) ⊎ (from ≡ from / per_page e * per_page e)
 

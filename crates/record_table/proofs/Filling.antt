@@ -7,7 +7,7 @@ use Rattle.std.proofs.lemmas.List.FromFn.{fill_by_all}
 use Rattle.std.proofs.lemmas.List.Edits.{length-insert, get_or-insert_below, get_or-insert_at, get_or-insert_above}
 use Rattle.flat_mem.specs.Order.{entry_at}
 use Rattle.record_table.specs.Table.{per_page, capacity_of, pages_of, entry, entries, TellsEntries}
-use Rattle.record_table.specs.Moves.{next_page, MovesUp}
+use Rattle.record_table.specs.Moves.{first_place_behind, MovesUp}
 use Rattle.record_table.proofs.Places.{per_page_some, length-entries, entry_of, below_from_product}
 
 -- the memory tells bytes whose first entries, up to the place, are those of the list of n + 1 entries. The others are the old ones, and the next of the list is carried
@@ -27,15 +27,15 @@ module _ (e : ℕ) (some : 1 ≤ e) (most : e ≤ 64) where
   p_some : 0 < p
   p_some = per_page_some e some most
 
-  pub behind_place : (i : ℕ) → i < next_page e i
+  pub behind_place : (i : ℕ) → i < first_place_behind e i
   behind_place i = omega (arith, div-add-mod' i p, mod_below i p p_some)
 
-  pub next_is : (i : ℕ) → (i - i % p) + p ≡ next_page e i
+  pub next_is : (i : ℕ) → (i - i % p) + p ≡ first_place_behind e i
   next_is i = omega (arith, div-add-mod' i p)
 
-  pub next_row : (i : ℕ) → next_page e i / p ≡ i / p + 1
+  pub next_row : (i : ℕ) → first_place_behind e i / p ≡ i / p + 1
   next_row i =
-      let even : next_page e i ≡ next_page e i + 0 = omega arith in
+      let even : first_place_behind e i ≡ first_place_behind e i + 0 = omega arith in
       ap (λ (x : ℕ). x / p) even ∙ div-mul-add (i / p + 1) p 0 p_some
 
   -- the row of a place is one of those that hold the entries up to it
@@ -85,7 +85,7 @@ module _ (e : ℕ) (some : 1 ≤ e) (most : e ≤ 64) (b : List ℕ) (at n : ℕ
   }
 
   pub fill_more : (tells tells_now : List ℕ → Type 0) (place : ℕ) (carried taken : List ℕ) → at ≤ place → place ≤ n → (was : IsFilling e tells b (insert (entries e b n) at new) n place carried)
-      → MovesUp e tells_now was.now place carried taken → IsFilling e tells_now b (insert (entries e b n) at new) n (next_page e place) taken
+      → MovesUp e tells_now was.now place carried taken → IsFilling e tells_now b (insert (entries e b n) at new) n (first_place_behind e place) taken
   fill_more tells tells_now place carried taken from inside_count was moved = record {
     now = moved.now;
     told = moved.told;
@@ -101,9 +101,9 @@ module _ (e : ℕ) (some : 1 ≤ e) (most : e ≤ 64) (b : List ℕ) (at n : ℕ
     ];
     rest = λ i past. moved.others i (inr past) ∙ was.rest i (omega (arith, past, behind_place e some most place));
     carries = λ more.
-        let next : next_page e place ≡ (next_page e place - 1) + 1 = omega (arith, behind_place e some most place) in
-        moved.out (next_page e place - 1) (sym next) ∙ was.rest (next_page e place - 1) (omega (arith, behind_place e some most place))
-        ∙ sym (ap (entry_at xs) next ∙ xs_above (next_page e place - 1) (omega (arith, from, behind_place e some most place)) (omega (arith, more, behind_place e some most place)));
+        let next : first_place_behind e place ≡ (first_place_behind e place - 1) + 1 = omega (arith, behind_place e some most place) in
+        moved.out (first_place_behind e place - 1) (sym next) ∙ was.rest (first_place_behind e place - 1) (omega (arith, behind_place e some most place))
+        ∙ sym (ap (entry_at xs) next ∙ xs_above (first_place_behind e place - 1) (omega (arith, from, behind_place e some most place)) (omega (arith, more, behind_place e some most place)));
   }
 
   pub fill_end : (tells : List ℕ → Type 0) (place : ℕ) (carried : List ℕ) → n < place → IsFilling e tells b (insert (entries e b n) at new) n place carried → TellsEntries e tells (n + 1) (insert (entries e b n) at new)

@@ -6,7 +6,7 @@ use Rattle.flat_mem.specs.Memory.{part, overwritten}
 use Rattle.flat_mem.specs.Parts.{part-part, part-overwritten_below, part-overwritten_above, part-overwritten_same}
 use Rattle.record_table.specs.Table.{place, per_page, entry}
 use Rattle.record_table.specs.Pages.{IsPushed, IsPulled}
-use Rattle.record_table.specs.Moves.{next_page, MovesUp, MovesDown}
+use Rattle.record_table.specs.Moves.{first_place_behind, MovesUp, MovesDown}
 use Rattle.record_table.proofs.Places.{place_in_page, per_page_some, ends_in_page, below_from_product}
 
 module _ (e : ℕ) (some : 1 ≤ e) (most : e ≤ 64) where
@@ -48,15 +48,15 @@ module _ (e : ℕ) (some : 1 ≤ e) (most : e ≤ 64) where
     inside : at % per_page e < per_page e
     inside = mod_below at (per_page e) page_some
 
-    written : (i : ℕ) → first ≤ i → i < next_page e at → entry e now i ≡ part page (e * (i - first)) e
+    written : (i : ℕ) → first ≤ i → i < first_place_behind e at → entry e now i ≡ part page (e * (i - first)) e
     written i from below =
         in_slot now (at / per_page e) i from below ∙ ap (λ (x : List ℕ). part x (e * (i - first)) e) (part-overwritten_same b page (512 * (at / per_page e)) 512 long (omega (arith, long, fits)))
 
     -- an entry whose slot stays
-    stays : (i : ℕ) → first ≤ i → i < next_page e at → part page (e * (i - first)) e ≡ part (part b (512 * (at / per_page e)) 512) (e * (i - first)) e → entry e now i ≡ entry e b i
+    stays : (i : ℕ) → first ≤ i → i < first_place_behind e at → part page (e * (i - first)) e ≡ part (part b (512 * (at / per_page e)) 512) (e * (i - first)) e → entry e now i ≡ entry e b i
     stays i from below same = written i from below ∙ same ∙ sym (in_slot b (at / per_page e) i from below)
 
-    others : ((j : ℕ) → j < at % per_page e → part page (e * j) e ≡ part (part b (512 * (at / per_page e)) 512) (e * j) e) → (i : ℕ) → (i < at) ⊎ (next_page e at ≤ i) → entry e now i ≡ entry e b i
+    others : ((j : ℕ) → j < at % per_page e → part page (e * j) e ≡ part (part b (512 * (at / per_page e)) 512) (e * j) e) → (i : ℕ) → (i < at) ⊎ (first_place_behind e at ≤ i) → entry e now i ≡ entry e b i
     others below i (inr behind) = in_other_page b page (at / per_page e) i long fits (inr behind)
     others below i (inl before) = elim (cases_lt i first) [
       | inl front ↦ in_other_page b page (at / per_page e) i long fits (inl front)

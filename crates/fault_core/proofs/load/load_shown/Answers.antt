@@ -6,7 +6,7 @@ use Rattle.filer_kernel.proofs.Outcomes.{err_wider, on_ok_wider}
 use Rattle.fault_core.specs.Reach.{ReachHalts, no_break}
 use Rattle.fault_core.specs.Unit.{IsWhole}
 use Rattle.fault_core.specs.View.{view_of}
-use Rattle.fault_core.proofs.PieceLemmas.{one_page, next_page, loads_first, loads_next, one_loaded, two_loaded}
+use Rattle.fault_core.proofs.PieceLemmas.{one_page, last_is_next, loads_first, loads_next, one_loaded, two_loaded}
 use Rattle.fault_core.proofs.ReachLemmas.{known_after, halts_before, reaches_then}
 use Rattle.fault_core.proofs.ShowLemmas.{came_first, came_last}
 use Rattle.fault_core.proofs.load.load_shown.Goals as goal
@@ -59,7 +59,7 @@ returns-clause-bytes g c = λ m named b ss known seen also.
 pub returns-clause-whole : goal.returns-clause-whole
 returns-clause-whole g c =
     let past = c.if-into-room.false in
-    let page = next_page c.args.address (length c.args.into.now) c.requires.few (omega (arith, past)) in
+    let page = last_is_next c.args.address (length c.args.into.now) c.requires.few (omega (arith, past)) in
     on_ok_wider c.load_in-3.result _ _ (λ whole. subst (IsWhole c.load_in-3.new.filer.swapper.pool c.args.last.now) page whole) c.load_in-3.ensures.whole
 
 pub returns-clause-cause : goal.returns-clause-cause
@@ -86,7 +86,7 @@ pub returns-clause-idle : goal.returns-clause-idle
 returns-clause-idle g c = λ first last.
     let past = c.if-into-room.false in
     let one = c.in-Ok.ensures.idle first in
-    let page = next_page c.args.address (length c.args.into.now) c.requires.few (omega (arith, past)) in
+    let page = last_is_next c.args.address (length c.args.into.now) c.requires.few (omega (arith, past)) in
     let whole : IsWhole c.load_in-2.new.filer.swapper.pool c.args.last.now (c.args.address / 512 + 1) = rw (one.1, page) last in
     let two = c.load_in-3.ensures.idle whole in
     (two.0, two.1 ∙ one.1)

@@ -15,7 +15,7 @@ use Rattle.fault_core.specs.Unit.{AreShownStored, IsWhole, file_page}
 use Rattle.fault_core.specs.View.{view_of}
 use Rattle.fault_core.proofs.BeforeLemmas.{halt_before, touches_then, touches_wider}
 use Rattle.fault_core.proofs.LeaveLemmas.{still_stored, stored_on_one, stored_none, stored_first, stored_both, on_err_wider}
-use Rattle.fault_core.proofs.PieceLemmas.{one_page, next_page}
+use Rattle.fault_core.proofs.PieceLemmas.{one_page, last_is_next}
 use Rattle.fault_core.proofs.ShowLemmas.{came_first, came_last}
 use Rattle.fault_core.proofs.store.store_shown.Given as given
 use Rattle.fault_core.proofs.store.store_shown.Goals as goal
@@ -84,7 +84,7 @@ returns-clause-halted g c = λ m named b ss known seen.
 pub returns-clause-whole : goal.returns-clause-whole
 returns-clause-whole g c =
     let past = c.if-bytes-room.false in
-    let page = next_page c.args.address (length c.args.bytes.now) c.requires.few (omega (arith, past)) in
+    let page = last_is_next c.args.address (length c.args.bytes.now) c.requires.few (omega (arith, past)) in
     on_ok_wider c.store_in-3.result _ _ (λ whole. subst (IsWhole c.store_in-3.new.filer.swapper.pool c.args.last.now) page whole) c.store_in-3.ensures.whole
 
 pub returns-clause-cause : goal.returns-clause-cause
@@ -103,7 +103,7 @@ returns-clause-sound g c = λ m named b known first last.
 pub returns-clause-touches : goal.returns-clause-touches
 returns-clause-touches g c =
     let past = c.if-bytes-room.false in
-    let page = next_page c.args.address (length c.args.bytes.now) c.requires.few (omega (arith, past)) in
+    let page = last_is_next c.args.address (length c.args.bytes.now) c.requires.few (omega (arith, past)) in
     let pages = of_reference c.args.first.now c.args.last.now c.args.address (length c.args.bytes.now) in
     touches_then (view_of c.args.filer.now) (view_of c.store_in-2.new.filer) c.args.filer.now.swapper.accepted (touches_wider (this_page c.args.first.now.id (file_page c.args.first.now (c.args.address / 512))) pages (λ id number own. inl own) c.store_in-2.ensures.touches) (view_of c.store_in-3.new.filer)
     (touches_wider (this_page c.args.last.now.id (file_page c.args.last.now (c.args.address / 512 + 1))) pages (λ id number own. inr (own.0, own.1 ∙ ap (λ (p : ℕ). file_page c.args.last.now p) page)) c.store_in-3.ensures.touches)
@@ -116,7 +116,7 @@ pub returns-clause-idle : goal.returns-clause-idle
 returns-clause-idle g c = λ first last.
     let past = c.if-bytes-room.false in
     let one = c.in-Ok.ensures.idle first in
-    let page = next_page c.args.address (length c.args.bytes.now) c.requires.few (omega (arith, past)) in
+    let page = last_is_next c.args.address (length c.args.bytes.now) c.requires.few (omega (arith, past)) in
     let was : IsWhole c.args.filer.now.swapper.pool c.args.last.now (c.args.address / 512 + 1) = rw page last in
     let two = c.store_in-3.ensures.idle (λ other own. one.2 c.args.last.now.id (file_page c.args.last.now other) (was other own)) in
     (two.0, two.1 ∙ one.1)

@@ -1,6 +1,6 @@
 use Rattle.std.proofs.Common.{◌≡◌, ◌+◌, ◌-◌, ◌*◌, ◌/◌, ◌%◌, ◌≤◌, ℕ, List, insert, arith}
 use Rattle.record_table.specs.Table.{per_page, pages_of, entries}
-use Rattle.record_table.specs.Moves.{next_page}
+use Rattle.record_table.specs.Moves.{first_place_behind}
 use Rattle.record_table.proofs.Filling.{IsFilling, behind_place, next_is, next_row, row_below, one_more, at_most_rows, fill_start, fill_more, fill_end}
 use Rattle.record_table.proofs.moves.put_at.Goals as goal
 
@@ -27,7 +27,7 @@ moving-preserved g c =
     let most = c.requires.most in
     let place = c.moving.place in
     let inside : place ≤ c.args.count = omega (arith, c.moving-test.true) in
-    let next : (place - place % per_page e) + per_page e ≡ next_page e place = next_is e some most place in
+    let next : (place - place % per_page e) + per_page e ≡ first_place_behind e place = next_is e some most place in
     rw (next, next_row e some most place) record {
       order = omega (arith, c.moving.invariant.order, behind_place e some most place);
       kept = g.met.M.FlatMem.beside_through _ _ _ c.moving.invariant.kept c.push_page.ensures.kept;
