@@ -45,11 +45,11 @@ place_fits ss parent pages None p is e = either (lowest_gap ss p pages) refl (of
 pub clear_of : (ss : List Space) (p x : Space) → fits ss p x.pages x.first ≡ true → p.handle ≡ x.parent → (s : Space) → In s ss → is_child_of x.parent s ≡ true → overlap x s ≡ false
 clear_of ss p x f e s i child =
     let outer = and_parts (nat_le p.first x.first && nat_le (x.first + x.pages) (end p)) (is_clear ss p x.pages x.first) f in
-    let passed = all_pass (λ t. not (is_child_of p.handle t && nat_lt t.first (x.first + x.pages) && nat_lt x.first (end t))) ss outer.1 s i in
+    let passed = all_pass (λ t. not (is_child_of p.handle t && (nat_lt t.first (x.first + x.pages) && nat_lt x.first (end t)))) ss outer.1 s i in
     let mine : is_child_of p.handle s ≡ true = ap (λ (n : ℕ). is_child_of n s) e ∙ child in
     overlap_swap x s ∙ right (is_child_of p.handle s) (nat_lt s.first (x.first + x.pages)) (nat_lt x.first (end s)) mine passed
   where
-    right : (a b c : Bool) → a ≡ true → not (a && b && c) ≡ true → b && c ≡ false
+    right : (a b c : Bool) → a ≡ true → not (a && (b && c)) ≡ true → b && c ≡ false
     right false b c t f = absurd (false≢true t)
     right true false c t f = refl
     right true true false t f = refl

@@ -89,7 +89,7 @@ no_spaces spaces = then_some (nat_lt 511 (length spaces)) why.Spaces
 -- so many pages from the first one on are over no child of the parent
 abbrev pub is_clear : List Space → Space → ℕ → ℕ → Bool
 is_clear spaces parent pages first =
-    list_all (λ s. not (is_child_of parent.handle s && nat_lt s.first (first + pages) && nat_lt first (end s))) spaces
+    list_all (λ s. not (is_child_of parent.handle s && overlap s (record parent { first = first; pages = pages }))) spaces
 
 -- they lie inside the parent, and are over none of its children
 abbrev pub fits : List Space → Space → ℕ → ℕ → Bool

@@ -1,5 +1,8 @@
 //! Spaces, the windows that they have on files, and pages of files.
 
+ghost use Rattle.std.specs.Prelude.{◌≡◌};
+ghost use Rattle.flat_machine.specs.Space.{end, overlap};
+
 use labelled_disk::FileId;
 
 /// Which file is shown, from which of its pages on, and how.
@@ -22,6 +25,22 @@ pub struct Space {
     /// So many pages are swapped together.
     pub unit: u8,
     pub window: Option<Window>,
+}
+
+impl Space {
+    /// The first page behind the space.
+    pub fn end(&self) -> u64
+        ensures { result ≡ end self.now }
+    {
+        u64::from(self.first) + u64::from(self.pages)
+    }
+
+    /// Whether some page is in both spaces.
+    pub fn overlaps(&self, other: &Space) -> bool
+        ensures { result ≡ overlap self.now other.now }
+    {
+        u64::from(self.first) < other.end() && u64::from(other.first) < self.end()
+    }
 }
 
 /// A page of a file. Its number has room for the sum of a window's first page and a page of its

@@ -8,17 +8,21 @@ ghost use Rattle.flat_machine.specs.Refusal as of_call;
 ghost use Rattle.flat_machine.specs.Next as after;
 ghost use Rattle.slow_machine.specs.Lists.{gap_with};
 
-use crate::look::{end, is_child_of};
+use crate::look::is_child_of;
 use flat_machine::Space;
 
 /// Whether so many pages from that one on are over no child of the parent.
 fn is_clear(spaces: &[Space], parent: &Space, pages: u32, first: u32) -> bool
     ensures { result ≡ of_call.is_clear spaces.now parent.now pages first }
 {
-    let behind = u64::from(first) + u64::from(pages);
-    spaces.iter().all(|s| {
-        !(is_child_of(parent.handle, s) && u64::from(s.first) < behind && u64::from(first) < end(s))
-    })
+    let place = Space {
+        first,
+        pages,
+        ..*parent
+    };
+    spaces
+        .iter()
+        .all(|s| !(is_child_of(parent.handle, s) && s.overlaps(&place)))
 }
 
 /// Whether so many pages from that one on lie inside the parent, and over none of its children.
@@ -27,7 +31,7 @@ pub fn fits(spaces: &[Space], parent: &Space, pages: u32, first: u32) -> bool
 {
     let behind = u64::from(first) + u64::from(pages);
     let clear = is_clear(spaces, parent, pages, first);
-    parent.first <= first && behind <= end(parent) && clear
+    parent.first <= first && behind <= parent.end() && clear
 }
 
 /// The lowest gap so far, or the one behind this space.
@@ -41,7 +45,7 @@ fn with_gap_behind(
     requires { of_space.end s.now ≤ of_space.root_pages }
     ensures { result ≡ gap_with spaces.now parent.now pages lowest s.now }
 {
-    let behind = end(s) as u32;
+    let behind = s.end() as u32;
     if !is_child_of(parent.handle, s) || !fits(spaces, parent, pages, behind) {
         return lowest;
     }

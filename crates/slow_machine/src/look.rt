@@ -22,23 +22,10 @@ pub fn used<A: Allocator>(files: &[StoredFile<A>]) -> u32
     sectors as u32
 }
 
-/// The first page behind a space.
-pub fn end(space: &Space) -> u64
-    ensures { result ≡ of_space.end space.now }
-{
-    u64::from(space.first) + u64::from(space.pages)
-}
-
 pub fn holds(space: &Space, page: u64) -> bool
     ensures { result ≡ of_space.holds space.now page }
 {
-    u64::from(space.first) <= page && page < end(space)
-}
-
-pub fn overlap(s: &Space, t: &Space) -> bool
-    ensures { result ≡ of_space.overlap s.now t.now }
-{
-    u64::from(s.first) < end(t) && u64::from(t.first) < end(s)
+    u64::from(space.first) <= page && page < space.end()
 }
 
 pub fn is_child_of(parent: u32, space: &Space) -> bool
@@ -188,7 +175,7 @@ pub fn lowest_mapped_over(spaces: &[Space], s: &Space) -> Option<u32>
 {
     spaces
         .iter()
-        .find(|t| t.window.is_some() && overlap(s, t))
+        .find(|t| t.window.is_some() && s.overlaps(t))
         .map(|t| t.handle)
 }
 

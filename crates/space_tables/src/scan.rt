@@ -1,7 +1,6 @@
 //! Passes over the hierarchy.
 ghost use Rattle.std.specs.Prelude.{◌≡◌, ◌≢◌, ℕ, ◌+◌, ◌*◌, ◌<◌, ◌≤◌, true, List, Option, Some, None, IfOk, IfErr, IfSome, MatchResult, slice_get, find};
 ghost use Rattle.flat_machine.specs.declared.space.Space.{Space};
-ghost use Rattle.flat_machine.specs.Space.{end, overlap};
 ghost use Rattle.projection_laws.specs.Sight.{Interval};
 ghost use Rattle.projection_laws.specs.Slots.{listed};
 ghost use Rattle.projection_laws.specs.Stored.{slot_in};
@@ -27,24 +26,12 @@ pub enum Test {
     Shows(FileId, bool),
 }
 
-fn end_of(s: &Space) -> u64
-    ensures { result ≡ end s.now }
-{
-    u64::from(s.first) + u64::from(s.pages)
-}
-
-fn overlap(s: &Space, t: &Space) -> bool
-    ensures { result ≡ overlap s.now t.now }
-{
-    u64::from(s.first) < end_of(t) && u64::from(t.first) < end_of(s)
-}
-
 fn passes(test: &Test, s: &Space) -> bool
     ensures { result ≡ passes test.now s.now }
 {
     match test {
         Test::ChildOf(parent) => s.handle != 0 && s.parent == *parent,
-        Test::OnPath(t) => s.window.is_some() && overlap(t, s),
+        Test::OnPath(t) => s.window.is_some() && t.overlaps(s),
         Test::Shows(id, writable_only) => match s.window {
             Some(window) => window.file == *id && (!*writable_only || window.writable),
             None => false,
