@@ -3,7 +3,7 @@ use Rattle.std.proofs.Common.{◌≡◌, ℕ, ◌/◌, Bool, true, false, List, 
 use Rattle.std.specs.declared.result.Result.{Result}
 use Rattle.page_tree.specs.declared.error.TreeError.{TreeError}
 use Rattle.page_tree.specs.declared.error.TreeError.TheVariants.{Full, Malformed, Mem}
-use Rattle.page_tree.specs.Answer.{IsNextEntry, FromMemory, IfMem, IfMemory, IfFull}
+use Rattle.page_tree.specs.Answer.{IsNextEntry, FromMemory, IfMemNotFull, IfMemory, IfFull}
 use Rattle.page_tree.specs.Broken.{IfMalformed}
 use Rattle.page_tree.specs.Tells.{IsInserted, IsFull, IsTakenOut, IsPutOver}
 use Rattle.page_tree.specs.Put.{capacity_of}
@@ -34,7 +34,7 @@ put (Ok x) pages lists xs entry h = record { at = h.at; within = h.within; behin
 put (Err e) pages lists xs entry h = full pages lists xs e h
 
 pub cause : {T X : Type 0} (r : Result T (TreeError X)) (tells : List ℕ → Type 0) (breaks : List ℕ → ℕ → Type 0) (shows : Sight → Type 0) (accounted : X → Type 0)
-    → ((page : ℕ) → ((b : List ℕ) → tells b → breaks b page) → shows (Broken page)) → ((b : List ℕ) → tells b → IfErr r (IfMalformed (breaks b))) → IfErr r (IfMem accounted) → IfErr r (IsCause ⊥ shows accounted)
+    → ((page : ℕ) → ((b : List ℕ) → tells b → breaks b page) → shows (Broken page)) → ((b : List ℕ) → tells b → IfErr r (IfMalformed (breaks b))) → IfErr r (IfMemNotFull accounted) → IfErr r (IsCause ⊥ shows accounted)
 cause (Ok x) tells breaks shows accounted shown broken known = tt
 cause (Err Full) tells breaks shows accounted shown broken known = known
 cause (Err (Malformed page)) tells breaks shows accounted shown broken known = shown page broken

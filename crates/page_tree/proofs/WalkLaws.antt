@@ -8,7 +8,7 @@ use Rattle.page_tree.specs.Tree.{Node, node_at, items_of, before, heads, IsTower
 use Rattle.page_tree.specs.Path.{IsPath, IsLed, first_leaf_below, leaf_under}
 use Rattle.page_tree.specs.Broken.{IsInnerForm, IsLeafForm, Meets}
 use Rattle.page_tree.specs.Met.{IsMetPath}
-use Rattle.page_tree.specs.Answer.{IfMem, IfMemory, IfFull}
+use Rattle.page_tree.specs.Answer.{IfMemNotFull, IfMemory, IfFull}
 use Rattle.page_tree.specs.Tells.{StandsIn}
 use Rattle.page_tree.specs.declared.error.TreeError.{TreeError}
 use Rattle.page_tree.specs.declared.error.TreeError.TheVariants.{Full, Malformed, Mem}
@@ -131,18 +131,18 @@ key_part e k page key i t within is = ap (λ (x : List ℕ). at_most x key) (tak
 pub stands_at : (e k : ℕ) (b page into : List ℕ) (home i : ℕ) → Meets k b 1 home → page ≡ page_at b home → kind_of page ≡ 1 → i < filled page → into ≡ record_at e page i → StandsIn e k b into home
 stands_at e k b page into home i met read kind below is = record { met = met; at = i; leaf = ap kind_of (sym read) ∙ kind; below = rw (← read) below; is = is ∙ ap (λ (x : List ℕ). record_at e x i) read }
 
-pub mem_wider : {X : Type 0} (P Q : X → Type 0) (why : TreeError X) → ((x : X) → P x → Q x) → IfMem P why → IfMem Q why
+pub mem_wider : {X : Type 0} (P Q : X → Type 0) (why : TreeError X) → ((x : X) → P x → Q x) → IfMemNotFull P why → IfMemNotFull Q why
 mem_wider P Q Full f h = h
 mem_wider P Q (Malformed page) f h = tt
 mem_wider P Q (Mem error) f h = f error h
 
-pub memory_wider : {X : Type 0} (P Q : X → Type 0) (why : TreeError X) → ((x : X) → P x → Q x) → IfMem P why → IfMemory Q why
+pub memory_wider : {X : Type 0} (P Q : X → Type 0) (why : TreeError X) → ((x : X) → P x → Q x) → IfMemNotFull P why → IfMemory Q why
 memory_wider P Q Full f h = tt
 memory_wider P Q (Malformed page) f h = tt
 memory_wider P Q (Mem error) f h = f error h
 
 -- an error that is never that the tree is full
-pub never_full : {X : Type 0} (P : X → Type 0) (F : Type 0) (why : TreeError X) → IfMem P why → IfFull F why
+pub never_full : {X : Type 0} (P : X → Type 0) (F : Type 0) (why : TreeError X) → IfMemNotFull P why → IfFull F why
 never_full P F Full h = absurd h
 never_full P F (Malformed page) h = tt
 never_full P F (Mem error) h = tt

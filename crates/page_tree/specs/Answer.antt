@@ -22,12 +22,12 @@ FromMemory (Malformed page) = ⊥
 FromMemory (Mem error) = Unit {0}
 
 -- an error of the memory has this property; the call never finds the tree full
-abbrev pub IfMem : {X : Type 0} → (X → Type 0) → TreeError X → Type 0
-IfMem P Full = ⊥
-IfMem P (Malformed page) = Unit {0}
-IfMem P (Mem error) = P error
+abbrev pub IfMemNotFull : {X : Type 0} → (X → Type 0) → TreeError X → Type 0
+IfMemNotFull P Full = ⊥
+IfMemNotFull P (Malformed page) = Unit {0}
+IfMemNotFull P (Mem error) = P error
 
--- the same of a call that may find it full
+-- an error of the memory has this property
 abbrev pub IfMemory : {X : Type 0} → (X → Type 0) → TreeError X → Type 0
 IfMemory P Full = Unit {0}
 IfMemory P (Malformed page) = Unit {0}

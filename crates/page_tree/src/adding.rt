@@ -5,7 +5,7 @@ ghost use Rattle.page_tree.specs.Broken.{Meets, StopsInsertion, IfMalformed};
 ghost use Rattle.page_tree.specs.Way.{IsUnderWay, GoesOn};
 ghost use Rattle.page_tree.specs.Tree.{IsTree};
 ghost use Rattle.page_tree.specs.Path.{IsReached};
-ghost use Rattle.page_tree.specs.Answer.{FromMemory, IfMem, IfMemory, IfFull, CanBegin};
+ghost use Rattle.page_tree.specs.Answer.{FromMemory, IfMemNotFull, IfMemory, IfFull, CanBegin};
 ghost use Rattle.page_tree.specs.Put.{IsPut, FullOr, capacity_of};
 ghost use Rattle.page_tree.specs.Climb.{IsHead, IsReady, IsLow, IsPutIn};
 
@@ -44,7 +44,7 @@ fn put_low<M: FlatMem, const E: usize, const K: usize>(
     ensures root { header.new.root ≡ header.old.root }
     ensures same_levels { header.new.levels ≡ header.old.levels }
     ensures kept { M.beside mem.old mem.new }
-    ensures cause { IfErr result (IfMem (M.accounted mem.old mem.new)) }
+    ensures cause { IfErr result (IfMemNotFull (M.accounted mem.old mem.new)) }
     ensures cost { M.spent mem.new ≤ M.spent mem.old + 3 * M.cost }
 {
     let count = filled_of(page);
@@ -82,7 +82,7 @@ fn put_first<M: FlatMem, const E: usize, const K: usize>(
     ensures count { header.new.count ≡ header.old.count }
     ensures levels { IfOk result (λ _. header.new.levels ≤ 6) }
     ensures kept { M.beside mem.old mem.new }
-    ensures cause { IfErr result (IfMem (M.accounted mem.old mem.new)) }
+    ensures cause { IfErr result (IfMemNotFull (M.accounted mem.old mem.new)) }
     ensures cost { M.spent mem.new ≤ M.spent mem.old + 2 * M.cost }
 {
     let new = match take_page(mem, header) {
@@ -116,7 +116,7 @@ fn put_in<M: FlatMem, const E: usize, const K: usize>(
     ensures count { header.new.count ≡ header.old.count }
     ensures few { IfOk result (λ _. header.new.levels ≤ 6) }
     ensures kept { M.beside mem.old mem.new }
-    ensures cause { IfErr result (IfMem (M.accounted mem.old mem.new)) }
+    ensures cause { IfErr result (IfMemNotFull (M.accounted mem.old mem.new)) }
     ensures cost { M.spent mem.new ≤ M.spent mem.old + 31 * M.cost }
 {
     if header.levels == 0 {

@@ -2,7 +2,7 @@
 ghost use Rattle.std.specs.Prelude.{◌≡◌, ℕ, ◌+◌, ◌*◌, ◌/◌, ◌^◌, ◌<◌, ◌≤◌, List, IfOk, IfErr, IfSome, MatchResult, is_some};
 ghost use Rattle.page_tree.specs.Page.{IsWidths, filled, leaf_room, record_at};
 ghost use Rattle.page_tree.specs.Tree.{IsTree};
-ghost use Rattle.page_tree.specs.Answer.{IsNextEntry, FromMemory, IfMem};
+ghost use Rattle.page_tree.specs.Answer.{IsNextEntry, FromMemory, IfMemNotFull};
 ghost use Rattle.page_tree.specs.Broken.{Breaks, IfMalformed};
 ghost use Rattle.page_tree.specs.Tells.{StandsIn};
 
@@ -36,7 +36,7 @@ pub fn look_after<M: FlatMem, const E: usize, const K: usize>(
     ensures broken { (b : List ℕ) → M.tells mem.old b → IfErr result (IfMalformed (Breaks E K (M.size mem.old / 512) b)) }
     ensures unchanged { (b : List ℕ) → M.tells mem.old b → M.tells mem.new b }
     ensures kept { M.beside mem.old mem.new }
-    ensures cause { IfErr result (IfMem (M.accounted mem.old mem.new)) }
+    ensures cause { IfErr result (IfMemNotFull (M.accounted mem.old mem.new)) }
     ensures cost { M.spent mem.new ≤ M.spent mem.old + 18 * M.cost }
 {
     let mut page = [0; 512];

@@ -2,7 +2,7 @@
 ghost use Rattle.std.specs.Prelude.{◌≡◌, ◌≢◌, ℕ, ◌+◌, ◌*◌, ◌/◌, ◌^◌, ◌<◌, ◌≤◌, List, get_or, IfOk, IfErr, MatchResult};
 ghost use Rattle.page_tree.specs.Keys.{Item};
 ghost use Rattle.page_tree.specs.Page.{IsWidths, page_at, filled, leaf_room, key_room, link_at, IsPageOf};
-ghost use Rattle.page_tree.specs.Answer.{FromMemory, IfMem};
+ghost use Rattle.page_tree.specs.Answer.{FromMemory, IfMemNotFull};
 ghost use Rattle.page_tree.specs.Neighbours.{IsThin};
 ghost use Rattle.page_tree.specs.Thin.{IsPending, IsSecond, IsToNote};
 ghost use Rattle.page_tree.specs.Broken.{IsInnerForm, Meets, Breaks, IfMalformed};
@@ -38,7 +38,7 @@ pub fn load_above<M: FlatMem, const K: usize>(
     ensures broken { (e root : ℕ) (b c : List ℕ) → M.tells mem.old c → IsMending K b c levels level root path.now.pages path.now.index → IfErr result (IfMalformed (Breaks e K (M.size mem.old / 512) b)) }
     ensures unchanged { (b : List ℕ) → M.tells mem.old b → M.tells mem.new b }
     ensures kept { M.beside mem.old mem.new }
-    ensures cause { IfErr result (IfMem (M.accounted mem.old mem.new)) }
+    ensures cause { IfErr result (IfMemNotFull (M.accounted mem.old mem.new)) }
     ensures cost { M.spent mem.new ≤ M.spent mem.old + M.cost }
 {
     let up = path.pages[level as usize + 1];
@@ -79,7 +79,7 @@ fn load_beside<M: FlatMem, const E: usize, const K: usize>(
     ensures broken { (root levels : ℕ) (paths indexes b c : List ℕ) → M.tells mem.old c → IsMending K b c levels level root paths indexes → Meets K b (level + 1) up → IsInnerForm K (page_at b up) → IsLike K above.now (page_at b up) → index ≤ filled above.now → IfErr result (IfMalformed (Breaks E K (M.size mem.old / 512) b)) }
     ensures unchanged { (b : List ℕ) → M.tells mem.old b → M.tells mem.new b }
     ensures kept { M.beside mem.old mem.new }
-    ensures cause { IfErr result (IfMem (M.accounted mem.old mem.new)) }
+    ensures cause { IfErr result (IfMemNotFull (M.accounted mem.old mem.new)) }
     ensures cost { M.spent mem.new ≤ M.spent mem.old + M.cost }
 {
     let pages = (mem.len() / 512) as u32;
@@ -134,7 +134,7 @@ pub fn mend_beside<M: FlatMem, const E: usize, const K: usize>(
     ensures top { header.new.top ≡ header.old.top }
     ensures levels { header.new.levels ≡ header.old.levels }
     ensures kept { M.beside mem.old mem.new }
-    ensures cause { IfErr result (IfMem (M.accounted mem.old mem.new)) }
+    ensures cause { IfErr result (IfMemNotFull (M.accounted mem.old mem.new)) }
     ensures cost { M.spent mem.new ≤ M.spent mem.old + 3 * M.cost }
 {
     key_of(above, slot - 1, key);

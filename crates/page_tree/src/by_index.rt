@@ -6,7 +6,7 @@ ghost use Rattle.page_tree.specs.Tree.{Node, IsRooted, IsTree};
 ghost use Rattle.page_tree.specs.Path.{IsLed};
 ghost use Rattle.page_tree.specs.Standing.{IsStanding};
 ghost use Rattle.page_tree.specs.Climb.{IsHead};
-ghost use Rattle.page_tree.specs.Answer.{FromMemory, IfMem, IsPast, CanBegin};
+ghost use Rattle.page_tree.specs.Answer.{FromMemory, IfMemNotFull, IsPast, CanBegin};
 ghost use Rattle.page_tree.specs.Broken.{IsLeafForm, Meets, Breaks, IfMalformed};
 ghost use Rattle.page_tree.specs.Met.{IsMetPath};
 ghost use Rattle.page_tree.specs.Walked.{IsWalked};
@@ -47,7 +47,7 @@ pub fn first_leaf<M: FlatMem, const E: usize, const K: usize>(
     ensures read { (b : List ℕ) → M.tells mem.old b → IfOk result (λ leaf. page.new ≡ page_at b leaf) }
     ensures unchanged { (b : List ℕ) → M.tells mem.old b → M.tells mem.new b }
     ensures kept { M.beside mem.old mem.new }
-    ensures cause { IfErr result (IfMem (M.accounted mem.old mem.new)) }
+    ensures cause { IfErr result (IfMemNotFull (M.accounted mem.old mem.new)) }
     ensures cost { M.spent mem.new ≤ M.spent mem.old + 6 * M.cost }
 {
     match go_down::<M, E, K>(mem, levels, root, 0, path, page) {
@@ -77,7 +77,7 @@ pub fn find_place<M: FlatMem, const E: usize, const K: usize>(
     ensures read { (b : List ℕ) → M.tells mem.old b → IfOk result (λ at. page.new ≡ page_at b at.page) }
     ensures unchanged { (b : List ℕ) → M.tells mem.old b → M.tells mem.new b }
     ensures kept { M.beside mem.old mem.new }
-    ensures cause { IfErr result (IfMem (M.accounted mem.old mem.new)) }
+    ensures cause { IfErr result (IfMemNotFull (M.accounted mem.old mem.new)) }
     ensures cost { M.spent mem.new ≤ M.spent mem.old + (6 + 11 * (M.size mem.old / 512)) * M.cost }
 {
     let pages = (mem.len() / 512) as u32;
@@ -124,7 +124,7 @@ pub fn nth<M: FlatMem, const E: usize, const K: usize>(
     ensures broken { (b : List ℕ) → M.tells mem.old b → IfErr result (IfMalformed (λ page. Breaks E K (M.size mem.old / 512) b page ⊎ ((page ≡ 0) × (count_in (page_at b 0) ≤ index)))) }
     ensures unchanged { (b : List ℕ) → M.tells mem.old b → M.tells mem.new b }
     ensures kept { M.beside mem.old mem.new }
-    ensures cause { IfErr result (IfMem (M.accounted mem.old mem.new)) }
+    ensures cause { IfErr result (IfMemNotFull (M.accounted mem.old mem.new)) }
     ensures cost { M.spent mem.new ≤ M.spent mem.old + 12 * (M.size mem.old / 512) * M.cost }
 {
     let mut page = [0; 512];

@@ -1,7 +1,7 @@
 // An insertion on its way up.
 ghost use Rattle.std.specs.Prelude.{◌≡◌, ◌≢◌, ℕ, ◌+◌, ◌-◌, ◌*◌, ◌/◌, ◌^◌, ◌<◌, ◌≤◌, List, length, get_or, true, false, IfOk, IfErr, MatchResult};
 ghost use Rattle.flat_mem.specs.Memory.{overwritten};
-ghost use Rattle.page_tree.specs.Answer.{FromMemory, IfMem};
+ghost use Rattle.page_tree.specs.Answer.{FromMemory, IfMemNotFull};
 ghost use Rattle.page_tree.specs.Open.{IsTaken, CanTake};
 ghost use Rattle.page_tree.specs.Climb.{IsClimb, IsClosed, IsStep, IsStoredAs, TellsClosed};
 ghost use Rattle.page_tree.specs.Page.{IsWidths, kind_of};
@@ -36,7 +36,7 @@ pub fn store_halves<M: FlatMem>(
     ensures root { header.new.root ≡ header.old.root }
     ensures levels { header.new.levels ≡ header.old.levels }
     ensures kept { M.beside mem.old mem.new }
-    ensures cause { IfErr result (IfMem (M.accounted mem.old mem.new)) }
+    ensures cause { IfErr result (IfMemNotFull (M.accounted mem.old mem.new)) }
     ensures cost { M.spent mem.new ≤ M.spent mem.old + 3 * M.cost }
 {
     let page = match take_page(mem, header) {
@@ -79,7 +79,7 @@ pub fn put_up<M: FlatMem, const K: usize>(
     ensures root { header.new.root ≡ header.old.root }
     ensures levels { header.new.levels ≡ header.old.levels }
     ensures kept { M.beside mem.old mem.new }
-    ensures cause { IfErr result (IfMem (M.accounted mem.old mem.new)) }
+    ensures cause { IfErr result (IfMemNotFull (M.accounted mem.old mem.new)) }
     ensures cost { M.spent mem.new ≤ M.spent mem.old + 4 * M.cost }
 {
     let at = path.pages[level as usize + 1];
@@ -129,7 +129,7 @@ pub fn grow<M: FlatMem, const K: usize>(
     ensures few_now { IfOk result (λ _. header.new.levels ≤ 6) }
     ensures count { header.new.count ≡ header.old.count }
     ensures kept { M.beside mem.old mem.new }
-    ensures cause { IfErr result (IfMem (M.accounted mem.old mem.new)) }
+    ensures cause { IfErr result (IfMemNotFull (M.accounted mem.old mem.new)) }
     ensures cost { M.spent mem.new ≤ M.spent mem.old + 2 * M.cost }
 {
     if header.levels >= 6 {
@@ -171,7 +171,7 @@ pub fn climb<M: FlatMem, const K: usize>(
     ensures few_now { IfOk result (λ _. header.new.levels ≤ 6) }
     ensures count { header.new.count ≡ header.old.count }
     ensures kept { M.beside mem.old mem.new }
-    ensures cause { IfErr result (IfMem (M.accounted mem.old mem.new)) }
+    ensures cause { IfErr result (IfMemNotFull (M.accounted mem.old mem.new)) }
     ensures cost { M.spent mem.new ≤ M.spent mem.old + 22 * M.cost }
 {
     let mut level = 1;

@@ -4,7 +4,7 @@ ghost use Rattle.flat_mem.specs.Order.{key_at};
 ghost use Rattle.page_tree.specs.Page.{IsWidths, page_at, count_in};
 ghost use Rattle.page_tree.specs.Tree.{IsTree};
 ghost use Rattle.page_tree.specs.Climb.{IsHead};
-ghost use Rattle.page_tree.specs.Answer.{FromMemory, IfMem, IsPast, CanBegin};
+ghost use Rattle.page_tree.specs.Answer.{FromMemory, IfMemNotFull, IsPast, CanBegin};
 ghost use Rattle.page_tree.specs.Broken.{Breaks, IfMalformed};
 ghost use Rattle.page_tree.specs.Placed.{IsSetAt};
 
@@ -32,7 +32,7 @@ fn set_in<M: FlatMem, const E: usize, const K: usize>(
         → MatchResult result (λ _. IsSetAt E K (M.size mem.old / 512) (M.tells mem.new) records index entry.now) FromMemory }
     ensures broken { (b : List ℕ) → M.tells mem.old b → IsHead (page_at b 0) header.count header.root header.top header.free header.levels → index < header.count → IfErr result (IfMalformed (Breaks E K (M.size mem.old / 512) b)) }
     ensures kept { M.beside mem.old mem.new }
-    ensures cause { IfErr result (IfMem (M.accounted mem.old mem.new)) }
+    ensures cause { IfErr result (IfMemNotFull (M.accounted mem.old mem.new)) }
     ensures cost { M.spent mem.new ≤ M.spent mem.old + (7 + 11 * (M.size mem.old / 512)) * M.cost }
 {
     let place = match find_place::<M, E, K>(mem, header, index, path, page) {
@@ -61,7 +61,7 @@ pub fn replace<M: FlatMem, const E: usize, const K: usize>(
     ensures past_same { (b : List ℕ) → M.tells mem.old b → count_in (page_at b 0) ≤ index → M.tells mem.new b }
     ensures broken { (b : List ℕ) → M.tells mem.old b → IfErr result (IfMalformed (λ page. Breaks E K (M.size mem.old / 512) b page ⊎ ((page ≡ 0) × (count_in (page_at b 0) ≤ index)))) }
     ensures kept { M.beside mem.old mem.new }
-    ensures cause { IfErr result (IfMem (M.accounted mem.old mem.new)) }
+    ensures cause { IfErr result (IfMemNotFull (M.accounted mem.old mem.new)) }
     ensures cost { M.spent mem.new ≤ M.spent mem.old + 12 * (M.size mem.old / 512) * M.cost }
 {
     let mut page = [0; 512];

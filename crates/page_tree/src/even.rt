@@ -1,7 +1,7 @@
 // Two neighbours are written, and a page is freed.
 ghost use Rattle.std.specs.Prelude.{◌≡◌, ℕ, ◌+◌, ◌*◌, ◌/◌, ◌<◌, ◌≤◌, List, ◌++◌, IfOk, IfErr, OnOk, MatchResult};
 ghost use Rattle.page_tree.specs.Page.{IsWidths, filled};
-ghost use Rattle.page_tree.specs.Answer.{FromMemory, IfMem};
+ghost use Rattle.page_tree.specs.Answer.{FromMemory, IfMemNotFull};
 ghost use Rattle.page_tree.specs.Neighbours.{IsBalanced, IsLean};
 ghost use Rattle.page_tree.specs.Thin.{IsPair, IsEvened, IsGiven};
 ghost use Rattle.page_tree.specs.Broken.{Meets};
@@ -28,7 +28,7 @@ pub fn give_page<M: FlatMem>(
     ensures top { header.new.top ≡ header.old.top }
     ensures levels { header.new.levels ≡ header.old.levels }
     ensures kept { M.beside mem.old mem.new }
-    ensures cause { IfErr result (IfMem (M.accounted mem.old mem.new)) }
+    ensures cause { IfErr result (IfMemNotFull (M.accounted mem.old mem.new)) }
     ensures cost { M.spent mem.new ≤ M.spent mem.old + M.cost }
 {
     let mut page = [0; 512];
@@ -46,7 +46,7 @@ fn write_free<M: FlatMem>(
     requires inside { at < M.size mem.old / 512 }
     ensures given { (b : List ℕ) → M.tells mem.old b → MatchResult result (λ _. IsGiven (M.tells mem.new) b at next) FromMemory }
     ensures kept { M.beside mem.old mem.new }
-    ensures cause { IfErr result (IfMem (M.accounted mem.old mem.new)) }
+    ensures cause { IfErr result (IfMemNotFull (M.accounted mem.old mem.new)) }
     ensures cost { M.spent mem.new ≤ M.spent mem.old + M.cost }
 {
     set_free(page, next);
@@ -97,7 +97,7 @@ pub fn even_out<M: FlatMem, const E: usize, const K: usize>(
     ensures top { header.new.top ≡ header.old.top }
     ensures levels { header.new.levels ≡ header.old.levels }
     ensures kept { M.beside mem.old mem.new }
-    ensures cause { IfErr result (IfMem (M.accounted mem.old mem.new)) }
+    ensures cause { IfErr result (IfMemNotFull (M.accounted mem.old mem.new)) }
     ensures cost { M.spent mem.new ≤ M.spent mem.old + 2 * M.cost }
 {
     let joined = balance::<E, K>(level, left, right, key);

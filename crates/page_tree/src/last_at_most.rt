@@ -5,7 +5,7 @@ ghost use Rattle.page_tree.specs.Page.{IsWidths, page_at};
 ghost use Rattle.page_tree.specs.Tree.{IsTree};
 ghost use Rattle.page_tree.specs.Standing.{IsStanding};
 ghost use Rattle.page_tree.specs.Climb.{IsHead};
-ghost use Rattle.page_tree.specs.Answer.{FromMemory, IfMem, CanBegin};
+ghost use Rattle.page_tree.specs.Answer.{FromMemory, IfMemNotFull, CanBegin};
 ghost use Rattle.page_tree.specs.Broken.{Breaks, IfMalformed};
 ghost use Rattle.page_tree.specs.Placed.{IsCounted};
 
@@ -32,7 +32,7 @@ fn count_to<M: FlatMem, const E: usize, const K: usize>(
     ensures broken { (b : List ℕ) → M.tells mem.old b → IsHead (page_at b 0) header.count header.root header.top header.free header.levels → IfErr result (IfMalformed (Breaks E K (M.size mem.old / 512) b)) }
     ensures unchanged { (b : List ℕ) → M.tells mem.old b → M.tells mem.new b }
     ensures kept { M.beside mem.old mem.new }
-    ensures cause { IfErr result (IfMem (M.accounted mem.old mem.new)) }
+    ensures cause { IfErr result (IfMemNotFull (M.accounted mem.old mem.new)) }
     ensures cost { M.spent mem.new ≤ M.spent mem.old + (6 + 11 * (M.size mem.old / 512)) * M.cost }
 {
     let pages = (mem.len() / 512) as u32;
@@ -74,7 +74,7 @@ pub fn find_last_at_most<M: FlatMem, const E: usize, const K: usize>(
     ensures broken { (b : List ℕ) → M.tells mem.old b → IfErr result (IfMalformed (Breaks E K (M.size mem.old / 512) b)) }
     ensures unchanged { (b : List ℕ) → M.tells mem.old b → M.tells mem.new b }
     ensures kept { M.beside mem.old mem.new }
-    ensures cause { IfErr result (IfMem (M.accounted mem.old mem.new)) }
+    ensures cause { IfErr result (IfMemNotFull (M.accounted mem.old mem.new)) }
     ensures cost { M.spent mem.new ≤ M.spent mem.old + 12 * (M.size mem.old / 512) * M.cost }
 {
     let mut page = [0; 512];

@@ -9,7 +9,7 @@ ghost use Rattle.page_tree.specs.Put.{capacity_of};
 ghost use Rattle.page_tree.specs.Broken.{AreInForm, Meets, Breaks, IfMalformed};
 ghost use Rattle.page_tree.specs.Met.{IsMetPath};
 ghost use Rattle.page_tree.specs.Tells.{StandsIn};
-ghost use Rattle.page_tree.specs.Answer.{IsLastEntry, IsLastInPage, CanBegin, FromMemory, IfMem, IsPast};
+ghost use Rattle.page_tree.specs.Answer.{IsLastEntry, IsLastInPage, CanBegin, FromMemory, IfMemNotFull, IsPast};
 
 use crate::error::TreeError;
 use crate::pages::{Page, count_at_most, filled_of, link_of, load};
@@ -71,7 +71,7 @@ pub fn descend<M: FlatMem, const E: usize, const K: usize>(
     ensures broken { (b : List ℕ) → M.tells mem.old b → Meets K b levels root → IfErr result (IfMalformed (Breaks E K (M.size mem.old / 512) b)) }
     ensures unchanged { (b : List ℕ) → M.tells mem.old b → M.tells mem.new b }
     ensures kept { M.beside mem.old mem.new }
-    ensures cause { IfErr result (IfMem (M.accounted mem.old mem.new)) }
+    ensures cause { IfErr result (IfMemNotFull (M.accounted mem.old mem.new)) }
     ensures cost { M.spent mem.new ≤ M.spent mem.old + levels * M.cost }
 {
     let pages = (mem.len() / 512) as u32;
@@ -169,7 +169,7 @@ pub fn read_header<M: FlatMem, const E: usize, const K: usize>(
     ensures broken { (b : List ℕ) → M.tells mem.old b → IfErr result (IfMalformed (Breaks E K (M.size mem.old / 512) b)) }
     ensures unchanged { (b : List ℕ) → M.tells mem.old b → M.tells mem.new b }
     ensures kept { M.beside mem.old mem.new }
-    ensures cause { IfErr result (IfMem (M.accounted mem.old mem.new)) }
+    ensures cause { IfErr result (IfMemNotFull (M.accounted mem.old mem.new)) }
     ensures cost { M.spent mem.new ≤ M.spent mem.old + M.cost }
 {
     let pages = (mem.len() / 512) as u32;
@@ -193,7 +193,7 @@ pub fn count<M: FlatMem, const E: usize, const K: usize>(
     ensures broken { (b : List ℕ) → M.tells mem.old b → IfErr result (IfMalformed (Breaks E K (M.size mem.old / 512) b)) }
     ensures unchanged { (b : List ℕ) → M.tells mem.old b → M.tells mem.new b }
     ensures kept { M.beside mem.old mem.new }
-    ensures cause { IfErr result (IfMem (M.accounted mem.old mem.new)) }
+    ensures cause { IfErr result (IfMemNotFull (M.accounted mem.old mem.new)) }
     ensures cost { M.spent mem.new ≤ M.spent mem.old + M.cost }
 {
     let mut page = [0; 512];
@@ -217,7 +217,7 @@ pub fn look_up<M: FlatMem, const E: usize, const K: usize>(
     ensures broken { (b : List ℕ) → M.tells mem.old b → IfErr result (IfMalformed (Breaks E K (M.size mem.old / 512) b)) }
     ensures unchanged { (b : List ℕ) → M.tells mem.old b → M.tells mem.new b }
     ensures kept { M.beside mem.old mem.new }
-    ensures cause { IfErr result (IfMem (M.accounted mem.old mem.new)) }
+    ensures cause { IfErr result (IfMemNotFull (M.accounted mem.old mem.new)) }
     ensures cost { M.spent mem.new ≤ M.spent mem.old + 7 * M.cost }
 {
     let mut page = [0; 512];

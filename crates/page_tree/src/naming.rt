@@ -1,6 +1,6 @@
 // The new first key of a leaf, in the page above that has it.
 ghost use Rattle.std.specs.Prelude.{◌≡◌, ℕ, ◌+◌, ◌*◌, ◌/◌, ◌^◌, ◌≤◌, List, length, IfErr, MatchResult};
-ghost use Rattle.page_tree.specs.Answer.{FromMemory, IfMem};
+ghost use Rattle.page_tree.specs.Answer.{FromMemory, IfMemNotFull};
 ghost use Rattle.page_tree.specs.Named.{IsLowestTurn, CanName, IsNamed};
 
 use crate::edits::set_key;
@@ -39,7 +39,7 @@ pub fn name_leaf<M: FlatMem, const K: usize>(
     ensures named { (b : List ℕ) → M.tells mem.old b → CanName K b (M.size mem.old / 512) levels path.now.pages path.now.index → MatchResult result (λ _. IsNamed K (M.tells mem.new) b levels path.now.pages path.now.index key.now) FromMemory }
     ensures width { length key.now ≡ K }
     ensures kept { M.beside mem.old mem.new }
-    ensures cause { IfErr result (IfMem (M.accounted mem.old mem.new)) }
+    ensures cause { IfErr result (IfMemNotFull (M.accounted mem.old mem.new)) }
     ensures cost { M.spent mem.new ≤ M.spent mem.old + 2 * M.cost }
 {
     let level = match lowest_turn(path, levels) {

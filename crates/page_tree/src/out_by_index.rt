@@ -4,7 +4,7 @@ ghost use Rattle.page_tree.specs.Page.{IsWidths, page_at, filled, leaf_room, cou
 ghost use Rattle.page_tree.specs.Tree.{IsTree};
 ghost use Rattle.page_tree.specs.Standing.{IsStanding};
 ghost use Rattle.page_tree.specs.Climb.{IsHead};
-ghost use Rattle.page_tree.specs.Answer.{FromMemory, IfMem, IsPast, CanBegin};
+ghost use Rattle.page_tree.specs.Answer.{FromMemory, IfMemNotFull, IsPast, CanBegin};
 ghost use Rattle.page_tree.specs.Broken.{Meets, Breaks, IfMalformed};
 ghost use Rattle.page_tree.specs.Met.{IsMetPath};
 ghost use Rattle.page_tree.specs.Placed.{IsPlaced, IsLeft, IsOutAt};
@@ -43,7 +43,7 @@ fn take_out<M: FlatMem, const E: usize, const K: usize>(
     ensures levels { header.new.levels ≤ header.old.levels }
     ensures count { header.new.count ≡ header.old.count }
     ensures kept { M.beside mem.old mem.new }
-    ensures cause { IfErr result (IfMem (M.accounted mem.old mem.new)) }
+    ensures cause { IfErr result (IfMemNotFull (M.accounted mem.old mem.new)) }
     ensures cost { M.spent mem.new ≤ M.spent mem.old + 28 * M.cost }
 {
     let count = filled_of(page);
@@ -91,7 +91,7 @@ fn remove_in<M: FlatMem, const E: usize, const K: usize>(
     ensures few { header.new.levels ≤ 6 }
     ensures count { header.new.count ≡ header.old.count }
     ensures kept { M.beside mem.old mem.new }
-    ensures cause { IfErr result (IfMem (M.accounted mem.old mem.new)) }
+    ensures cause { IfErr result (IfMemNotFull (M.accounted mem.old mem.new)) }
     ensures cost { M.spent mem.new ≤ M.spent mem.old + (34 + 11 * (M.size mem.old / 512)) * M.cost }
 {
     let place = match find_place::<M, E, K>(mem, *header, index, path, page) {
@@ -130,7 +130,7 @@ pub fn remove<M: FlatMem, const E: usize, const K: usize>(
     ensures past_same { (b : List ℕ) → M.tells mem.old b → count_in (page_at b 0) ≤ index → M.tells mem.new b }
     ensures broken { (b : List ℕ) → M.tells mem.old b → IfErr result (IfMalformed (λ page. Breaks E K (M.size mem.old / 512) b page ⊎ ((page ≡ 0) × (count_in (page_at b 0) ≤ index)))) }
     ensures kept { M.beside mem.old mem.new }
-    ensures cause { IfErr result (IfMem (M.accounted mem.old mem.new)) }
+    ensures cause { IfErr result (IfMemNotFull (M.accounted mem.old mem.new)) }
     ensures cost { M.spent mem.new ≤ M.spent mem.old + 15 * (M.size mem.old / 512) * M.cost }
 {
     let mut head = [0; 512];

@@ -4,7 +4,7 @@ ghost use Rattle.byteorder.specs.Endian.{big_number};
 ghost use Rattle.flat_mem.specs.Memory.{part, overwritten};
 ghost use Rattle.flat_mem.specs.Order.{at_most};
 ghost use Rattle.page_tree.specs.Page.{page_at, kind_of, filled, key_room, leaf_room, links_at, link_at, key_at, count_in, root_in, levels_in, top_in, free_in};
-ghost use Rattle.page_tree.specs.Answer.{FromMemory, IfMem};
+ghost use Rattle.page_tree.specs.Answer.{FromMemory, IfMemNotFull};
 ghost use Rattle.page_tree.specs.Change.{with_record, with_cell, with_count, with_child, with_root, with_leaf, from_cell, leaf_from, inner_from};
 
 use crate::error::TreeError;
@@ -27,7 +27,7 @@ pub fn load<M: FlatMem>(mem: &mut M, index: u32, page: &mut Page) -> Result<(), 
     ensures memory { IfErr result FromMemory }
     ensures unchanged { (b : List ℕ) → M.tells mem.old b → M.tells mem.new b }
     ensures kept { M.beside mem.old mem.new }
-    ensures cause { IfErr result (IfMem (M.accounted mem.old mem.new)) }
+    ensures cause { IfErr result (IfMemNotFull (M.accounted mem.old mem.new)) }
     ensures cost { M.spent mem.new ≤ M.spent mem.old + M.cost }
 {
     match mem.read(512 * index as u64, page) {
@@ -97,7 +97,7 @@ pub fn store<M: FlatMem>(mem: &mut M, index: u32, page: &Page) -> Result<(), Tre
     ensures written { (b : List ℕ) → M.tells mem.old b → OnOk result (M.tells mem.new (overwritten b (512 * index) page.now)) }
     ensures memory { IfErr result FromMemory }
     ensures kept { M.beside mem.old mem.new }
-    ensures cause { IfErr result (IfMem (M.accounted mem.old mem.new)) }
+    ensures cause { IfErr result (IfMemNotFull (M.accounted mem.old mem.new)) }
     ensures cost { M.spent mem.new ≤ M.spent mem.old + M.cost }
 {
     match mem.write(512 * index as u64, page) {

@@ -2,7 +2,7 @@
 ghost use Rattle.std.specs.Prelude.{◌≡◌, ℕ, ◌+◌, ◌*◌, ◌/◌, ◌^◌, ◌<◌, ◌≤◌, List, false, IfOk, IfErr, MatchResult};
 ghost use Rattle.page_tree.specs.Page.{IsWidths, page_at, levels_in};
 ghost use Rattle.page_tree.specs.Tree.{IsTree};
-ghost use Rattle.page_tree.specs.Answer.{FromMemory, IfMem, CanBegin};
+ghost use Rattle.page_tree.specs.Answer.{FromMemory, IfMemNotFull, CanBegin};
 ghost use Rattle.page_tree.specs.Climb.{IsHead};
 ghost use Rattle.page_tree.specs.Removed.{IsRemoved};
 ghost use Rattle.page_tree.specs.Out.{IsOut};
@@ -39,7 +39,7 @@ fn remove_in<M: FlatMem, const E: usize, const K: usize>(
     ensures count { header.new.count ≡ header.old.count }
     ensures absent { (b : List ℕ) → M.tells mem.old b → IfOk result (λ found. found ≡ false → M.tells mem.new b) }
     ensures kept { M.beside mem.old mem.new }
-    ensures cause { IfErr result (IfMem (M.accounted mem.old mem.new)) }
+    ensures cause { IfErr result (IfMemNotFull (M.accounted mem.old mem.new)) }
     ensures cost { M.spent mem.new ≤ M.spent mem.old + 34 * M.cost }
 {
     let at = match descend::<M, E, K>(mem, header.root, header.levels, key, path, page) {
@@ -89,7 +89,7 @@ pub fn remove_key<M: FlatMem, const E: usize, const K: usize>(
     ensures broken { (b : List ℕ) → M.tells mem.old b → IfErr result (IfMalformed (Breaks E K (M.size mem.old / 512) b)) }
     ensures absent { (b : List ℕ) → M.tells mem.old b → IfOk result (λ found. found ≡ false → M.tells mem.new b) }
     ensures kept { M.beside mem.old mem.new }
-    ensures cause { IfErr result (IfMem (M.accounted mem.old mem.new)) }
+    ensures cause { IfErr result (IfMemNotFull (M.accounted mem.old mem.new)) }
     ensures cost { M.spent mem.new ≤ M.spent mem.old + 36 * M.cost }
 {
     let mut head = [0; 512];

@@ -2,7 +2,7 @@
 ghost use Rattle.std.specs.Prelude.{◌≡◌, ℕ, ◌+◌, ◌*◌, ◌/◌, ◌^◌, ◌<◌, ◌≤◌, List, take, false, IfOk, IfErr, MatchResult};
 ghost use Rattle.page_tree.specs.Page.{IsWidths, page_at};
 ghost use Rattle.page_tree.specs.Tree.{IsTree};
-ghost use Rattle.page_tree.specs.Answer.{FromMemory, IfMem, CanBegin};
+ghost use Rattle.page_tree.specs.Answer.{FromMemory, IfMemNotFull, CanBegin};
 ghost use Rattle.page_tree.specs.Climb.{IsHead};
 ghost use Rattle.page_tree.specs.Removed.{IsReplaced};
 ghost use Rattle.page_tree.specs.Broken.{Meets, Breaks, IfMalformed};
@@ -31,7 +31,7 @@ fn replace_in<M: FlatMem, const E: usize, const K: usize>(
     ensures absent { (b : List ℕ) → M.tells mem.old b → IfOk result (λ found. found ≡ false → M.tells mem.new b) }
     ensures broken { (b : List ℕ) → M.tells mem.old b → Meets K b header.levels header.root → IfErr result (IfMalformed (Breaks E K (M.size mem.old / 512) b)) }
     ensures kept { M.beside mem.old mem.new }
-    ensures cause { IfErr result (IfMem (M.accounted mem.old mem.new)) }
+    ensures cause { IfErr result (IfMemNotFull (M.accounted mem.old mem.new)) }
     ensures cost { M.spent mem.new ≤ M.spent mem.old + 7 * M.cost }
 {
     let at = match descend::<M, E, K>(mem, header.root, header.levels, key, path, page) {
@@ -61,7 +61,7 @@ pub fn replace_key<M: FlatMem, const E: usize, const K: usize>(
     ensures absent { (b : List ℕ) → M.tells mem.old b → IfOk result (λ found. found ≡ false → M.tells mem.new b) }
     ensures broken { (b : List ℕ) → M.tells mem.old b → IfErr result (IfMalformed (Breaks E K (M.size mem.old / 512) b)) }
     ensures kept { M.beside mem.old mem.new }
-    ensures cause { IfErr result (IfMem (M.accounted mem.old mem.new)) }
+    ensures cause { IfErr result (IfMemNotFull (M.accounted mem.old mem.new)) }
     ensures cost { M.spent mem.new ≤ M.spent mem.old + 8 * M.cost }
 {
     let mut page = [0; 512];

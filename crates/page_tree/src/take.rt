@@ -5,7 +5,7 @@ ghost use Rattle.page_tree.specs.Head.{with_header};
 ghost use Rattle.page_tree.specs.Tree.{Node, IsTree};
 ghost use Rattle.page_tree.specs.Put.{capacity_of};
 ghost use Rattle.page_tree.specs.Climb.{IsClosed};
-ghost use Rattle.page_tree.specs.Answer.{FromMemory, IfMem};
+ghost use Rattle.page_tree.specs.Answer.{FromMemory, IfMemNotFull};
 ghost use Rattle.page_tree.specs.Broken.{StopsInsertion, IfMalformed};
 ghost use Rattle.page_tree.specs.Way.{IsUnderWay, IsTakenOn};
 ghost use Rattle.page_tree.specs.Open.{IsOpen, IsTaken, CanTake};
@@ -30,7 +30,7 @@ pub fn take_page<M: FlatMem>(mem: &mut M, header: &mut Header) -> Result<u32, Tr
     ensures levels { header.new.levels ≡ header.old.levels }
     ensures unchanged { (b : List ℕ) → M.tells mem.old b → M.tells mem.new b }
     ensures kept { M.beside mem.old mem.new }
-    ensures cause { IfErr result (IfMem (M.accounted mem.old mem.new)) }
+    ensures cause { IfErr result (IfMemNotFull (M.accounted mem.old mem.new)) }
     ensures cost { M.spent mem.new ≤ M.spent mem.old + M.cost }
 {
     let pages = (mem.len() / 512) as u32;
@@ -82,7 +82,7 @@ pub fn finish<M: FlatMem>(
     ensures memory { IfErr result FromMemory }
     ensures empty { (e k : ℕ) (c : List ℕ) → M.tells mem.old c → (nodes : ℕ → List Node) (free : List ℕ) → IsOpen e k c 0 nodes free header.free header.top → header.levels ≡ 0 → IsBlank page.old → header.root ≡ 0 → header.count ≡ 0 → header.top < M.size mem.old / 512 → MatchResult result (λ _. (x : List ℕ) × M.tells mem.new x × IsTree e k (M.size mem.old / 512) x []) FromMemory }
     ensures kept { M.beside mem.old mem.new }
-    ensures cause { IfErr result (IfMem (M.accounted mem.old mem.new)) }
+    ensures cause { IfErr result (IfMemNotFull (M.accounted mem.old mem.new)) }
     ensures cost { M.spent mem.new ≤ M.spent mem.old + M.cost }
 {
     put_fields(page, header);
@@ -100,7 +100,7 @@ pub fn begin<M: FlatMem, const E: usize, const K: usize>(
     ensures empty { (b : List ℕ) → M.tells mem.old b → MatchResult result (λ _. (x : List ℕ) × M.tells mem.new x × IsTree E K (M.size mem.old / 512) x []) FromMemory }
     ensures memory { IfErr result FromMemory }
     ensures kept { M.beside mem.old mem.new }
-    ensures cause { IfErr result (IfMem (M.accounted mem.old mem.new)) }
+    ensures cause { IfErr result (IfMemNotFull (M.accounted mem.old mem.new)) }
     ensures cost { M.spent mem.new ≤ M.spent mem.old + M.cost }
 {
     let mut page = [0; 512];
@@ -112,7 +112,7 @@ fn write_empty<M: FlatMem>(mem: &mut M, page: &mut Page) -> Result<(), TreeError
     ensures empty { (e k : ℕ) (b : List ℕ) → M.tells mem.old b → IsBlank page.old → MatchResult result (λ _. (x : List ℕ) × M.tells mem.new x × IsTree e k (M.size mem.old / 512) x []) FromMemory }
     ensures memory { IfErr result FromMemory }
     ensures kept { M.beside mem.old mem.new }
-    ensures cause { IfErr result (IfMem (M.accounted mem.old mem.new)) }
+    ensures cause { IfErr result (IfMemNotFull (M.accounted mem.old mem.new)) }
     ensures cost { M.spent mem.new ≤ M.spent mem.old + M.cost }
 {
     put_fields(

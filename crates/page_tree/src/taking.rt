@@ -3,7 +3,7 @@ ghost use Rattle.std.specs.Prelude.{◌≡◌, ℕ, ◌+◌, ◌*◌, ◌/◌, �
 ghost use Rattle.page_tree.specs.Page.{IsWidths, page_at, filled, leaf_room, levels_in};
 ghost use Rattle.page_tree.specs.Tree.{node_at, before};
 ghost use Rattle.page_tree.specs.Path.{IsPath};
-ghost use Rattle.page_tree.specs.Answer.{FromMemory, IfMem};
+ghost use Rattle.page_tree.specs.Answer.{FromMemory, IfMemNotFull};
 ghost use Rattle.page_tree.specs.Climb.{TellsClosed};
 ghost use Rattle.page_tree.specs.Standing.{IsStanding};
 ghost use Rattle.page_tree.specs.Broken.{Meets, Breaks, IfMalformed};
@@ -44,7 +44,7 @@ pub fn take_later<M: FlatMem, const E: usize, const K: usize>(
     ensures levels { header.new.levels ≤ header.old.levels }
     ensures count { header.new.count ≡ header.old.count }
     ensures kept { M.beside mem.old mem.new }
-    ensures cause { IfErr result (IfMem (M.accounted mem.old mem.new)) }
+    ensures cause { IfErr result (IfMemNotFull (M.accounted mem.old mem.new)) }
     ensures cost { M.spent mem.new ≤ M.spent mem.old + 26 * M.cost }
 {
     remove_record::<E>(page, count, place);
@@ -82,7 +82,7 @@ pub fn take_first<M: FlatMem, const E: usize, const K: usize>(
     ensures levels { header.new.levels ≤ header.old.levels }
     ensures count { header.new.count ≡ header.old.count }
     ensures kept { M.beside mem.old mem.new }
-    ensures cause { IfErr result (IfMem (M.accounted mem.old mem.new)) }
+    ensures cause { IfErr result (IfMemNotFull (M.accounted mem.old mem.new)) }
     ensures cost { M.spent mem.new ≤ M.spent mem.old + 28 * M.cost }
 {
     record_of(page, 1, second);

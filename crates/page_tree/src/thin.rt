@@ -3,7 +3,7 @@ ghost use Rattle.std.specs.Prelude.{◌≡◌, ℕ, ◌+◌, ◌-◌, ◌*◌, �
 ghost use Rattle.page_tree.specs.Page.{IsWidths, filled, link_at};
 ghost use Rattle.page_tree.specs.Broken.{Meets, Breaks, IfMalformed};
 ghost use Rattle.page_tree.specs.Mending.{IsMending, IsBesideOf, IsMetAgain, MendsOn};
-ghost use Rattle.page_tree.specs.Answer.{FromMemory, IfMem};
+ghost use Rattle.page_tree.specs.Answer.{FromMemory, IfMemNotFull};
 ghost use Rattle.page_tree.specs.Climb.{TellsClosed};
 ghost use Rattle.page_tree.specs.Neighbours.{IsThin, IsAmple};
 ghost use Rattle.page_tree.specs.Thin.{IsPending, IsSecond, IsMended, IsGiven};
@@ -77,7 +77,7 @@ fn drop_root<M: FlatMem, const K: usize>(
     ensures count { header.new.count ≡ header.old.count }
     ensures top { header.new.top ≡ header.old.top }
     ensures kept { M.beside mem.old mem.new }
-    ensures cause { IfErr result (IfMem (M.accounted mem.old mem.new)) }
+    ensures cause { IfErr result (IfMemNotFull (M.accounted mem.old mem.new)) }
     ensures cost { M.spent mem.new ≤ M.spent mem.old + M.cost }
 {
     header.root = link_of::<K>(page, 0);
@@ -119,7 +119,7 @@ fn mend_thin<M: FlatMem, const E: usize, const K: usize>(
     ensures count { header.new.count ≡ header.old.count }
     ensures inside { IfOk result (λ _. at.new < M.size mem.old / 512) }
     ensures kept { M.beside mem.old mem.new }
-    ensures cause { IfErr result (IfMem (M.accounted mem.old mem.new)) }
+    ensures cause { IfErr result (IfMemNotFull (M.accounted mem.old mem.new)) }
     ensures cost { M.spent mem.new ≤ M.spent mem.old + 5 * M.cost }
 {
     let up = match load_above::<M, K>(mem, path, level, header.levels, above) {
@@ -184,7 +184,7 @@ fn mend_up<M: FlatMem, const E: usize, const K: usize>(
     ensures count { header.new.count ≡ header.old.count }
     ensures inside { IfOk result (λ _. at.new < M.size mem.old / 512) }
     ensures kept { M.beside mem.old mem.new }
-    ensures cause { IfErr result (IfMem (M.accounted mem.old mem.new)) }
+    ensures cause { IfErr result (IfMemNotFull (M.accounted mem.old mem.new)) }
     ensures cost { M.spent mem.new ≤ M.spent mem.old + 5 * M.cost }
 {
     if is_ample::<E, K>(level, page) {
@@ -224,7 +224,7 @@ pub fn mend<M: FlatMem, const E: usize, const K: usize>(
     ensures levels { header.new.levels ≤ header.old.levels }
     ensures count { header.new.count ≡ header.old.count }
     ensures kept { M.beside mem.old mem.new }
-    ensures cause { IfErr result (IfMem (M.accounted mem.old mem.new)) }
+    ensures cause { IfErr result (IfMemNotFull (M.accounted mem.old mem.new)) }
     ensures cost { M.spent mem.new ≤ M.spent mem.old + 26 * M.cost }
 {
     let mut level = 1;

@@ -1,7 +1,7 @@
 //! The tree.
 ghost use Rattle.std.specs.Prelude.{◌≡◌, ℕ, ◌+◌, ◌*◌, ◌/◌, ◌^◌, ◌<◌, ◌≤◌, ◌⊎◌, List, [], length, take, remove, slice_set, false, IfOk, IfErr, IfSome, MatchResult, is_some, replicate};
 ghost use Rattle.flat_mem.specs.Order.{entry_at, key_at, IsFound};
-ghost use Rattle.page_tree.specs.Answer.{IsLastEntry, IsNextEntry, FromMemory, IfMem, IfMemory, IfFull, IsPast};
+ghost use Rattle.page_tree.specs.Answer.{IsLastEntry, IsNextEntry, FromMemory, IfMemNotFull, IfMemory, IfFull, IsPast};
 ghost use Rattle.page_tree.specs.Page.{IsWidths, page_at, count_in};
 ghost use Rattle.page_tree.specs.Put.{capacity_of};
 ghost use Rattle.page_tree.specs.Broken.{Breaks, StopsInsertion, IfMalformed};
@@ -35,7 +35,7 @@ impl<M: FlatMem + Drop, const E: usize, const K: usize> PageTree<M, E, K> {
         requires least { 9 * 512 ≤ M.size mem }
         requires most { M.size mem ≤ 2 ^ 27 }
         ensures empty { (b : List ℕ) → M.tells mem b → IfOk result (λ t. Lists t []) }
-        ensures cause { IfErr result (λ why. (m : M) × M.beside mem m × FromMemory why × IfMem (M.accounted mem m) why) }
+        ensures cause { IfErr result (λ why. (m : M) × M.beside mem m × FromMemory why × IfMemNotFull (M.accounted mem m) why) }
         ensures kept { IfOk result (λ t. M.beside mem (tree_memory t)) }
         ensures cost { IfOk result (λ t. M.spent (tree_memory t) ≤ M.spent mem + M.cost) }
     {
@@ -74,7 +74,7 @@ impl<M: FlatMem, const E: usize, const K: usize> PageTree<M, E, K> {
         ensures header { (b : List ℕ) → M.tells (tree_memory self.old) b → IfOk result (λ n. n ≡ count_in (page_at b 0)) }
         ensures malformed { (b : List ℕ) → M.tells (tree_memory self.old) b → IfErr result (IfMalformed (Breaks E K (M.size (tree_memory self.old) / 512) b)) }
         ensures inside { (b : List ℕ) → M.tells (tree_memory self.old) b → IfErr result (IfMalformed (λ page. page < M.size (tree_memory self.old) / 512)) }
-        ensures cause { IfErr result (IfMem (M.accounted (tree_memory self.old) (tree_memory self.new))) }
+        ensures cause { IfErr result (IfMemNotFull (M.accounted (tree_memory self.old) (tree_memory self.new))) }
         ensures same_list { (xs : List (List ℕ)) → Lists self.old xs → Lists self.new xs }
         ensures same_bytes { (b : List ℕ) → M.tells (tree_memory self.old) b → M.tells (tree_memory self.new) b }
         ensures kept { M.beside (tree_memory self.old) (tree_memory self.new) }
@@ -92,7 +92,7 @@ impl<M: FlatMem, const E: usize, const K: usize> PageTree<M, E, K> {
         ensures found { (xs : List (List ℕ)) → Lists self.old xs → MatchResult result (IsLastEntry K xs key.now into.new) FromMemory }
         ensures malformed { (b : List ℕ) → M.tells (tree_memory self.old) b → IfErr result (IfMalformed (Breaks E K (M.size (tree_memory self.old) / 512) b)) }
         ensures inside { (b : List ℕ) → M.tells (tree_memory self.old) b → IfErr result (IfMalformed (λ page. page < M.size (tree_memory self.old) / 512)) }
-        ensures cause { IfErr result (IfMem (M.accounted (tree_memory self.old) (tree_memory self.new))) }
+        ensures cause { IfErr result (IfMemNotFull (M.accounted (tree_memory self.old) (tree_memory self.new))) }
         ensures same_list { (xs : List (List ℕ)) → Lists self.old xs → Lists self.new xs }
         ensures same_bytes { (b : List ℕ) → M.tells (tree_memory self.old) b → M.tells (tree_memory self.new) b }
         ensures kept { M.beside (tree_memory self.old) (tree_memory self.new) }
@@ -114,7 +114,7 @@ impl<M: FlatMem, const E: usize, const K: usize> PageTree<M, E, K> {
         ensures page { (b : List ℕ) → M.tells (tree_memory self.old) b → IfOk result (λ page. IfSome page (StandsIn E K b into.new)) }
         ensures malformed { (b : List ℕ) → M.tells (tree_memory self.old) b → IfErr result (IfMalformed (Breaks E K (M.size (tree_memory self.old) / 512) b)) }
         ensures inside { (b : List ℕ) → M.tells (tree_memory self.old) b → IfErr result (IfMalformed (λ page. page < M.size (tree_memory self.old) / 512)) }
-        ensures cause { IfErr result (IfMem (M.accounted (tree_memory self.old) (tree_memory self.new))) }
+        ensures cause { IfErr result (IfMemNotFull (M.accounted (tree_memory self.old) (tree_memory self.new))) }
         ensures same_list { (xs : List (List ℕ)) → Lists self.old xs → Lists self.new xs }
         ensures same_bytes { (b : List ℕ) → M.tells (tree_memory self.old) b → M.tells (tree_memory self.new) b }
         ensures kept { M.beside (tree_memory self.old) (tree_memory self.new) }
@@ -132,7 +132,7 @@ impl<M: FlatMem, const E: usize, const K: usize> PageTree<M, E, K> {
         ensures found { (xs : List (List ℕ)) → Lists self.old xs → MatchResult result (IsNextEntry K xs key.now into.new) FromMemory }
         ensures malformed { (b : List ℕ) → M.tells (tree_memory self.old) b → IfErr result (IfMalformed (Breaks E K (M.size (tree_memory self.old) / 512) b)) }
         ensures inside { (b : List ℕ) → M.tells (tree_memory self.old) b → IfErr result (IfMalformed (λ page. page < M.size (tree_memory self.old) / 512)) }
-        ensures cause { IfErr result (IfMem (M.accounted (tree_memory self.old) (tree_memory self.new))) }
+        ensures cause { IfErr result (IfMemNotFull (M.accounted (tree_memory self.old) (tree_memory self.new))) }
         ensures same_list { (xs : List (List ℕ)) → Lists self.old xs → Lists self.new xs }
         ensures same_bytes { (b : List ℕ) → M.tells (tree_memory self.old) b → M.tells (tree_memory self.new) b }
         ensures kept { M.beside (tree_memory self.old) (tree_memory self.new) }
@@ -154,7 +154,7 @@ impl<M: FlatMem, const E: usize, const K: usize> PageTree<M, E, K> {
         ensures page { (b : List ℕ) → M.tells (tree_memory self.old) b → IfOk result (λ page. IfSome page (StandsIn E K b into.new)) }
         ensures malformed { (b : List ℕ) → M.tells (tree_memory self.old) b → IfErr result (IfMalformed (Breaks E K (M.size (tree_memory self.old) / 512) b)) }
         ensures inside { (b : List ℕ) → M.tells (tree_memory self.old) b → IfErr result (IfMalformed (λ page. page < M.size (tree_memory self.old) / 512)) }
-        ensures cause { IfErr result (IfMem (M.accounted (tree_memory self.old) (tree_memory self.new))) }
+        ensures cause { IfErr result (IfMemNotFull (M.accounted (tree_memory self.old) (tree_memory self.new))) }
         ensures same_list { (xs : List (List ℕ)) → Lists self.old xs → Lists self.new xs }
         ensures same_bytes { (b : List ℕ) → M.tells (tree_memory self.old) b → M.tells (tree_memory self.new) b }
         ensures kept { M.beside (tree_memory self.old) (tree_memory self.new) }
@@ -183,7 +183,7 @@ impl<M: FlatMem, const E: usize, const K: usize> PageTree<M, E, K> {
         ensures absent { (b : List ℕ) → M.tells (tree_memory self.old) b → IfOk result (λ found. found ≡ false → M.tells (tree_memory self.new) b) }
         ensures malformed { (b : List ℕ) → M.tells (tree_memory self.old) b → IfErr result (IfMalformed (Breaks E K (M.size (tree_memory self.old) / 512) b)) }
         ensures inside { (b : List ℕ) → M.tells (tree_memory self.old) b → IfErr result (IfMalformed (λ page. page < M.size (tree_memory self.old) / 512)) }
-        ensures cause { IfErr result (IfMem (M.accounted (tree_memory self.old) (tree_memory self.new))) }
+        ensures cause { IfErr result (IfMemNotFull (M.accounted (tree_memory self.old) (tree_memory self.new))) }
         ensures kept { M.beside (tree_memory self.old) (tree_memory self.new) }
         ensures cost { M.spent (tree_memory self.new) ≤ M.spent (tree_memory self.old) + 36 * M.cost }
     {
@@ -196,7 +196,7 @@ impl<M: FlatMem, const E: usize, const K: usize> PageTree<M, E, K> {
         ensures absent { (b : List ℕ) → M.tells (tree_memory self.old) b → IfOk result (λ found. found ≡ false → M.tells (tree_memory self.new) b) }
         ensures malformed { (b : List ℕ) → M.tells (tree_memory self.old) b → IfErr result (IfMalformed (Breaks E K (M.size (tree_memory self.old) / 512) b)) }
         ensures inside { (b : List ℕ) → M.tells (tree_memory self.old) b → IfErr result (IfMalformed (λ page. page < M.size (tree_memory self.old) / 512)) }
-        ensures cause { IfErr result (IfMem (M.accounted (tree_memory self.old) (tree_memory self.new))) }
+        ensures cause { IfErr result (IfMemNotFull (M.accounted (tree_memory self.old) (tree_memory self.new))) }
         ensures kept { M.beside (tree_memory self.old) (tree_memory self.new) }
         ensures cost { M.spent (tree_memory self.new) ≤ M.spent (tree_memory self.old) + 8 * M.cost }
     {
@@ -210,7 +210,7 @@ impl<M: FlatMem, const E: usize, const K: usize> PageTree<M, E, K> {
         ensures past_any { (b : List ℕ) → M.tells (tree_memory self.old) b → count_in (page_at b 0) ≤ index → MatchResult result (λ _. ⊥) IsPast }
         ensures malformed { (b : List ℕ) → M.tells (tree_memory self.old) b → IfErr result (IfMalformed (λ page. Breaks E K (M.size (tree_memory self.old) / 512) b page ⊎ ((page ≡ 0) × (count_in (page_at b 0) ≤ index)))) }
         ensures inside { (b : List ℕ) → M.tells (tree_memory self.old) b → IfErr result (IfMalformed (λ page. page < M.size (tree_memory self.old) / 512)) }
-        ensures cause { IfErr result (IfMem (M.accounted (tree_memory self.old) (tree_memory self.new))) }
+        ensures cause { IfErr result (IfMemNotFull (M.accounted (tree_memory self.old) (tree_memory self.new))) }
         ensures same_list { (xs : List (List ℕ)) → Lists self.old xs → Lists self.new xs }
         ensures same_bytes { (b : List ℕ) → M.tells (tree_memory self.old) b → M.tells (tree_memory self.new) b }
         ensures kept { M.beside (tree_memory self.old) (tree_memory self.new) }
@@ -224,7 +224,7 @@ impl<M: FlatMem, const E: usize, const K: usize> PageTree<M, E, K> {
         ensures found { (xs : List (List ℕ)) → Lists self.old xs → MatchResult result (IsFound K xs key.now) FromMemory }
         ensures malformed { (b : List ℕ) → M.tells (tree_memory self.old) b → IfErr result (IfMalformed (Breaks E K (M.size (tree_memory self.old) / 512) b)) }
         ensures inside { (b : List ℕ) → M.tells (tree_memory self.old) b → IfErr result (IfMalformed (λ page. page < M.size (tree_memory self.old) / 512)) }
-        ensures cause { IfErr result (IfMem (M.accounted (tree_memory self.old) (tree_memory self.new))) }
+        ensures cause { IfErr result (IfMemNotFull (M.accounted (tree_memory self.old) (tree_memory self.new))) }
         ensures same_list { (xs : List (List ℕ)) → Lists self.old xs → Lists self.new xs }
         ensures same_bytes { (b : List ℕ) → M.tells (tree_memory self.old) b → M.tells (tree_memory self.new) b }
         ensures kept { M.beside (tree_memory self.old) (tree_memory self.new) }
@@ -241,7 +241,7 @@ impl<M: FlatMem, const E: usize, const K: usize> PageTree<M, E, K> {
         ensures past_same { (b : List ℕ) → M.tells (tree_memory self.old) b → count_in (page_at b 0) ≤ index → M.tells (tree_memory self.new) b }
         ensures malformed { (b : List ℕ) → M.tells (tree_memory self.old) b → IfErr result (IfMalformed (λ page. Breaks E K (M.size (tree_memory self.old) / 512) b page ⊎ ((page ≡ 0) × (count_in (page_at b 0) ≤ index)))) }
         ensures inside { (b : List ℕ) → M.tells (tree_memory self.old) b → IfErr result (IfMalformed (λ page. page < M.size (tree_memory self.old) / 512)) }
-        ensures cause { IfErr result (IfMem (M.accounted (tree_memory self.old) (tree_memory self.new))) }
+        ensures cause { IfErr result (IfMemNotFull (M.accounted (tree_memory self.old) (tree_memory self.new))) }
         ensures kept { M.beside (tree_memory self.old) (tree_memory self.new) }
         ensures cost { M.spent (tree_memory self.new) ≤ M.spent (tree_memory self.old) + 12 * (M.size (tree_memory self.old) / 512) * M.cost }
     {
@@ -256,7 +256,7 @@ impl<M: FlatMem, const E: usize, const K: usize> PageTree<M, E, K> {
         ensures past_same { (b : List ℕ) → M.tells (tree_memory self.old) b → count_in (page_at b 0) ≤ index → M.tells (tree_memory self.new) b }
         ensures malformed { (b : List ℕ) → M.tells (tree_memory self.old) b → IfErr result (IfMalformed (λ page. Breaks E K (M.size (tree_memory self.old) / 512) b page ⊎ ((page ≡ 0) × (count_in (page_at b 0) ≤ index)))) }
         ensures inside { (b : List ℕ) → M.tells (tree_memory self.old) b → IfErr result (IfMalformed (λ page. page < M.size (tree_memory self.old) / 512)) }
-        ensures cause { IfErr result (IfMem (M.accounted (tree_memory self.old) (tree_memory self.new))) }
+        ensures cause { IfErr result (IfMemNotFull (M.accounted (tree_memory self.old) (tree_memory self.new))) }
         ensures kept { M.beside (tree_memory self.old) (tree_memory self.new) }
         ensures cost { M.spent (tree_memory self.new) ≤ M.spent (tree_memory self.old) + 15 * (M.size (tree_memory self.old) / 512) * M.cost }
     {

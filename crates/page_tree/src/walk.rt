@@ -3,7 +3,7 @@ ghost use Rattle.std.specs.Prelude.{◌≡◌, ℕ, ◌+◌, ◌-◌, ◌*◌, �
 ghost use Rattle.page_tree.specs.Page.{IsWidths, page_at, filled, record_at, leaf_room};
 ghost use Rattle.page_tree.specs.Tree.{Node, node_at, IsRooted};
 ghost use Rattle.page_tree.specs.Path.{IsPath, IsLed, IsLedOn, Turns, leaf_under};
-ghost use Rattle.page_tree.specs.Answer.{FromMemory, IfMem};
+ghost use Rattle.page_tree.specs.Answer.{FromMemory, IfMemNotFull};
 ghost use Rattle.page_tree.specs.Broken.{IsInnerForm, IsLeafForm, Meets, Breaks, IfMalformed};
 ghost use Rattle.page_tree.specs.Met.{IsMetPath};
 ghost use Rattle.page_tree.specs.Walked.{IsThread, IsLedDown, IsLastUntil, IsWalked, IsWalkedOn};
@@ -27,7 +27,7 @@ pub fn read_inner<M: FlatMem, const K: usize>(
     ensures broken { (e l pages : ℕ) (b : List ℕ) → M.tells mem.old b → 1 < l → Meets K b l at → IfErr result (IfMalformed (Breaks e K pages b)) }
     ensures unchanged { (b : List ℕ) → M.tells mem.old b → M.tells mem.new b }
     ensures kept { M.beside mem.old mem.new }
-    ensures cause { IfErr result (IfMem (M.accounted mem.old mem.new)) }
+    ensures cause { IfErr result (IfMemNotFull (M.accounted mem.old mem.new)) }
     ensures cost { M.spent mem.new ≤ M.spent mem.old + M.cost }
 {
     match load(mem, at, page) {
@@ -55,7 +55,7 @@ pub fn read_leaf<M: FlatMem, const E: usize, const K: usize>(
     ensures broken { (pages : ℕ) (b : List ℕ) → M.tells mem.old b → Meets K b 1 at → IfErr result (IfMalformed (Breaks E K pages b)) }
     ensures unchanged { (b : List ℕ) → M.tells mem.old b → M.tells mem.new b }
     ensures kept { M.beside mem.old mem.new }
-    ensures cause { IfErr result (IfMem (M.accounted mem.old mem.new)) }
+    ensures cause { IfErr result (IfMemNotFull (M.accounted mem.old mem.new)) }
     ensures cost { M.spent mem.new ≤ M.spent mem.old + M.cost }
 {
     match load(mem, at, page) {
@@ -93,7 +93,7 @@ pub fn go_down<M: FlatMem, const E: usize, const K: usize>(
     ensures read { (b : List ℕ) → M.tells mem.old b → IfOk result (λ leaf. page.new ≡ page_at b leaf) }
     ensures unchanged { (b : List ℕ) → M.tells mem.old b → M.tells mem.new b }
     ensures kept { M.beside mem.old mem.new }
-    ensures cause { IfErr result (IfMem (M.accounted mem.old mem.new)) }
+    ensures cause { IfErr result (IfMemNotFull (M.accounted mem.old mem.new)) }
     ensures cost { M.spent mem.new ≤ M.spent mem.old + level * M.cost }
 {
     let pages = (mem.len() / 512) as u32;
@@ -143,7 +143,7 @@ fn turning_level<M: FlatMem, const K: usize>(
     ensures form { IfOk result (λ found. IfSome found (λ level. (2 ≤ level) × (level ≤ levels))) }
     ensures unchanged { (b : List ℕ) → M.tells mem.old b → M.tells mem.new b }
     ensures kept { M.beside mem.old mem.new }
-    ensures cause { IfErr result (IfMem (M.accounted mem.old mem.new)) }
+    ensures cause { IfErr result (IfMemNotFull (M.accounted mem.old mem.new)) }
     ensures cost { M.spent mem.new ≤ M.spent mem.old + 5 * M.cost }
 {
     let mut level = 2;
@@ -183,7 +183,7 @@ pub fn next_leaf<M: FlatMem, const E: usize, const K: usize>(
     ensures read { (b : List ℕ) → M.tells mem.old b → IfOk result (λ found. IfSome found (λ leaf. page.new ≡ page_at b leaf)) }
     ensures unchanged { (b : List ℕ) → M.tells mem.old b → M.tells mem.new b }
     ensures kept { M.beside mem.old mem.new }
-    ensures cause { IfErr result (IfMem (M.accounted mem.old mem.new)) }
+    ensures cause { IfErr result (IfMemNotFull (M.accounted mem.old mem.new)) }
     ensures cost { M.spent mem.new ≤ M.spent mem.old + 11 * M.cost }
 {
     let found = match turning_level::<M, K>(mem, levels, path, page) {
