@@ -43,7 +43,10 @@ fn used_with(volume: &Volume, pages: u32) -> u32
 }
 
 /// Writes a root to the disk. No frame is over its sector.
-pub fn write_over<D: Disk, A: Allocator>(filer: &mut FilerOver<D, A>, root: Root) -> Result<(), Halt>
+pub fn write_over<D: Disk, A: Allocator>(
+    filer: &mut FilerOver<D, A>,
+    root: Root,
+) -> Result<(), Halt>
     requires size { (D.state filer.old.swapper.under).sectors ≡ filer.old.swapper.layout.sectors }
     requires valid { IsValidRoot filer.old.swapper.layout.sectors root }
     requires serial { root.serial < 2 ^ 32 }

@@ -16,8 +16,8 @@ ghost use Rattle.fault_core.specs.Reach.{ReachHalts};
 ghost use Rattle.fault_core.specs.Core.{state, Knows};
 ghost use Rattle.table_calls.specs.Answers.{Changes, Retabled, TablesBreak};
 
-use crate::opening::opened;
 use crate::halting::refused_or_halted;
+use crate::opening::opened;
 use fault_core::CoreOver;
 use filer_kernel::{FilerOver, Window1Over};
 use flat_machine::Refusal;

@@ -22,7 +22,9 @@ fn broken(page: u32) -> Halt
 }
 
 /// Tells a refusal, which the client is given, from a halt.
-pub(crate) fn refused_or_halted<T>(answer: Result<T, SpaceError<Halt>>) -> Result<Result<T, Refusal>, Halt>
+pub(crate) fn refused_or_halted<T>(
+    answer: Result<T, SpaceError<Halt>>,
+) -> Result<Result<T, Refusal>, Halt>
     ensures { result ≡ refused_or_halted answer }
 {
     match answer {
