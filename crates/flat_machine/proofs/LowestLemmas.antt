@@ -78,13 +78,13 @@ and_true true b h = (refl, h)
 and_true false b h = absurd (cc)
 
 abbrev avoids : Space → ℕ → ℕ → Space → Bool
-avoids parent pages first s = not (is_child_of parent.handle s && nat_lt s.first (first + pages) && nat_lt first (end s))
+avoids parent pages first s = not (is_child_of parent.handle s && (nat_lt s.first (first + pages) && nat_lt first (end s)))
 
 edge_at : (f e x pages : ℕ) → not (nat_lt f (suc x + pages) && nat_lt (suc x) e) ≡ true → not (nat_lt f (x + pages) && nat_lt x e) ≡ false → e ≡ suc x
 edge_at f e x pages h g = grind (arith, nat_tests)
 
-child_edge : (c : Bool) (f e x pages : ℕ) → not (c && nat_lt f (suc x + pages) && nat_lt (suc x) e) ≡ true
-    → not (c && nat_lt f (x + pages) && nat_lt x e) ≡ false → (c ≡ true) × (e ≡ suc x)
+child_edge : (c : Bool) (f e x pages : ℕ) → not (c && (nat_lt f (suc x + pages) && nat_lt (suc x) e)) ≡ true
+    → not (c && (nat_lt f (x + pages) && nat_lt x e)) ≡ false → (c ≡ true) × (e ≡ suc x)
 child_edge true f e x pages h g = (refl, edge_at f e x pages h g)
 child_edge false f e x pages h g = absurd (cc)
 

@@ -40,13 +40,7 @@ pub fn make_pages<D: Disk, A: Allocator>(
     ensures own { (other : ℕ) → RelabelsOwn other (D.state swapper.old.under) (D.state swapper.new.under) }
 {
     for k in 0..pages {
-        let label = Label {
-            id,
-            page: page + k,
-            kind,
-            flags: 0,
-            last: 0,
-        };
+        let label = Label::of_page(id, kind, page + k);
         match make_page(swapper, sector + k, label) {
             Ok(()) => (),
             Err(halt) => return Err(halt),

@@ -2,7 +2,7 @@
 use Rattle.std.proofs.Common.{◌≡◌, ◌≢◌, ◌⊎◌, inl, inr, ⊎_elim, ℕ, zero, suc, ◌+◌, ◌-◌, ◌<◌, ◌≤◌, Bool, true, false, not, ◌&&◌, ◌||◌, cond, List, [], ◌∷◌, map, length, Option, Some, None, refl, sym, ◌∙◌, ap, subst, arith, eqb}
 use Rattle.std.specs.Prelude.{slice_get, slice_set, find, option_map, nat_lt}
 use Rattle.std.specs.Option.{option_map_or}
-use Rattle.std.specs.List.{position_or_len, AllByRecursion}
+use Rattle.std.specs.List.{position_or_len}
 use Rattle.std.proofs.lemmas.Option.{same_Some, none-some, slice_get_past}
 use Rattle.std.proofs.lemmas.Bool.{cases_lt, cases_eq, and_parts, and_left, eqb-true, eqb-false, eq-eqb, ne_eqb, lt-ltb, ltb-true, false≢true, true≢false, and_from}
 use Rattle.labelled_disk.specs.declared.label.Label.{Label}
@@ -10,7 +10,7 @@ use Rattle.labelled_disk.specs.Label.{is_file, is_permanent, leader_page}
 use Rattle.labelled_disk.specs.Sectors.{Sector}
 use Rattle.labelled_disk.specs.Layout.{data_sectors, first_data}
 use Rattle.labelled_disk.specs.File.{File, Page, byte, size}
-use Rattle.labelled_disk.specs.FilesOn.{leads, leads_file, is_page, is_of, page_at, leader_among, pages_from, file_by, file_among, files_by, files_among}
+use Rattle.labelled_disk.specs.FilesOn.{leads, leads_file, is_page, is_of, page_at, leader_among, pages_from, file_by, file_among, files_by}
 use Rattle.labelled_disk.specs.Right.{IsWhole}
 use Rattle.labelled_disk.specs.Lowest.{IsLowest, IsFileOn, is_first, is_needed, FilesAreAsTold, UnneededFreed, NeededAreWhole, EmptyHasNone, RightAreNeeded}
 use Rattle.labelled_disk.proofs.Finds.{none_passes, find_none, IsAlone}

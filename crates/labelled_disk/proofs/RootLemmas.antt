@@ -10,13 +10,12 @@ use Rattle.labelled_disk.specs.declared.disk.DiskWrite.TheVariants.{Whole, Label
 use Rattle.labelled_disk.specs.Label.{is_file, is_free, names, leader_page}
 use Rattle.labelled_disk.specs.Sectors.{Sector, free_label}
 use Rattle.labelled_disk.specs.Moment.{written}
-use Rattle.labelled_disk.specs.Layout.{data_sectors, first_data, vam}
-use Rattle.labelled_disk.specs.FilesOn.{disk_file, file_among, files_among, is_of}
+use Rattle.labelled_disk.specs.Layout.{first_data, vam}
+use Rattle.labelled_disk.specs.FilesOn.{disk_file, file_among}
 use Rattle.labelled_disk.specs.Right.{FilesRight, OnlyMaps}
 use Rattle.labelled_disk.specs.Root.{IsRoot, HasMaps, RightFor, page_in, number_at, serial_of, counter_of}
-use Rattle.labelled_disk.specs.Lawful.{Lawful}
-use Rattle.labelled_disk.specs.WriteLaws.{HasData, IsOnlyOf}
-use Rattle.labelled_disk.specs.RootLaws.{StaysRight, DataWritten, RootWritten, MapWritten, MapsDiffer, OneFileAtMost}
+use Rattle.labelled_disk.specs.WriteLaws.{IsOnlyOf}
+use Rattle.labelled_disk.specs.RootLaws.{DataWritten, RootWritten, MapWritten, MapsDiffer, OneFileAtMost}
 use Rattle.labelled_disk.proofs.Finds.{get_set_same, get_set_other}
 use Rattle.labelled_disk.proofs.WriteLemmas as laws
 

@@ -1,5 +1,5 @@
 -- Runs of writes, moment by moment.
-use Rattle.std.proofs.Common.{◌≡◌, ◌≢◌, ℕ, zero, suc, ◌+◌, ◌-◌, ◌<◌, ◌≤◌, ◌/◌, ◌%◌, ◌^◌, Bool, true, false, ◌&&◌, ◌||◌, List, [], ◌∷◌, ◌++◌, map, length, Option, Some, None, refl, sym, ◌∙◌, ap, subst, arith, take, append_assoc, append-nil, length-set, eqb}
+use Rattle.std.proofs.Common.{◌≡◌, ◌≢◌, ℕ, zero, suc, ◌+◌, ◌-◌, ◌<◌, ◌≤◌, Bool, true, false, ◌&&◌, ◌||◌, List, [], ◌∷◌, ◌++◌, map, length, Option, Some, None, refl, sym, ◌∙◌, ap, subst, arith, take, append_assoc, append-nil, length-set, eqb}
 use Rattle.std.specs.Prelude.{slice_get, slice_set, replicate, option_map, find, nat_lt, if◌then◌else◌}
 use Rattle.std.specs.Option.{option_map_or}
 use Rattle.std.specs.List.{AllByRecursion}
@@ -13,11 +13,11 @@ use Rattle.labelled_disk.specs.declared.disk.DiskWrite.TheVariants as write
 use Rattle.labelled_disk.specs.Sectors.{Sector, IsSector, AreSectors, free_label}
 use Rattle.labelled_disk.specs.Moment.{moment, written}
 use Rattle.labelled_disk.specs.Layout.{capacity, data_sectors, first_data}
-use Rattle.labelled_disk.specs.File.{File, Page, byte, size, file_at, room_of, total_room, zero_page}
+use Rattle.labelled_disk.specs.File.{File, Page, byte, size, file_at, total_room, zero_page}
 use Rattle.labelled_disk.specs.FilesOn.{is_of, is_page, leads, leads_file, leader_among, files_among, disk_file}
 use Rattle.labelled_disk.specs.Right.{FilesRight}
 use Rattle.labelled_disk.specs.WriteLaws.{HasData, Changed, Kept}
-use Rattle.labelled_disk.specs.Runs.{zero_bytes, growth, creation, freeing, IsUnused, AreUnused, IsAt, ArePagesDown, ArePagesUp, lengthened, shortened, GrowthMoments, CreationMoments, ShrinkingMoments, DeletionMoments, CreationUnseen, DataRuns, SectorsStay, sector_of}
+use Rattle.labelled_disk.specs.Runs.{zero_bytes, growth, freeing, AreUnused, ArePagesDown, ArePagesUp, lengthened, shortened, GrowthMoments, CreationMoments, ShrinkingMoments, DeletionMoments, CreationUnseen, DataRuns, SectorsStay, sector_of}
 use Rattle.labelled_disk.proofs.Finds.{get_set_other, found_at, find_none}
 use Rattle.labelled_disk.proofs.SectorWrites as w
 use Rattle.labelled_disk.proofs.WriteLemmas as laws

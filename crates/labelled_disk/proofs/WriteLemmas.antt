@@ -1,11 +1,11 @@
 -- The laws of writes, for permanent files or for all.
 use Rattle.std.proofs.Common.{◌≡◌, ◌≢◌, ◌⊎◌, inl, inr, ℕ, zero, suc, ◌+◌, ◌-◌, ◌<◌, ◌≤◌, Bool, true, false, ◌&&◌, cond, List, [], ◌∷◌, map, length, Option, Some, None, refl, sym, ◌∙◌, ap, subst, arith, eqb, ◌/◌, ◌%◌, ◌^◌, take, drop, length-set, ◌++◌, ◌||◌}
 use Rattle.std.specs.Prelude.{slice_get, slice_set, find, option_map, if◌then◌else◌, nat_le, nat_lt, not}
-use Rattle.std.proofs.lemmas.Option.{same_Some, none-some, slice_get_within, slice_get-map}
+use Rattle.std.proofs.lemmas.Option.{same_Some, none-some, slice_get_within}
 use Rattle.std.proofs.lemmas.Bool.{leb-true, not-true, cases_eq, and_parts, eqb-true, eqb-false, ne_eqb, false≢true, true≢false, and_left}
 use Rattle.labelled_disk.specs.File.{File, Page, byte, file_at, room_of, size, total_room}
 use Rattle.labelled_disk.specs.FilesOn.{disk_file, file_among, file_by, files_among, files_by, is_of, is_page, leader_among, leads, leads_file, page_at, pages_from, put_file}
-use Rattle.labelled_disk.specs.Label.{is_file, is_immutable, is_permanent, leader_page, names}
+use Rattle.labelled_disk.specs.Label.{is_file, is_immutable, is_permanent, leader_page}
 use Rattle.labelled_disk.specs.Layout.{IsCount, capacity, data_sectors, first_data}
 use Rattle.labelled_disk.specs.Right.{FilesRight, IsGiven, IsWhole, OnlyMaps}
 use Rattle.labelled_disk.specs.Rising.{AreRising}
@@ -17,7 +17,6 @@ use Rattle.std.specs.List.{AllByRecursion}
 use Rattle.std.proofs.lemmas.List.{length-map, drop-set-lt, drop-set-add, length_push, length-take-le}
 use Rattle.std.proofs.lemmas.List.Sums.{sum_by-cons}
 use Rattle.labelled_disk.specs.declared.label.Label.{Label}
-use Rattle.labelled_disk.specs.declared.label.Wanted.{Wanted}
 use Rattle.labelled_disk.proofs.Finds.{get_set_same, get_set_other, IsAlone, none_passes, find_alone, find_none}
 use Rattle.std.proofs.lemmas.Bool.Decides.{eqb_tells}
 use Rattle.labelled_disk.proofs.Pages.{pages_end}

@@ -1,5 +1,5 @@
 -- The root of a volume, and labels that are right.
-use Rattle.std.specs.Prelude.{◌≡◌, ℕ, ◌+◌, ◌≤◌, Bool, false, IsTrue, IsSomeAnd, Some, Option, List, [], length, slice_get, slice_range, drop, codes, All, ◌<◌}
+use Rattle.std.specs.Prelude.{◌≡◌, ℕ, ◌+◌, ◌≤◌, Bool, false, IsTrue, IsSomeAnd, Option, List, [], length, slice_get, slice_range, drop, codes, All, ◌<◌}
 use Rattle.byteorder.specs.Endian.{big_number}
 use Rattle.std.specs.Option.{option_map_or}
 use Rattle.labelled_disk.specs.Label.{names, wanted_root}

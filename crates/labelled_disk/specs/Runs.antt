@@ -1,10 +1,9 @@
 -- The writes in a row that make, lengthen, shorten and remove a file, and the files at each moment of them.
 use Rattle.std.specs.Prelude.{◌≡◌, ◌≢◌, ℕ, zero, suc, ◌+◌, ◌-◌, ◌/◌, ◌%◌, ◌^◌, ◌<◌, ◌≤◌, Bool, true, false, List, [], ◌∷◌, ◌++◌, length, take, replicate, slice_get, Some, None, All}
 use Rattle.std.specs.List.{AllByRecursion}
-use Rattle.labelled_disk.specs.declared.label.Label.{Label}
 use Rattle.labelled_disk.specs.declared.disk.DiskWrite.{DiskWrite}
 use Rattle.labelled_disk.specs.declared.disk.DiskWrite.TheVariants.{Whole, LabelOnly, Page}
-use Rattle.labelled_disk.specs.Label.{is_file, is_file_id, leader_page, page_label}
+use Rattle.labelled_disk.specs.Label.{is_file, leader_page, page_label}
 use Rattle.labelled_disk.specs.Sectors.{Sector, IsSector, AreSectors, free_label}
 use Rattle.labelled_disk.specs.Moment.{moment, written}
 use Rattle.labelled_disk.specs.Layout.{capacity, data_sectors, first_data}
@@ -12,7 +11,7 @@ use Rattle.labelled_disk.specs.File.{File, size, total_room, zero_page}
 use Rattle.labelled_disk.specs.FilesOn.{is_of, is_page, leads_file, files_among, disk_file}
 use Rattle.labelled_disk.specs.Right.{FilesRight}
 use Rattle.labelled_disk.specs.Root.{RightFor, serial_of, counter_of}
-use Rattle.labelled_disk.specs.WriteLaws.{HasData, Changed, Kept}
+use Rattle.labelled_disk.specs.WriteLaws.{HasData, Changed}
 
 -- 512 bytes of zero
 unfoldable pub zero_bytes : List ℕ

@@ -25,7 +25,7 @@ pub returns-in-Err-clause-stopped : goal.returns-in-Err-clause-stopped
 returns-in-Err-clause-stopped g c =
     let below : c.loop-k.k < c.args.pages = search rules in
     made_some (λ k. c.args.sector + k) (λ k. write.Whole (c.args.sector + k) (page_label c.args.id c.args.kind (c.args.page + k)) zero_bytes) _ _ _ _ _ _ _ _ c.loop-k.k c.loop-k.invariant (apart c.args.sector c.loop-k.k)
-    c.args.pages (growth c.args.id c.args.kind c.args.page (range_with_len c.args.sector c.args.pages)) (all_are c.args.id c.args.kind c.args.page c.args.sector c.args.pages) below _ c.in-Err.ensures.stopped
+    c.args.pages (growth c.args.id c.args.kind c.args.page (range_with_len c.args.sector c.args.pages)) (all_are c.args.id c.args.kind c.args.page c.args.sector c.args.pages) below _ (rw c.of_page-label.ensures at c.in-Err.ensures.stopped)
 
 pub returns-in-Err-clause-sound : goal.returns-in-Err-clause-sound
 returns-in-Err-clause-sound g c = λ m stands free ones.
@@ -46,7 +46,7 @@ pub loop-k-preserved : goal.loop-k-preserved
 loop-k-preserved g c =
     let below : c.loop-k.k < c.args.pages = search rules in
     so_far_more (λ k. c.args.sector + k) (λ k. write.Whole (c.args.sector + k) (page_label c.args.id c.args.kind (c.args.page + k)) zero_bytes) _ _ _ _ _ _ _ _ c.loop-k.k c.loop-k.invariant (apart c.args.sector c.loop-k.k)
-    _ _ _ refl (λ free. free c.loop-k.k below) c.in-Ok.ensures.made c.in-Ok.ensures.frames c.in-Ok.ensures.layout c.in-Ok.ensures.cost
+    _ _ _ refl (λ free. free c.loop-k.k below) (rw c.of_page-label.ensures at c.in-Ok.ensures.made) c.in-Ok.ensures.frames c.in-Ok.ensures.layout c.in-Ok.ensures.cost
 
 pub returns-clause-made : goal.returns-clause-made
 returns-clause-made g c =

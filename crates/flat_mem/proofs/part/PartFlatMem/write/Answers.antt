@@ -1,4 +1,4 @@
-use Rattle.std.proofs.Common.{rules, ◌*◌, ◌+◌, ◌≤◌, ◌<◌, length, sym, ◌∙◌, ap, List, ℕ, arith, refl}
+use Rattle.std.proofs.Common.{◌*◌, ◌+◌, ◌≤◌, ◌<◌, length, sym, ◌∙◌, ap, List, ℕ, arith, refl}
 use Rattle.flat_mem.specs.Memory.{overwritten}
 use Rattle.flat_mem.specs.Parts.{part-overwritten, length-overwritten}
 use Rattle.flat_mem.specs.PartLaws.{part_size_is, part_inside, same_beside_written}
