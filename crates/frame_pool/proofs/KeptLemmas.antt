@@ -7,7 +7,7 @@ use Rattle.std.proofs.lemmas.Grind.{get_or_default_zero}
 use Rattle.std.proofs.lemmas.List.Elements.{All-append, All-take, All-drop}
 use Rattle.std.proofs.lemmas.Option.{none-some}
 use Rattle.frame_pool.specs.declared.home.Home.{Home}
-use Rattle.frame_pool.specs.Frames.{Frame, Slots, Has, frame_at, is_of, IsNowhere, IsPageBytes, ArePages}
+use Rattle.frame_pool.specs.Frames.{Frame, Slots, frame_at, is_of, IsNowhere, IsPageBytes, ArePages}
 use Rattle.flat_mem.specs.Memory.{overwritten}
 use Rattle.frame_pool.specs.FrameLaws.{distinct_same, pages_filled, has_of_frame, frame_of_has}
 use Rattle.frame_pool.specs.Lists.{Lists}

@@ -1,5 +1,5 @@
 -- The slots of a pool: each is empty or has a frame.
-use Rattle.std.specs.Prelude.{◌≡◌, ◌<◌, ◌≤◌, ◌+◌, ◌-◌, nat_le, nat_lt, ◌++◌, ◌==◌, ◌&&◌, ℕ, Bool, true, false, List, length, take, drop, Option, Some, None, slice_get, slice_index_or, slice_set, option_map, All}
+use Rattle.std.specs.Prelude.{◌≡◌, ◌<◌, ◌≤◌, ◌+◌, ◌-◌, nat_le, nat_lt, ◌==◌, ◌&&◌, ℕ, Bool, true, false, List, length, Option, Some, None, slice_get, slice_index_or, slice_set, option_map, All}
 use Rattle.flat_mem.specs.Memory.{overwritten}
 use Rattle.frame_pool.specs.declared.home.Home.{Home}
 

@@ -5,7 +5,7 @@ use Rattle.std.proofs.lemmas.List.{length-set, get_or-set_same, get_or-set_other
 use Rattle.std.proofs.lemmas.List.FromFn.{fill_by_all}
 use Rattle.flat_mem.specs.Memory.{overwritten}
 use Rattle.flat_mem.specs.Parts.{part-overwritten_below, part-overwritten_above, part-overwritten_same}
-use Rattle.flat_mem.specs.Order.{entry_at, key_at, IsInKeyOrder, IsBehind}
+use Rattle.flat_mem.specs.Order.{entry_at, IsInKeyOrder, IsBehind}
 use Rattle.flat_mem.specs.OrderLaws.{rising-insert, rising-set, rising-remove}
 use Rattle.record_table.specs.Table.{place, capacity_of, entry, entries, TellsEntries}
 use Rattle.record_table.specs.Edits.{IsInserted, IsReplaced, IsRemoved}

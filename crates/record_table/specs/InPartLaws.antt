@@ -1,6 +1,6 @@
 -- Laws of a table in a part of a memory that was lent to it.
 use Rattle.std.specs.Prelude.{◌≡◌, ℕ, ◌+◌, ◌-◌, ◌*◌, List, Result, Ok, Err, OnOk, IfErr, is_ok, if◌then◌else◌}
-use Rattle.std.proofs.Common.{refl, sym, ◌∙◌}
+use Rattle.std.proofs.Common.{sym, ◌∙◌}
 use Rattle.flat_mem.specs.declared.error.TableError.{TableError}
 use Rattle.flat_mem.specs.declared.part.Part.{Part}
 use Rattle.flat_mem.specs.Memory.{part}
@@ -8,7 +8,7 @@ use Rattle.flat_mem.specs.Part.{IsSameBeside, TellsPart, IsKept}
 use Rattle.flat_mem.specs.PartLaws.{others_kept}
 use Rattle.record_table.specs.Table.{entries, TellsEntries}
 use Rattle.record_table.specs.Edits.{IsInserted, IsReplaced, IsRemoved, IfMem}
-use Rattle.record_table.specs.InPart.{TellsBeside, IsInsertedIn, IsReplacedIn, IsRemovedIn}
+use Rattle.record_table.specs.InPart.{IsInsertedIn, IsReplacedIn, IsRemovedIn}
 
 -- what holds of the memory that was lent holds of it under another name
 pub lent : {M : Type 0} (P : M → Type 0) (m n : M) → m ≡ n → P n → P m

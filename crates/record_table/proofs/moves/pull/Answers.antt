@@ -1,6 +1,5 @@
-use Rattle.std.proofs.Common.{◌≡◌, ◌+◌, ◌-◌, ◌*◌, ℕ, arith, sym, ◌∙◌, ap, refl}
+use Rattle.std.proofs.Common.{◌≡◌, ◌+◌, ◌-◌, ◌*◌, ℕ, arith, ◌∙◌, ap}
 use Rattle.flat_mem.specs.Memory.{part}
-use Rattle.record_table.specs.Table.{per_page}
 use Rattle.record_table.proofs.Slots.{is_pulled}
 use Rattle.record_table.proofs.moves.pull.Goals as goal
 

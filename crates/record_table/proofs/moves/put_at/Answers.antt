@@ -1,7 +1,7 @@
-use Rattle.std.proofs.Common.{◌≡◌, ◌+◌, ◌-◌, ◌*◌, ◌/◌, ◌%◌, ◌≤◌, ℕ, List, insert, arith}
-use Rattle.record_table.specs.Table.{per_page, pages_of, entries}
+use Rattle.std.proofs.Common.{◌≡◌, ◌+◌, ◌-◌, ◌/◌, ◌%◌, ◌≤◌, arith}
+use Rattle.record_table.specs.Table.{per_page, pages_of}
 use Rattle.record_table.specs.Moves.{first_place_behind}
-use Rattle.record_table.proofs.Filling.{IsFilling, behind_place, next_is, next_row, row_below, one_more, at_most_rows, fill_start, fill_more, fill_end}
+use Rattle.record_table.proofs.Filling.{behind_place, next_is, next_row, row_below, one_more, at_most_rows, fill_start, fill_more, fill_end}
 use Rattle.record_table.proofs.moves.put_at.Goals as goal
 
 pub moving-init : goal.moving-init

@@ -1,5 +1,5 @@
-use Rattle.std.proofs.Common.{inl, inr, ◌≡◌, ◌+◌, ◌-◌, ◌*◌, ◌/◌, ◌<◌, ◌≤◌, ℕ, List, remove, arith, refl}
-use Rattle.record_table.specs.Table.{per_page, pages_of, entries}
+use Rattle.std.proofs.Common.{inl, ◌-◌, ◌/◌, ◌<◌, arith, refl}
+use Rattle.record_table.specs.Table.{per_page, pages_of}
 use Rattle.record_table.proofs.Emptying.{IsRow, is_row, one_less, empty_start, empty_more, empty_end, even_end, left_after}
 use Rattle.record_table.proofs.moves.take_out.Goals as goal
 

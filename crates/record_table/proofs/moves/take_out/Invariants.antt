@@ -1,5 +1,5 @@
 use Rattle.std.proofs.Common.{ℕ, ◌+◌, ◌*◌, ◌<◌, ◌≤◌, List, remove}
-use Rattle.record_table.specs.Table.{per_page, pages_of, entries}
+use Rattle.record_table.specs.Table.{pages_of, entries}
 use Rattle.record_table.proofs.Emptying.{IsEmptying, IsEnd}
 use Rattle.record_table.proofs.moves.take_out.Given as goal
 
