@@ -1,5 +1,5 @@
 // A record that is taken out by its index.
-ghost use Rattle.std.specs.Prelude.{◌≡◌, ℕ, ◌+◌, ◌*◌, ◌/◌, ◌^◌, ◌<◌, ◌≤◌, ◌⊎◌, List, length, get_or, remove, IfErr, MatchResult};
+ghost use Rattle.std.specs.Prelude.{◌≡◌, ℕ, ◌+◌, ◌*◌, ◌/◌, ◌^◌, ◌<◌, ◌≤◌, ◌⊎◌, List, length, get_or, remove, IfOk, IfErr, MatchResult};
 ghost use Rattle.page_tree.specs.Page.{IsWidths, page_at, filled, leaf_room, count_in, levels_in};
 ghost use Rattle.page_tree.specs.Tree.{IsTree};
 ghost use Rattle.page_tree.specs.Standing.{IsStanding};
@@ -8,6 +8,7 @@ ghost use Rattle.page_tree.specs.Answer.{FromMemory, IfMem, IsPast, CanBegin};
 ghost use Rattle.page_tree.specs.Broken.{Meets, Breaks, IfMalformed};
 ghost use Rattle.page_tree.specs.Met.{IsMetPath};
 ghost use Rattle.page_tree.specs.Placed.{IsPlaced, IsLeft, IsOutAt};
+ghost use Rattle.page_tree.specs.Indexed.{HasNth};
 
 use crate::by_index::{Place, find_place};
 use crate::error::TreeError;
@@ -87,6 +88,7 @@ fn remove_in<M: FlatMem, const E: usize, const K: usize>(
     requires begins { CanBegin (M.size mem.old / 512) header.old.levels header.old.root }
     ensures out { (b : List ℕ) → M.tells mem.old b → (records : List (List ℕ)) → IsTree E K (M.size mem.old / 512) b records → IsHead (page_at b 0) header.old.count header.old.root header.old.top header.old.free header.old.levels → index < length records
         → MatchResult result (λ _. IsLeft E K (M.size mem.old / 512) (M.tells mem.new) (remove records index) header.new.levels header.new.root header.new.free header.new.top) FromMemory }
+    ensures stood { (b : List ℕ) → M.tells mem.old b → IsHead (page_at b 0) header.old.count header.old.root header.old.top header.old.free header.old.levels → IfOk result (λ _. HasNth E K b index) }
     ensures broken { (b : List ℕ) → M.tells mem.old b → IsHead (page_at b 0) header.old.count header.old.root header.old.top header.old.free header.old.levels → index < header.old.count → IfErr result (IfMalformed (Breaks E K (M.size mem.old / 512) b)) }
     ensures few { header.new.levels ≤ 6 }
     ensures count { header.new.count ≡ header.old.count }
@@ -128,6 +130,7 @@ pub fn remove<M: FlatMem, const E: usize, const K: usize>(
     ensures past { (b : List ℕ) → M.tells mem.old b → (records : List (List ℕ)) → IsTree E K (M.size mem.old / 512) b records → length records ≤ index → MatchResult result (λ _. ⊥) IsPast }
     ensures past_any { (b : List ℕ) → M.tells mem.old b → count_in (page_at b 0) ≤ index → MatchResult result (λ _. ⊥) IsPast }
     ensures past_same { (b : List ℕ) → M.tells mem.old b → count_in (page_at b 0) ≤ index → M.tells mem.new b }
+    ensures stood { (b : List ℕ) → M.tells mem.old b → IfOk result (λ _. HasNth E K b index) }
     ensures broken { (b : List ℕ) → M.tells mem.old b → IfErr result (IfMalformed (λ page. Breaks E K (M.size mem.old / 512) b page ⊎ ((page ≡ 0) × (count_in (page_at b 0) ≤ index)))) }
     ensures kept { M.beside mem.old mem.new }
     ensures cause { IfErr result (IfMem (M.accounted mem.old mem.new)) }

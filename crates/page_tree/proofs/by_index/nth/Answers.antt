@@ -1,5 +1,6 @@
-use Rattle.std.proofs.Common.{inl, inr, ℕ, ◌/◌, ◌<◌, arith, refl, sym, ◌∙◌, ap, subst}
+use Rattle.std.proofs.Common.{inl, inr, ℕ, ◌/◌, ◌<◌, List, arith, refl, sym, ◌∙◌, ap, subst}
 use Rattle.flat_mem.specs.Order.{entry_at}
+use Rattle.page_tree.specs.Page.{record_at}
 use Rattle.page_tree.specs.Tree.{IsTree}
 use Rattle.page_tree.proofs.Replaced.{standing}
 use Rattle.page_tree.proofs.PlacedLaws.{placed_entry}
@@ -72,3 +73,13 @@ returns-in-Err-find_place-clause-past_any g c = λ b h past. absurd (omega (arit
 
 pub returns-clause-past_any : goal.returns-clause-past_any
 returns-clause-past_any g c = λ b h past. absurd (omega (arith, past, (c.in-Ok.ensures.fields b h).count_is, c.if-index-header.false))
+
+pub returns-clause-stands : goal.returns-clause-stands
+returns-clause-stands g c = λ b h.
+    let told = c.read_header.ensures.unchanged b h in
+    let read = c.in-Ok-find_place.ensures.read b told in record {
+      page = c.in-Ok-find_place.place.page;
+      slot = c.in-Ok-find_place.place.index;
+      place = c.in-Ok-find_place.ensures.indexed b told (c.in-Ok.ensures.fields b h);
+      is = c.record_of.ensures ∙ ap (λ (p : List ℕ). record_at g.row.E p c.in-Ok-find_place.place.index) read;
+    }

@@ -64,3 +64,6 @@ returns-in-Ok-set_in-clause-past_any g c = λ b h past. absurd (omega (arith, pa
 
 pub returns-in-Err-set_in-clause-past_any : goal.returns-in-Err-set_in-clause-past_any
 returns-in-Err-set_in-clause-past_any g c = λ b h past. absurd (omega (arith, past, (c.in-Ok.ensures.fields b h).count_is, c.if-index-header.false))
+
+pub returns-in-Ok-set_in-clause-written : goal.returns-in-Ok-set_in-clause-written
+returns-in-Ok-set_in-clause-written g c = λ b h. c.in-Ok-set_in.ensures.written b (c.read_header.ensures.unchanged b h) (c.in-Ok.ensures.fields b h)

@@ -29,3 +29,6 @@ returns-in-Err-take_out-clause-broken g c = λ b h is below.
     let size = g.met.M.FlatMem.same_size _ _ c.find_place.ensures.kept in
     let met = c.in-Ok.ensures.met b h is in
     rw size (c.in-Err-take_out.ensures.broken b (c.find_place.ensures.unchanged b h) (sym is.levels_is) met.1 met.0 (c.in-Ok.ensures.read b h))
+
+pub returns-in-Ok-take_out-clause-stood : goal.returns-in-Ok-take_out-clause-stood
+returns-in-Ok-take_out-clause-stood g c = λ b h is. (c.in-Ok.place.page, c.in-Ok.place.index, c.in-Ok.ensures.indexed b h is)
