@@ -10,7 +10,8 @@ use Rattle.page_tree.specs.Leaves.{gathered, leaves_below, leaves_of, leaves_in,
 use Rattle.page_tree.specs.Broken.{IsLeafForm}
 use Rattle.page_tree.specs.Met.{IsMetPath}
 use Rattle.page_tree.specs.Walked.{page_on, IsThread, leaves_ahead, IsWalked}
-use Rattle.page_tree.specs.Indexed.{IsIndexed}
+use Rattle.page_tree.specs.Indexed.{IsIndexed, LacksNth}
+use Rattle.page_tree.proofs.CountLaws.{named_leaves}
 use Rattle.page_tree.proofs.Threads.{on_other}
 
 -- the lists from number n on
@@ -67,12 +68,24 @@ walked_indexed e k b levels root pages index at passed page rest i levels_is roo
     let all = walked_leaves k b levels root pages index at passed some walked in record {
       passed = passed;
       behind = all.0;
-      leaves = ap (λ (l : ℕ). leaves_of k b l (root_in (page_at b 0))) levels_is ∙ ap (leaves_of k b levels) root_is ∙ all.1;
+      leaves = named_leaves k b levels root levels_is root_is ∙ all.1;
       count = count;
       met = walked.met;
       form = subst (IsLeafForm e) read form;
       below = subst (λ (p : List ℕ). rest < filled p) read below;
     }
+
+-- why a walk ends without one
+module _ (k : ℕ) (b : List ℕ) (levels root : ℕ) (levels_is : levels_in (page_at b 0) ≡ levels) (root_is : root_in (page_at b 0) ≡ root) (e pages i : ℕ) where
+  pub short_of : (passed : List ℕ) (rest : ℕ) → leaves_of k b levels root ≡ passed → records_in b passed + rest ≡ i → LacksNth e k pages b i
+  short_of passed rest all count = LacksNth.short (omega (arith, ap (records_in b) (named_leaves k b levels root levels_is root_is ∙ all), count))
+
+  pub crowded_by : (passed : List ℕ) → length passed < length (leaves_of k b levels root) → pages ≤ length passed → LacksNth e k pages b i
+  crowded_by passed fewer past = LacksNth.crowded (omega (arith, ap length (named_leaves k b levels root levels_is root_is), fewer, past))
+
+-- a tree of no level has no record
+pub bare_lacks : (e k pages : ℕ) (b : List ℕ) (i : ℕ) → levels_in (page_at b 0) ≡ 0 → LacksNth e k pages b i
+bare_lacks e k pages b i none = LacksNth.short (omega (arith, ap (λ (l : ℕ). records_in b (leaves_of k b l (root_in (page_at b 0)))) none))
 
 -- the parts of a list, put together again
 parts_joined : (w : List ℕ) (from size : ℕ) → from + size ≤ length w → take from w ++ part w from size ++ drop (from + size) w ≡ w

@@ -7,7 +7,7 @@ ghost use Rattle.page_tree.specs.Climb.{IsHead};
 ghost use Rattle.page_tree.specs.Answer.{FromMemory, IfMem, IsPast, CanBegin};
 ghost use Rattle.page_tree.specs.Broken.{Breaks, IfMalformed};
 ghost use Rattle.page_tree.specs.Placed.{IsSetAt};
-ghost use Rattle.page_tree.specs.Indexed.{IsNthSet};
+ghost use Rattle.page_tree.specs.Indexed.{IsNthSet, LacksNth};
 
 use crate::by_index::find_place;
 use crate::edits::set_record;
@@ -33,6 +33,7 @@ fn set_in<M: FlatMem, const E: usize, const K: usize>(
         → MatchResult result (λ _. IsSetAt E K (M.size mem.old / 512) (M.tells mem.new) records index entry.now) FromMemory }
     ensures written { (b : List ℕ) → M.tells mem.old b → IsHead (page_at b 0) header.count header.root header.top header.free header.levels → IfOk result (λ _. IsNthSet E K (M.tells mem.new) b index entry.now) }
     ensures broken { (b : List ℕ) → M.tells mem.old b → IsHead (page_at b 0) header.count header.root header.top header.free header.levels → index < header.count → IfErr result (IfMalformed (Breaks E K (M.size mem.old / 512) b)) }
+    ensures lacking { (b : List ℕ) → M.tells mem.old b → IsHead (page_at b 0) header.count header.root header.top header.free header.levels → IfErr result (IfMalformed (λ page. page ≡ 0 → LacksNth E K (M.size mem.old / 512) b index)) }
     ensures kept { M.beside mem.old mem.new }
     ensures cause { IfErr result (IfMem (M.accounted mem.old mem.new)) }
     ensures cost { M.spent mem.new ≤ M.spent mem.old + (7 + 11 * (M.size mem.old / 512)) * M.cost }
@@ -63,6 +64,7 @@ pub fn replace<M: FlatMem, const E: usize, const K: usize>(
     ensures past_same { (b : List ℕ) → M.tells mem.old b → count_in (page_at b 0) ≤ index → M.tells mem.new b }
     ensures written { (b : List ℕ) → M.tells mem.old b → IfOk result (λ _. IsNthSet E K (M.tells mem.new) b index entry.now) }
     ensures broken { (b : List ℕ) → M.tells mem.old b → IfErr result (IfMalformed (λ page. Breaks E K (M.size mem.old / 512) b page ⊎ ((page ≡ 0) × (count_in (page_at b 0) ≤ index)))) }
+    ensures lacking { (b : List ℕ) → M.tells mem.old b → IfErr result (IfMalformed (λ page. page ≡ 0 → LacksNth E K (M.size mem.old / 512) b index)) }
     ensures kept { M.beside mem.old mem.new }
     ensures cause { IfErr result (IfMem (M.accounted mem.old mem.new)) }
     ensures cost { M.spent mem.new ≤ M.spent mem.old + 12 * (M.size mem.old / 512) * M.cost }

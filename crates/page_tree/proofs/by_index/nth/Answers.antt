@@ -5,6 +5,7 @@ use Rattle.page_tree.specs.Tree.{IsTree}
 use Rattle.page_tree.proofs.Replaced.{standing}
 use Rattle.page_tree.proofs.PlacedLaws.{placed_entry}
 use Rattle.page_tree.proofs.CountLaws.{past_memory, broken_or, none_at, bare_broken, walk_spends}
+use Rattle.page_tree.proofs.IndexedLaws.{bare_lacks}
 use Rattle.page_tree.proofs.by_index.nth.Goals as goal
 
 pub returns-in-Err-clause-answer : goal.returns-in-Err-clause-answer
@@ -83,3 +84,10 @@ returns-clause-stands g c = λ b h.
       place = c.in-Ok-find_place.ensures.indexed b told (c.in-Ok.ensures.fields b h);
       is = c.record_of.ensures ∙ ap (λ (p : List ℕ). record_at g.row.E p c.in-Ok-find_place.place.index) read;
     }
+
+pub returns-then-header-eq0-clause-lacking : goal.returns-then-header-eq0-clause-lacking
+returns-then-header-eq0-clause-lacking g c = λ b h same. bare_lacks g.row.E g.row.K _ b c.args.index ((c.in-Ok.ensures.fields b h).levels_is ∙ c.if-header-eq0.true)
+
+pub returns-in-Err-find_place-clause-lacking : goal.returns-in-Err-find_place-clause-lacking
+returns-in-Err-find_place-clause-lacking g c = λ b h.
+    rw (g.met.M.FlatMem.same_size _ _ c.read_header.ensures.kept) (c.in-Err-find_place.ensures.lacking b (c.read_header.ensures.unchanged b h) (c.in-Ok.ensures.fields b h))
