@@ -6,7 +6,7 @@ use Rattle.std.proofs.lemmas.List.{append-nil, append_assoc, same_lists, places}
 use Rattle.flat_mem.specs.Memory.{part, overwritten}
 use Rattle.flat_mem.specs.Parts.{length-part, length-overwritten, part-overwritten, take-overwritten, drop-overwritten}
 use Rattle.page_tree.specs.Page.{page_at, filled, link_at, root_in, levels_in, leaf_room}
-use Rattle.page_tree.specs.Leaves.{gathered, leaves_below, leaves_of, leaves_in, records_in}
+use Rattle.page_tree.specs.Leaves.{gathered, leaves_below, leaves_of, records_in}
 use Rattle.page_tree.specs.Broken.{IsLeafForm}
 use Rattle.page_tree.specs.Met.{IsMetPath}
 use Rattle.page_tree.specs.Walked.{page_on, IsThread, leaves_ahead, IsWalked}
@@ -44,9 +44,9 @@ leaves_split k b levels root pages index at thread path (suc d) most =
     let split = gathered_split (λ i. leaves_below k b d (link_at k (page_at b (get_or pages (suc (suc d)) 0)) i)) (get_or index (suc (suc d)) 0) (suc (filled (page_at b (get_or pages (suc (suc d)) 0)))) (omega (arith, chosen)) in (
       lower.0 ++ split.0,
       ap (leaves_below k b (suc d)) is
-      ∙ split.1
-      ∙ joined (gathered (λ i. leaves_below k b d (link_at k (page_at b (get_or pages (suc (suc d)) 0)) i)) (get_or index (suc (suc d)) 0)) (leaves_ahead k b pages index d)
-            (leaves_below k b d (link_at k (page_at b (get_or pages (suc (suc d)) 0)) (get_or index (suc (suc d)) 0))) lower.0 split.0 at below,
+          ∙ split.1
+          ∙ joined (gathered (λ i. leaves_below k b d (link_at k (page_at b (get_or pages (suc (suc d)) 0)) i)) (get_or index (suc (suc d)) 0)) (leaves_ahead k b pages index d)
+          (leaves_below k b d (link_at k (page_at b (get_or pages (suc (suc d)) 0)) (get_or index (suc (suc d)) 0))) lower.0 split.0 at below,
     )
 
 pub walked_leaves : (k : ℕ) (b : List ℕ) (levels root : ℕ) (pages index : List ℕ) (at : ℕ) (passed : List ℕ) → 1 ≤ levels → IsWalked k b levels root pages index at passed → (behind : List ℕ) × (leaves_of k b levels root ≡ passed ++ at ∷ behind)
@@ -56,9 +56,9 @@ walked_leaves k b (suc d) root pages index at passed some walked =
     let same : d ≡ suc d - 1 = omega arith in (
       split.0,
       ap (leaves_below k b d) (sym walked.thread.top)
-      ∙ split.1
-      ∙ ap (λ (n : ℕ). leaves_ahead k b pages index n ++ at ∷ split.0) same
-      ∙ ap (λ (xs : List ℕ). xs ++ at ∷ split.0) walked.ahead,
+          ∙ split.1
+          ∙ ap (λ (n : ℕ). leaves_ahead k b pages index n ++ at ∷ split.0) same
+          ∙ ap (λ (xs : List ℕ). xs ++ at ∷ split.0) walked.ahead,
     )
 
 -- the record at which a walk has used up its index

@@ -5,7 +5,7 @@ ghost use Rattle.page_tree.specs.Tree.{Node, node_at, IsRooted};
 ghost use Rattle.page_tree.specs.Path.{IsPath, IsLed, IsLedOn, Turns, leaf_from};
 ghost use Rattle.page_tree.specs.Answer.{FromMemory, IfMem};
 ghost use Rattle.page_tree.specs.Broken.{IsInnerForm, IsLeafForm, Meets, Breaks, IfMalformed};
-ghost use Rattle.page_tree.specs.Met.{IsMetPath};
+ghost use Rattle.page_tree.specs.Met.{IsMetPath, AvoidsHeader};
 ghost use Rattle.page_tree.specs.Walked.{IsThread, IsLedDown, IsLastUntil, IsWalked, IsWalkedOn};
 
 use crate::error::TreeError;
@@ -142,7 +142,7 @@ fn turning_level<M: FlatMem, const K: usize>(
     requires path { (n : ℕ) → 1 < n → n ≤ levels → get_or path.now.pages n 0 < M.size mem.old / 512 }
     ensures turn { (b : List ℕ) → M.tells mem.old b → (e : ℕ) (records : List (List ℕ)) (root at : ℕ) (nodes : ℕ → List Node) (home : ℕ → ℕ) → IsRooted e K (M.size mem.old / 512) b records levels root nodes → IsPath nodes levels 1 path.now.pages path.now.index at home → MatchResult result (Turns nodes levels path.now.index home) FromMemory }
     ensures met { (b : List ℕ) → M.tells mem.old b → (e root : ℕ) → IsMetPath K b levels 1 root path.now.pages path.now.index → MatchResult result (λ found. IfSome found (λ level. get_or path.now.index level 0 + 1 ≤ filled (page_at b (get_or path.now.pages level 0)))) (IfMalformed (Breaks e K (M.size mem.old / 512) b)) }
-    ensures named { ((n : ℕ) → 1 < n → n ≤ levels → 1 ≤ get_or path.now.pages n 0) → IfErr result (IfMalformed (λ page. 1 ≤ page)) }
+    ensures named { AvoidsHeader levels path.now.pages → IfErr result (IfMalformed (λ page. 1 ≤ page)) }
     ensures last { (b : List ℕ) → M.tells mem.old b → (root : ℕ) → IsMetPath K b levels 1 root path.now.pages path.now.index → IfOk result (IsLastUntil b levels path.now.pages path.now.index) }
     ensures form { IfOk result (λ found. IfSome found (λ level. (2 ≤ level) × (level ≤ levels))) }
     ensures unchanged { (b : List ℕ) → M.tells mem.old b → M.tells mem.new b }
@@ -180,7 +180,7 @@ pub fn next_leaf<M: FlatMem, const E: usize, const K: usize>(
     requires path { (n : ℕ) → 1 < n → n ≤ levels → get_or path.old.pages n 0 < M.size mem.old / 512 }
     ensures leaf { (b : List ℕ) → M.tells mem.old b → (records : List (List ℕ)) (root at : ℕ) (nodes : ℕ → List Node) (home : ℕ → ℕ) → IsRooted E K (M.size mem.old / 512) b records levels root nodes → IsPath nodes levels 1 path.old.pages path.old.index at home → MatchResult result (IsLedOn b levels nodes page.new path.new.pages path.new.index (home 1)) FromMemory }
     ensures met { (b : List ℕ) → M.tells mem.old b → (root : ℕ) → IsMetPath K b levels 1 root path.old.pages path.old.index → MatchResult result (λ found. IfSome found (Meets K b 1) × IsMetPath K b levels 1 root path.new.pages path.new.index) (IfMalformed (Breaks E K (M.size mem.old / 512) b)) }
-    ensures named { ((n : ℕ) → 1 < n → n ≤ levels → 1 ≤ get_or path.old.pages n 0) → IfErr result (IfMalformed (λ page. 1 ≤ page)) }
+    ensures named { AvoidsHeader levels path.old.pages → IfErr result (IfMalformed (λ page. 1 ≤ page)) }
     ensures walked { (b : List ℕ) → M.tells mem.old b → (root at : ℕ) (passed : List ℕ) → IsWalked K b levels root path.old.pages path.old.index at passed → MatchResult result (IsWalkedOn K b levels root path.new.pages path.new.index at passed) (IfMalformed (Breaks E K (M.size mem.old / 512) b)) }
     ensures path { IfOk result (λ _. (n : ℕ) → 1 < n → n ≤ levels → get_or path.new.pages n 0 < M.size mem.old / 512) }
     ensures inside { IfOk result (λ found. IfSome found (λ leaf. leaf < M.size mem.old / 512)) }

@@ -8,7 +8,6 @@ use Rattle.page_tree.proofs.WalkedLaws.{fewer_passed}
 use Rattle.page_tree.proofs.MetLaws.{met_behind}
 use Rattle.page_tree.proofs.IndexedLaws.{walked_indexed, short_of, crowded_by}
 use Rattle.page_tree.proofs.WayLaws.{malformed_wider}
-use Rattle.page_tree.specs.Indexed.{LacksNth}
 use Rattle.page_tree.proofs.CountLaws.{records_more, leaves_more, few_broken, crowd_broken}
 use Rattle.page_tree.proofs.by_index.find_place.Goals as goal
 
