@@ -17,7 +17,7 @@ pub leaves_more : (passed : List ℕ) (at : ℕ) → length (passed ++ at ∷ []
 leaves_more passed at = length-append passed (at ∷ [])
 
 module _ (k : ℕ) (b : List ℕ) (levels root : ℕ) (levels_is : levels_in (page_at b 0) ≡ levels) (root_is : root_in (page_at b 0) ≡ root) where
-  named_leaves : leaves_in k b ≡ leaves_of k b levels root
+  pub named_leaves : leaves_in k b ≡ leaves_of k b levels root
   named_leaves = ap (λ (l : ℕ). leaves_of k b l (root_in (page_at b 0))) levels_is ∙ ap (leaves_of k b levels) root_is
 
   -- the walk is at its end, and the index is not reached

@@ -49,6 +49,7 @@ mod Threads
 mod WalkedLaws
 mod PlacedLaws
 mod CountLaws
+mod IndexedLaws
 mod CountedLaws
 mod LeavesLaws
 mod Unbroken

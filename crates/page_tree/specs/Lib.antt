@@ -27,3 +27,4 @@ pub mod Standing
 pub mod Named
 pub mod Out
 pub mod Placed
+pub mod Indexed

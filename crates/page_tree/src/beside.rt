@@ -36,6 +36,7 @@ pub fn load_above<M: FlatMem, const K: usize>(
     ensures well { (e : ℕ) (b : List ℕ) → M.tells mem.old b → (records : List (List ℕ)) (at : ℕ) (page : List ℕ) (root first top : ℕ) → IsPending e K (M.size mem.old / 512) b records levels level path.now.pages path.now.index at page root first top → IfErr result FromMemory }
     ensures like { (root : ℕ) (b c : List ℕ) → M.tells mem.old c → IsMending K b c levels level root path.now.pages path.now.index → IfOk result (λ up. IsLike K above.new (page_at b up)) }
     ensures broken { (e root : ℕ) (b c : List ℕ) → M.tells mem.old c → IsMending K b c levels level root path.now.pages path.now.index → IfErr result (IfMalformed (Breaks e K (M.size mem.old / 512) b)) }
+    ensures named { 1 ≤ get_or path.now.pages (level + 1) 0 → IfErr result (IfMalformed (λ page. 1 ≤ page)) }
     ensures unchanged { (b : List ℕ) → M.tells mem.old b → M.tells mem.new b }
     ensures kept { M.beside mem.old mem.new }
     ensures cause { IfErr result (IfMemNotFull (M.accounted mem.old mem.new)) }
@@ -77,6 +78,7 @@ fn load_beside<M: FlatMem, const E: usize, const K: usize>(
     ensures inner { IfOk result (λ _. level ≢ 1 → filled page.new ≤ key_room K) }
     ensures well { (b : List ℕ) → M.tells mem.old b → (xs : List Item) → 1 ≤ link_at K above.now index → link_at K above.now index < M.size mem.old / 512 → IsPageOf E K level (page_at b (link_at K above.now index)) xs → IfErr result FromMemory }
     ensures broken { (root levels : ℕ) (paths indexes b c : List ℕ) → M.tells mem.old c → IsMending K b c levels level root paths indexes → Meets K b (level + 1) up → IsInnerForm K (page_at b up) → IsLike K above.now (page_at b up) → index ≤ filled above.now → IfErr result (IfMalformed (Breaks E K (M.size mem.old / 512) b)) }
+    ensures named { 1 ≤ up → IfErr result (IfMalformed (λ page. 1 ≤ page)) }
     ensures unchanged { (b : List ℕ) → M.tells mem.old b → M.tells mem.new b }
     ensures kept { M.beside mem.old mem.new }
     ensures cause { IfErr result (IfMemNotFull (M.accounted mem.old mem.new)) }
@@ -129,6 +131,7 @@ pub fn mend_beside<M: FlatMem, const E: usize, const K: usize>(
         → MatchResult result (IsToNote E K (M.size mem.old / 512) (M.tells mem.new) b records header.old.levels level paths indexes above.now slot key.new header.old.root header.new.free header.old.top) FromMemory }
     ensures on { (root beside : ℕ) (paths indexes b c : List ℕ) → M.tells mem.old c → IsMending K b c header.old.levels level root paths indexes → level < header.old.levels → up ≡ get_or paths (level + 1) 0 → IsLike K above.now (page_at b up) → Meets K b level at → IsBesideOf index beside → AreNotAbove paths level header.old.levels at (link_at K above.now beside)
         → MatchResult result (λ _. (d : List ℕ) × M.tells mem.new d × IsMending K b d header.old.levels (level + 1) root paths indexes) (IfMalformed (Breaks E K (M.size mem.old / 512) b)) }
+    ensures named { 1 ≤ up → IfErr result (IfMalformed (λ page. 1 ≤ page)) }
     ensures count { header.new.count ≡ header.old.count }
     ensures root { header.new.root ≡ header.old.root }
     ensures top { header.new.top ≡ header.old.top }

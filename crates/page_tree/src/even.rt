@@ -27,6 +27,7 @@ pub fn give_page<M: FlatMem>(
     ensures root { header.new.root ≡ header.old.root }
     ensures top { header.new.top ≡ header.old.top }
     ensures levels { header.new.levels ≡ header.old.levels }
+    ensures memory { IfErr result FromMemory }
     ensures kept { M.beside mem.old mem.new }
     ensures cause { IfErr result (IfMemNotFull (M.accounted mem.old mem.new)) }
     ensures cost { M.spent mem.new ≤ M.spent mem.old + M.cost }
@@ -45,6 +46,7 @@ fn write_free<M: FlatMem>(
 ) -> Result<(), TreeError<M::Error>>
     requires inside { at < M.size mem.old / 512 }
     ensures given { (b : List ℕ) → M.tells mem.old b → MatchResult result (λ _. IsGiven (M.tells mem.new) b at next) FromMemory }
+    ensures memory { IfErr result FromMemory }
     ensures kept { M.beside mem.old mem.new }
     ensures cause { IfErr result (IfMemNotFull (M.accounted mem.old mem.new)) }
     ensures cost { M.spent mem.new ≤ M.spent mem.old + M.cost }
@@ -96,6 +98,7 @@ pub fn even_out<M: FlatMem, const E: usize, const K: usize>(
     ensures root { header.new.root ≡ header.old.root }
     ensures top { header.new.top ≡ header.old.top }
     ensures levels { header.new.levels ≡ header.old.levels }
+    ensures memory { IfErr result FromMemory }
     ensures kept { M.beside mem.old mem.new }
     ensures cause { IfErr result (IfMemNotFull (M.accounted mem.old mem.new)) }
     ensures cost { M.spent mem.new ≤ M.spent mem.old + 2 * M.cost }

@@ -6,7 +6,7 @@ ghost use Rattle.page_tree.specs.Tree.{Node, IsRooted, IsTree};
 ghost use Rattle.page_tree.specs.Path.{IsReached};
 ghost use Rattle.page_tree.specs.Climb.{IsHead};
 ghost use Rattle.page_tree.specs.Put.{capacity_of};
-ghost use Rattle.page_tree.specs.Broken.{AreInForm, Meets, Breaks, IfMalformed};
+ghost use Rattle.page_tree.specs.Broken.{AreInForm, IsHeaderForm, Meets, Breaks, IfMalformed};
 ghost use Rattle.page_tree.specs.Met.{IsMetPath};
 ghost use Rattle.page_tree.specs.Tells.{StandsIn};
 ghost use Rattle.page_tree.specs.Answer.{IsLastEntry, IsLastInPage, CanBegin, FromMemory, IfMemNotFull, IsPast};
@@ -167,6 +167,7 @@ pub fn read_header<M: FlatMem, const E: usize, const K: usize>(
     ensures well { (b : List ℕ) → M.tells mem.old b → (records : List (List ℕ)) → IsTree E K (M.size mem.old / 512) b records → IfErr result FromMemory }
     ensures named { IfErr result IsPast }
     ensures broken { (b : List ℕ) → M.tells mem.old b → IfErr result (IfMalformed (Breaks E K (M.size mem.old / 512) b)) }
+    ensures unlike { (b : List ℕ) → M.tells mem.old b → IfErr result (IfMalformed (λ _. ¬ IsHeaderForm E (M.size mem.old / 512) (page_at b 0))) }
     ensures unchanged { (b : List ℕ) → M.tells mem.old b → M.tells mem.new b }
     ensures kept { M.beside mem.old mem.new }
     ensures cause { IfErr result (IfMemNotFull (M.accounted mem.old mem.new)) }

@@ -8,7 +8,7 @@ ghost use Rattle.page_tree.specs.Climb.{IsClosed};
 ghost use Rattle.page_tree.specs.Answer.{FromMemory, IfMemNotFull};
 ghost use Rattle.page_tree.specs.Broken.{StopsInsertion, IfMalformed};
 ghost use Rattle.page_tree.specs.Way.{IsUnderWay, IsTakenOn};
-ghost use Rattle.page_tree.specs.Open.{IsOpen, IsTaken, CanTake};
+ghost use Rattle.page_tree.specs.Open.{IsOpen, IsTaken, CanTake, IsFirstFree};
 
 use crate::error::TreeError;
 use crate::look::Header;
@@ -23,6 +23,7 @@ pub fn take_page<M: FlatMem>(mem: &mut M, header: &mut Header) -> Result<u32, Tr
     requires free { header.old.free < M.size mem.old / 512 }
     ensures taken { (b : List ℕ) → M.tells mem.old b → (free : List ℕ) → CanTake b free header.old.free header.old.top (M.size mem.old / 512) → MatchResult result (IsTaken b free header.old.top header.new.free header.new.top) FromMemory }
     ensures on { (e k level t : ℕ) (b c : List ℕ) → M.tells mem.old c → t ≤ 5 → IsUnderWay k b c level t header.old.free header.old.top → MatchResult result (λ page. IsTakenOn k b c level t page header.new.free header.new.top) (IfMalformed (StopsInsertion e k (M.size mem.old / 512) b)) }
+    ensures first { (b : List ℕ) → M.tells mem.old b → IfOk result (λ page. IsFirstFree b header.old.free header.old.top page header.new.free header.new.top) }
     ensures inside { IfOk result (λ page. (1 ≤ page) × (page < M.size mem.old / 512)) }
     ensures free { IfOk result (λ _. header.new.free < M.size mem.old / 512) }
     ensures count { header.new.count ≡ header.old.count }

@@ -2,6 +2,7 @@
 ghost use Rattle.std.specs.Prelude.{◌≡◌, ℕ, ◌+◌, ◌-◌, ◌*◌, ◌/◌, ◌^◌, ◌<◌, ◌≤◌, List, length, get_or, Bool, true, false, IfOk, IfErr, OnOk, MatchResult};
 ghost use Rattle.page_tree.specs.Page.{IsWidths, filled, link_at};
 ghost use Rattle.page_tree.specs.Broken.{Meets, Breaks, IfMalformed};
+ghost use Rattle.page_tree.specs.Met.{AvoidsHeader};
 ghost use Rattle.page_tree.specs.Mending.{IsMending, IsBesideOf, IsMetAgain, MendsOn};
 ghost use Rattle.page_tree.specs.Answer.{FromMemory, IfMemNotFull};
 ghost use Rattle.page_tree.specs.Climb.{TellsClosed};
@@ -76,6 +77,7 @@ fn drop_root<M: FlatMem, const K: usize>(
     ensures levels { header.new.levels + 1 ≡ header.old.levels }
     ensures count { header.new.count ≡ header.old.count }
     ensures top { header.new.top ≡ header.old.top }
+    ensures memory { IfErr result FromMemory }
     ensures kept { M.beside mem.old mem.new }
     ensures cause { IfErr result (IfMemNotFull (M.accounted mem.old mem.new)) }
     ensures cost { M.spent mem.new ≤ M.spent mem.old + M.cost }
@@ -111,6 +113,7 @@ fn mend_thin<M: FlatMem, const E: usize, const K: usize>(
     ensures mended { (b : List ℕ) → M.tells mem.old b → (records : List (List ℕ)) → IsPending E K (M.size mem.old / 512) b records header.old.levels level path.now.pages path.now.index at.old page.old header.old.root header.old.free header.old.top
         → MatchResult result (IsMended E K (M.size mem.old / 512) (M.tells mem.new) records header.old.levels (level + 1) path.now.pages path.now.index at.new page.new header.old.root header.new.free header.new.top header.new.levels header.new.root) FromMemory }
     ensures on { (root : ℕ) (b c : List ℕ) → M.tells mem.old c → IsMending K b c header.old.levels level root path.now.pages path.now.index → Meets K b level at.old → MatchResult result (MendsOn K (M.tells mem.new) b header.old.levels (level + 1) root path.now.pages path.now.index) (IfMalformed (Breaks E K (M.size mem.old / 512) b)) }
+    ensures named { AvoidsHeader header.old.levels path.now.pages → IfErr result (IfMalformed (λ page. 1 ≤ page)) }
     ensures up { IfOk result (λ done. done ≡ false → at.new ≡ get_or path.now.pages (level + 1) 0) }
     ensures same_levels { IfOk result (λ done. done ≡ false → header.new.levels ≡ header.old.levels) }
     ensures same_root { IfOk result (λ done. done ≡ false → header.new.root ≡ header.old.root) }
@@ -176,6 +179,7 @@ fn mend_up<M: FlatMem, const E: usize, const K: usize>(
     ensures mended { (b : List ℕ) → M.tells mem.old b → (records : List (List ℕ)) → IsPending E K (M.size mem.old / 512) b records header.old.levels level path.now.pages path.now.index at.old page.old header.old.root header.old.free header.old.top
         → MatchResult result (IsMended E K (M.size mem.old / 512) (M.tells mem.new) records header.old.levels (level + 1) path.now.pages path.now.index at.new page.new header.old.root header.new.free header.new.top header.new.levels header.new.root) FromMemory }
     ensures on { (root : ℕ) (b c : List ℕ) → M.tells mem.old c → IsMending K b c header.old.levels level root path.now.pages path.now.index → Meets K b level at.old → MatchResult result (MendsOn K (M.tells mem.new) b header.old.levels (level + 1) root path.now.pages path.now.index) (IfMalformed (Breaks E K (M.size mem.old / 512) b)) }
+    ensures named { AvoidsHeader header.old.levels path.now.pages → IfErr result (IfMalformed (λ page. 1 ≤ page)) }
     ensures up { IfOk result (λ done. done ≡ false → at.new ≡ get_or path.now.pages (level + 1) 0) }
     ensures same_levels { IfOk result (λ done. done ≡ false → header.new.levels ≡ header.old.levels) }
     ensures same_root { IfOk result (λ done. done ≡ false → header.new.root ≡ header.old.root) }
@@ -221,6 +225,7 @@ pub fn mend<M: FlatMem, const E: usize, const K: usize>(
     ensures mended { (b : List ℕ) → M.tells mem.old b → (records : List (List ℕ)) → IsPending E K (M.size mem.old / 512) b records header.old.levels 1 path.now.pages path.now.index at page.old header.old.root header.old.free header.old.top
         → MatchResult result (λ _. TellsClosed E K (M.size mem.old / 512) (M.tells mem.new) records header.new.levels header.new.root header.new.free header.new.top) FromMemory }
     ensures broken { (root : ℕ) (b c : List ℕ) → M.tells mem.old c → IsMending K b c header.old.levels 1 root path.now.pages path.now.index → Meets K b 1 at → IfErr result (IfMalformed (Breaks E K (M.size mem.old / 512) b)) }
+    ensures named { AvoidsHeader header.old.levels path.now.pages → IfErr result (IfMalformed (λ page. 1 ≤ page)) }
     ensures levels { header.new.levels ≤ header.old.levels }
     ensures count { header.new.count ≡ header.old.count }
     ensures kept { M.beside mem.old mem.new }

@@ -6,6 +6,7 @@ ghost use Rattle.page_tree.specs.Page.{IsWidths, page_at, count_in};
 ghost use Rattle.page_tree.specs.Put.{capacity_of};
 ghost use Rattle.page_tree.specs.Broken.{Breaks, StopsInsertion, IfMalformed};
 ghost use Rattle.page_tree.specs.Tells.{IsInserted, IsFull, IsTakenOut, IsPutOver, StandsIn};
+ghost use Rattle.page_tree.specs.Indexed.{HasNth, IsNth, IsNthSet, LacksNth};
 
 use crate::error::TreeError;
 use crate::{
@@ -208,7 +209,9 @@ impl<M: FlatMem, const E: usize, const K: usize> PageTree<M, E, K> {
         ensures entry { (xs : List (List ℕ)) → Lists self.old xs → index < length xs → MatchResult result (λ _. into.new ≡ entry_at xs index) FromMemory }
         ensures past { (xs : List (List ℕ)) → Lists self.old xs → length xs ≤ index → MatchResult result (λ _. ⊥) IsPast }
         ensures past_any { (b : List ℕ) → M.tells (tree_memory self.old) b → count_in (page_at b 0) ≤ index → MatchResult result (λ _. ⊥) IsPast }
+        ensures stands { (b : List ℕ) → M.tells (tree_memory self.old) b → IfOk result (λ _. IsNth E K b index into.new) }
         ensures malformed { (b : List ℕ) → M.tells (tree_memory self.old) b → IfErr result (IfMalformed (λ page. Breaks E K (M.size (tree_memory self.old) / 512) b page ⊎ ((page ≡ 0) × (count_in (page_at b 0) ≤ index)))) }
+        ensures lacking { (b : List ℕ) → M.tells (tree_memory self.old) b → IfErr result (IfMalformed (λ page. page ≡ 0 → LacksNth E K (M.size (tree_memory self.old) / 512) b index)) }
         ensures inside { (b : List ℕ) → M.tells (tree_memory self.old) b → IfErr result (IfMalformed (λ page. page < M.size (tree_memory self.old) / 512)) }
         ensures cause { IfErr result (IfMemNotFull (M.accounted (tree_memory self.old) (tree_memory self.new))) }
         ensures same_list { (xs : List (List ℕ)) → Lists self.old xs → Lists self.new xs }
@@ -239,7 +242,9 @@ impl<M: FlatMem, const E: usize, const K: usize> PageTree<M, E, K> {
         ensures past { (xs : List (List ℕ)) → Lists self.old xs → length xs ≤ index → MatchResult result (λ _. ⊥) IsPast }
         ensures past_any { (b : List ℕ) → M.tells (tree_memory self.old) b → count_in (page_at b 0) ≤ index → MatchResult result (λ _. ⊥) IsPast }
         ensures past_same { (b : List ℕ) → M.tells (tree_memory self.old) b → count_in (page_at b 0) ≤ index → M.tells (tree_memory self.new) b }
+        ensures written { (b : List ℕ) → M.tells (tree_memory self.old) b → IfOk result (λ _. IsNthSet E K (M.tells (tree_memory self.new)) b index entry.now) }
         ensures malformed { (b : List ℕ) → M.tells (tree_memory self.old) b → IfErr result (IfMalformed (λ page. Breaks E K (M.size (tree_memory self.old) / 512) b page ⊎ ((page ≡ 0) × (count_in (page_at b 0) ≤ index)))) }
+        ensures lacking { (b : List ℕ) → M.tells (tree_memory self.old) b → IfErr result (IfMalformed (λ page. page ≡ 0 → LacksNth E K (M.size (tree_memory self.old) / 512) b index)) }
         ensures inside { (b : List ℕ) → M.tells (tree_memory self.old) b → IfErr result (IfMalformed (λ page. page < M.size (tree_memory self.old) / 512)) }
         ensures cause { IfErr result (IfMemNotFull (M.accounted (tree_memory self.old) (tree_memory self.new))) }
         ensures kept { M.beside (tree_memory self.old) (tree_memory self.new) }
@@ -254,7 +259,9 @@ impl<M: FlatMem, const E: usize, const K: usize> PageTree<M, E, K> {
         ensures past { (xs : List (List ℕ)) → Lists self.old xs → length xs ≤ index → MatchResult result (λ _. ⊥) IsPast }
         ensures past_any { (b : List ℕ) → M.tells (tree_memory self.old) b → count_in (page_at b 0) ≤ index → MatchResult result (λ _. ⊥) IsPast }
         ensures past_same { (b : List ℕ) → M.tells (tree_memory self.old) b → count_in (page_at b 0) ≤ index → M.tells (tree_memory self.new) b }
+        ensures stood { (b : List ℕ) → M.tells (tree_memory self.old) b → IfOk result (λ _. HasNth E K b index) }
         ensures malformed { (b : List ℕ) → M.tells (tree_memory self.old) b → IfErr result (IfMalformed (λ page. Breaks E K (M.size (tree_memory self.old) / 512) b page ⊎ ((page ≡ 0) × (count_in (page_at b 0) ≤ index)))) }
+        ensures lacking { (b : List ℕ) → M.tells (tree_memory self.old) b → IfErr result (IfMalformed (λ page. page ≡ 0 → LacksNth E K (M.size (tree_memory self.old) / 512) b index)) }
         ensures inside { (b : List ℕ) → M.tells (tree_memory self.old) b → IfErr result (IfMalformed (λ page. page < M.size (tree_memory self.old) / 512)) }
         ensures cause { IfErr result (IfMemNotFull (M.accounted (tree_memory self.old) (tree_memory self.new))) }
         ensures kept { M.beside (tree_memory self.old) (tree_memory self.new) }

@@ -5,6 +5,9 @@ use Rattle.page_tree.specs.Tree.{IsRooted}
 use Rattle.page_tree.proofs.FormLaws.{root_met}
 use Rattle.page_tree.proofs.PlacedLaws.{placed_leaf, few_leaves, past_last, rest_behind, walks}
 use Rattle.page_tree.proofs.WalkedLaws.{fewer_passed}
+use Rattle.page_tree.proofs.MetLaws.{met_behind}
+use Rattle.page_tree.proofs.IndexedLaws.{walked_indexed, short_of, crowded_by}
+use Rattle.page_tree.proofs.WayLaws.{malformed_wider}
 use Rattle.page_tree.proofs.CountLaws.{records_more, leaves_more, few_broken, crowd_broken}
 use Rattle.page_tree.proofs.by_index.find_place.Goals as goal
 
@@ -126,3 +129,39 @@ returns-then-rest-count-clause-met g c = λ b h is.
     let start = c.in-Ok.ensures.walked b h (root_met g.row.K b (g.M.FlatMem.size c.args.mem.now) c.args.header.levels c.args.header.root (g.met.M.FlatMem.told_length c.args.mem.now b h) c.requires.begins c.requires.some (sym is.levels_is) (sym is.root_is)) in
     let was = c.leaves.invariant.walked b told c.args.header.root start (c.in-Ok.ensures.read b h) in
     (was.1.met, was.1.path)
+
+pub returns-then-rest-count-clause-indexed : goal.returns-then-rest-count-clause-indexed
+returns-then-rest-count-clause-indexed g c = λ b h is.
+    let told = c.first_leaf.ensures.unchanged b h in
+    let start = c.in-Ok.ensures.walked b h (root_met g.row.K b (g.M.FlatMem.size c.args.mem.now) c.args.header.levels c.args.header.root (g.met.M.FlatMem.told_length c.args.mem.now b h) c.requires.begins c.requires.some (sym is.levels_is) (sym is.root_is)) in
+    let read = c.in-Ok.ensures.read b h in
+    let was = c.leaves.invariant.walked b told c.args.header.root start read in
+    walked_indexed g.row.E g.row.K b c.args.header.levels c.args.header.root c.leaves.path.pages c.leaves.path.index c.leaves.at was.0 c.leaves.page c.leaves.rest c.args.index is.levels_is is.root_is c.requires.some was.1 was.3
+    (c.leaves.invariant.read b told read) c.leaves.invariant.form (omega (arith, c.if-rest-count.true, c.filled_of-count.ensures))
+
+pub returns-in-Err-next_leaf-clause-lacking : goal.returns-in-Err-next_leaf-clause-lacking
+returns-in-Err-next_leaf-clause-lacking g c = λ b h is.
+    let told = c.first_leaf.ensures.unchanged b h in
+    let start = c.in-Ok.ensures.walked b h (root_met g.row.K b (g.M.FlatMem.size c.args.mem.now) c.args.header.levels c.args.header.root (g.met.M.FlatMem.told_length c.args.mem.now b h) c.requires.begins c.requires.some (sym is.levels_is) (sym is.root_is)) in
+    let read = c.in-Ok.ensures.read b h in
+    let was = c.leaves.invariant.walked b told c.args.header.root start read in
+    let named = c.in-Err-next_leaf.ensures.named (λ n above most. met_behind g.row.K b n _ (was.1.path.met n above most)) in
+    malformed_wider _ _ c.in-Err-next_leaf.error (λ page some same. absurd (omega (arith, some, same))) named
+
+pub returns-in-None-clause-lacking : goal.returns-in-None-clause-lacking
+returns-in-None-clause-lacking g c = λ b h is same.
+    let told = c.first_leaf.ensures.unchanged b h in
+    let start = c.in-Ok.ensures.walked b h (root_met g.row.K b (g.M.FlatMem.size c.args.mem.now) c.args.header.levels c.args.header.root (g.met.M.FlatMem.told_length c.args.mem.now b h) c.requires.begins c.requires.some (sym is.levels_is) (sym is.root_is)) in
+    let read = c.in-Ok.ensures.read b h in
+    let was = c.leaves.invariant.walked b told c.args.header.root start read in
+    let all = rw c.in-None.is at (c.in-Ok-next_leaf.ensures.walked b (c.leaves.invariant.unchanged b told) c.args.header.root c.leaves.at was.0 was.1) in
+    short_of g.row.K b c.args.header.levels c.args.header.root is.levels_is is.root_is g.row.E _ c.args.index (was.0 ++ c.leaves.at ∷ []) (c.leaves.rest - c.filled_of-count.result) all
+    (omega (arith, records_more b was.0 c.leaves.at, ap filled (c.leaves.invariant.read b told read), c.filled_of-count.ensures, was.3, c.if-rest-count.false))
+
+pub returns-clause-lacking : goal.returns-clause-lacking
+returns-clause-lacking g c = λ b h is same.
+    let told = c.first_leaf.ensures.unchanged b h in
+    let start = c.in-Ok.ensures.walked b h (root_met g.row.K b (g.M.FlatMem.size c.args.mem.now) c.args.header.levels c.args.header.root (g.met.M.FlatMem.told_length c.args.mem.now b h) c.requires.begins c.requires.some (sym is.levels_is) (sym is.root_is)) in
+    let read = c.in-Ok.ensures.read b h in
+    let was = c.leaves.invariant.walked b told c.args.header.root start read in
+    crowded_by g.row.K b c.args.header.levels c.args.header.root is.levels_is is.root_is g.row.E _ c.args.index was.0 (fewer_passed g.row.K b c.args.header.levels c.args.header.root _ _ c.leaves.at was.0 c.requires.some was.1) (omega (arith, was.2, c.leaves-test.false, c.len.ensures))

@@ -1,9 +1,11 @@
-use Rattle.std.proofs.Common.{inl, inr, ℕ, ◌/◌, ◌<◌, arith, refl, sym, ◌∙◌, ap, subst}
+use Rattle.std.proofs.Common.{inl, inr, ℕ, ◌/◌, ◌<◌, List, arith, refl, sym, ◌∙◌, ap, subst}
 use Rattle.flat_mem.specs.Order.{entry_at}
+use Rattle.page_tree.specs.Page.{record_at}
 use Rattle.page_tree.specs.Tree.{IsTree}
 use Rattle.page_tree.proofs.Replaced.{standing}
 use Rattle.page_tree.proofs.PlacedLaws.{placed_entry}
 use Rattle.page_tree.proofs.CountLaws.{past_memory, broken_or, none_at, bare_broken, walk_spends}
+use Rattle.page_tree.proofs.IndexedLaws.{bare_lacks}
 use Rattle.page_tree.proofs.by_index.nth.Goals as goal
 
 pub returns-in-Err-clause-answer : goal.returns-in-Err-clause-answer
@@ -72,3 +74,20 @@ returns-in-Err-find_place-clause-past_any g c = λ b h past. absurd (omega (arit
 
 pub returns-clause-past_any : goal.returns-clause-past_any
 returns-clause-past_any g c = λ b h past. absurd (omega (arith, past, (c.in-Ok.ensures.fields b h).count_is, c.if-index-header.false))
+
+pub returns-clause-stands : goal.returns-clause-stands
+returns-clause-stands g c = λ b h.
+    let told = c.read_header.ensures.unchanged b h in
+    let read = c.in-Ok-find_place.ensures.read b told in record {
+      page = c.in-Ok-find_place.place.page;
+      slot = c.in-Ok-find_place.place.index;
+      place = c.in-Ok-find_place.ensures.indexed b told (c.in-Ok.ensures.fields b h);
+      is = c.record_of.ensures ∙ ap (λ (p : List ℕ). record_at g.row.E p c.in-Ok-find_place.place.index) read;
+    }
+
+pub returns-then-header-eq0-clause-lacking : goal.returns-then-header-eq0-clause-lacking
+returns-then-header-eq0-clause-lacking g c = λ b h same. bare_lacks g.row.E g.row.K _ b c.args.index ((c.in-Ok.ensures.fields b h).levels_is ∙ c.if-header-eq0.true)
+
+pub returns-in-Err-find_place-clause-lacking : goal.returns-in-Err-find_place-clause-lacking
+returns-in-Err-find_place-clause-lacking g c = λ b h.
+    rw (g.met.M.FlatMem.same_size _ _ c.read_header.ensures.kept) (c.in-Err-find_place.ensures.lacking b (c.read_header.ensures.unchanged b h) (c.in-Ok.ensures.fields b h))

@@ -1,11 +1,12 @@
 use Rattle.std.proofs.Common.{◌≡◌, ℕ, ◌+◌, ◌*◌, ◌/◌, ◌<◌, ◌≤◌, List, length, take, slice_set, arith, sym, ◌∙◌, ap, subst}
 use Rattle.flat_mem.specs.Memory.{overwritten}
 use Rattle.flat_mem.specs.Order.{key_at}
-use Rattle.page_tree.specs.Page.{page_at, record_at}
+use Rattle.page_tree.specs.Page.{page_at, record_at, leaf_room}
 use Rattle.page_tree.specs.Tree.{IsTree}
 use Rattle.page_tree.specs.Climb.{IsHead}
 use Rattle.page_tree.proofs.Replaced.{standing, set_tree}
 use Rattle.page_tree.proofs.PlacedLaws.{placed_entry}
+use Rattle.page_tree.proofs.IndexedLaws.{written_in_page, record_fits}
 use Rattle.page_tree.proofs.edit_by_index.set_in.Goals as goal
 
 pub returns-in-Err-clause-set : goal.returns-in-Err-clause-set
@@ -31,3 +32,19 @@ returns-in-Ok-store-clause-set g c = λ b h records tree is below same.
       c.in-Ok-store.ensures.written b (c.find_place.ensures.unchanged b h),
       subst (λ (x : List ℕ). IsTree g.row.E g.row.K (g.M.FlatMem.size c.args.mem.now / 512) (overwritten b (512 * c.in-Ok.place.page) x) (slice_set records c.args.index c.args.entry.now)) (sym c.set_record.ensures) at_index,
     )
+
+pub returns-in-Ok-store-clause-written : goal.returns-in-Ok-store-clause-written
+returns-in-Ok-store-clause-written g c = λ b h is.
+    let told = c.find_place.ensures.unchanged b h in
+    let inside = c.in-Ok.ensures.inside in
+    let most : c.in-Ok.place.index < leaf_room g.row.E = omega (arith, inside.1, c.in-Ok.ensures.form.most) in
+    let page_is : c.set_record.new.page ≡ overwritten (page_at b c.in-Ok.place.page) (8 + g.row.E * c.in-Ok.place.index) c.args.entry.now =
+    c.set_record.ensures ∙ ap (λ (p : List ℕ). overwritten p (8 + g.row.E * c.in-Ok.place.index) c.args.entry.now) (c.in-Ok.ensures.read b h) in
+    let bytes_are : overwritten b (512 * c.in-Ok.place.page) c.set_record.new.page ≡ overwritten b (512 * c.in-Ok.place.page + (8 + g.row.E * c.in-Ok.place.index)) c.args.entry.now =
+    ap (overwritten b (512 * c.in-Ok.place.page)) page_is
+    ∙ written_in_page b c.args.entry.now c.in-Ok.place.page (8 + g.row.E * c.in-Ok.place.index) (omega (arith, inside.0, g.met.M.FlatMem.told_length c.args.mem.now b h)) (record_fits g.row.E c.in-Ok.place.index c.args.entry.now most c.told-entry) in record {
+      page = c.in-Ok.place.page;
+      slot = c.in-Ok.place.index;
+      place = c.in-Ok.ensures.indexed b h is;
+      now = subst (g.M.FlatMem.tells c.store.new.mem) bytes_are (c.in-Ok-store.ensures.written b told);
+    }

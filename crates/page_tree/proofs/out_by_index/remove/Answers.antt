@@ -112,3 +112,10 @@ returns-in-Err-finish-clause-past_any g c = λ b h past. absurd (omega (arith, p
 
 pub returns-clause-past_any : goal.returns-clause-past_any
 returns-clause-past_any g c = λ b h past. absurd (omega (arith, past, (c.in-Ok.ensures.fields b h).count_is, c.if-index-header.false))
+
+pub returns-clause-stood : goal.returns-clause-stood
+returns-clause-stood g c = λ b h. c.in-Ok-remove_in.ensures.stood b (c.read_header.ensures.unchanged b h) (c.in-Ok.ensures.fields b h)
+
+pub returns-in-Err-remove_in-clause-lacking : goal.returns-in-Err-remove_in-clause-lacking
+returns-in-Err-remove_in-clause-lacking g c = λ b h.
+    rw (g.met.M.FlatMem.same_size _ _ c.read_header.ensures.kept) (c.in-Err-remove_in.ensures.lacking b (c.read_header.ensures.unchanged b h) (c.in-Ok.ensures.fields b h))

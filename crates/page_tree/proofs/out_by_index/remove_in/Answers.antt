@@ -2,6 +2,7 @@ use Rattle.std.proofs.Common.{ℕ, ◌/◌, remove, arith, sym, subst}
 use Rattle.page_tree.specs.Placed.{IsLeft}
 use Rattle.page_tree.proofs.Replaced.{standing}
 use Rattle.page_tree.proofs.PlacedLaws.{standing_at}
+use Rattle.page_tree.proofs.WayLaws.{malformed_wider}
 use Rattle.page_tree.proofs.out_by_index.remove_in.Goals as goal
 
 pub returns-in-Err-clause-out : goal.returns-in-Err-clause-out
@@ -29,3 +30,11 @@ returns-in-Err-take_out-clause-broken g c = λ b h is below.
     let size = g.met.M.FlatMem.same_size _ _ c.find_place.ensures.kept in
     let met = c.in-Ok.ensures.met b h is in
     rw size (c.in-Err-take_out.ensures.broken b (c.find_place.ensures.unchanged b h) (sym is.levels_is) met.1 met.0 (c.in-Ok.ensures.read b h))
+
+pub returns-in-Ok-take_out-clause-stood : goal.returns-in-Ok-take_out-clause-stood
+returns-in-Ok-take_out-clause-stood g c = λ b h is. (c.in-Ok.place.page, c.in-Ok.place.index, c.in-Ok.ensures.indexed b h is)
+
+pub returns-in-Err-take_out-clause-lacking : goal.returns-in-Err-take_out-clause-lacking
+returns-in-Err-take_out-clause-lacking g c = λ b h is.
+    let met = c.in-Ok.ensures.met b h is in
+    malformed_wider _ _ c.in-Err-take_out.error (λ page some same. absurd (omega (arith, some, same))) (c.in-Err-take_out.ensures.named b (c.find_place.ensures.unchanged b h) (sym is.levels_is) met.1 met.0)

@@ -9,6 +9,7 @@ use Rattle.page_tree.specs.Broken.{Breaks}
 use Rattle.page_tree.proofs.Neighbours.{leaf_room_least}
 use Rattle.page_tree.proofs.WayLaws.{from_memory}
 use Rattle.page_tree.proofs.MendingLaws.{single_thin}
+use Rattle.page_tree.proofs.MetLaws.{met_behind}
 use Rattle.page_tree.proofs.out_by_index.take_out.Goals as goal
 
 pub returns-then-header-gt1-clause-out : goal.returns-then-header-gt1-clause-out
@@ -67,3 +68,12 @@ returns-in-Err-take_later-clause-broken g c = λ b h levels_is path met read. c.
 
 pub returns-in-Err-clause-broken : goal.returns-in-Err-clause-broken
 returns-in-Err-clause-broken g c = λ b h levels_is path met read. from_memory (Breaks g.row.E g.row.K (g.M.FlatMem.size c.args.mem.now / 512) b) c.in-Err.error (c.in-Err.ensures.given b h)
+
+pub returns-then-header-gt1-clause-named : goal.returns-then-header-gt1-clause-named
+returns-then-header-gt1-clause-named g c = λ b h levels_is path met. met_behind g.row.K b 1 _ met
+
+pub returns-in-Err-clause-named : goal.returns-in-Err-clause-named
+returns-in-Err-clause-named g c = λ b h levels_is path met. from_memory (λ page. 1 ≤ page) c.in-Err.error c.in-Err.ensures.memory
+
+pub returns-in-Err-take_later-clause-named : goal.returns-in-Err-take_later-clause-named
+returns-in-Err-take_later-clause-named g c = λ b h levels_is path met. c.in-Err-take_later.ensures.named (λ l above most. met_behind g.row.K b l _ (path.met l above most))

@@ -8,6 +8,7 @@ use Rattle.page_tree.specs.Thin.{IsPending}
 use Rattle.page_tree.proofs.FirstOut.{can_name, first_pending}
 use Rattle.page_tree.specs.Broken.{Breaks}
 use Rattle.page_tree.proofs.WayLaws.{from_memory}
+use Rattle.page_tree.proofs.MetLaws.{met_behind}
 use Rattle.page_tree.proofs.MendingLaws.{met_can_name, mending_named}
 use Rattle.page_tree.proofs.taking.take_first.Goals as goal
 
@@ -53,3 +54,11 @@ returns-in-Err-mend-clause-broken g c = λ root b h levels_is met at_met.
     let mending = mending_named g.row.K b (g.M.FlatMem.size c.args.mem.now / 512) c.args.header.now.levels root c.args.path.now.pages c.args.path.now.index c.requires.widths.some_key c.requires.widths.key_most levels_is met c.requires.path size (g.M.FlatMem.tells c.name_leaf.new.mem) c.copy_from_slice.new.self c.name_leaf.ensures.width named in
     let same = g.met.M.FlatMem.same_size _ _ c.name_leaf.ensures.kept in
     rw same (c.in-Err-mend.ensures.broken root b mending.0 mending.1 mending.2 at_met)
+
+pub returns-in-Err-clause-named : goal.returns-in-Err-clause-named
+returns-in-Err-clause-named g c = λ root b h levels_is met.
+    let size : 512 * (g.M.FlatMem.size c.args.mem.now / 512) ≤ length b = omega (arith, g.met.M.FlatMem.told_length c.args.mem.now b h) in
+    from_memory (λ page. 1 ≤ page) c.in-Err.error (c.in-Err.ensures.named b h (met_can_name g.row.K b (g.M.FlatMem.size c.args.mem.now / 512) c.args.header.now.levels root c.args.path.now.pages c.args.path.now.index c.requires.widths.some_key c.requires.widths.key_most levels_is met c.requires.path size))
+
+pub returns-in-Err-mend-clause-named : goal.returns-in-Err-mend-clause-named
+returns-in-Err-mend-clause-named g c = λ root b h levels_is met. c.in-Err-mend.ensures.named (λ l above most. met_behind g.row.K b l _ (met.met l above most))

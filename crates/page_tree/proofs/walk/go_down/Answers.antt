@@ -14,6 +14,7 @@ pub down-init : goal.down-init
 down-init g c = record {
   order = (c.requires.some, omega arith);
   inside = c.requires.inside;
+  some = λ some. some;
   unchanged = λ b h. h;
   led = λ b h records levels root nodes home rooted most path fits. (home, path, fits, refl);
   met = λ b h levels root most met path fits top. (met, path, fits, top);
@@ -28,6 +29,7 @@ pub down-preserved : goal.down-preserved
 down-preserved g c = record {
   order = (omega (arith, c.down-test.true), omega (arith, c.down.invariant.order.1));
   inside = omega (arith, c.if-child-pages.false, c.len.ensures);
+  some = λ some. omega (arith, c.if-child-eq0.false);
   unchanged = λ b h. c.read_inner.ensures.unchanged b (c.down.invariant.unchanged b h);
   led = λ b h records levels root nodes home rooted most path fits.
       let was = c.down.invariant.led b h records levels root nodes home rooted most path fits in

@@ -12,6 +12,7 @@ abbrev pub invariant-down : goal.invariant-down
 invariant-down g l = record {
   order : (1 ≤ l.level) × (l.level ≤ l.initial.level);
   inside : l.at < g.M.FlatMem.size l.initial.mem / 512;
+  some : 1 ≤ l.initial.at → 1 ≤ l.at;
   unchanged : (b : List ℕ) → g.M.FlatMem.tells l.initial.mem b → g.M.FlatMem.tells l.mem b;
   led : (b : List ℕ) → g.M.FlatMem.tells l.initial.mem b → (records : List (List ℕ)) (levels root : ℕ) (nodes : ℕ → List Node) (home : ℕ → ℕ) → IsRooted g.row.E g.row.K (g.M.FlatMem.size l.initial.mem / 512) b records levels root nodes → l.initial.level ≤ levels
       → IsPath nodes levels l.initial.level l.initial.path.pages l.initial.path.index l.initial.at home → (1 < l.initial.level → l.initial.place < length (node_at (nodes l.initial.level) (home l.initial.level)).items)
