@@ -3,10 +3,10 @@ use Rattle.std.proofs.Common.{◌≡◌, ◌⊎◌, inl, inr, ℕ, List, [], ◌
 use Rattle.labelled_disk.proofs.CallLemmas.{only_reads_itself}
 use Rattle.flat_machine.specs.Start.{start}
 use Rattle.trace_io.specs.Reading.{reading}
-use Rattle.pilot_top.specs.Making.{Makes}
-use Rattle.pilot_top.specs.Restoring.{Restores}
-use Rattle.pilot_top.specs.Running.{Runs}
-use Rattle.pilot_top.specs.Trying.{Tries}
+use Rattle.pilot_top.specs.Making.{Formatted}
+use Rattle.pilot_top.specs.Restoring.{Scavenged}
+use Rattle.pilot_top.specs.Running.{Ran}
+use Rattle.pilot_top.specs.Trying.{Tried}
 use Rattle.pilot_top.specs.World.{World}
 use Rattle.pilot_top.specs.declared.status.Status.TheVariants as status
 use Rattle.pilot_top.proofs.LawfulRuns.{lawfully_none}
@@ -14,18 +14,21 @@ use Rattle.pilot_top.proofs.ScavengingLemmas.{moments_of_none}
 use Rattle.pilot_top.proofs.StagedLemmas.{from_nothing, moments_before}
 
 module _ (w : World) where
-  pub runs_nothing : Runs status.NoMemory w w
-  runs_nothing = record {
+  pub ran_nothing : Ran status.NoMemory w w
+  ran_nothing = record {
     answers = λ d b t told sound source sink. (source, sink);
     closed = λ d b told sound source done going. absurd (cc done);
     closed_unheard = λ d b told sound source failed held rest closes. absurd (cc failed);
     moments = λ d b told sound source. moments_before (start d) [] (reading b) (from_nothing d sound told);
     some_moments = λ d told sound. ([], from_nothing d sound told);
     stays_open = λ b source early. absurd early;
+    untaken = λ b source failed some. absurd (cc failed);
+    left_open = λ is. absurd (elim is [ inl long ↦ cc long | inr damaged ↦ cc damaged ]);
     transfers = λ d b told sound source. omega arith;
     lawful = lawfully_none (record { contents = refl; writes = refl });
     damage = λ t sink is. absurd (cc is);
     damage_behind = λ b t source sink is. absurd (cc is);
+    sound = λ d told sound. (λ is. cc is, λ is. cc is);
     not_opened = λ d told is. absurd (cc is);
     refused = λ d why told refused. inr (inr refl);
     refused_unwritten = λ d why told refused. only_reads_itself w.disk;
@@ -33,8 +36,8 @@ module _ (w : World) where
     short = λ b source done. absurd (cc done);
   }
 
-  pub makes_nothing : (serial counter : ℕ) → Makes serial counter status.NoMemory w w
-  makes_nothing serial counter = record {
+  pub formatted_nothing : (serial counter : ℕ) → Formatted serial counter status.NoMemory w w
+  formatted_nothing serial counter = record {
     made = λ ends. absurd (elim ends [ inl done ↦ cc done | inr failed ↦ cc failed ]);
     line = λ done. absurd (cc done);
     part_of_line = λ failed. absurd (cc failed);
@@ -43,8 +46,8 @@ module _ (w : World) where
     only_count = λ is. absurd (cc is);
   }
 
-  pub restores_nothing : Restores status.NoMemory w w
-  restores_nothing = record {
+  pub scavenged_nothing : Scavenged status.NoMemory w w
+  scavenged_nothing = record {
     restored = λ ends g told. absurd (elim ends [ inl done ↦ cc done | inr failed ↦ cc failed ]);
     synced = λ ends. absurd (elim ends [ inl done ↦ cc done | inr failed ↦ cc failed ]);
     told = λ done g told. absurd (cc done);
@@ -60,8 +63,8 @@ module _ (w : World) where
     right_restored = λ g told right. inr (inr (inr refl));
   }
 
-  pub tries_nothing : (seed calls : ℕ) → Tries seed calls status.NoMemory w w
-  tries_nothing seed calls = record {
+  pub tried_nothing : (seed calls : ℕ) → Tried seed calls status.NoMemory w w
+  tried_nothing seed calls = record {
     line = λ d told done. absurd (cc done);
     part_of_line = λ d told failed. absurd (cc failed);
     emptied = λ d told ends. absurd (elim ends [ inl done ↦ cc done | inr failed ↦ cc failed ]);

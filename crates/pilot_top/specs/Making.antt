@@ -23,7 +23,7 @@ pub record IsMade (serial counter : ℕ) (old new : DiskState) : Type 0 where
   pub synced : new.synced ≡ true
 
 -- A `format` ended with this status, and left disk and sink so: a new volume, whatever the disk held, and a line about it.
-pub record Makes (serial counter : ℕ) (s : Status) (before after : World) : Type 0 where
+pub record Formatted (serial counter : ℕ) (s : Status) (before after : World) : Type 0 where
   pub made : (s ≡ status.Done) ⊎ (s ≡ status.StreamFault) → IsMade serial counter before.disk after.disk
   pub line : s ≡ status.Done → Writes before after (made_line before.disk.sectors)
   pub part_of_line : s ≡ status.StreamFault → WritesFront before after (made_line before.disk.sectors)

@@ -18,7 +18,7 @@ use Rattle.pilot_top.specs.declared.status.Status.{Status}
 use Rattle.pilot_top.specs.declared.status.Status.TheVariants as status
 
 -- A `scavenge` ended with this status, and left disk and sink so.
-pub record Restores (s : Status) (before after : World) : Type 0 where
+pub record Scavenged (s : Status) (before after : World) : Type 0 where
   -- The files stay, and what was found is told.
   pub restored : (s ≡ status.Done) ⊎ (s ≡ status.StreamFault) → (g : List Sector) → Holds before g → (h : List Sector) × Holds after h × IsRestored g h
   pub synced : (s ≡ status.Done) ⊎ (s ≡ status.StreamFault) → after.disk.synced ≡ true

@@ -1,5 +1,5 @@
 -- What `run` does, by its status.
-use Rattle.std.specs.Prelude.{◌≡◌, ◌⊎◌, ◌+◌, ◌^◌, ◌≤◌, true, false, ℕ, List, Some}
+use Rattle.std.specs.Prelude.{◌≡◌, ◌≢◌, ◌⊎◌, ◌+◌, ◌^◌, ◌≤◌, true, false, ℕ, List, Some}
 use Rattle.labelled_disk.specs.Sectors.{Sector}
 use Rattle.labelled_disk.specs.declared.layout.RootFault.{RootFault}
 use Rattle.flat_machine.specs.After.{TraceLine}
@@ -17,7 +17,7 @@ use Rattle.pilot_top.specs.declared.status.Status.{Status}
 use Rattle.pilot_top.specs.declared.status.Status.TheVariants as status
 
 -- A `run` ended with this status, and left disk, source and sink so.
-pub record Runs (s : Status) (before after : World) : Type 0 where
+pub record Ran (s : Status) (before after : World) : Type 0 where
   -- On a sound volume: the replies, what the source has left, and the files of the disk.
   pub answers : (d : List Sector) (b t : List ℕ) → Holds before d → Sound d → Gives before b → Took before t → Run s d b after.left t after.took (SinkFailed before after) after.disk
 
@@ -32,8 +32,11 @@ pub record Runs (s : Status) (before after : World) : Type 0 where
   pub moments : (d : List Sector) (b : List ℕ) → Holds before d → Sound d → Gives before b → Moments (start d) (reading b) before.disk after.disk
   pub some_moments : (d : List Sector) → Holds before d → Sound d → (lines : List TraceLine) × Moments (start d) lines before.disk after.disk
 
-  -- Where it ended before its session did, the volume is left open.
+  -- Where it ended before its session did, the volume is left open; so where lines are left behind the one that was answered
+  -- last, and where the trace is too long or the volume damaged, whatever the source tells.
   pub stays_open : (b : List ℕ) → Gives before b → EndsEarly s (reading b) → IsLeftOpen after.disk
+  pub untaken : (b : List ℕ) → Gives before b → s ≡ status.StreamFault → ¬ Gives after (rest_of b) → IsLeftOpen after.disk
+  pub left_open : (s ≡ status.Long) ⊎ (s ≡ status.Damaged) → IsLeftOpen after.disk
 
   -- How many transfers its start, its lines and its end may make.
   pub transfers : (d : List Sector) (b : List ℕ) → Holds before d → Sound d → Gives before b → after.disk.transfers ≤ before.disk.transfers + run_bound before.disk.sectors (reading b)
@@ -44,6 +47,9 @@ pub record Runs (s : Status) (before after : World) : Type 0 where
   pub damage : (t : List ℕ) → Took before t → s ≡ status.Damaged → TellsDamage t after.took (SinkFailed before after) after.disk
   pub damage_behind : (b t : List ℕ) → Gives before b → Took before t → s ≡ status.Damaged
       → (told : TellsDamage t after.took (SinkFailed before after) after.disk) × AreToFirst told.replies (reading b)
+
+  -- A sound volume is opened, and shows no damage, whatever source and sink tell.
+  pub sound : (d : List Sector) → Holds before d → Sound d → s ≢ status.NotOpened × s ≢ status.Damaged
 
   -- A volume that can't be opened.
   pub not_opened : (d : List Sector) → Holds before d → s ≡ status.NotOpened → (why : RootFault) × IsRefused d why × WritesLast before after (cause.Root why)

@@ -12,7 +12,7 @@ use Rattle.pilot_top.specs.declared.status.Status.TheVariants as status
 
 -- A `trial` ended with this status, and left disk and sink so: what the machine allows to drawn calls is told in a line, and a
 -- sound volume without a file is left.
-pub record Tries (seed calls : ℕ) (s : Status) (before after : World) : Type 0 where
+pub record Tried (seed calls : ℕ) (s : Status) (before after : World) : Type 0 where
   pub line : (d : List Sector) → Holds before d → s ≡ status.Done → (replies : List Reply) × IsTrial before.disk.sectors seed calls replies × Writes before after (trial_line calls replies)
   pub part_of_line : (d : List Sector) → Holds before d → s ≡ status.StreamFault
       → (replies : List Reply) × IsTrial before.disk.sectors seed calls replies × WritesFront before after (trial_line calls replies)
