@@ -28,7 +28,6 @@ pub record Formatted (serial counter : ℕ) (s : Status) (before after : World) 
   pub line : s ≡ status.Done → Writes before after (made_line before.disk.sectors)
   pub part_of_line : s ≡ status.StreamFault → WritesFront before after (made_line before.disk.sectors)
   pub part : s ≡ status.DiskFault → PartMade (format_writes before.disk.sectors serial counter) before.disk after.disk × WritesLast before after cause.DiskFault
-
   -- It does all its work where nothing failed, and refuses a count of sectors alone.
   pub complete : IsCount before.disk.sectors → ¬ DiskFailed before after → ¬ SinkFailed before after → (s ≡ status.Done) ⊎ (s ≡ status.NoMemory)
   pub only_count : s ≡ status.NotOpened → ¬ IsCount before.disk.sectors

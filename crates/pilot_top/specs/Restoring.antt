@@ -24,7 +24,6 @@ pub record Scavenged (s : Status) (before after : World) : Type 0 where
   pub synced : (s ≡ status.Done) ⊎ (s ≡ status.StreamFault) → after.disk.synced ≡ true
   pub told : s ≡ status.Done → (g : List Sector) → Holds before g → Writes before after (restored_text g)
   pub part_of_text : s ≡ status.StreamFault → (g : List Sector) → Holds before g → WritesFront before after (restored_text g)
-
   -- Which writes were made, and what stands after each of them.
   pub by : (s ≡ status.Done) ⊎ (s ≡ status.StreamFault) → (g : List Sector) → Holds before g → (o : Orders) × AreFor g o × Appended (scavenge_writes o) before.disk after.disk
   pub part : s ≡ status.DiskFault → (g : List Sector) → Holds before g
@@ -32,7 +31,6 @@ pub record Scavenged (s : Status) (before after : World) : Type 0 where
   pub part_line : s ≡ status.DiskFault → WritesLast before after cause.DiskFault
   pub moments : (g : List Sector) (first writes : List DiskWrite) → Holds before g → before.disk.writes ≡ Some first → after.disk.writes ≡ Some (first ++ writes)
       → (k : ℕ) → IsBetween g (moment g writes k)
-
   -- A disk that has no volume; and one that has is restored, where nothing failed.
   pub no_volume : (g : List Sector) → Holds before g → s ≡ status.NotOpened → (why : RootFault) × IsNoVolume g why × WritesLast before after (cause.Root why)
   pub no_volume_refused : (g : List Sector) (why : RootFault) → Holds before g → IsNoVolume g why → s ≡ status.NotOpened ⊎ s ≡ status.DiskFault ⊎ s ≡ status.NoMemory

@@ -17,12 +17,10 @@ pub record Tried (seed calls : ℕ) (s : Status) (before after : World) : Type 0
   pub part_of_line : (d : List Sector) → Holds before d → s ≡ status.StreamFault
       → (replies : List Reply) × IsTrial before.disk.sectors seed calls replies × WritesFront before after (trial_line calls replies)
   pub emptied : (d : List Sector) → Holds before d → (s ≡ status.Done) ⊎ (s ≡ status.StreamFault) → HasNoFile after.disk
-
   -- It does all its work where nothing failed, and refuses a count of sectors alone.
   pub complete : (d : List Sector) → Holds before d → IsCount before.disk.sectors → ¬ DiskFailed before after → ¬ SinkFailed before after
       → (s ≡ status.Done) ⊎ (s ≡ status.NoMemory)
   pub only_count : s ≡ status.NotOpened → ¬ IsCount before.disk.sectors
-
   -- The line of a disk that failed, and of one that tells nothing and was found damaged.
   pub disk_line : s ≡ status.DiskFault → WritesLast before after cause.DiskFault
   pub damage_line : s ≡ status.Damaged → (evidence : Evidence) × WritesLast before after (cause.Damaged evidence)

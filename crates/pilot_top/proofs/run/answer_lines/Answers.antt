@@ -312,11 +312,11 @@ returns-in-Ends-clause-untaken g c b left source is some =
 pub returns-in-Ends-clause-left_open : goal.returns-in-Ends-clause-left_open
 returns-in-Ends-clause-left_open g c left is = elim is [
   | inl long ↦ elim c.end_trace.ensures.ends [
-      | inl done ↦ absurd (let e = sym done ∙ long in cc e)
-      | inr (inl stream) ↦ absurd (let e = sym stream ∙ long in cc e)
-      | inr (inr (inl disk)) ↦ absurd (let e = sym disk ∙ long in cc e)
-      | inr (inr (inr damaged)) ↦ absurd (let e = sym damaged ∙ long in cc e)
-    ]
+    | inl done ↦ absurd (let e = sym done ∙ long in cc e)
+    | inr (inl stream) ↦ absurd (let e = sym stream ∙ long in cc e)
+    | inr (inr (inl disk)) ↦ absurd (let e = sym disk ∙ long in cc e)
+    | inr (inr (inr damaged)) ↦ absurd (let e = sym damaged ∙ long in cc e)
+  ]
   | inr damaged ↦ c.end_trace.ensures.left_open (unset_then (c.turns.invariant.left_open left) c.take_turn.ensures.wrote) damaged
 ]
 
