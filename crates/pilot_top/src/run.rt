@@ -59,6 +59,11 @@ fn answer_lines<D: Disk, A: Allocator, S: Source, K: Sink>(
         → (lines : List TraceLine) × Moments m lines (D.state session.core.filer.swapper.under) (D.state result.1) }
     ensures stays_open { (b : List ℕ) → IsLeftOpen (D.state session.core.filer.swapper.under)
         → S.left source.old ≡ Some b → EndsEarly result.0 (reading b) → IsLeftOpen (D.state result.1) }
+    ensures untaken { (b : List ℕ) → IsLeftOpen (D.state session.core.filer.swapper.under)
+        → S.left source.old ≡ Some b → result.0 ≡ Status.StreamFault → S.left source.new ≢ Some (rest_of b)
+        → IsLeftOpen (D.state result.1) }
+    ensures left_open { IsLeftOpen (D.state session.core.filer.swapper.under)
+        → (result.0 ≡ Status.Long) ⊎ (result.0 ≡ Status.Damaged) → IsLeftOpen (D.state result.1) }
     ensures transfers { (m : Machine) (b : List ℕ) → Runs session.core session.volume m
         → S.left source.old ≡ Some b
         → (D.state result.1).transfers ≤ (D.state session.core.filer.swapper.under).transfers + (other_bound (D.state session.core.filer.swapper.under).sectors + sum_by (line_bound (D.state session.core.filer.swapper.under).sectors) (reading b)) }
@@ -136,6 +141,9 @@ pub(crate) fn run<A: Allocator, D: Disk, S: Source, K: Sink>(
         → (lines : List TraceLine) × Moments (start d) lines (D.state disk) (D.state result.1) }
     ensures stays_open { (b : List ℕ) → S.left source.old ≡ Some b
         → EndsEarly result.0 (reading b) → IsLeftOpen (D.state result.1) }
+    ensures untaken { (b : List ℕ) → S.left source.old ≡ Some b → result.0 ≡ Status.StreamFault
+        → S.left source.new ≢ Some (rest_of b) → IsLeftOpen (D.state result.1) }
+    ensures left_open { (result.0 ≡ Status.Long) ⊎ (result.0 ≡ Status.Damaged) → IsLeftOpen (D.state result.1) }
     ensures transfers { (d : List Sector) (b : List ℕ)
         → (D.state disk).contents ≡ Some d → Sound d → S.left source.old ≡ Some b
         → (D.state result.1).transfers ≤ (D.state disk).transfers + run_bound (D.state disk).sectors (reading b) }

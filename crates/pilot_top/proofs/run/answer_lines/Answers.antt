@@ -17,7 +17,7 @@ use Rattle.pilot_top.specs.Last.{last_line, Puts}
 use Rattle.pilot_top.specs.Stopping.{status_of, cause_of}
 use Rattle.pilot_top.specs.declared.last.Cause.TheVariants as cause
 use Rattle.pilot_top.specs.declared.status.Status.TheVariants as status
-use Rattle.pilot_top.proofs.EndLemmas.{End-answering, End-front, End-short}
+use Rattle.pilot_top.proofs.EndLemmas.{End-answering, End-front, End-rest, End-short}
 use Rattle.pilot_top.proofs.ExitLemmas.{halt_not_damaged, halt_not_done, halt_evidence, three_ways, stopped_files, halt_not_stream, takes_more, still_moments, still_spends, line_spends, end_spent, still_files, line_moments, halt_files, reply_files, line_not_close, end_closed, end_unheard, end_moments}
 use Rattle.pilot_top.proofs.FrontLemmas.{End-has}
 use Rattle.pilot_top.proofs.LawfulRuns.{called_openly, ended_last, openly_last, openly_none, openly_then}
@@ -119,6 +119,12 @@ returns-in_default-clause-closed_unheard g c m b stands source is heard left clo
 pub returns-in_default-clause-stays_open : goal.returns-in_default-clause-stays_open
 returns-in_default-clause-stays_open g c b left source early = rw c.into_disk.ensures (unset_then (c.turns.invariant.left_open left) c.take_turn.ensures.wrote)
 
+pub returns-in_default-clause-untaken : goal.returns-in_default-clause-untaken
+returns-in_default-clause-untaken g c b left source is some = rw c.into_disk.ensures (unset_then (c.turns.invariant.left_open left) c.take_turn.ensures.wrote)
+
+pub returns-in_default-clause-left_open : goal.returns-in_default-clause-left_open
+returns-in_default-clause-left_open g c left is = rw c.into_disk.ensures (unset_then (c.turns.invariant.left_open left) c.take_turn.ensures.wrote)
+
 pub returns-in_default-clause-lawful : goal.returns-in_default-clause-lawful
 returns-in_default-clause-lawful g c = rw c.into_disk.ensures (openly_last (openly_then c.turns.invariant.turned.lawful (called_openly c.take_turn.ensures.wrote)))
 
@@ -139,6 +145,12 @@ returns-in-ReadFault-clause-moments g c m b stands source =
 
 pub returns-in-ReadFault-clause-stays_open : goal.returns-in-ReadFault-clause-stays_open
 returns-in-ReadFault-clause-stays_open g c b left source early = rw c.into_disk-in-ReadFault.ensures (unset_then (c.turns.invariant.left_open left) c.take_turn.ensures.wrote)
+
+pub returns-in-ReadFault-clause-untaken : goal.returns-in-ReadFault-clause-untaken
+returns-in-ReadFault-clause-untaken g c b left source is some = rw c.into_disk-in-ReadFault.ensures (unset_then (c.turns.invariant.left_open left) c.take_turn.ensures.wrote)
+
+pub returns-in-ReadFault-clause-left_open : goal.returns-in-ReadFault-clause-left_open
+returns-in-ReadFault-clause-left_open g c left is = rw c.into_disk-in-ReadFault.ensures (unset_then (c.turns.invariant.left_open left) c.take_turn.ensures.wrote)
 
 pub returns-in-ReadFault-clause-lawful : goal.returns-in-ReadFault-clause-lawful
 returns-in-ReadFault-clause-lawful g c = rw c.into_disk-in-ReadFault.ensures (openly_last (openly_then c.turns.invariant.turned.lawful (called_openly c.take_turn.ensures.wrote)))
@@ -166,6 +178,12 @@ returns-in-Long-clause-moments g c m b stands source =
 
 pub returns-in-Long-clause-stays_open : goal.returns-in-Long-clause-stays_open
 returns-in-Long-clause-stays_open g c b left source early = rw c.into_disk-in-Long.ensures (unset_then (c.turns.invariant.left_open left) c.take_turn.ensures.wrote)
+
+pub returns-in-Long-clause-untaken : goal.returns-in-Long-clause-untaken
+returns-in-Long-clause-untaken g c b left source is some = rw c.into_disk-in-Long.ensures (unset_then (c.turns.invariant.left_open left) c.take_turn.ensures.wrote)
+
+pub returns-in-Long-clause-left_open : goal.returns-in-Long-clause-left_open
+returns-in-Long-clause-left_open g c left is = rw c.into_disk-in-Long.ensures (unset_then (c.turns.invariant.left_open left) c.take_turn.ensures.wrote)
 
 pub returns-in-Long-clause-lawful : goal.returns-in-Long-clause-lawful
 returns-in-Long-clause-lawful g c = rw c.into_disk-in-Long.ensures (openly_last (openly_then c.turns.invariant.turned.lawful (called_openly c.take_turn.ensures.wrote)))
@@ -205,6 +223,12 @@ returns-in-Halts-clause-closed_unheard g c m b stands source is heard left close
 
 pub returns-in-Halts-clause-stays_open : goal.returns-in-Halts-clause-stays_open
 returns-in-Halts-clause-stays_open g c b left source early = rw c.into_disk-in-Halts.ensures (unset_then (c.turns.invariant.left_open left) c.take_turn.ensures.wrote)
+
+pub returns-in-Halts-clause-untaken : goal.returns-in-Halts-clause-untaken
+returns-in-Halts-clause-untaken g c b left source is some = rw c.into_disk-in-Halts.ensures (unset_then (c.turns.invariant.left_open left) c.take_turn.ensures.wrote)
+
+pub returns-in-Halts-clause-left_open : goal.returns-in-Halts-clause-left_open
+returns-in-Halts-clause-left_open g c left is = rw c.into_disk-in-Halts.ensures (unset_then (c.turns.invariant.left_open left) c.take_turn.ensures.wrote)
 
 pub returns-in-Halts-clause-damage : goal.returns-in-Halts-clause-damage
 returns-in-Halts-clause-damage g c t left sink is =
@@ -279,6 +303,22 @@ returns-in-Ends-clause-stays_open g c b left source early =
     let now = unset_then (c.turns.invariant.left_open left) c.take_turn.ensures.wrote in
     let ended = early_halt b _ _ _ c.turns.lines _ _ turned.going c.end_trace.result.0 c.in-Ends.end _ c.take_turn.new.lines c.in-Ends.ensures.turns e.ends (λ is. (e.stream_cause is).1) early in
     elim ended [ inl halted ↦ rw (e.halted halted) now | inr damaged ↦ e.left_open now damaged ]
+
+pub returns-in-Ends-clause-untaken : goal.returns-in-Ends-clause-untaken
+returns-in-Ends-clause-untaken g c b left source is some =
+    let turned = Turned-source c.turns.invariant.turned source in
+    absurd (some (End-rest b _ _ _ c.turns.lines _ _ turned.going c.in-Ends.end _ c.take_turn.new.lines c.in-Ends.ensures.turns))
+
+pub returns-in-Ends-clause-left_open : goal.returns-in-Ends-clause-left_open
+returns-in-Ends-clause-left_open g c left is = elim is [
+  | inl long ↦ elim c.end_trace.ensures.ends [
+    | inl done ↦ absurd (let e = sym done ∙ long in cc e)
+    | inr (inl stream) ↦ absurd (let e = sym stream ∙ long in cc e)
+    | inr (inr (inl disk)) ↦ absurd (let e = sym disk ∙ long in cc e)
+    | inr (inr (inr damaged)) ↦ absurd (let e = sym damaged ∙ long in cc e)
+  ]
+  | inr damaged ↦ c.end_trace.ensures.left_open (unset_then (c.turns.invariant.left_open left) c.take_turn.ensures.wrote) damaged
+]
 
 pub returns-in-Ends-clause-lawful : goal.returns-in-Ends-clause-lawful
 returns-in-Ends-clause-lawful g c = ended_last (openly_then c.turns.invariant.turned.lawful (called_openly c.take_turn.ensures.wrote)) c.end_trace.ensures.wrote

@@ -1,7 +1,9 @@
-use Rattle.std.proofs.Common.{[], refl}
+use Rattle.std.proofs.Common.{[], inl, inr, refl, sym, subst}
 use Rattle.flat_machine.specs.Start.{start}
 use Rattle.swapper_kernel.specs.GoesLaws.{went_then}
 use Rattle.trace_io.specs.Reading.{reading}
+use Rattle.pilot_top.specs.Headline.{EndsEarly}
+use Rattle.pilot_top.specs.declared.status.Status.{Status}
 use Rattle.pilot_top.proofs.CostLemmas.{run_spends, start_spends}
 use Rattle.pilot_top.proofs.LawfulRuns.{ran_lawfully, started_lawfully}
 use Rattle.pilot_top.proofs.RunLemmas.{run_of, not_sound, not_done, left_early, run_refused, damage_first, refused_why, refused_line, refused_ends, is_early}
@@ -35,6 +37,12 @@ returns-in-Ok-clause-closed_unheard g c d b told sound source failed held rest c
 
 pub returns-in-Ok-clause-stays_open : goal.returns-in-Ok-clause-stays_open
 returns-in-Ok-clause-stays_open g c b source early = c.answer_lines.ensures.stays_open b c.in-Ok.ensures.left_open source early
+
+pub returns-in-Ok-clause-untaken : goal.returns-in-Ok-clause-untaken
+returns-in-Ok-clause-untaken g c b source is some = c.answer_lines.ensures.untaken b c.in-Ok.ensures.left_open source is some
+
+pub returns-in-Ok-clause-left_open : goal.returns-in-Ok-clause-left_open
+returns-in-Ok-clause-left_open g c is = c.answer_lines.ensures.left_open c.in-Ok.ensures.left_open is
 
 pub returns-in-Ok-clause-damage : goal.returns-in-Ok-clause-damage
 returns-in-Ok-clause-damage g c t sink is = c.answer_lines.ensures.damage t c.in-Ok.ensures.left_open sink is
@@ -80,6 +88,16 @@ returns-in-Err-clause-closed_unheard g c d b told sound source failed held rest 
 pub returns-in-Err-clause-stays_open : goal.returns-in-Err-clause-stays_open
 returns-in-Err-clause-stays_open g c b source early =
     left_early c.in-Err.fault c.refuse.result _ _ g.K.Sink.took _ c.refuse.ensures.stops (g.D.Disk.state c.in-Err.disk) c.in-Err.ensures.left_open (reading b) early
+
+pub returns-in-Err-clause-untaken : goal.returns-in-Err-clause-untaken
+returns-in-Err-clause-untaken g c b source is some = absurd ((not_done c.in-Err.fault c.refuse.result _ _ g.K.Sink.took _ c.refuse.ensures.stops).1 is)
+
+pub returns-in-Err-clause-left_open : goal.returns-in-Err-clause-left_open
+returns-in-Err-clause-left_open g c is =
+    left_early c.in-Err.fault c.refuse.result _ _ g.K.Sink.took _ c.refuse.ensures.stops (g.D.Disk.state c.in-Err.disk) c.in-Err.ensures.left_open [] (elim is [
+      | inl long ↦ subst (λ (s : Status). EndsEarly s []) (sym long) tt
+      | inr damaged ↦ subst (λ (s : Status). EndsEarly s []) (sym damaged) tt
+    ])
 
 pub returns-in-Err-clause-sound : goal.returns-in-Err-clause-sound
 returns-in-Err-clause-sound g c d told sound = not_sound c.in-Err.fault c.refuse.result _ _ g.K.Sink.took _ c.refuse.ensures.stops (c.in-Err.ensures.sound d told sound)

@@ -1,0 +1,75 @@
+-- A command for whose words there was no memory did what its record says.
+use Rattle.std.proofs.Common.{◌≡◌, ◌⊎◌, inl, inr, ℕ, List, [], ◌++◌, Some, refl, arith}
+use Rattle.labelled_disk.proofs.CallLemmas.{only_reads_itself}
+use Rattle.flat_machine.specs.Start.{start}
+use Rattle.trace_io.specs.Reading.{reading}
+use Rattle.pilot_top.specs.Making.{Formatted}
+use Rattle.pilot_top.specs.Restoring.{Scavenged}
+use Rattle.pilot_top.specs.Running.{Ran}
+use Rattle.pilot_top.specs.Trying.{Tried}
+use Rattle.pilot_top.specs.World.{World}
+use Rattle.pilot_top.specs.declared.status.Status.TheVariants as status
+use Rattle.pilot_top.proofs.LawfulRuns.{lawfully_none}
+use Rattle.pilot_top.proofs.ScavengingLemmas.{moments_of_none}
+use Rattle.pilot_top.proofs.StagedLemmas.{from_nothing, moments_before}
+
+module _ (w : World) where
+  pub ran_nothing : Ran status.NoMemory w w
+  ran_nothing = record {
+    answers = λ d b t told sound source sink. (source, sink);
+    closed = λ d b told sound source done going. absurd (cc done);
+    closed_unheard = λ d b told sound source failed held rest closes. absurd (cc failed);
+    moments = λ d b told sound source. moments_before (start d) [] (reading b) (from_nothing d sound told);
+    some_moments = λ d told sound. ([], from_nothing d sound told);
+    stays_open = λ b source early. absurd early;
+    untaken = λ b source failed some. absurd (cc failed);
+    left_open = λ is. absurd (elim is [ inl long ↦ cc long | inr damaged ↦ cc damaged ]);
+    transfers = λ d b told sound source. omega arith;
+    lawful = lawfully_none (record { contents = refl; writes = refl });
+    damage = λ t sink is. absurd (cc is);
+    damage_behind = λ b t source sink is. absurd (cc is);
+    sound = λ d told sound. (λ is. cc is, λ is. cc is);
+    not_opened = λ d told is. absurd (cc is);
+    refused = λ d why told refused. inr (inr refl);
+    refused_unwritten = λ d why told refused. only_reads_itself w.disk;
+    complete = λ d b told sound source short disk_held source_held sink_held. inr refl;
+    short = λ b source done. absurd (cc done);
+  }
+
+  pub formatted_nothing : (serial counter : ℕ) → Formatted serial counter status.NoMemory w w
+  formatted_nothing serial counter = record {
+    made = λ ends. absurd (elim ends [ inl done ↦ cc done | inr failed ↦ cc failed ]);
+    line = λ done. absurd (cc done);
+    part_of_line = λ failed. absurd (cc failed);
+    part = λ failed. absurd (cc failed);
+    complete = λ count disk_held sink_held. inr refl;
+    only_count = λ is. absurd (cc is);
+  }
+
+  pub scavenged_nothing : Scavenged status.NoMemory w w
+  scavenged_nothing = record {
+    restored = λ ends g told. absurd (elim ends [ inl done ↦ cc done | inr failed ↦ cc failed ]);
+    synced = λ ends. absurd (elim ends [ inl done ↦ cc done | inr failed ↦ cc failed ]);
+    told = λ done g told. absurd (cc done);
+    part_of_text = λ failed g told. absurd (cc failed);
+    by = λ ends g told. absurd (elim ends [ inl done ↦ cc done | inr failed ↦ cc failed ]);
+    part = λ failed g told. absurd (cc failed);
+    part_line = λ failed. absurd (cc failed);
+    moments = λ g first writes told earlier later k. moments_of_none g w.disk w.disk first writes earlier later k (record { contents = refl; writes = refl });
+    no_volume = λ g told is. absurd (cc is);
+    no_volume_refused = λ g why told refused. inr (inr refl);
+    no_volume_unwritten = λ g why told refused. only_reads_itself w.disk;
+    complete = λ g told opened disk_held sink_held. inr refl;
+    right_restored = λ g told right. inr (inr (inr refl));
+  }
+
+  pub tried_nothing : (seed calls : ℕ) → Tried seed calls status.NoMemory w w
+  tried_nothing seed calls = record {
+    line = λ d told done. absurd (cc done);
+    part_of_line = λ d told failed. absurd (cc failed);
+    emptied = λ d told ends. absurd (elim ends [ inl done ↦ cc done | inr failed ↦ cc failed ]);
+    complete = λ d told count disk_held sink_held. inr refl;
+    only_count = λ is. absurd (cc is);
+    disk_line = λ failed. absurd (cc failed);
+    damage_line = λ is. absurd (cc is);
+  }

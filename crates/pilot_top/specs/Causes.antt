@@ -1,0 +1,47 @@
+-- Why a command ends with its status, whatever it is.
+use Rattle.std.specs.Prelude.{◌≡◌, ◌≢◌, ◌⊎◌, ◌^◌, ℕ, List, Some, String}
+use Rattle.std.specs.declared.alloc.Global.{Global}
+use Rattle.labelled_disk.specs.declared.layout.RootFault.{RootFault}
+use Rattle.labelled_disk.specs.declared.layout.RootFault.TheVariants as fault
+use Rattle.labelled_disk.specs.Layout.{IsCount}
+use Rattle.labelled_disk.specs.Sectors.{Sector}
+use Rattle.command_words.specs.Meaning.{IsNoCommand, Means, Names}
+use Rattle.command_words.specs.declared.words.Command.{Command}
+use Rattle.command_words.specs.declared.words.Command.TheVariants as command
+use Rattle.trace_io.specs.Reading.{IsShort}
+use Rattle.volume_root.specs.Flag.{IsRefused}
+use Rattle.pilot_top.specs.World.{World, Holds, Gives, DiskFailed, SourceFailed, SinkFailed, StaysUnwritten, WritesLast}
+use Rattle.pilot_top.specs.declared.last.Cause.TheVariants as cause
+use Rattle.pilot_top.specs.declared.status.Status.{Status}
+use Rattle.pilot_top.specs.declared.status.Status.TheVariants as status
+
+-- Whether the words mean a command is told so: where they mean none, by the line of usage, if there is memory to read them.
+pub record Understands (words : List (String Global)) (s : Status) (before after : World) : Type 0 where
+  pub usage : s ≡ status.Usage → IsNoCommand words
+  pub no_command : IsNoCommand words → (s ≡ status.Usage) ⊎ (s ≡ status.NoMemory)
+  pub unknown : ((c : Command) → ¬ Names words c) → s ≡ status.Usage
+  pub line : s ≡ status.Usage → WritesLast before after cause.Usage
+
+-- Each status but `Done` and `Usage` has its cause.
+pub record HasCause (words : List (String Global)) (s : Status) (before after : World) : Type 0 where
+  pub disk : s ≡ status.DiskFault → DiskFailed before after
+  pub stream : s ≡ status.StreamFault → SourceFailed before after ⊎ SinkFailed before after
+  -- nothing was written; and there is a line that says why, which for a count of sectors that no volume has names the count
+  pub not_opened : s ≡ status.NotOpened → StaysUnwritten before after × (why : RootFault) × WritesLast before after (cause.Root why)
+  pub count : ¬ IsNoCommand words → ¬ IsCount before.disk.sectors
+      → (s ≡ status.NoMemory) ⊎ ((s ≡ status.NotOpened) × WritesLast before after (cause.Root (fault.BadCount before.disk.sectors)))
+  -- only a trace that is too long ends so, and it is read by `run` alone
+  pub long : (b : List ℕ) → Gives before b → s ≡ status.Long → ¬ IsShort (2 ^ 32) b
+  pub long_run : s ≡ status.Long → (frames : ℕ) × Means words (command.Run frames)
+  -- nothing was written, and the first word is a command
+  pub memory : s ≡ status.NoMemory → StaysUnwritten before after × (c : Command) × Names words c
+  -- only a `run` ends so, and a `trial` on a disk that does not tell what it holds
+  pub damaged : s ≡ status.Damaged
+      → ((frames : ℕ) × Means words (command.Run frames)) ⊎ ((seed : ℕ) × (calls : ℕ) × (frames : ℕ) × Means words (command.Trial seed calls frames) × ((d : List Sector) → ¬ Holds before d))
+  pub no_other : s ≢ status.Unfit
+
+-- nothing is taken from the source: the command is another than `run`, or it was not begun, or the volume is refused
+abbrev pub TakesNothing : List (String Global) → Status → World → Type 0
+TakesNothing words s before =
+    ((frames : ℕ) → ¬ Means words (command.Run frames)) ⊎ (s ≡ status.Usage) ⊎ (s ≡ status.NotOpened) ⊎ (s ≡ status.NoMemory)
+    ⊎ ((d : List Sector) × (why : RootFault) × Holds before d × IsRefused d why)

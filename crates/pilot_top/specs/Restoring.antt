@@ -1,0 +1,41 @@
+-- What `scavenge` does, by its status.
+use Rattle.std.specs.Prelude.{◌≡◌, ◌⊎◌, ◌++◌, ℕ, List, Some, true}
+use Rattle.labelled_disk.specs.declared.disk.DiskWrite.{DiskWrite}
+use Rattle.labelled_disk.specs.declared.layout.RootFault.{RootFault}
+use Rattle.labelled_disk.specs.Calls.{TellsSame}
+use Rattle.labelled_disk.specs.Moment.{moment}
+use Rattle.labelled_disk.specs.Root.{LabelsRight}
+use Rattle.labelled_disk.specs.Sectors.{Sector}
+use Rattle.labelled_disk.specs.WriteRuns.{Appended}
+use Rattle.volume_root.specs.Format.{PartMade}
+use Rattle.scavenger.specs.Orders.{Orders, AreFor, scavenge_writes}
+use Rattle.scavenger.specs.Restored.{IsRestored}
+use Rattle.pilot_top.specs.Reporting.{restored_text}
+use Rattle.pilot_top.specs.Scavenging.{IsBetween, IsNoVolume}
+use Rattle.pilot_top.specs.World.{World, Holds, DiskFailed, SinkFailed, StaysUnwritten, Writes, WritesFront, WritesLast}
+use Rattle.pilot_top.specs.declared.last.Cause.TheVariants as cause
+use Rattle.pilot_top.specs.declared.status.Status.{Status}
+use Rattle.pilot_top.specs.declared.status.Status.TheVariants as status
+
+-- A `scavenge` ended with this status, and left disk and sink so.
+pub record Scavenged (s : Status) (before after : World) : Type 0 where
+  -- The files stay, and what was found is told.
+  pub restored : (s ≡ status.Done) ⊎ (s ≡ status.StreamFault) → (g : List Sector) → Holds before g → (h : List Sector) × Holds after h × IsRestored g h
+  pub synced : (s ≡ status.Done) ⊎ (s ≡ status.StreamFault) → after.disk.synced ≡ true
+  pub told : s ≡ status.Done → (g : List Sector) → Holds before g → Writes before after (restored_text g)
+  pub part_of_text : s ≡ status.StreamFault → (g : List Sector) → Holds before g → WritesFront before after (restored_text g)
+  -- Which writes were made, and what stands after each of them.
+  pub by : (s ≡ status.Done) ⊎ (s ≡ status.StreamFault) → (g : List Sector) → Holds before g → (o : Orders) × AreFor g o × Appended (scavenge_writes o) before.disk after.disk
+  pub part : s ≡ status.DiskFault → (g : List Sector) → Holds before g
+      → TellsSame before.disk after.disk ⊎ ((o : Orders) × AreFor g o × PartMade (scavenge_writes o) before.disk after.disk)
+  pub part_line : s ≡ status.DiskFault → WritesLast before after cause.DiskFault
+  pub moments : (g : List Sector) (first writes : List DiskWrite) → Holds before g → before.disk.writes ≡ Some first → after.disk.writes ≡ Some (first ++ writes)
+      → (k : ℕ) → IsBetween g (moment g writes k)
+  -- A disk that has no volume; and one that has is restored, where nothing failed.
+  pub no_volume : (g : List Sector) → Holds before g → s ≡ status.NotOpened → (why : RootFault) × IsNoVolume g why × WritesLast before after (cause.Root why)
+  pub no_volume_refused : (g : List Sector) (why : RootFault) → Holds before g → IsNoVolume g why → s ≡ status.NotOpened ⊎ s ≡ status.DiskFault ⊎ s ≡ status.NoMemory
+  pub no_volume_unwritten : (g : List Sector) (why : RootFault) → Holds before g → IsNoVolume g why → StaysUnwritten before after
+  pub complete : (g : List Sector) → Holds before g → ((why : RootFault) → ¬ IsNoVolume g why) → ¬ DiskFailed before after → ¬ SinkFailed before after
+      → (s ≡ status.Done) ⊎ (s ≡ status.NoMemory)
+  pub right_restored : (g : List Sector) → Holds before g → LabelsRight g
+      → (s ≡ status.Done) ⊎ (s ≡ status.StreamFault) ⊎ (s ≡ status.DiskFault) ⊎ (s ≡ status.NoMemory)

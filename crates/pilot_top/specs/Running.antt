@@ -1,0 +1,54 @@
+-- What `run` does, by its status.
+use Rattle.std.specs.Prelude.{◌≡◌, ◌≢◌, ◌⊎◌, ◌+◌, ◌^◌, ◌≤◌, true, false, ℕ, List, Some}
+use Rattle.labelled_disk.specs.Sectors.{Sector}
+use Rattle.labelled_disk.specs.declared.layout.RootFault.{RootFault}
+use Rattle.flat_machine.specs.After.{TraceLine}
+use Rattle.flat_machine.specs.Start.{start}
+use Rattle.trace_io.specs.Reading.{IsShort, reading, rest_of}
+use Rattle.volume_root.specs.Flag.{IsRefused}
+use Rattle.volume_root.specs.Sound.{Sound}
+use Rattle.pilot_engine.specs.Closing.{HasShut}
+use Rattle.pilot_top.specs.Ending.{halts, closes}
+use Rattle.pilot_top.specs.Headline.{AreToFirst, EndsEarly, IsLeftOpen, Run, TellsDamage, at_end, run_bound}
+use Rattle.pilot_top.specs.Moments.{Lawfully, Moments}
+use Rattle.pilot_top.specs.World.{World, Holds, Gives, Took, DiskFailed, SourceFailed, SinkFailed, StaysUnwritten, WritesLast}
+use Rattle.pilot_top.specs.declared.last.Cause.TheVariants as cause
+use Rattle.pilot_top.specs.declared.status.Status.{Status}
+use Rattle.pilot_top.specs.declared.status.Status.TheVariants as status
+
+-- A `run` ended with this status, and left disk, source and sink so.
+pub record Ran (s : Status) (before after : World) : Type 0 where
+  -- On a sound volume: the replies, what the source has left, and the files of the disk.
+  pub answers : (d : List Sector) (b t : List ℕ) → Holds before d → Sound d → Gives before b → Took before t → Run s d b after.left t after.took (SinkFailed before after) after.disk
+  -- Where its end was not a `halt`, the volume is closed, sound, and on the medium; so it is where only the reply to `close`
+  -- was not heard.
+  pub closed : (d : List Sector) (b : List ℕ) → Holds before d → Sound d → Gives before b → s ≡ status.Done → halts (reading b) ≡ false → HasShut (at_end d (reading b)) after.disk
+  pub closed_unheard : (d : List Sector) (b : List ℕ) → Holds before d → Sound d → Gives before b
+      → s ≡ status.StreamFault → ¬ SourceFailed before after → Gives after (rest_of b) → closes (reading b) ≡ true → HasShut (at_end d (reading b)) after.disk
+  -- After each of its writes, whenever it is stopped, the disk has the machine's settled files: of a trace that the source
+  -- tells, and else of some trace.
+  pub moments : (d : List Sector) (b : List ℕ) → Holds before d → Sound d → Gives before b → Moments (start d) (reading b) before.disk after.disk
+  pub some_moments : (d : List Sector) → Holds before d → Sound d → (lines : List TraceLine) × Moments (start d) lines before.disk after.disk
+  -- Where it ended before its session did, the volume is left open; so where lines are left behind the one that was answered
+  -- last, and where the trace is too long or the volume damaged, whatever the source tells.
+  pub stays_open : (b : List ℕ) → Gives before b → EndsEarly s (reading b) → IsLeftOpen after.disk
+  pub untaken : (b : List ℕ) → Gives before b → s ≡ status.StreamFault → ¬ Gives after (rest_of b) → IsLeftOpen after.disk
+  pub left_open : (s ≡ status.Long) ⊎ (s ≡ status.Damaged) → IsLeftOpen after.disk
+  -- How many transfers its start, its lines and its end may make.
+  pub transfers : (d : List Sector) (b : List ℕ) → Holds before d → Sound d → Gives before b → after.disk.transfers ≤ before.disk.transfers + run_bound before.disk.sectors (reading b)
+  -- Over any contents each write is lawful at its moment, and the volume stays open between the first and the last; and what
+  -- is told of a damaged volume is so.
+  pub lawful : Lawfully before.disk after.disk
+  pub damage : (t : List ℕ) → Took before t → s ≡ status.Damaged → TellsDamage t after.took (SinkFailed before after) after.disk
+  pub damage_behind : (b t : List ℕ) → Gives before b → Took before t → s ≡ status.Damaged
+      → (told : TellsDamage t after.took (SinkFailed before after) after.disk) × AreToFirst told.replies (reading b)
+  -- A sound volume is opened, and shows no damage, whatever source and sink tell.
+  pub sound : (d : List Sector) → Holds before d → Sound d → s ≢ status.NotOpened × s ≢ status.Damaged
+  -- A volume that can't be opened.
+  pub not_opened : (d : List Sector) → Holds before d → s ≡ status.NotOpened → (why : RootFault) × IsRefused d why × WritesLast before after (cause.Root why)
+  pub refused : (d : List Sector) (why : RootFault) → Holds before d → IsRefused d why → s ≡ status.NotOpened ⊎ s ≡ status.DiskFault ⊎ s ≡ status.NoMemory
+  pub refused_unwritten : (d : List Sector) (why : RootFault) → Holds before d → IsRefused d why → StaysUnwritten before after
+  -- Where nothing failed, a trace that is not too long is read to its end, and no other.
+  pub complete : (d : List Sector) (b : List ℕ) → Holds before d → Sound d → Gives before b → IsShort (2 ^ 32) b
+      → ¬ DiskFailed before after → ¬ SourceFailed before after → ¬ SinkFailed before after → (s ≡ status.Done) ⊎ (s ≡ status.NoMemory)
+  pub short : (b : List ℕ) → Gives before b → s ≡ status.Done → IsShort (2 ^ 32) b
