@@ -8,6 +8,7 @@ use Rattle.std.specs.Int.{w32, to_be_bytes}
 use Rattle.flat_mem.specs.Memory.{part}
 use Rattle.flat_mem.specs.Order.{at_most}
 use Rattle.record_table.specs.Field.{field}
+use Rattle.swap_units.specs.Unit.{has_page}
 use Rattle.projection_laws.specs.Sight.{Interval, end_of}
 use Rattle.projection_laws.specs.Edits.{pieces}
 use Rattle.projection_laws.specs.Stored.{interval_in, space_in}

@@ -1,7 +1,6 @@
 -- A new volume: what each of its sectors holds.
 use Rattle.std.specs.Prelude.{ℕ, ◌≤◌, ◌++◌, length, take, ◌-◌, ◌*◌, min, true, ◌==◌, nat_le, nat_lt, if◌then◌else◌, List, [], ◌∷◌, map, replicate, slice_index, slice_set}
 use Rattle.std.specs.List.{range_with_len}
-use Rattle.labelled_disk.specs.declared.label.Label.{Label}
 use Rattle.labelled_disk.specs.declared.disk.DiskWrite.{DiskWrite}
 use Rattle.labelled_disk.specs.declared.disk.DiskWrite.TheVariants.{Whole}
 use Rattle.labelled_disk.specs.declared.layout.Layout.{Layout}
