@@ -236,7 +236,7 @@ settled_more : (d : List Sector) (m : Machine) → IsMachine m → TellsSettled 
 settled_more d m is told = record { agrees = files_any m.unforced (files_on d) m.files is.whole_files told.agrees; right = told.right }
 
 pub stop_more : (d : List Sector) (m : Machine) → IsMachine m → IsStop (forgotten m) d → IsStop m d
-stop_more d m is stop = record { told = settled_more d m is stop.told; honest = stop.honest }
+stop_more d m is stop = record { told = settled_more d m is stop.told; same_serial = stop.same_serial; same_counter = stop.same_counter; honest = stop.honest }
 
 -- and the machine that is closed is the same
 pub shut_same : (m : Machine) (disk : DiskState) → HasShut (forgotten m) disk → HasShut m disk

@@ -37,7 +37,7 @@ use Rattle.space_calls.specs.Unmapping.{IsTaken, without_window}
 use Rattle.file_manager.specs.declared.volume.Volume.{Volume}
 use Rattle.fault_core.specs.declared.core_over.CoreOver.{CoreOver}
 use Rattle.running_words.specs.Running.{Carried, Runs}
-use Rattle.running_words.specs.Stages.{Passes, stage}
+use Rattle.running_words.specs.Stages.{HasNumbers, Passes, stage}
 use Rattle.labelled_disk.specs.Calls.{TellsSame}
 use Rattle.labelled_disk.specs.State.{DiskState}
 use Rattle.labelled_disk.proofs.WriteRunLemmas.{appended_no_more}
@@ -163,6 +163,13 @@ module _ (m : Machine) (h : IsMachine m) (space : ℕ) (s : Space) (here : space
     hidden_alike d zero told = forced_wider d told
     hidden_alike d (suc k) told = subst (λ (n : Machine). TellsSettled d n) hidden_left told
 
+    -- and the numbers are the same
+    pub hidden_numbers : (d : List Sector) → HasNumbers left (call.Delete shown.id) d → HasNumbers m (call.Unmap space) d
+    hidden_numbers d is = record {
+      same_serial = is.same_serial;
+      counter = elim is.counter [ inl before ↦ inl before | inr after ↦ inr (after ∙ ap (λ (n : Machine). n.counter) hidden_left) ];
+    }
+
     module _ {D A : Type 0} {G : Ghosts D} (core : CoreOver D A G) (volume : Volume) where
       pub hidden_carried : (result : Result Reply Halt) → IfOk result (Carried left (call.Delete shown.id) core volume) → IfOk result (Carried m (call.Unmap space) core volume)
       hidden_carried (Err e) carried = tt
@@ -198,6 +205,7 @@ passes_still m c h same = record {
   within = h.within;
   tells = h.tells;
   open_flag = h.open_flag;
+  numbers = h.numbers;
 }
 
 -- A reply of a call that was not refused.

@@ -1,5 +1,5 @@
 -- What a stop among the writes of a creation leaves: a temporary file is no settled one.
-use Rattle.std.proofs.Common.{◌≡◌, ℕ, zero, suc, ◌+◌, ◌*◌, ◌^◌, ◌<◌, ◌≤◌, true, false, List, [], ◌∷◌, ◌++◌, length, take, Option, Some, None, refl, sym, ◌∙◌, ap, subst, arith}
+use Rattle.std.proofs.Common.{◌≡◌, ◌≢◌, inr, ℕ, zero, suc, ◌+◌, ◌*◌, ◌^◌, ◌<◌, ◌≤◌, true, false, List, [], ◌∷◌, ◌++◌, length, take, Option, Some, None, refl, sym, ◌∙◌, ap, subst, arith}
 use Rattle.std.proofs.lemmas.List.{length-map}
 use Rattle.labelled_disk.specs.declared.disk.DiskWrite.{DiskWrite}
 use Rattle.labelled_disk.specs.declared.label.Label.{Label}
@@ -27,7 +27,9 @@ use Rattle.flat_machine.specs.declared.call.Call.{Call}
 use Rattle.flat_machine.specs.declared.call.Call.TheVariants as call
 use Rattle.flat_machine.specs.Machine.{Machine}
 use Rattle.flat_machine.specs.Next.{new_id}
+use Rattle.flat_machine.specs.Refusal.{refusal}
 use Rattle.flat_machine.proofs.KeepNew.{none_new}
+use Rattle.flat_machine.proofs.StoreLemmas.{unrefused}
 use Rattle.swapper_kernel.specs.Goes.{Makes}
 use Rattle.swapper_kernel.specs.Stands.{labels_of}
 use Rattle.filer_kernel.specs.declared.cached.CachedRuns.{CachedRuns}
@@ -48,6 +50,7 @@ use Rattle.running_words.specs.Session.{AreInForm, AreOpen, IsSession}
 use Rattle.running_words.specs.Stages.{Passes}
 use Rattle.running_words.proofs.FlagLemmas.{creation_open, flag_at, flag_open, root_open, take_open}
 use Rattle.running_words.proofs.PassLemmas.{growth_long}
+use Rattle.running_words.proofs.RootLemmas.{PageNumbers, RootsHave, creation_have, numbers_stay, root_have, take_have}
 use Rattle.running_words.proofs.StageLemmas.{begun, same_labels}
 
 -- ---- The first of some writes.
@@ -74,8 +77,8 @@ front_stays d order n stays k low =
 
 -- the call stays where it is
 quiet_step : (spaces_of : TablesMeaning) (old new : DiskState) (before after : Slots) (m : Machine) (c : Call) → StandsFor spaces_of old before m → AreInForm old → (order : List DiskWrite) → Makes volume_page order old before new after
-    → AreOpen order → ((d : List Sector) → old.contents ≡ Some d → (k : ℕ) → k ≤ length order → StaysRight false d (moment d order k)) → Passes m c old new
-quiet_step spaces_of old new before after m c stands form order makes opens stays = record {
+    → AreOpen order → RootsHave (PageNumbers m c) order → ((d : List Sector) → old.contents ≡ Some d → (k : ℕ) → k ≤ length order → StaysRight false d (moment d order k)) → Passes m c old new
+quiet_step spaces_of old new before after m c stands form order makes opens have stays = record {
   writes = makes.wrote.writes;
   appended = makes.wrote.appended;
   steps = λ k. 0;
@@ -83,11 +86,16 @@ quiet_step spaces_of old new before after m c stands form order makes opens stay
   within = λ k. omega arith;
   tells = λ d k told. run_stops.quiet_stops m order old new before d makes.wrote (begun spaces_of old before m d stands told (form d told)) (stays d told) k;
   open_flag = λ d k told. flag_open makes.wrote opens d k told (flag_at spaces_of old before m stands d told (form d told));
+  numbers = numbers_stay spaces_of old new before m c stands form makes.wrote have;
 }
 
 file_open : (id kind : ℕ) (is : List ℕ) → AreOpen (file_in id kind is)
 file_open id kind [] = tt
 file_open id kind (leader ∷ is) = creation_open id kind leader is
+
+file_have : (P : List ℕ → Type 0) (id kind : ℕ) (is : List ℕ) → id ≢ 4 → RootsHave P (file_in id kind is)
+file_have P id kind [] other = tt
+file_have P id kind (leader ∷ is) other = creation_have P id kind leader is other
 
 no_file : (R : File → File → Type 0) (o : Option File) → BothBy R o None → o ≡ None
 no_file R None b = refl
@@ -97,6 +105,9 @@ no_file R (Some f) b = absurd b
 
 module _ (spaces_of : TablesMeaning) (old : DiskState) (before : Slots) (layout : Layout) (runs : CachedRuns) (volume : Volume) (m : Machine) (s : IsSession spaces_of old before layout runs volume m) (form : AreInForm old)
     (valid : IsValidRoot layout.sectors volume.root) (unspent : volume.root.counter < 4294967295) where
+  serial_fits : volume.root.serial < 2 ^ 32
+  serial_fits = let most = s.stands.is.by.machine.serial_fits.1 in omega (arith, most, s.same_serial)
+
   module _ (d : List Sector) (told : old.contents ≡ Some d) where
     settled : IsSettled d m
     settled = stands_is_settled spaces_of old before m d s.stands told (form d told)
@@ -109,9 +120,6 @@ module _ (spaces_of : TablesMeaning) (old : DiskState) (before : Slots) (layout 
 
     long : length d ≡ layout.sectors
     long = sym (length-map d (λ (t : Sector). t.0)) ∙ ap length labels ∙ length-map s.stands.memory (λ (t : Sector). t.0) ∙ (s.kept s.stands.memory s.stands.stands).long
-
-    serial_fits : volume.root.serial < 2 ^ 32
-    serial_fits = let most = s.stands.is.by.machine.serial_fits.1 in omega (arith, most, s.same_serial)
 
     root_right : IsRoot (length d) (Some (root_label, root_bytes (counted volume.root)))
     root_right = subst (λ (n : ℕ). IsRoot n (Some (root_label, root_bytes (counted volume.root)))) (sym long)
@@ -148,11 +156,25 @@ module _ (spaces_of : TablesMeaning) (old : DiskState) (before : Slots) (layout 
         let size = growth_long (next_id volume.root) kind 0 is in
         stay_laws.created d root_label (root_bytes (counted volume.root)) (next_id volume.root) kind leader is right root_right serials counters absent unused (omega (arith, few)) k (omega (arith, low, size))
 
+  -- no file has the identifier of the root
+  no_root : next_id volume.root ≢ 4
+  no_root four = let some = valid.serial in omega (arith, four, some)
+
+  -- the root has the next counter, and then the file is made
+  all_have : (kind pages : ℕ) (is : List ℕ) → refusal m (call.Create pages kind) ≡ None → RootsHave (PageNumbers m (call.Create pages kind)) (root_write (counted volume.root) ∷ file_in (next_id volume.root) kind is)
+  all_have kind pages is free =
+      root_have (PageNumbers m (call.Create pages kind)) (counted volume.root) (file_in (next_id volume.root) kind is)
+      (record {
+        same_serial = serial_read (counted volume.root) serial_fits ∙ s.same_serial;
+        counter = inr (counter_read (counted volume.root) (omega (arith, unspent)) ∙ ap (λ (n : ℕ). n + 1) s.same_counter ∙ sym (ap (λ (n : Machine). n.counter) (unrefused m (call.Create pages kind) free)));
+      }) (file_have (PageNumbers m (call.Create pages kind)) (next_id volume.root) kind is no_root)
+
   -- the file was made
-  pub create_passed : (kind pages : ℕ) (new : DiskState) (after : Slots) (later : CachedRuns) → pages < 4294967295 → CreatedAs volume.root kind pages old before layout new after later → Passes m (call.Create pages kind) old new
-  create_passed kind pages new after later small made =
+  pub create_passed : (kind pages : ℕ) (new : DiskState) (after : Slots) (later : CachedRuns) → pages < 4294967295 → refusal m (call.Create pages kind) ≡ None → CreatedAs volume.root kind pages old before layout new after later → Passes m (call.Create pages kind) old new
+  create_passed kind pages new after later small free made =
       quiet_step spaces_of old new before after m (call.Create pages kind) s.stands form (root_write (counted volume.root) ∷ creation (next_id volume.root) kind made.leader made.sectors) made.leads.goes.makes
       (root_open (counted volume.root) (creation (next_id volume.root) kind made.leader made.sectors) refl (creation_open (next_id volume.root) kind made.leader made.sectors))
+      (all_have kind pages (made.leader ∷ made.sectors) free)
       (λ d told.
       let now = made.leads.goes.memory s.stands.memory s.stands.stands in
       let size = made.long in
@@ -161,10 +183,11 @@ module _ (spaces_of : TablesMeaning) (old : DiskState) (before : Slots) (layout 
       (created_unused _ _ _ (next_id volume.root) kind made.leader made.sectors s.stands.memory now.0 d (omega (arith, some)) (labels d told) now.2) (omega (arith, size, small)))
 
   -- the creation stopped
-  pub create_broken : (kind pages : ℕ) (new : DiskState) (after : Slots) → pages < 4294967295 → CreatedSome (root_write (counted volume.root) ∷ []) (next_id volume.root) kind pages s.stands.memory old before new after → Passes m (call.Create pages kind) old new
-  create_broken kind pages new after small some =
+  pub create_broken : (kind pages : ℕ) (new : DiskState) (after : Slots) → pages < 4294967295 → refusal m (call.Create pages kind) ≡ None → CreatedSome (root_write (counted volume.root) ∷ []) (next_id volume.root) kind pages s.stands.memory old before new after → Passes m (call.Create pages kind) old new
+  create_broken kind pages new after small free some =
       quiet_step spaces_of old new before after m (call.Create pages kind) s.stands form (take some.count ((root_write (counted volume.root) ∷ []) ++ file_in (next_id volume.root) kind some.sectors)) some.makes
       (take_open some.count ((root_write (counted volume.root) ∷ []) ++ file_in (next_id volume.root) kind some.sectors) (root_open (counted volume.root) (file_in (next_id volume.root) kind some.sectors) refl (file_open (next_id volume.root) kind some.sectors)))
+      (take_have (PageNumbers m (call.Create pages kind)) some.count ((root_write (counted volume.root) ∷ []) ++ file_in (next_id volume.root) kind some.sectors) (all_have kind pages some.sectors free))
       (λ d told.
       let few = some.few in
       front_stays d ((root_write (counted volume.root) ∷ []) ++ file_in (next_id volume.root) kind some.sectors) some.count

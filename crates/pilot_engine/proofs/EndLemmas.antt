@@ -210,6 +210,8 @@ module _ (m : Machine) (r : Root) (y : List Sector) (closed : IsClosed m y) (ser
   pub shut_stop : IsOpenStop m y → IsStop m (written (root_write (closed_root r)) y)
   shut_stop stop = subst (λ (w : Root). IsStop m (written (root_write w) y)) same_root (record {
     told = record { agrees = subst (λ (fs : List File). Agrees fs (settled m)) (sym (laws.files true)) stop.told.agrees; right = laws.right true stop.told.right };
+    same_serial = laws.has_serial true ∙ closed.root.has_serial;
+    same_counter = laws.has_counter true ∙ closed.root.has_counter;
     honest = λ set. sound;
   })
 

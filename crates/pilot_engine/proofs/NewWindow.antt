@@ -1,11 +1,12 @@
 -- A new file is shown in a space, and no call names it.
-use Rattle.std.proofs.Common.{◌≡◌, ◌≢◌, inr, ℕ, zero, suc, ◌+◌, ◌<◌, ◌≤◌, ◌^◌, Bool, true, false, cond, List, [], ◌∷◌, Option, Some, None, Result, Ok, Err, refl, sym, ◌∙◌, ap, subst, arith, eqb}
+use Rattle.std.proofs.Common.{◌≡◌, ◌≢◌, ◌⊎◌, inl, inr, ℕ, zero, suc, ◌+◌, ◌<◌, ◌≤◌, ◌^◌, Bool, true, false, cond, List, [], ◌∷◌, Option, Some, None, Result, Ok, Err, refl, sym, ◌∙◌, ap, subst, arith, eqb}
 use Rattle.std.specs.Prelude.{IfOk, MatchOption, option_and_then, ◌==◌}
 use Rattle.std.specs.Option.{option_map_or}
 use Rattle.std.proofs.lemmas.Bool.{eq-eqb, eqb-true, true≢false}
 use Rattle.labelled_disk.specs.declared.disk.Disk.{Ghosts}
 use Rattle.labelled_disk.specs.declared.evidence.Halt.{Halt}
 use Rattle.labelled_disk.specs.File.{File, file_at}
+use Rattle.labelled_disk.specs.Root.{counter_of}
 use Rattle.labelled_disk.specs.Sectors.{Sector}
 use Rattle.labelled_disk.proofs.RisingLemmas.{at_put, each_at}
 use Rattle.flat_machine.specs.declared.call.Call.TheVariants as call
@@ -37,10 +38,11 @@ use Rattle.session_words.specs.StandsFor.{TellsSettled}
 use Rattle.file_manager.specs.declared.volume.Volume.{Volume}
 use Rattle.fault_core.specs.declared.core_over.CoreOver.{CoreOver}
 use Rattle.running_words.specs.Running.{Carried, Runs}
-use Rattle.running_words.specs.Stages.{stage}
+use Rattle.running_words.specs.Stages.{HasNumbers, stage}
 use Rattle.pilot_engine.proofs.AnonymousLemmas.{replied}
 use Rattle.pilot_engine.proofs.CarryLemmas.{answers, stays_refused}
 use Rattle.pilot_engine.proofs.LiftLemmas.{refused_running}
+use Rattle.pilot_engine.proofs.PassThen.{quiet_numbers}
 
 -- the space may be mapped, as far as spaces tell
 pub record CanMap (m : Machine) (space : ℕ) (run : ℕ × ℕ) : Type 0 where
@@ -189,3 +191,18 @@ module _ (m : Machine) (h : IsMachine m) (space : ℕ) (run : ℕ × ℕ) (can :
 
   pub mapped_alike : refusal m (call.MapAnonymous space) ≡ None → (d : List Sector) → TellsSettled d (with_new_file m run.1 0) → TellsSettled d (stage m (call.MapAnonymous space) 1)
   mapped_alike free d told = subst (λ (n : Machine). TellsSettled d n) (mapped_is free (new_id m) refl) (same_settled (with_new_file m run.1 0) _ refl refl d told)
+
+  -- and which numbers the root has
+  pub created_numbers : (d : List Sector) → HasNumbers m (call.Create run.1 0) d → HasNumbers m (call.MapAnonymous space) d
+  created_numbers d is = record { same_serial = is.same_serial; counter = either is.counter }
+    where
+      either : (counter_of d ≡ m.counter) ⊎ (counter_of d ≡ (next m (call.Create run.1 0)).counter) → (counter_of d ≡ m.counter) ⊎ (counter_of d ≡ (next m (call.MapAnonymous space)).counter)
+      either (inl before) = inl before
+      either (inr after) = by (refusal m (call.Create run.1 0)) refl
+        where
+          by : (o : Option Refusal) → refusal m (call.Create run.1 0) ≡ o → (counter_of d ≡ m.counter) ⊎ (counter_of d ≡ (next m (call.MapAnonymous space)).counter)
+          by (Some word) is = inl (after ∙ sym (ap (λ (n : Machine). n.counter) (stays_refused m (call.Create run.1 0) word is)))
+          by None is = inr (after ∙ ap (λ (n : Machine). n.counter) (unrefused m (call.Create run.1 0) is) ∙ ap (λ (n : Machine). n.counter) (mapped_is (same_refusal ∙ is) (new_id m) refl))
+
+  pub mapped_numbers : refusal m (call.MapAnonymous space) ≡ None → (d : List Sector) → HasNumbers (with_new_file m run.1 0) call.Volume d → HasNumbers m (call.MapAnonymous space) d
+  mapped_numbers free = quiet_numbers m (with_new_file m run.1 0) (call.MapAnonymous space) refl (inr (ap (λ (n : Machine). n.counter) (mapped_is free (new_id m) refl)))

@@ -1,11 +1,11 @@
 -- What a stop leaves of a call that is carried out in two parts.
-use Rattle.std.proofs.Common.{◌≡◌, inl, inr, ℕ, zero, suc, ◌+◌, ◌-◌, ◌<◌, ◌≤◌, Bool, true, false, cond, List, ◌++◌, length, take, Option, Some, refl, sym, ◌∙◌, ap, subst, arith}
+use Rattle.std.proofs.Common.{◌≡◌, ◌⊎◌, inl, inr, ℕ, zero, suc, ◌+◌, ◌-◌, ◌<◌, ◌≤◌, Bool, true, false, cond, List, ◌++◌, length, take, Option, Some, refl, sym, ◌∙◌, ap, subst, arith}
 use Rattle.std.specs.Prelude.{nat_le, option_map}
 use Rattle.std.proofs.lemmas.Bool.{cases_lt}
 use Rattle.std.proofs.lemmas.Bool.Decides.{nat_tests}
 use Rattle.labelled_disk.specs.declared.disk.DiskWrite.{DiskWrite}
 use Rattle.labelled_disk.specs.Moment.{moment}
-use Rattle.labelled_disk.specs.Root.{root_page, short_at}
+use Rattle.labelled_disk.specs.Root.{counter_of, root_page, short_at}
 use Rattle.labelled_disk.specs.Sectors.{Sector}
 use Rattle.labelled_disk.specs.State.{DiskState}
 use Rattle.labelled_disk.specs.WriteRuns.{after_writes}
@@ -13,9 +13,10 @@ use Rattle.labelled_disk.proofs.WriteRunLemmas.{after_writes-append, appended_th
 use Rattle.flat_machine.specs.declared.call.Call.{Call}
 use Rattle.flat_machine.specs.declared.call.Call.TheVariants as call
 use Rattle.flat_machine.specs.Machine.{Machine}
+use Rattle.flat_machine.specs.Next.{next}
 use Rattle.file_manager.proofs.UpTo.{take_past}
 use Rattle.session_words.specs.StandsFor.{TellsSettled}
-use Rattle.running_words.specs.Stages.{Passes, stage, last_step}
+use Rattle.running_words.specs.Stages.{HasNumbers, Passes, stage, last_step}
 
 -- the steps of the writes up to one, and then those of later writes
 abbrev steps_then : ℕ → (ℕ → ℕ) → (ℕ → ℕ) → ℕ → ℕ
@@ -40,6 +41,8 @@ pub record AreParts (m n : Machine) (first later whole : Call) (one two : ℕ �
   pub few_two : (k : ℕ) → k ≤ last_step n later → two k ≤ last_step m whole
   pub alike_one : (d : List Sector) (k : ℕ) → TellsSettled d (stage m first k) → TellsSettled d (stage m whole (one k))
   pub alike_two : (d : List Sector) (k : ℕ) → TellsSettled d (stage n later k) → TellsSettled d (stage m whole (two k))
+  pub numbers_one : (d : List Sector) → HasNumbers m first d → HasNumbers m whole d
+  pub numbers_two : (d : List Sector) → HasNumbers n later d → HasNumbers m whole d
 
 module _ {old mid new : DiskState} (m n : Machine) (a b c : Call) (one two : ℕ → ℕ) (parts : AreParts m n a b c one two) (first : Passes m a old mid) (later : Passes n b mid new) where
   abbrev count : ℕ
@@ -99,6 +102,12 @@ module _ {old mid new : DiskState} (m n : Machine) (a b c : Call) (one two : ℕ
       | inr few ↦ subst (λ (e : List Sector). short_at (root_page e) 10 ≡ 0) (sym (moment-earlier d first.writes later.writes k few)) (first.open_flag d k told)
     ]
 
+    numbers_moment : HasNumbers m c (moment d (first.writes ++ later.writes) k)
+    numbers_moment = elim (cases_lt count k) [
+      | inl past ↦ subst (HasNumbers m c) (sym (at_later past)) (parts.numbers_two (moment (after_writes first.writes d) later.writes (k - count)) (later.numbers (after_writes first.writes d) (k - count) told_mid))
+      | inr few ↦ subst (HasNumbers m c) (sym (moment-earlier d first.writes later.writes k few)) (parts.numbers_one (moment d first.writes k) (first.numbers d k told))
+    ]
+
   pub joined : Passes m c old new
   joined = record {
     writes = first.writes ++ later.writes;
@@ -108,6 +117,7 @@ module _ {old mid new : DiskState} (m n : Machine) (a b c : Call) (one two : ℕ
     within = few_steps;
     tells = at_moment;
     open_flag = flag_moment;
+    numbers = numbers_moment;
   }
 
 -- A call for the volume's room changes nothing; it stands for any that only asks.
@@ -115,10 +125,22 @@ pub stays : (m : Machine) (k : ℕ) → stage m call.Volume k ≡ m
 stays m zero = refl
 stays m (suc k) = refl
 
+-- and the numbers are those of the machine
+pub quiet_numbers : (m n : Machine) (c : Call) → n.serial ≡ m.serial → (n.counter ≡ m.counter) ⊎ (n.counter ≡ (next m c).counter) → (d : List Sector) → HasNumbers n call.Volume d → HasNumbers m c d
+quiet_numbers m n c serial counter d is = record { same_serial = is.same_serial ∙ serial; counter = by (at is.counter) counter }
+  where
+    at : (counter_of d ≡ n.counter) ⊎ (counter_of d ≡ (next n call.Volume).counter) → counter_of d ≡ n.counter
+    at (inl same) = same
+    at (inr same) = same
+
+    by : counter_of d ≡ n.counter → (n.counter ≡ m.counter) ⊎ (n.counter ≡ (next m c).counter) → (counter_of d ≡ m.counter) ⊎ (counter_of d ≡ (next m c).counter)
+    by same (inl before) = inl (same ∙ before)
+    by same (inr after) = inr (same ∙ after)
+
 -- at first nothing changes
 pub quiet_then : {old mid new : DiskState} (m n : Machine) (c b : Call) → Passes m call.Volume old mid → Passes n b mid new → last_step n b ≤ last_step m c
-    → ((d : List Sector) (k : ℕ) → TellsSettled d (stage n b k) → TellsSettled d (stage m c k)) → Passes m c old new
-quiet_then m n c b first later last alike =
+    → ((d : List Sector) (k : ℕ) → TellsSettled d (stage n b k) → TellsSettled d (stage m c k)) → ((d : List Sector) → HasNumbers n b d → HasNumbers m c d) → Passes m c old new
+quiet_then m n c b first later last alike same =
     joined m n call.Volume b c (λ k. 0) (λ k. k)
     (record {
       rise_one = λ j k le. omega arith;
@@ -128,16 +150,19 @@ quiet_then m n c b first later last alike =
       few_two = λ k few. omega (arith, few, last);
       alike_one = λ d k told. subst (TellsSettled d) (stays m k) told;
       alike_two = alike;
+      numbers_one = quiet_numbers m m c refl (inl refl);
+      numbers_two = same;
     }) first later
 
 -- after a question
 pub asked_then : {old mid new : DiskState} (m : Machine) (c : Call) → Passes m call.Volume old mid → Passes m c mid new → Passes m c old new
-asked_then m c first later = quiet_then m m c c first later (omega arith) (λ d k told. told)
+asked_then m c first later = quiet_then m m c c first later (omega arith) (λ d k told. told) (λ d is. is)
 
 -- a call that is whole or absent, and then nothing more changes
 pub then_quiet : {old mid new : DiskState} (m n : Machine) (a c : Call) → Passes m a old mid → Passes n call.Volume mid new → last_step m a ≡ 1 → last_step m c ≡ 1
-    → ((d : List Sector) (k : ℕ) → TellsSettled d (stage m a k) → TellsSettled d (stage m c k)) → ((d : List Sector) → TellsSettled d n → TellsSettled d (stage m c 1)) → Passes m c old new
-then_quiet m n a c first later one last alike done =
+    → ((d : List Sector) (k : ℕ) → TellsSettled d (stage m a k) → TellsSettled d (stage m c k)) → ((d : List Sector) → TellsSettled d n → TellsSettled d (stage m c 1))
+    → ((d : List Sector) → HasNumbers m a d → HasNumbers m c d) → ((d : List Sector) → HasNumbers n call.Volume d → HasNumbers m c d) → Passes m c old new
+then_quiet m n a c first later one last alike done same still =
     joined m n a call.Volume c (λ k. k) (λ k. 1)
     (record {
       rise_one = λ j k le. le;
@@ -147,4 +172,6 @@ then_quiet m n a c first later one last alike done =
       few_two = λ k few. omega (arith, last);
       alike_one = alike;
       alike_two = λ d k told. done d (subst (TellsSettled d) (stays n k) told);
+      numbers_one = same;
+      numbers_two = still;
     }) first later

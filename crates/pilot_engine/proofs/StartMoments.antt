@@ -10,7 +10,7 @@ use Rattle.labelled_disk.specs.Label.{is_free, root_label, page_label}
 use Rattle.labelled_disk.specs.Lawful.{Lawful, IsNextLabel}
 use Rattle.labelled_disk.specs.Layout.{first_data}
 use Rattle.labelled_disk.specs.Moment.{moment, written}
-use Rattle.labelled_disk.specs.Root.{IsRoot, LabelsRight, serial_of, counter_of}
+use Rattle.labelled_disk.specs.Root.{IsRoot, LabelsRight, number_at, root_page, serial_of, counter_of}
 use Rattle.labelled_disk.specs.RootLaws.{StaysRight}
 use Rattle.labelled_disk.specs.Runs.{growth, zero_bytes}
 use Rattle.labelled_disk.specs.Sectors.{Sector}
@@ -36,6 +36,7 @@ use Rattle.pilot_engine.specs.Opening.{in_use, IsBare, StartsSome, KeepsFiles}
 use Rattle.running_words.specs.Session.{AreOpen}
 use Rattle.pilot_engine.proofs.GrowthLemmas.{take_growth}
 use Rattle.running_words.proofs.FlagLemmas.{growth_open, open_writes, opened_by, root_open, take_open}
+use Rattle.running_words.proofs.RootLemmas.{RootsHave, growth_have, have_at, root_have, take_have}
 
 -- a data sector of a disk with the same labels
 data_alike : (d e : List Sector) → labels_of e ≡ labels_of d → (i : ℕ) (s : Sector) → HasData d i s → (t : Sector) × HasData e i t × (t.0 ≡ s.0)
@@ -140,17 +141,32 @@ module _ (d : List Sector) (right : LabelsRight d) (root : Root) (valid : IsVali
       let then_made : StaysRight false x (moment x (take n (growth 3 0 0 is)) k) = subst (λ (ws : List DiskWrite). StaysRight false x (moment x ws k)) (sym (take_growth n 3 0 0 is)) made in
       record { files = then_made.files ∙ rooted.files; right = then_made.right }
 
+  -- with the numbers of before
+  abbrev HasSame : List ℕ → Type 0
+  HasSame page = (number_at page 16 ≡ serial_of d) × (number_at page 20 ≡ counter_of d)
+
+  same_numbers : (n : ℕ) (is : List ℕ) → RootsHave HasSame (take n (root_write (in_use root) ∷ growth 3 0 0 is))
+  same_numbers n is =
+      take_have HasSame n (root_write (in_use root) ∷ growth 3 0 0 is)
+      (root_have HasSame (in_use root) (growth 3 0 0 is) (serial_read (in_use root) serial ∙ same_serial, counter_read (in_use root) counter ∙ same_counter) (growth_have HasSame 3 0 0 is not_four))
+    where
+      not_four : ◌≡◌ {A = ℕ} 3 4 → ⊥
+      not_four e = omega (arith, e)
+
   -- all writes
   pub files_kept : (old new : DiskState) (before after : Slots) → old.contents ≡ Some d → IsBare before → StartsSome root old before new after → KeepsFiles d old new
   files_kept old new before after told bare starts =
       let wrote = starts.makes.wrote in
       let lawful = by_each d wrote.writes (λ k w here. wrote.lawful d k w told here) in
       let order = subst (AreLawful d) wrote.labels (label_row wrote.writes d d refl lawful) in
+      let numbers : (k : ℕ) → HasSame (root_page (moment d wrote.writes k)) = λ k. have_at HasSame wrote (same_numbers starts.count starts.sectors) d k told (refl, refl) in
       record {
         writes = wrote.writes;
         appended = wrote.appended;
         right = run_stops.start_stops (take starts.count (root_write (in_use root) ∷ growth 3 0 0 starts.sectors)) old new before d wrote (λ id page dirty. absurd (bare dirty.slot dirty.frame dirty.has)) told
             (λ k within. stays starts.count starts.sectors starts.few order k);
+        same_serial = λ k. (numbers k).0;
+        same_counter = λ k. (numbers k).1;
         opened = opened_by wrote.writes (in_use root) refl starts.first
             (open_writes wrote.writes (subst AreOpen (sym wrote.labels) (take_open starts.count (root_write (in_use root) ∷ growth 3 0 0 starts.sectors) (root_open (in_use root) (growth 3 0 0 starts.sectors) refl (growth_open 3 0 0 starts.sectors)))))
             d (λ j w here. wrote.lawful d j w told here);

@@ -9,7 +9,7 @@ use Rattle.labelled_disk.specs.declared.layout.Layout.{Layout}
 use Rattle.labelled_disk.specs.Calls.{OnlyReads}
 use Rattle.labelled_disk.specs.Lawful.{Lawful}
 use Rattle.labelled_disk.specs.Moment.{moment, written}
-use Rattle.labelled_disk.specs.Root.{LabelsRight, root_page}
+use Rattle.labelled_disk.specs.Root.{LabelsRight, counter_of, root_page, serial_of}
 use Rattle.labelled_disk.specs.RootLaws.{StaysRight}
 use Rattle.labelled_disk.specs.Runs.{growth, IsWriteInForm}
 use Rattle.labelled_disk.specs.Sectors.{Sector}
@@ -148,6 +148,8 @@ module _ {o a : DiskState} (reads : OnlyReads o a) where
     writes = [];
     appended = appended_none (record { contents = reads.contents; writes = reads.writes });
     right = λ k. still k;
+    same_serial = λ k. ap serial_of (same k);
+    same_counter = λ k. ap counter_of (same k);
     opened = λ k. inl (same k);
   }
     where
@@ -191,4 +193,4 @@ module _ {o a : DiskState} (reads : OnlyReads o a) where
     pub start_keeps : (d : List Sector) → o.contents ≡ Some d → LabelsRight d → (n : ℕ) → length d ≡ n → IsValidRoot n root → root.serial < 2 ^ 32 → root.counter < 2 ^ 32 → root ≡ root_in (root_page d) → KeepsFiles d o b
     start_keeps d told right n long valid serial counter same =
         let kept = files_kept d right root (subst (λ (m : ℕ). IsValidRoot m root) (sym long) valid) serial counter (ap (λ (r : Root). r.serial) same) (ap (λ (r : Root). r.counter) same) a b s t (reads.contents ∙ told) bare starts in
-        record { writes = kept.writes; appended = appended_later kept.writes kept.appended; right = kept.right; opened = kept.opened }
+        record { writes = kept.writes; appended = appended_later kept.writes kept.appended; right = kept.right; same_serial = kept.same_serial; same_counter = kept.same_counter; opened = kept.opened }

@@ -12,7 +12,7 @@ use Rattle.labelled_disk.specs.FilesOn.{files_on}
 use Rattle.labelled_disk.specs.Label.{names}
 use Rattle.labelled_disk.specs.Lawful.{Lawful}
 use Rattle.labelled_disk.specs.Moment.{moment, written}
-use Rattle.labelled_disk.specs.Root.{root_page, short_at, page_in, LabelsRight}
+use Rattle.labelled_disk.specs.Root.{number_at, root_page, short_at, page_in, LabelsRight}
 use Rattle.labelled_disk.specs.RootLaws.{StaysRight}
 use Rattle.labelled_disk.specs.Runs.{freeing}
 use Rattle.labelled_disk.specs.Sectors.{Sector}
@@ -129,10 +129,19 @@ root_stays (write.Page sector wanted page ∷ ws) d (suc k) none lawful =
     root_stays ws (written (write.Page sector wanted page) d) k none (λ j v at. lawful (suc j) v at)
     ∙ past_page d sector (λ old. (old.0, page)) (λ old. names old.0 wanted) (λ z. let at = (lawful 0 (write.Page sector wanted page) refl).not_root in omega (arith, z, at)) (slice_get d sector)
 
+-- its page is that of before
+pub root_kept : {run : List DiskWrite} {old new : DiskState} {before : Slots} (wrote : Wrote volume_page run old before new) → NoWhole run → (d : List Sector) (k : ℕ) → old.contents ≡ Some d
+    → root_page (moment d wrote.writes k) ≡ root_page d
+root_kept wrote none d k told = ap page_in (root_stays wrote.writes d k (by_labels wrote.writes (subst NoWhole (sym wrote.labels) none)) (λ j w at. wrote.lawful d j w told at))
+
 pub flag_stays : {run : List DiskWrite} {old new : DiskState} {before : Slots} (wrote : Wrote volume_page run old before new) → NoWhole run → (d : List Sector) (k : ℕ) → old.contents ≡ Some d → short_at (root_page d) 10 ≡ 0
     → short_at (root_page (moment d wrote.writes k)) 10 ≡ 0
-flag_stays wrote none d k told open_flag =
-    ap (λ (o : Option Sector). short_at (page_in o) 10) (root_stays wrote.writes d k (by_labels wrote.writes (subst NoWhole (sym wrote.labels) none)) (λ j w at. wrote.lawful d j w told at)) ∙ open_flag
+flag_stays wrote none d k told open_flag = ap (λ (page : List ℕ). short_at page 10) (root_kept wrote none d k told) ∙ open_flag
+
+-- as are its numbers
+pub number_stays : {run : List DiskWrite} {old new : DiskState} {before : Slots} (wrote : Wrote volume_page run old before new) → NoWhole run → (d : List Sector) (k : ℕ) → old.contents ≡ Some d → (place number : ℕ)
+    → number_at (root_page d) place ≡ number → number_at (root_page (moment d wrote.writes k)) place ≡ number
+number_stays wrote none d k told place number is = ap (λ (page : List ℕ). number_at page place) (root_kept wrote none d k told) ∙ is
 
 -- The settled files of a machine.
 
@@ -142,11 +151,18 @@ settled_alike m n h = ap settled h.rest ∙ ap (λ (fs : List File). map (settle
 pub stop_less : (m n : Machine) → Sheds m n → (d : List Sector) → IsOpenStop n d → IsOpenStop m d
 stop_less m n h d stop = record {
   told = record { agrees = subst (Agrees (files_on d)) (settled_alike m n h) stop.told.agrees; right = stop.told.right };
+  same_serial = stop.same_serial ∙ ap (λ (x : Machine). x.serial) h.rest;
+  same_counter = stop.same_counter ∙ ap (λ (x : Machine). x.counter) h.rest;
   open_flag = stop.open_flag;
 }
 
 pub open_is_stop : (m : Machine) (d : List Sector) → IsOpenStop m d → IsStop m d
-open_is_stop m d stop = record { told = stop.told; honest = λ set. absurd (let unset = stop.open_flag in omega (arith, set, unset)) }
+open_is_stop m d stop = record {
+  told = stop.told;
+  same_serial = stop.same_serial;
+  same_counter = stop.same_counter;
+  honest = λ set. absurd (let unset = stop.open_flag in omega (arith, set, unset));
+}
 
 module _ (spaces_of : TablesMeaning) (old new : DiskState) (before after : Slots) (m : Machine) (stands : StandsFor spaces_of old before m) (form : AreInForm old) where
   -- label writes, at each moment of which the settled files are told
@@ -155,10 +171,14 @@ module _ (spaces_of : TablesMeaning) (old new : DiskState) (before after : Slots
   stops_by run none makes tells = record {
     writes = makes.wrote.writes;
     appended = makes.wrote.appended;
-    each = λ d k told. record {
-      told = tells d k told;
-      open_flag = flag_stays makes.wrote none d k told (stands_is_settled spaces_of old before m d stands told (form d told)).root.open_flag;
-    };
+    each = λ d k told.
+        let root = (stands_is_settled spaces_of old before m d stands told (form d told)).root in
+        record {
+          told = tells d k told;
+          same_serial = number_stays makes.wrote none d k told 16 m.serial root.has_serial;
+          same_counter = number_stays makes.wrote none d k told 20 m.counter root.has_counter;
+          open_flag = flag_stays makes.wrote none d k told root.open_flag;
+        };
   }
 
   -- none

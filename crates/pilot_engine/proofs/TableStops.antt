@@ -44,7 +44,7 @@ use Rattle.pilot_engine.proofs.EndLemmas.{shut_stop}
 use Rattle.running_words.specs.Session.{AreInForm}
 use Rattle.running_words.proofs.StageLemmas.{begun, same_labels}
 use Rattle.pilot_engine.proofs.AloneLemmas.{forgotten, stop_more}
-use Rattle.pilot_engine.proofs.StopLemmas.{flag_stays, freeing_none, open_is_stop, stops_by, throughout_less, throughout_then}
+use Rattle.pilot_engine.proofs.StopLemmas.{flag_stays, freeing_none, number_stays, open_is_stop, stops_by, throughout_less, throughout_then}
 
 -- No file needs a page of the space tables.
 
@@ -122,6 +122,8 @@ stops_forcing m r old new before after e swaps start = record {
       let stays = run_stops.start_stops [] old new before d makes.wrote loose told (λ j few. still d j few stop.told.right) k in
       record {
         told = record { agrees = subst (λ (fs : List File). Agrees fs (settled m)) (sym stays.files) stop.told.agrees; right = stays.right };
+        same_serial = number_stays makes.wrote tt d k told 16 m.serial stop.same_serial;
+        same_counter = number_stays makes.wrote tt d k told 20 m.counter stop.same_counter;
         open_flag = flag_stays makes.wrote tt d k told stop.open_flag;
       };
 }

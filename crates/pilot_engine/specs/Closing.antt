@@ -37,14 +37,19 @@ pub record Throughout (P : List Sector → Type 0) (old new : DiskState) : Type 
   pub appended : Appended writes old new
   pub each : (d : List Sector) (k : ℕ) → old.contents ≡ Some d → P (moment d writes k)
 
--- the disk tells the settled files of the machine, its labels are right, and with a set clean flag the volume is sound
+-- the disk tells the settled files of the machine, its labels are right, and its root has the machine's numbers; with a set
+-- clean flag the volume is sound
 pub record IsStop (m : Machine) (d : List Sector) : Type 0 where
   pub told : TellsSettled d m
+  pub same_serial : serial_of d ≡ m.serial
+  pub same_counter : counter_of d ≡ m.counter
   pub honest : short_at (root_page d) 10 ≡ 1 → Sound d
 
 -- the same, and the clean flag is not set
 pub record IsOpenStop (m : Machine) (d : List Sector) : Type 0 where
   pub told : TellsSettled d m
+  pub same_serial : serial_of d ≡ m.serial
+  pub same_counter : counter_of d ≡ m.counter
   pub open_flag : short_at (root_page d) 10 ≡ 0
 
 -- Temporary files go.

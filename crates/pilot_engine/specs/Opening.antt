@@ -6,7 +6,7 @@ use Rattle.labelled_disk.specs.declared.evidence.Halt.TheVariants as halt
 use Rattle.labelled_disk.specs.declared.layout.RootFault.TheVariants as fault
 use Rattle.labelled_disk.specs.Layout.{vam}
 use Rattle.labelled_disk.specs.Moment.{moment}
-use Rattle.labelled_disk.specs.Root.{root_page, short_at}
+use Rattle.labelled_disk.specs.Root.{counter_of, root_page, serial_of, short_at}
 use Rattle.labelled_disk.specs.RootLaws.{StaysRight}
 use Rattle.labelled_disk.specs.Runs.{growth}
 use Rattle.labelled_disk.specs.Sectors.{Sector}
@@ -67,12 +67,14 @@ abbrev pub LeavesOpen : DiskState → Halt → Type 0
 LeavesOpen disk halt.Disk = Unit {0}
 LeavesOpen disk (halt.Damaged evidence) = IsUnset disk
 
--- at each moment of what was written there are the same permanent files, and all labels are right; and the clean flag is 0,
--- or the disk is as it was
+-- at each moment of what was written there are the same permanent files, all labels are right, and the root has the same
+-- serial and counter; and the clean flag is 0, or the disk is as it was
 pub record KeepsFiles (d : List Sector) (old new : DiskState) : Type 0 where
   pub writes : List DiskWrite
   pub appended : Appended writes old new
   pub right : (k : ℕ) → StaysRight false d (moment d writes k)
+  pub same_serial : (k : ℕ) → serial_of (moment d writes k) ≡ serial_of d
+  pub same_counter : (k : ℕ) → counter_of (moment d writes k) ≡ counter_of d
   pub opened : (k : ℕ) → (moment d writes k ≡ d) ⊎ (short_at (root_page (moment d writes k)) 10 ≡ 0)
 
 -- so many transfers at most

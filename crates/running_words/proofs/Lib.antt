@@ -1,5 +1,6 @@
 pub mod SessionLemmas
 pub mod FlagLemmas
+pub mod RootLemmas
 pub mod StageLemmas
 pub mod StoreLemmas
 pub mod PassLemmas

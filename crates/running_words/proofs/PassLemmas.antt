@@ -1,6 +1,6 @@
 -- Each moment of a call on a file tells the settled files of one of its stages.
-use Rattle.std.proofs.Common.{◌≡◌, ℕ, zero, suc, ◌+◌, ◌-◌, ◌<◌, ◌≤◌, Bool, true, false, cond, List, [], ◌∷◌, length, take_all, append-nil, Option, Some, None, refl, sym, ◌∙◌, ap, subst, arith}
-use Rattle.std.specs.Prelude.{nat_lt, slice_get, ◌==◌, is_none, if◌then◌else◌}
+use Rattle.std.proofs.Common.{◌≡◌, ◌≢◌, ℕ, zero, suc, ◌+◌, ◌-◌, ◌<◌, ◌≤◌, Bool, true, false, cond, List, [], ◌∷◌, length, take_all, append-nil, Option, Some, None, refl, sym, ◌∙◌, ap, subst, arith}
+use Rattle.std.specs.Prelude.{nat_lt, slice_get, ◌==◌, is_none, if◌then◌else◌, option_map}
 use Rattle.std.specs.Option.{option_map_or}
 use Rattle.std.proofs.lemmas.Bool.Decides.{nat_tests}
 use Rattle.labelled_disk.specs.declared.disk.DiskWrite.{DiskWrite}
@@ -25,16 +25,19 @@ use Rattle.flat_machine.specs.Refusal.{refusal}
 use Rattle.flat_machine.proofs.StoreLemmas.{unrefused}
 use Rattle.swapper_kernel.specs.Goes.{Makes}
 use Rattle.swapper_kernel.specs.Stands.{labels_of}
-use Rattle.session_words.specs.Parts.{TablesMeaning}
+use Rattle.session_words.specs.Parts.{TablesMeaning, shape_of}
 use Rattle.session_words.specs.RunStops.{with_change, deleted_after, changed_after}
 use Rattle.session_words.specs.StandsFor.{StandsFor, TellsSettled}
 use Rattle.session_words.specs.Volume.{volume_page}
+use Rattle.session_words.proofs.FoundLemmas.{above_reserved}
 use Rattle.session_words.proofs.MomentLemmas.{few_labels}
 use Rattle.session_words.proofs.RunStopLemmas.{run_stops}
+use Rattle.session_words.proofs.SettledLemmas.{machine_shapes}
 use Rattle.session_words.proofs.SizeLemmas.{changed_alike}
 use Rattle.running_words.specs.Stages.{Passes, stage, last_step, towards}
 use Rattle.running_words.specs.Session.{AreInForm, AreOpen}
 use Rattle.running_words.proofs.FlagLemmas.{flag_open, flag_at, freeing_open, growth_open}
+use Rattle.running_words.proofs.RootLemmas.{PageNumbers, RootsHave, freeing_have, growth_have, numbers_stay}
 use Rattle.running_words.proofs.StageLemmas.{begun, on_disk, leads_here, same_labels}
 
 pub growth_long : (id kind page : ℕ) (is : List ℕ) → length (growth id kind page is) ≡ length is
@@ -67,8 +70,8 @@ whole_stage m n c after f none some (suc k) = some k ∙ sym after
 module _ (spaces_of : TablesMeaning) (old new : DiskState) (before after : Slots) (m : Machine) (stands : StandsFor spaces_of old before m) (form : AreInForm old) where
   -- a call that is whole or absent, whose stages are told
   whole : (c : Call) (n : Machine) → stage m c 1 ≡ n → last_step m c ≡ 1 → (run : List DiskWrite) (makes : Makes volume_page run old before new after) (f : ℕ → Machine) → f 0 ≡ m → ((j : ℕ) → f (suc j) ≡ n)
-      → AreOpen run → ((d : List Sector) (k : ℕ) → old.contents ≡ Some d → TellsSettled (moment d makes.wrote.writes k) (f (label_count makes.wrote.writes k))) → Passes m c old new
-  whole c n after_one last run makes f none some opens tells = record {
+      → AreOpen run → RootsHave (PageNumbers m c) run → ((d : List Sector) (k : ℕ) → old.contents ≡ Some d → TellsSettled (moment d makes.wrote.writes k) (f (label_count makes.wrote.writes k))) → Passes m c old new
+  whole c n after_one last run makes f none some opens have tells = record {
     writes = makes.wrote.writes;
     appended = makes.wrote.appended;
     steps = λ k. one_step (label_count makes.wrote.writes k);
@@ -76,6 +79,7 @@ module _ (spaces_of : TablesMeaning) (old new : DiskState) (before after : Slots
     within = λ k. omega (arith, last, one_most (label_count makes.wrote.writes k));
     tells = λ d k told. subst (TellsSettled (moment d makes.wrote.writes k)) (whole_stage m n c after_one f none some (label_count makes.wrote.writes k)) (tells d k told);
     open_flag = λ d k told. flag_open makes.wrote opens d k told (flag_at spaces_of old before m stands d told (form d told));
+    numbers = numbers_stay spaces_of old new before m c stands form makes.wrote have;
   }
 
   module _ (id leader : ℕ) (f : File) (s : Sector) (found : file_at m.files id ≡ Some f) (of_file : is_file_id id ≡ true) (same : s.0.id ≡ id) (client : 16 ≤ s.0.id) (here : slice_get stands.memory leader ≡ Some s)
@@ -83,7 +87,7 @@ module _ (spaces_of : TablesMeaning) (old new : DiskState) (before after : Slots
     pub permanent_passes : refusal m (call.MakePermanent id) ≡ None → Makes volume_page (LabelOnly leader (permanent_label s.0) ∷ []) old before new after → Passes m (call.MakePermanent id) old new
     permanent_passes free makes =
         whole (call.MakePermanent id) (with_change id (λ f. record f { permanent = true }) m) (unrefused m (call.MakePermanent id) free) refl (LabelOnly leader (permanent_label s.0) ∷ []) makes
-        (λ k. changed_after id (λ f. record f { permanent = true }) k m) refl (λ j. refl) tt
+        (λ k. changed_after id (λ f. record f { permanent = true }) k m) refl (λ j. refl) tt tt
         (λ d k told.
         let at = on_disk spaces_of old before m stands d told leader s here client in
         run_stops.permanent_stops m id leader f (s.0, at.0) old new before d makes.wrote (begun spaces_of old before m d stands told (form d told)) found at.1 (leads_here id s.0 at.0 of_file named) k)
@@ -91,7 +95,7 @@ module _ (spaces_of : TablesMeaning) (old new : DiskState) (before after : Slots
     pub immutable_passes : refusal m (call.MakeImmutable id) ≡ None → Makes volume_page (LabelOnly leader (immutable_label s.0) ∷ []) old before new after → Passes m (call.MakeImmutable id) old new
     immutable_passes free makes =
         whole (call.MakeImmutable id) (with_change id (λ f. record f { immutable = true }) m) (unrefused m (call.MakeImmutable id) free) refl (LabelOnly leader (immutable_label s.0) ∷ []) makes
-        (λ k. changed_after id (λ f. record f { immutable = true }) k m) refl (λ j. refl) tt
+        (λ k. changed_after id (λ f. record f { immutable = true }) k m) refl (λ j. refl) tt tt
         (λ d k told.
         let at = on_disk spaces_of old before m stands d told leader s here client in
         run_stops.immutable_stops m id leader f (s.0, at.0) old new before d makes.wrote (begun spaces_of old before m d stands told (form d told)) found at.1 (leads_here id s.0 at.0 of_file named) k)
@@ -104,6 +108,7 @@ module _ (spaces_of : TablesMeaning) (old new : DiskState) (before after : Slots
       → Passes m (call.Delete id) old new
   delete_passes id leader f is found free frees makes =
       whole (call.Delete id) (record m { files = without_file id m.files }) (unrefused m (call.Delete id) free) refl (freeing (leader ∷ is)) makes (λ k. deleted_after id k m) refl (λ j. refl) (freeing_open (leader ∷ is))
+      (freeing_have (PageNumbers m (call.Delete id)) (leader ∷ is))
       (λ d k told.
       let facts = frees d (same_labels old before stands.memory d stands.stands told) in
       run_stops.deletion_stops m id leader f is old new before d makes.wrote (begun spaces_of old before m d stands told (form d told)) found facts.0 facts.1 k)
@@ -135,9 +140,9 @@ module _ (spaces_of : TablesMeaning) (old new : DiskState) (before after : Slots
             by false = refl
 
     stepwise : (run : List DiskWrite) (makes : Makes volume_page run old before new after) (c : ℕ → File → File) → ((k : ℕ) (w : File) → (c k w).id ≡ w.id) → ((k : ℕ) → c k f ≡ towards pages k f) → c 0 f ≡ f
-        → length run ≤ (pages - size f) + (size f - pages) → AreOpen run
+        → length run ≤ (pages - size f) + (size f - pages) → AreOpen run → RootsHave (PageNumbers m (call.SetSize id pages)) run
         → ((d : List Sector) (k : ℕ) → old.contents ≡ Some d → TellsSettled (moment d makes.wrote.writes k) (with_change id (c (label_count makes.wrote.writes k)) m)) → Passes m (call.SetSize id pages) old new
-    stepwise run makes c ids same none few opens tells = record {
+    stepwise run makes c ids same none few opens have tells = record {
       writes = makes.wrote.writes;
       appended = makes.wrote.appended;
       steps = λ k. label_count makes.wrote.writes k;
@@ -150,12 +155,21 @@ module _ (spaces_of : TablesMeaning) (old new : DiskState) (before after : Slots
           omega (arith, at, count, few);
       tells = λ d k told. subst (TellsSettled (moment d makes.wrote.writes k)) (sized c ids same none (label_count makes.wrote.writes k)) (tells d k told);
       open_flag = λ d k told. flag_open makes.wrote opens d k told (flag_at spaces_of old before m stands d told (form d told));
+      numbers = numbers_stay spaces_of old new before m (call.SetSize id pages) stands form makes.wrote have;
     }
+
+    -- its identifier is not that of the root
+    no_root : id ≢ 4
+    no_root four =
+        let shapes = machine_shapes m stands.is.by.machine (length stands.memory) (slice_get stands.memory 0) stands.is.by.root in
+        let high = above_reserved id (shapes.given id (shape_of f) (ap (λ (o : Option File). option_map shape_of o) found)) in
+        omega (arith, four, high)
 
     pub grow_passes : (is : List ℕ) → size f ≤ pages → size f + length is ≤ pages → length is + used m ≤ m.capacity → ((d : List Sector) → labels_of d ≡ labels_of stands.memory → AreUnused d is)
         → Makes volume_page (growth id f.kind (size f) is) old before new after → Passes m (call.SetSize id pages) old new
     grow_passes is more few room unused makes =
         stepwise (growth id f.kind (size f) is) makes lengthened (λ k w. refl) longer refl_long (omega (arith, few, growth_long id f.kind (size f) is)) (growth_open id f.kind (size f) is)
+        (growth_have (PageNumbers m (call.SetSize id pages)) id f.kind (size f) is no_root)
         (λ d k told. run_stops.growth_stops m id f is old new before d makes.wrote (begun spaces_of old before m d stands told (form d told)) found (unused d (same_labels old before stands.memory d stands.stands told)) room k)
       where
         longer : (k : ℕ) → lengthened k f ≡ towards pages k f
@@ -167,7 +181,7 @@ module _ (spaces_of : TablesMeaning) (old new : DiskState) (before after : Slots
     pub shrink_passes : (is : List ℕ) → pages < size f → length is ≤ size f - pages → ((d : List Sector) → labels_of d ≡ labels_of stands.memory → ArePagesDown d id (size f) is)
         → Makes volume_page (freeing is) old before new after → Passes m (call.SetSize id pages) old new
     shrink_passes is fewer few down makes =
-        stepwise (freeing is) makes shortened (λ k w. refl) shorter refl_short (omega (arith, few, freeing_long is)) (freeing_open is)
+        stepwise (freeing is) makes shortened (λ k w. refl) shorter refl_short (omega (arith, few, freeing_long is)) (freeing_open is) (freeing_have (PageNumbers m (call.SetSize id pages)) is)
         (λ d k told. run_stops.shrinking_stops m id f is old new before d makes.wrote (begun spaces_of old before m d stands told (form d told)) found (down d (same_labels old before stands.memory d stands.stands told)) k)
       where
         shorter : (k : ℕ) → shortened k f ≡ towards pages k f

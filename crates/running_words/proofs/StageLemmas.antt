@@ -31,6 +31,7 @@ use Rattle.session_words.proofs.RunStopLemmas.{run_stops}
 use Rattle.session_words.proofs.SettledLemmas.{settled_is_told}
 use Rattle.running_words.specs.Stages.{Passes}
 use Rattle.running_words.proofs.FlagLemmas.{flag_open}
+use Rattle.running_words.proofs.RootLemmas.{numbers_stay}
 
 -- a disk in form that tells what it holds
 pub begun : (spaces_of : TablesMeaning) (old : DiskState) (before : Slots) (m : Machine) (d : List Sector) → StandsFor spaces_of old before m → old.contents ≡ Some d → AreSectors d → Begins before old d m
@@ -57,6 +58,7 @@ no_step spaces_of old new before after m call stands makes form = record {
   within = λ k. omega arith;
   tells = λ d k told. quiet_at m old new before d makes.wrote (stands_is_settled spaces_of old before m d stands told (form d told)) stands.dirty told k;
   open_flag = λ d k told. flag_open makes.wrote tt d k told (stands_is_settled spaces_of old before m d stands told (form d told)).root.open_flag;
+  numbers = numbers_stay spaces_of old new before m call stands form makes.wrote tt;
 }
 
 -- the labels of the memory are the disk's

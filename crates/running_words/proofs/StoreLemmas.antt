@@ -45,6 +45,7 @@ use Rattle.running_words.specs.Running.{IsRunning, exactly}
 use Rattle.running_words.specs.Session.{AreInForm}
 use Rattle.running_words.specs.Stages.{Passes}
 use Rattle.running_words.proofs.FlagLemmas.{flag_open}
+use Rattle.running_words.proofs.RootLemmas.{numbers_stay}
 use Rattle.running_words.proofs.StageLemmas.{quiet_at}
 
 -- ---- A page that no address shows keeps its cells.
@@ -207,4 +208,5 @@ store_passes address bytes v w kept count volume m form typed few accepted r mak
           subst (λ (x : Machine). TellsSettled (moment d ws k) x) (sym (unrefused m (Store address bytes) accepted))
           (quiet_at n v.disk w.disk (frames_of ws) d wrote (settled_later m address bytes typed few accepted s.is.by.machine d settled_now) all_loose told k);
       open_flag = λ d k told. flag_open wrote tt d k told (stands_is_settled (exactly r.pages m.spaces) v.disk v.slots m d s told (form d told)).root.open_flag;
+      numbers = numbers_stay (exactly r.pages m.spaces) v.disk w.disk v.slots m (Store address bytes) s form wrote tt;
     }

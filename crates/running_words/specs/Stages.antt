@@ -4,7 +4,7 @@ use Rattle.labelled_disk.specs.declared.disk.DiskWrite.{DiskWrite}
 use Rattle.std.specs.Option.{option_map_or}
 use Rattle.labelled_disk.specs.File.{File, size, file_at}
 use Rattle.labelled_disk.specs.Moment.{moment}
-use Rattle.labelled_disk.specs.Root.{root_page, short_at}
+use Rattle.labelled_disk.specs.Root.{counter_of, root_page, serial_of, short_at}
 use Rattle.labelled_disk.specs.Runs.{lengthened, shortened}
 use Rattle.labelled_disk.specs.Sectors.{Sector}
 use Rattle.labelled_disk.specs.State.{DiskState}
@@ -35,8 +35,13 @@ abbrev pub last_step : Machine → Call → ℕ
 last_step m (SetSize id pages) = if is_none (refusal m (SetSize id pages)) then option_map_or (λ f. (pages - size f) + (size f - pages)) (file_at m.files id) 0 else 0
 last_step m call = 1
 
+-- the root has the machine's serial, and the counter of before the call or of after it
+pub record HasNumbers (m : Machine) (call : Call) (d : List Sector) : Type 0 where
+  pub same_serial : serial_of d ≡ m.serial
+  pub counter : (counter_of d ≡ m.counter) ⊎ (counter_of d ≡ (next m call).counter)
+
 -- At each moment of the writes the disk tells the settled files of the machine after some steps of the call, and with
--- each write there are as many steps or more. The clean flag is not set.
+-- each write there are as many steps or more. The clean flag is not set, and the root has the machine's numbers.
 pub record Passes (m : Machine) (call : Call) (old new : DiskState) : Type 0 where
   pub writes : List DiskWrite
   pub appended : Appended writes old new
@@ -45,6 +50,7 @@ pub record Passes (m : Machine) (call : Call) (old new : DiskState) : Type 0 whe
   pub within : (k : ℕ) → steps k ≤ last_step m call
   pub tells : (d : List Sector) (k : ℕ) → old.contents ≡ Some d → TellsSettled (moment d writes k) (stage m call (steps k))
   pub open_flag : (d : List Sector) (k : ℕ) → old.contents ≡ Some d → short_at (root_page (moment d writes k)) 10 ≡ 0
+  pub numbers : (d : List Sector) (k : ℕ) → old.contents ≡ Some d → HasNumbers m call (moment d writes k)
 
 -- a page of the volume's own, or of a client's file
 abbrev pub client_or_own : Pages

@@ -79,7 +79,9 @@ returns-in-Ok-clause-passes g c = λ spaces_of m s.
     let other : c.args.self.now.volume.root.counter < 4294967295 = search rules in
     let small : c.args.pages < 4294967295 = search rules in
     let made = c.in-Ok.ensures.created s.stands.memory (shapes_of m.files) m.spaces (may_create spaces_of _ _ _ _ _ m s is c.args.pages (omega (arith, under, same_room))) in
-    create_passed spaces_of _ _ _ _ _ m s (g.met.D.Disk.in_form c.args.self.now.core.filer.swapper.under) c.requires.opened.valid other c.args.kind c.args.pages _ _ _ small made
+    let left = room_is spaces_of _ _ _ _ _ m s is c.requires.opened.same_layout in
+    let free = create_there m c.args.pages c.args.kind (omega (arith, under, left, s.same_used)) (omega (arith, other, s.same_counter)) in
+    create_passed spaces_of _ _ _ _ _ m s (g.met.D.Disk.in_form c.args.self.now.core.filer.swapper.under) c.requires.opened.valid other c.args.kind c.args.pages _ _ _ small free made
 
 pub returns-in-Err-clause-passes : goal.returns-in-Err-clause-passes
 returns-in-Err-clause-passes g c = λ spaces_of m s.
@@ -89,7 +91,9 @@ returns-in-Err-clause-passes g c = λ spaces_of m s.
     let other : c.args.self.now.volume.root.counter < 4294967295 = search rules in
     let small : c.args.pages < 4294967295 = search rules in
     let some = c.in-Err.ensures.broken s.stands.memory (shapes_of m.files) m.spaces (may_create spaces_of _ _ _ _ _ m s is c.args.pages (omega (arith, under, same_room))) in
-    create_broken spaces_of _ _ _ _ _ m s (g.met.D.Disk.in_form c.args.self.now.core.filer.swapper.under) c.requires.opened.valid other c.args.kind c.args.pages _ _ small some
+    let left = room_is spaces_of _ _ _ _ _ m s is c.requires.opened.same_layout in
+    let free = create_there m c.args.pages c.args.kind (omega (arith, under, left, s.same_used)) (omega (arith, other, s.same_counter)) in
+    create_broken spaces_of _ _ _ _ _ m s (g.met.D.Disk.in_form c.args.self.now.core.filer.swapper.under) c.requires.opened.valid other c.args.kind c.args.pages _ _ small free some
 
 pub returns-in-Ok-clause-bounded : goal.returns-in-Ok-clause-bounded
 returns-in-Ok-clause-bounded g c =

@@ -12,7 +12,7 @@ use Rattle.running_words.specs.Running.{Carried}
 use Rattle.space_calls.proofs.RunLemmas.{asked_runs, knows, reached_makes}
 use Rattle.pilot_engine.proofs.BoundLemmas.{asked_inside, spent_around}
 use Rattle.pilot_engine.proofs.LiftLemmas.{asked_passes, carried_out, refused_running, still_open}
-use Rattle.pilot_engine.proofs.NewWindow.{can_be_mapped, created, created_alike, map_refused, mapped_alike, mapped_machine, few_pages, may_have, not_created, own_space, unmapped_yet, window_carried, window_fits}
+use Rattle.pilot_engine.proofs.NewWindow.{can_be_mapped, created, created_alike, created_numbers, map_refused, mapped_alike, mapped_machine, mapped_numbers, few_pages, may_have, not_created, own_space, unmapped_yet, window_carried, window_fits}
 use Rattle.pilot_engine.proofs.PassThen.{asked_then, quiet_then, then_quiet}
 use Rattle.pilot_engine.proofs.WroteLemmas.{rose_behind, wrote_by, wrote_then}
 use Rattle.fault_core.proofs.EvidenceLemmas.{shows_so}
@@ -64,7 +64,7 @@ create-requires-clause-opened g c = still_open _ _ _ _ c.requires.opened c.can_m
 pub returns-in-Err-create-clause-passes : goal.returns-in-Err-create-clause-passes
 returns-in-Err-create-clause-passes g c = λ m r.
     let can = can_be_mapped m c.args.space c.in-Ok-Ok.run' (subst (λ (x : Result (ℕ × ℕ) Refusal). Tells (first_of (map_row m.spaces c.args.space)) (λ at. (s : Space) × (space_at m.spaces c.args.space ≡ Some s) × (at ≡ (s.first, s.pages))) x) c.in-Ok-Ok.field-0-is (c.in-Ok-Ok.ensures.answer _ _ m.spaces (knows c.args.self.now.core c.args.self.now.core.filer.swapper.accepted c.requires.size c.args.self.now.volume m r))) in
-    quiet_then m m (call.MapAnonymous c.args.space) (call.Create c.in-Ok-Ok.run'.1 0) (asked_passes c.args.self.now.core c.args.self.now.volume m call.Volume r (g.met.D.Disk.in_form c.args.self.now.core.filer.swapper.under) (reached_makes c.can_map.ensures.asked.reaches)) (c.create.ensures.passes _ m (asked_runs c.args.self.now.core c.args.self.now.core.filer.swapper.accepted c.requires.size c.can_map.new.core c.args.self.now.volume m c.can_map.ensures.asked r).session) (omega arith) (created_alike m r.session.stands.is.by.machine c.args.space c.in-Ok-Ok.run' can)
+    quiet_then m m (call.MapAnonymous c.args.space) (call.Create c.in-Ok-Ok.run'.1 0) (asked_passes c.args.self.now.core c.args.self.now.volume m call.Volume r (g.met.D.Disk.in_form c.args.self.now.core.filer.swapper.under) (reached_makes c.can_map.ensures.asked.reaches)) (c.create.ensures.passes _ m (asked_runs c.args.self.now.core c.args.self.now.core.filer.swapper.accepted c.requires.size c.can_map.new.core c.args.self.now.volume m c.can_map.ensures.asked r).session) (omega arith) (created_alike m r.session.stands.is.by.machine c.args.space c.in-Ok-Ok.run' can) (created_numbers m r.session.stands.is.by.machine c.args.space c.in-Ok-Ok.run' can)
 
 pub returns-in-Err-create-clause-wrote : goal.returns-in-Err-create-clause-wrote
 returns-in-Err-create-clause-wrote g c = wrote_then (wrote_by (reached_makes c.can_map.ensures.asked.reaches) tt) c.create.ensures.wrote
@@ -84,7 +84,7 @@ returns-in-Err-create-clause-counted g c = λ is. rose_behind _ _ _ (reached_mak
 pub returns-in_default-clause-passes : goal.returns-in_default-clause-passes
 returns-in_default-clause-passes g c = λ m r.
     let can = can_be_mapped m c.args.space c.in-Ok-Ok.run' (subst (λ (x : Result (ℕ × ℕ) Refusal). Tells (first_of (map_row m.spaces c.args.space)) (λ at. (s : Space) × (space_at m.spaces c.args.space ≡ Some s) × (at ≡ (s.first, s.pages))) x) c.in-Ok-Ok.field-0-is (c.in-Ok-Ok.ensures.answer _ _ m.spaces (knows c.args.self.now.core c.args.self.now.core.filer.swapper.accepted c.requires.size c.args.self.now.volume m r))) in
-    quiet_then m m (call.MapAnonymous c.args.space) (call.Create c.in-Ok-Ok.run'.1 0) (asked_passes c.args.self.now.core c.args.self.now.volume m call.Volume r (g.met.D.Disk.in_form c.args.self.now.core.filer.swapper.under) (reached_makes c.can_map.ensures.asked.reaches)) (c.create.ensures.passes _ m (asked_runs c.args.self.now.core c.args.self.now.core.filer.swapper.accepted c.requires.size c.can_map.new.core c.args.self.now.volume m c.can_map.ensures.asked r).session) (omega arith) (created_alike m r.session.stands.is.by.machine c.args.space c.in-Ok-Ok.run' can)
+    quiet_then m m (call.MapAnonymous c.args.space) (call.Create c.in-Ok-Ok.run'.1 0) (asked_passes c.args.self.now.core c.args.self.now.volume m call.Volume r (g.met.D.Disk.in_form c.args.self.now.core.filer.swapper.under) (reached_makes c.can_map.ensures.asked.reaches)) (c.create.ensures.passes _ m (asked_runs c.args.self.now.core c.args.self.now.core.filer.swapper.accepted c.requires.size c.can_map.new.core c.args.self.now.volume m c.can_map.ensures.asked r).session) (omega arith) (created_alike m r.session.stands.is.by.machine c.args.space c.in-Ok-Ok.run' can) (created_numbers m r.session.stands.is.by.machine c.args.space c.in-Ok-Ok.run' can)
 
 pub returns-in_default-clause-wrote : goal.returns-in_default-clause-wrote
 returns-in_default-clause-wrote g c = wrote_then (wrote_by (reached_makes c.can_map.ensures.asked.reaches) tt) c.create.ensures.wrote
@@ -123,7 +123,8 @@ returns-clause-passes g c = λ m r.
     let made = created m r.session.stands.is.by.machine c.args.space c.in-Ok-Ok.run' can c.create.new.self.core c.create.new.self.volume c.in-File.id (subst (λ (a : Reply). Carried m (call.Create c.in-Ok-Ok.run'.1 0) c.create.new.self.core c.create.new.self.volume a) c.in-File.is (carried_out c.can_map.new.core c.create.new.self.core c.args.self.now.volume c.create.new.self.volume m (call.Create c.in-Ok-Ok.run'.1 0) c.create.ensures.kept c.create.ensures.intervals refl (asked_runs c.args.self.now.core c.args.self.now.core.filer.swapper.accepted c.requires.size c.can_map.new.core c.args.self.now.volume m c.can_map.ensures.asked r) (Ok c.in-Ok.made) (λ spaces_of s. c.in-Ok.ensures.carried spaces_of m s))) in
     asked_then m (call.MapAnonymous c.args.space) (asked_passes c.args.self.now.core c.args.self.now.volume m call.Volume r (g.met.D.Disk.in_form c.args.self.now.core.filer.swapper.under) (reached_makes c.can_map.ensures.asked.reaches))
     (then_quiet m _ (call.Create c.in-Ok-Ok.run'.1 0) (call.MapAnonymous c.args.space) (c.create.ensures.passes _ m (asked_runs c.args.self.now.core c.args.self.now.core.filer.swapper.accepted c.requires.size c.can_map.new.core c.args.self.now.volume m c.can_map.ensures.asked r).session)
-    (asked_passes c.create.new.self.core c.create.new.self.volume _ call.Volume made.runs (g.met.D.Disk.in_form c.create.new.self.core.filer.swapper.under) c.give_window.ensures.makes) refl refl (created_alike m r.session.stands.is.by.machine c.args.space c.in-Ok-Ok.run' can) (mapped_alike m r.session.stands.is.by.machine c.args.space c.in-Ok-Ok.run' can made.free))
+    (asked_passes c.create.new.self.core c.create.new.self.volume _ call.Volume made.runs (g.met.D.Disk.in_form c.create.new.self.core.filer.swapper.under) c.give_window.ensures.makes) refl refl (created_alike m r.session.stands.is.by.machine c.args.space c.in-Ok-Ok.run' can) (mapped_alike m r.session.stands.is.by.machine c.args.space c.in-Ok-Ok.run' can made.free)
+    (created_numbers m r.session.stands.is.by.machine c.args.space c.in-Ok-Ok.run' can) (mapped_numbers m r.session.stands.is.by.machine c.args.space c.in-Ok-Ok.run' can made.free))
 
 pub returns-clause-wrote : goal.returns-clause-wrote
 returns-clause-wrote g c = wrote_then (wrote_by (reached_makes c.can_map.ensures.asked.reaches) tt) (wrote_then c.create.ensures.wrote (wrote_by c.give_window.ensures.makes tt))

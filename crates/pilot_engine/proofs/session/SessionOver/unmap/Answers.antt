@@ -9,7 +9,7 @@ use Rattle.table_calls.specs.Answers.{Tells}
 use Rattle.space_calls.specs.Unmapping.{IsGivenUp, IsRefused, IsTaken}
 use Rattle.space_calls.proofs.RunLemmas.{reached_makes}
 use Rattle.running_words.specs.Running.{Runs}
-use Rattle.pilot_engine.proofs.AnonymousLemmas.{hidden_alike, hidden_carried, is_set, left_unseen, not_taken, passes_still, plain_carried, refused_undone, took, unset, waited_carried}
+use Rattle.pilot_engine.proofs.AnonymousLemmas.{hidden_alike, hidden_carried, hidden_numbers, is_set, left_unseen, not_taken, passes_still, plain_carried, refused_undone, took, unset, waited_carried}
 use Rattle.pilot_engine.proofs.BoundLemmas.{asked_inside, spent_around, spent_besides}
 use Rattle.pilot_engine.proofs.LiftLemmas.{asked_passes, carried_out, refused_running, still_open}
 use Rattle.pilot_engine.proofs.PassThen.{quiet_then}
@@ -78,7 +78,7 @@ pub returns-in-Err-delete_unseen-clause-passes : goal.returns-in-Err-delete_unse
 returns-in-Err-delete_unseen-clause-passes g c = λ m r.
     let t = took m c.args.space c.in-Ok-Ok.shown (λ n. Runs c.take_window.new.core c.args.self.now.volume n) (subst (λ (x : Result Shown Refusal). Tells (first_of (window_row m.spaces c.args.space)) (IsTaken m c.args.space (λ n. Runs c.take_window.new.core c.args.self.now.volume n)) x) c.in-Ok-Ok.field-0-is (c.in-Ok-Ok.ensures.taken c.args.self.now.volume m r)) in
     quiet_then m _ (call.Unmap c.args.space) (call.Delete c.in-Ok-Ok.shown.id) (asked_passes c.args.self.now.core c.args.self.now.volume m call.Volume r (g.met.D.Disk.in_form c.args.self.now.core.filer.swapper.under) c.take_window.ensures.makes)
-    (c.delete_unseen.ensures.passes _ _ t.left.session (left_unseen m r.session.stands.is.by.machine c.args.space t.s t.here c.in-Ok-Ok.shown t.window t.free (is_set _ c.if-not-shown.false))) (omega arith) (hidden_alike m r.session.stands.is.by.machine c.args.space t.s t.here c.in-Ok-Ok.shown t.window t.free (is_set _ c.if-not-shown.false))
+    (c.delete_unseen.ensures.passes _ _ t.left.session (left_unseen m r.session.stands.is.by.machine c.args.space t.s t.here c.in-Ok-Ok.shown t.window t.free (is_set _ c.if-not-shown.false))) (omega arith) (hidden_alike m r.session.stands.is.by.machine c.args.space t.s t.here c.in-Ok-Ok.shown t.window t.free (is_set _ c.if-not-shown.false)) (hidden_numbers m r.session.stands.is.by.machine c.args.space t.s t.here c.in-Ok-Ok.shown t.window t.free (is_set _ c.if-not-shown.false))
 
 pub returns-in-Err-delete_unseen-clause-wrote : goal.returns-in-Err-delete_unseen-clause-wrote
 returns-in-Err-delete_unseen-clause-wrote g c = wrote_then (wrote_by c.take_window.ensures.makes tt) c.delete_unseen.ensures.wrote
@@ -99,7 +99,7 @@ returns-in-Ok-wait-clause-passes g c = λ m r.
     let t = took m c.args.space c.in-Ok-Ok.shown (λ n. Runs c.take_window.new.core c.args.self.now.volume n) (subst (λ (x : Result Shown Refusal). Tells (first_of (window_row m.spaces c.args.space)) (IsTaken m c.args.space (λ n. Runs c.take_window.new.core c.args.self.now.volume n)) x) c.in-Ok-Ok.field-0-is (c.in-Ok-Ok.ensures.taken c.args.self.now.volume m r)) in
     passes_still m (call.Unmap c.args.space)
     (quiet_then m _ (call.Unmap c.args.space) (call.Delete c.in-Ok-Ok.shown.id) (asked_passes c.args.self.now.core c.args.self.now.volume m call.Volume r (g.met.D.Disk.in_form c.args.self.now.core.filer.swapper.under) c.take_window.ensures.makes)
-    (c.delete_unseen.ensures.passes _ _ t.left.session (left_unseen m r.session.stands.is.by.machine c.args.space t.s t.here c.in-Ok-Ok.shown t.window t.free (is_set _ c.if-not-shown.false))) (omega arith) (hidden_alike m r.session.stands.is.by.machine c.args.space t.s t.here c.in-Ok-Ok.shown t.window t.free (is_set _ c.if-not-shown.false)))
+    (c.delete_unseen.ensures.passes _ _ t.left.session (left_unseen m r.session.stands.is.by.machine c.args.space t.s t.here c.in-Ok-Ok.shown t.window t.free (is_set _ c.if-not-shown.false))) (omega arith) (hidden_alike m r.session.stands.is.by.machine c.args.space t.s t.here c.in-Ok-Ok.shown t.window t.free (is_set _ c.if-not-shown.false)) (hidden_numbers m r.session.stands.is.by.machine c.args.space t.s t.here c.in-Ok-Ok.shown t.window t.free (is_set _ c.if-not-shown.false)))
     c.settle.ensures.same
 
 pub returns-in-Ok-wait-clause-wrote : goal.returns-in-Ok-wait-clause-wrote
@@ -122,7 +122,7 @@ returns-in-Err-wait-clause-passes g c = λ m r.
     let t = took m c.args.space c.in-Ok-Ok.shown (λ n. Runs c.take_window.new.core c.args.self.now.volume n) (subst (λ (x : Result Shown Refusal). Tells (first_of (window_row m.spaces c.args.space)) (IsTaken m c.args.space (λ n. Runs c.take_window.new.core c.args.self.now.volume n)) x) c.in-Ok-Ok.field-0-is (c.in-Ok-Ok.ensures.taken c.args.self.now.volume m r)) in
     passes_still m (call.Unmap c.args.space)
     (quiet_then m _ (call.Unmap c.args.space) (call.Delete c.in-Ok-Ok.shown.id) (asked_passes c.args.self.now.core c.args.self.now.volume m call.Volume r (g.met.D.Disk.in_form c.args.self.now.core.filer.swapper.under) c.take_window.ensures.makes)
-    (c.delete_unseen.ensures.passes _ _ t.left.session (left_unseen m r.session.stands.is.by.machine c.args.space t.s t.here c.in-Ok-Ok.shown t.window t.free (is_set _ c.if-not-shown.false))) (omega arith) (hidden_alike m r.session.stands.is.by.machine c.args.space t.s t.here c.in-Ok-Ok.shown t.window t.free (is_set _ c.if-not-shown.false)))
+    (c.delete_unseen.ensures.passes _ _ t.left.session (left_unseen m r.session.stands.is.by.machine c.args.space t.s t.here c.in-Ok-Ok.shown t.window t.free (is_set _ c.if-not-shown.false))) (omega arith) (hidden_alike m r.session.stands.is.by.machine c.args.space t.s t.here c.in-Ok-Ok.shown t.window t.free (is_set _ c.if-not-shown.false)) (hidden_numbers m r.session.stands.is.by.machine c.args.space t.s t.here c.in-Ok-Ok.shown t.window t.free (is_set _ c.if-not-shown.false)))
     c.settle.ensures.same
 
 pub returns-in-Err-wait-clause-wrote : goal.returns-in-Err-wait-clause-wrote
