@@ -12,4 +12,5 @@ pub mod Shrinking
 pub mod Resizing
 pub mod Tables
 pub mod Causes
+pub mod Taking
 pub mod Grounds
