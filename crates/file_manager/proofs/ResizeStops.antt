@@ -14,7 +14,8 @@ use Rattle.swapper_kernel.specs.Homes.{home_at}
 use Rattle.filer_kernel.specs.Causes.{MapEvidence, IsRunHome}
 use Rattle.file_manager.specs.Causes.{LeaderEvidence}
 use Rattle.file_manager.specs.Finding.{IsNoLeader, FileHalts}
-use Rattle.file_manager.specs.Grounds.{IsUnframed, IsBelowSize, FreeEvidence, PutsBack, MakeEvidence, MakeHalts, ShrinkHalts, ResizeHalts}
+use Rattle.file_manager.specs.Grounds.{IsUnframed, IsBelowSize, FreeEvidence, MakeHalts, ShrinkHalts, ResizeHalts}
+use Rattle.file_manager.specs.Taking.{no_page_of}
 
 module _ (layout : Layout) (kept : List Run) (id pages : ℕ) (a c : DiskState) (s u : Slots) where
   searched : (e : Evidence) → MapEvidence layout a s e → LeaderEvidence layout kept id a s e
@@ -40,7 +41,7 @@ module _ (layout : Layout) (kept : List Run) (id pages : ℕ) (a c : DiskState) 
   resize_of_file (Damaged e) is = elim is [ inl map ↦ inl (searched e map) | inr other ↦ inl (no_leader e other) ]
 
   -- where pages are made
-  pub resize_of_make : (halt : Halt) → MakeHalts layout a s c u halt → ResizeHalts layout kept id pages a s c u halt
+  pub resize_of_make : (halt : Halt) → MakeHalts layout id no_page_of a s c u halt → ResizeHalts layout kept id pages a s c u halt
   resize_of_make Disk is = is
   resize_of_make (Damaged e) is = inr (inl is)
 
@@ -49,16 +50,11 @@ module _ (layout : Layout) (kept : List Run) (id pages : ℕ) (a c : DiskState) 
   fewer size told (Malformed window page) is = is
   fewer size told (Missing missing page) is = (is.0, (is.1.0, told page is.1.1), is.2)
 
-  put_back : (e : Evidence) → PutsBack layout a s c u e → MakeEvidence layout a s c u e
-  put_back (Mismatch sector wanted found) is = absurd is
-  put_back (Malformed window page) is = is
-  put_back (Missing missing page) is = absurd is
-
   -- where pages are freed
   pub resize_of_shrink : (size : ℕ) → ((page : ℕ) → page < size → IsBelowSize layout a s id page) → (halt : Halt) → ShrinkHalts (IsUnframed s id) layout kept id pages (λ p. (pages ≤ p) × (p < size)) a s c u halt → ResizeHalts layout kept id pages a s c u halt
   resize_of_shrink size told Disk is = is
   resize_of_shrink size told (Damaged e) is = elim is [
     | inl free ↦ inr (inr (inl (fewer size told e free)))
-    | inr (inl out) ↦ inr (inr (inr out))
-    | inr (inr back) ↦ inr (inl (put_back e back))
+    | inr (inl out) ↦ inr (inr (inr (inl out)))
+    | inr (inr back) ↦ inr (inr (inr (inr back)))
   ]

@@ -41,7 +41,7 @@ use Rattle.session_words.proofs.StartLemmas.{start_laws}
 use Rattle.file_manager.specs.Book.{BooksUpto, Leads, AreTrue}
 use Rattle.file_manager.specs.Making.{AreUnownedUpto, ShowsNoFree, GrownBy, MakesAll, IsRunFor, free_count, sectors_of}
 use Rattle.file_manager.specs.Tables.{MayBegin, BegunBy}
-use Rattle.file_manager.specs.Grounds.{IsMapsHome}
+use Rattle.file_manager.specs.Grounds.{IsMapsHome, MakesFor}
 use Rattle.file_manager.proofs.BookLemmas.{root_label_grown}
 use Rattle.file_manager.proofs.GrowSteps.{growth_append, grows_then, grows_none, long_grown}
 use Rattle.file_manager.proofs.RunLeads.{one_memory, own_known}
@@ -207,9 +207,9 @@ module _ (page : ℕ) (d0 : DiskState) (s0 : Slots) (layout : Layout) (is_layout
   -- a run more
   pub tables_more : (run : Run) (d2 : DiskState) (s2 : Slots) (l2 : Layout) (r2 : CachedRuns) → IsRunFor later.sectors 3 page (96 - page) run → Makes volume_page (growth 3 0 page (sectors_of run)) d s d2 s2
       → Asks page d s later runs (Leads (Grows 3 0 page (sectors_of run)) (growth 3 0 page (sectors_of run)) d s later d2 s2 r2)
-      → l2 ≡ later → r2 ≡ runs → d2.transfers ≤ d.transfers + (8 * later.vam + 2 * run.pages + 98) → Brings (IsMapsHome later) s s2 → AreTablesUpTo (page + run.pages) d0 s0 layout kept d2 s2 l2 r2
-  tables_more run d2 s2 l2 r2 for_it makes made same_layout same_runs cost come = record {
-    up = up_more 3 0 0 96 page d0 s0 layout is_layout kept d s later runs h.up (omega arith) run d2 s2 l2 r2 below for_it makes (made 96) same_layout same_runs cost come;
+      → l2 ≡ later → r2 ≡ runs → d2.transfers ≤ d.transfers + (8 * later.vam + 2 * run.pages + 98) → Brings (IsMapsHome later) s s2 → MakesFor later 3 (λ p. (page ≤ p) × (p < page + run.pages)) d s d2 s2 → AreTablesUpTo (page + run.pages) d0 s0 layout kept d2 s2 l2 r2
+  tables_more run d2 s2 l2 r2 for_it makes made same_layout same_runs cost come takes = record {
+    up = up_more 3 0 0 96 page d0 s0 layout is_layout kept d s later runs h.up (omega arith) run d2 s2 l2 r2 below for_it makes (made 96) same_layout same_runs cost come takes;
     begun = λ x shapes spaces may.
         let g = h.begun x shapes spaces may in
         let here = asked (Leads (Grows 3 0 page (sectors_of run)) (growth 3 0 page (sectors_of run)) d s later d2 s2 r2) made x shapes spaces may in

@@ -112,3 +112,12 @@ takes_then {id = id} p q r of_p of_q apart first next = record {
       let two = next.names one.0 one.1 (none_later id p q named one.0 one.2 (λ page sector own. none page sector (of_q page own)) apart) in
       (two.0, two.1, adds_then id p q r named one.0 two.0 of_p of_q one.2 two.2);
 }
+
+-- for more pages
+pub takes_wider : {layout : Layout} {id : ℕ} (p q : ℕ → Type 0) {m n : List Sector} → ((page : ℕ) → p page → q page) → TakesFor layout id p m n → TakesFor layout id q m n
+takes_wider {id = id} p q of_p takes = record {
+  taken = takes.taken;
+  names = λ named map none.
+      let one = takes.names named map (λ page sector own. none page sector (of_p page own)) in
+      (one.0, one.1, record { kept = one.2.kept; only = λ i page sector is. elim (one.2.only i page sector is) [ inl was ↦ inl was | inr (same, own) ↦ inr (same, of_p page own) ] });
+}

@@ -1,5 +1,6 @@
 -- The pages of a file up to one, in a loop over runs.
-use Rattle.std.proofs.Common.{◌≡◌, ℕ, zero, suc, ◌+◌, ◌-◌, ◌*◌, ◌<◌, ◌≤◌, List, [], ◌∷◌, ◌++◌, length, take, refl, sym, ◌∙◌, ap, subst, arith}
+use Rattle.std.proofs.Common.{◌≡◌, ◌⊎◌, inl, inr, ℕ, zero, suc, ◌+◌, ◌-◌, ◌*◌, ◌<◌, ◌≤◌, List, [], ◌∷◌, ◌++◌, length, take, refl, sym, ◌∙◌, ap, subst, arith}
+use Rattle.std.proofs.lemmas.Bool.{cases_eq}
 use Rattle.std.proofs.lemmas.List.{length-append}
 use Rattle.labelled_disk.specs.declared.disk.DiskWrite.{DiskWrite}
 use Rattle.labelled_disk.specs.declared.evidence.Halt.{Halt}
@@ -13,6 +14,7 @@ use Rattle.frame_pool.specs.Frames.{Slots}
 use Rattle.file_map.specs.declared.run.Run.{Run}
 use Rattle.flat_machine.specs.declared.space.Space.{Space}
 use Rattle.swapper_kernel.specs.Homes.{IsLayout, Brings}
+use Rattle.swapper_kernel.specs.declared.manager.Manager.TheVariants.{FileMap}
 use Rattle.swapper_kernel.specs.Goes.{Makes}
 use Rattle.swapper_kernel.specs.GoesLaws.{makes_nothing, makes_then}
 use Rattle.swapper_kernel.specs.HaltLaws.{brings_itself, brings_then}
@@ -23,11 +25,14 @@ use Rattle.session_words.specs.GrowLaws.{Grows}
 use Rattle.session_words.specs.Volume.{volume_page}
 use Rattle.file_manager.specs.Book.{Books, Leads, AreTrue}
 use Rattle.file_manager.specs.Making.{AreUnowned, ShowsNoFree, MayGrow, GrownBy, MakesAll, MakesSome, IsRunFor, free_count, sectors_of}
-use Rattle.file_manager.specs.Grounds.{IsMapsHome}
+use Rattle.file_manager.specs.Grounds.{IsMapsHome, IsUnframed, LabelsOne, MakesFor, MakeHalts}
 use Rattle.file_manager.proofs.GrowSteps.{growth_append, grows_none}
 use Rattle.file_manager.proofs.RunLeads.{one_memory}
 use Rattle.file_manager.proofs.UpLemmas.{after, books_then, unowned_then, some_then, run_then, longer}
 use Rattle.swapper_kernel.specs.Stands.{labels_of}
+use Rattle.swapper_kernel.specs.Window.{Tells}
+use Rattle.file_manager.proofs.MadeRun.{made_none, made_then}
+use Rattle.file_manager.proofs.MakeStops.{growth_labels_one, leaves_apart, make_halts_before}
 
 pub record IsUpTo (id kind from end page : ℕ) (d0 : DiskState) (s0 : Slots) (layout : Layout) (kept : CachedRuns) (d : DiskState) (s : Slots) (later : Layout) (runs : CachedRuns) : Type 0 where
   pub above : from ≤ page
@@ -38,6 +43,8 @@ pub record IsUpTo (id kind from end page : ℕ) (d0 : DiskState) (s0 : Slots) (l
   pub cost : d.transfers ≤ d0.transfers + (page - from) * (8 * layout.vam + 100)
   pub makes : MakesAll id kind from (page - from) d0 s0 d s
   pub come : Brings (IsMapsHome layout) s0 s
+  pub takes : MakesFor layout id (λ p. (from ≤ p) × (p < page)) d0 s0 d s
+  pub untouched : page ≡ from → (bytes : List ℕ) → Tells FileMap d0 s0 layout bytes → Tells FileMap d s layout bytes
   pub told : (x : List Sector) (shapes : Shapes) (spaces : List Space) (f : Shape) → MayGrow d0 s0 layout kept shapes spaces id f end x → f.size ≡ from → GrownBy id kind from (page - from) d0 s0 layout d s kept
 
 -- what a run costs is at most so much a page
@@ -64,6 +71,8 @@ up_none id kind from end d0 s0 layout kept order size = record {
   cost = omega arith;
   makes = record { sectors = []; long = omega arith; makes = makes_nothing volume_page d0 s0 };
   come = brings_itself (IsMapsHome layout) s0;
+  takes = made_none layout id (λ p. (from ≤ p) × (p < from)) d0 s0;
+  untouched = λ same bytes tells. tells;
   told = λ x shapes spaces f may is. record {
     sectors = [];
     long = omega arith;
@@ -84,8 +93,8 @@ module _ (id kind from end page : ℕ) (d0 : DiskState) (s0 : Slots) (layout : L
   pub up_more : (run : Run) (d2 : DiskState) (s2 : Slots) (l2 : Layout) (r2 : CachedRuns) → page < end → IsRunFor later.sectors id page (end - page) run → Makes volume_page (growth id kind page (sectors_of run)) d s d2 s2
       → ((x : List Sector) (shapes : Shapes) (spaces : List Space) → Books d s later runs shapes spaces x → ShowsNoFree spaces → AreUnowned shapes id page (end - page) → 1 ≤ free_count later x
       → Leads (Grows id kind page (sectors_of run)) (growth id kind page (sectors_of run)) d s later d2 s2 r2)
-      → l2 ≡ later → r2 ≡ runs → d2.transfers ≤ d.transfers + (8 * later.vam + 2 * run.pages + 98) → Brings (IsMapsHome later) s s2 → IsUpTo id kind from end (page + run.pages) d0 s0 layout kept d2 s2 l2 r2
-  up_more run d2 s2 l2 r2 below for_it makes made same_layout same_runs cost come =
+      → l2 ≡ later → r2 ≡ runs → d2.transfers ≤ d.transfers + (8 * later.vam + 2 * run.pages + 98) → Brings (IsMapsHome later) s s2 → MakesFor later id (λ p. (page ≤ p) × (p < page + run.pages)) d s d2 s2 → IsUpTo id kind from end (page + run.pages) d0 s0 layout kept d2 s2 l2 r2
+  up_more run d2 s2 l2 r2 below for_it makes made same_layout same_runs cost come takes =
       let few = for_it.few in
       let above = up.above in
       let all = up.makes in
@@ -107,6 +116,10 @@ module _ (id kind from end page : ℕ) (d0 : DiskState) (s0 : Slots) (layout : L
               (makes_then all.makes (subst (λ (n : ℕ). Makes volume_page (growth id kind n (sectors_of run)) d s d2 s2) (sym so_far) makes));
         };
         come = brings_then up.come (subst (λ (l : Layout). Brings (IsMapsHome l) s s2) up.same_layout come);
+        takes = made_then (λ p. (from ≤ p) × (p < page)) (λ p. (page ≤ p) × (p < page + run.pages)) (λ p. (from ≤ p) × (p < page + run.pages))
+            (λ p own. (own.0, let below = own.1 in omega (arith, below))) (λ p own. (let after = own.0 in omega (arith, above, after), own.1)) (λ p own other. let after = own.0 in let before = other.1 in omega (arith, after, before))
+            up.takes (subst (λ (l : Layout). MakesFor l id (λ p. (page ≤ p) × (p < page + run.pages)) d s d2 s2) up.same_layout takes);
+        untouched = λ same. let some = for_it.form.some in absurd (omega (arith, same, above, some));
         told = λ x shapes spaces f may size.
             let g = up.told x shapes spaces f may size in
             let at = reached f g.sectors size g.long in
@@ -164,6 +177,23 @@ module _ (id kind from end page : ℕ) (d0 : DiskState) (s0 : Slots) (layout : L
             (sym (ap (take (length (growth id kind from all.sectors) + some.count)) (growth_append id kind from all.sectors some.sectors) ∙ take_past (growth id kind from all.sectors) (growth id kind (from + length all.sectors) some.sectors) some.count))
             (makes_then all.makes (subst (λ (n : ℕ). Makes volume_page (take some.count (growth id kind n some.sectors)) d s d2 s2) (sym so_far) some.makes));
       }
+
+  -- why it stopped
+  pub up_cause : (r : ℕ → Type 0) → ((p : ℕ) → (from ≤ p) × (p < end) → r p) → (d2 : DiskState) (s2 : Slots) (e : Halt) → page < end → MakeHalts layout id (λ p. (page ≤ p) × (p < page + (end - page))) d s d2 s2 e → MakeHalts layout id r d0 s0 d2 s2 e
+  up_cause r within d2 s2 e below why =
+      let above = up.above in
+      make_halts_before (λ p. (from ≤ p) × (p < page)) (λ p. (page ≤ p) × (p < page + (end - page))) r up.makes.makes up.takes
+      (leaves_apart layout id (λ p. (from ≤ p) × (p < page)) (λ p. (page ≤ p) × (p < page + (end - page))) r d0 s0
+          (λ p own. within p (own.0, let before = own.1 in omega (arith, before, below)))
+          (λ p own. within p (let after = own.0 in omega (arith, after, above), let before = own.1 in omega (arith, before, below)))
+          (λ p own other. let after = own.0 in let before = other.1 in omega (arith, after, before)))
+      begun d2 s2 e why
+    where
+      begun : (IsUnframed s0 0 → (bytes : List ℕ) → Tells FileMap d0 s0 layout bytes → Tells FileMap d s layout bytes) ⊎ LabelsOne id (growth id kind from up.makes.sectors)
+      begun = elim (cases_eq page from) [
+        | inl same ↦ inl (λ none. up.untouched same)
+        | inr other ↦ let above = up.above in let long = up.makes.long in inr (growth_labels_one id kind from up.makes.sectors (omega (arith, other, above, long)))
+      ]
 
 -- all pages are made
 pub up_all : (id kind from end page : ℕ) (d0 : DiskState) (s0 : Slots) (layout : Layout) (kept : CachedRuns) (d : DiskState) (s : Slots) (later : Layout) (runs : CachedRuns) → page ≡ end

@@ -16,17 +16,17 @@ use Rattle.file_map.specs.declared.run.Run.{Run}
 use Rattle.file_map.specs.FileMap.{Triples, IsSize, most_records}
 use Rattle.file_map.specs.Cause.{IsBroken, IsMost, IsToCut}
 use Rattle.swapper_kernel.specs.declared.manager.Manager.{Manager}
-use Rattle.swapper_kernel.specs.declared.manager.Manager.TheVariants.{FileMap}
+use Rattle.swapper_kernel.specs.declared.manager.Manager.TheVariants.{AllocationMap, FileMap}
 use Rattle.swapper_kernel.specs.Maps.{IsMapHome}
 use Rattle.swapper_kernel.specs.Homes.{Homes, Brings, home_at}
-use Rattle.swapper_kernel.specs.Halts.{HasCause, held_or}
+use Rattle.swapper_kernel.specs.Halts.{HasCause, IsOther, held_or}
 use Rattle.swapper_kernel.specs.Stands.{Stands}
 use Rattle.swapper_kernel.specs.Goes.{Makes}
 use Rattle.swapper_kernel.specs.Window.{Tells, Beside}
 use Rattle.label_calls.specs.Labels.{nobody}
 use Rattle.file_map.specs.Entries.{Stops}
 use Rattle.filer_kernel.specs.Causes.{MapShows, MapCounts, IsGiven, IsRunHome}
-use Rattle.filer_kernel.specs.Marks.{Marks, BitsAre}
+use Rattle.filer_kernel.specs.Marks.{Marks, BitsAre, AreAll}
 use Rattle.filer_kernel.specs.Triples.{MapIs, IsOneOf}
 use Rattle.session_words.specs.FrameLaws.{IsThere}
 use Rattle.session_words.specs.Volume.{volume_page}
@@ -154,6 +154,18 @@ pub record StopsAddition (layout : Layout) (id : ℕ) (pages : ℕ → Type 0) (
 -- where no frame had a page that a free label would name, the allocation map had the sector as free
 abbrev pub WasClear : Layout → DiskState → Slots → ℕ → Type 0
 WasClear layout disk slots sector = IsUnframed slots 0 → (m : List Sector) (marks : Marks) → Stands disk slots m → BitsAre layout marks m → marks sector ≡ false
+
+-- the evidence is a label, another than that of a home of the allocation map or of a frame; or a page of the space tables, where
+-- no data sector is free, and the memory is as it was
+abbrev pub TakeEvidence : Layout → DiskState → Slots → DiskState → Slots → Evidence → Type 0
+TakeEvidence layout old before new after (Mismatch sector wanted found) = IsOther (held_or before (IsMapHome AllocationMap layout)) old sector wanted found
+TakeEvidence layout old before new after (Malformed window page) = ⊥
+TakeEvidence layout old before new after (Missing id page) =
+    (id ≡ 3) × (page ≡ 0) × ((m : List Sector) (marks : Marks) → Stands old before m → BitsAre layout marks m → AreAll true marks layout.first layout.sectors × Stands new after m)
+
+-- the halt of a call that takes sectors
+abbrev pub TakeHalts : Layout → DiskState → Slots → DiskState → Slots → Halt → Type 0
+TakeHalts layout old before new after halt = HasCause (TakeEvidence layout old before new after) old new halt
 
 -- Each data sector that the allocation map had as free was taken for the file.
 pub record TookAll (layout : Layout) (id : ℕ) (m : List Sector) (marks : Marks) (new : DiskState) (after : Slots) : Type 0 where

@@ -10,7 +10,7 @@ ghost use Rattle.label_calls.specs.Labels.{MayHaveWritten};
 ghost use Rattle.session_words.specs.Parts.{Shapes};
 ghost use Rattle.swapper_kernel.specs.Goes.{Goes, no_page};
 ghost use Rattle.volume_root.specs.RootPage.{IsValidRoot, root_write};
-ghost use Rattle.file_manager.specs.Grounds.{MakeHalts};
+ghost use Rattle.file_manager.specs.Grounds.{CreateHalts};
 ghost use Rattle.filer_kernel.specs.Evidence.{ShowsSo};
 ghost use Rattle.file_manager.specs.CreateBroken.{CreatedSome};
 ghost use Rattle.file_manager.specs.Creating.{next_id, counted, CreatedAs, NewMade, NewSome};
@@ -83,7 +83,7 @@ pub fn create<D: Disk, A: Allocator>(
         → IfErr result (λ e. e ≡ halt.Disk) }
     ensures broken { (x : List Sector) (shapes : Shapes) (spaces : List Space) → MayCreate (D.state filer.old.swapper.under) filer.old.swapper.pool filer.old.swapper.layout filer.old.runs shapes spaces (next_id volume.old.root) pages x
         → OnErr result (CreatedSome (root_write (counted volume.old.root) ∷ []) (next_id volume.old.root) kind pages x (D.state filer.old.swapper.under) filer.old.swapper.pool (D.state filer.new.swapper.under) filer.new.swapper.pool) }
-    ensures cause { IfErr result (MakeHalts filer.old.swapper.layout (D.state filer.old.swapper.under) filer.old.swapper.pool (D.state filer.new.swapper.under) filer.new.swapper.pool) }
+    ensures cause { IfErr result (CreateHalts filer.old.swapper.layout (next_id volume.old.root) (D.state filer.old.swapper.under) filer.old.swapper.pool (D.state filer.new.swapper.under) filer.new.swapper.pool) }
     ensures so { IfErr result (ShowsSo (D.state filer.new.swapper.under)) }
     ensures counted { result ≡ Err halt.Disk → Rose (D.state filer.old.swapper.under).faults (D.state filer.new.swapper.under).faults }
     ensures new_volume { OnOk result (volume.new ≡ record volume.old { root = counted volume.old.root; used = volume.old.used + pages + 1 }) }

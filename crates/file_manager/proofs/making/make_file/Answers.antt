@@ -1,11 +1,13 @@
-use Rattle.std.proofs.Common.{◌∙◌, arith}
+use Rattle.std.proofs.Common.{◌∙◌, inr, ℕ, ◌+◌, ◌≤◌, ◌<◌, arith}
+use Rattle.std.proofs.lemmas.List.FromFn.{length-range_with_len}
 use Rattle.labelled_disk.specs.Label.{leader_page}
 use Rattle.session_words.proofs.FoundLemmas.{above_reserved}
 use Rattle.file_manager.specs.Making.{sectors_of}
 use Rattle.file_manager.proofs.CreateBroken.{leader_broken, pages_broken}
 use Rattle.file_manager.proofs.LeaderLemmas.{one_sector, unowned_file, led_by, file_made, file_sound, creates_all, stopped_leader, stopped_pages}
 use Rattle.file_manager.proofs.Faults.{counted_then}
-use Rattle.file_manager.proofs.MakeStops.{make_halts_before}
+use Rattle.file_manager.proofs.MakeStops.{growth_labels_one, leaves_apart, make_halts_before, make_halts_wider}
+use Rattle.file_manager.specs.Taking.{every_page}
 use Rattle.file_manager.proofs.making.make_file.Goals as goal
 
 pub returns-in-Err-clause-sound : goal.returns-in-Err-clause-sound
@@ -64,4 +66,20 @@ returns-in-Err-make_up-clause-broken g c = λ x shapes spaces may.
 
 pub returns-in-Err-make_up-clause-cause : goal.returns-in-Err-make_up-clause-cause
 returns-in-Err-make_up-clause-cause g c =
-    make_halts_before c.in-Ok.ensures.makes c.make_run.ensures.come (g.D.Disk.state c.make_up.new.filer.swapper.under) c.make_up.new.filer.swapper.pool c.in-Err-make_up.halt (rw c.in-Ok.ensures.layout at c.in-Err-make_up.ensures.cause)
+    let layout = c.args.filer.now.swapper.layout in
+    let old = g.D.Disk.state c.args.filer.now.swapper.under in
+    let pool = c.args.filer.now.swapper.pool in
+    let run = c.in-Ok._run in
+    let below = c.requires.numbers in
+    let some = c.in-Ok.ensures.form.form.some in
+    let long = length-range_with_len run.sector run.pages in
+    let leader = λ (p : ℕ). (4294967295 ≤ p) × (p < 4294967295 + run.pages) in
+    let pages = λ (p : ℕ). (0 ≤ p) × (p < c.args.pages) in
+    let leaves = leaves_apart layout c.args.id leader pages every_page old pool (λ p own. tt) (λ p own. tt) (λ p own other. let before = own.1 in let from = other.0 in omega (arith, below, before, from)) in
+    make_halts_before leader pages every_page c.in-Ok.ensures.makes c.in-Ok.ensures.takes leaves (inr (growth_labels_one c.args.id c.args.kind 4294967295 (sectors_of run) (omega (arith, long, some))))
+    (g.D.Disk.state c.make_up.new.filer.swapper.under) c.make_up.new.filer.swapper.pool c.in-Err-make_up.halt (rw c.in-Ok.ensures.layout at c.in-Err-make_up.ensures.cause)
+
+pub returns-in-Err-clause-cause : goal.returns-in-Err-clause-cause
+returns-in-Err-clause-cause g c =
+    let leader = λ (p : ℕ). (4294967295 ≤ p) × (p < 4294967295 + 1) in
+    make_halts_wider c.args.filer.now.swapper.layout c.args.id leader every_page (λ p own. tt) (g.D.Disk.state c.args.filer.now.swapper.under) (g.D.Disk.state c.make_run.new.filer.swapper.under) c.args.filer.now.swapper.pool c.make_run.new.filer.swapper.pool c.in-Err.halt c.in-Err.ensures.cause
