@@ -47,3 +47,5 @@ pub mod CreateStops
 pub mod ResizeStops
 pub mod Forgotten
 pub mod OwnSteps
+pub mod RootSteps
+pub mod RootCalls

@@ -76,6 +76,10 @@ made_then p q r of_p of_q apart first next = record {
       (two.0, two.1, takes_then p q r of_p of_q apart one.2 two.2);
 }
 
+-- calls that only read
+pub reads_then : {layout : Layout} {id : ℕ} {a b c : DiskState} {s t u : Slots} → MakesFor layout id no_page_of a s b t → MakesFor layout id no_page_of b t c u → MakesFor layout id no_page_of a s c u
+reads_then first next = made_then no_page_of no_page_of no_page_of (λ page not. not) (λ page not. not) (λ page not other. not) first next
+
 -- ---- What single calls make.
 
 -- where labels are the same, and the allocation map's pages

@@ -13,4 +13,5 @@ pub mod Resizing
 pub mod Tables
 pub mod Causes
 pub mod Taking
+pub mod Roots
 pub mod Grounds

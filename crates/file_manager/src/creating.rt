@@ -15,6 +15,7 @@ ghost use Rattle.filer_kernel.specs.Evidence.{ShowsSo};
 ghost use Rattle.file_manager.specs.CreateBroken.{CreatedSome};
 ghost use Rattle.file_manager.specs.Creating.{next_id, counted, CreatedAs, NewMade, NewSome};
 ghost use Rattle.file_manager.specs.Making.{MayCreate};
+ghost use Rattle.file_manager.specs.Roots.{RootCounts};
 
 use crate::Volume;
 use crate::growth::frames_of;
@@ -90,6 +91,7 @@ pub fn create<D: Disk, A: Allocator>(
     ensures same_volume { OnErr result (volume.new ≡ volume.old) }
     ensures makes { OnOk result (NewMade volume.old.root kind pages (D.state filer.old.swapper.under) filer.old.swapper.pool (D.state filer.new.swapper.under) filer.new.swapper.pool) }
     ensures stopped { OnErr result (NewSome volume.old.root kind pages (D.state filer.old.swapper.under) filer.old.swapper.pool (D.state filer.new.swapper.under) filer.new.swapper.pool) }
+    ensures root { RootCounts volume.old.root (D.state filer.old.swapper.under) (D.state filer.new.swapper.under) }
     ensures layout { filer.new.swapper.layout ≡ filer.old.swapper.layout }
     ensures cost { (D.state filer.new.swapper.under).transfers ≤ (D.state filer.old.swapper.under).transfers + (1 + 2 * (1 + 51 * most_records filer.old.swapper.layout.sectors) + (pages + 1) * (8 * filer.old.swapper.layout.vam + 100)) }
 {

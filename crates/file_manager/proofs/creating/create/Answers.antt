@@ -20,6 +20,7 @@ use Rattle.file_manager.proofs.SoLemmas.{fault_shows}
 use Rattle.file_manager.proofs.CreateStops.{create_of_cut, create_of_make}
 use Rattle.labelled_disk.specs.declared.evidence.Halt.{Halt}
 use Rattle.file_manager.specs.Grounds.{CreateHalts}
+use Rattle.file_manager.proofs.RootCalls.{created_root, created_some_root}
 use Rattle.file_manager.proofs.creating.create.Goals as goal
 
 pub returns-in-Err-clause-sound : goal.returns-in-Err-clause-sound
@@ -162,3 +163,15 @@ returns-in-Err-make_file-clause-cause g c =
     let cut = rw (c.in-Ok.ensures.frames, c.in-Ok.ensures.layout, id) at c.in-Ok-cut.ensures.cut in
     create_of_make layout c.args.filer.now.swapper.accepted (next_id root) (counted root) c.in-Ok.ensures.made beside cut (g.D.Disk.state c.make_file.new.filer.swapper.under) c.make_file.new.filer.swapper.pool c.in-Err-make_file.halt
     (rw (c.frames_of.ensures.same, lay, id) at c.in-Err-make_file.ensures.cause)
+
+pub returns-in-Err-clause-root : goal.returns-in-Err-clause-root
+returns-in-Err-clause-root g c = created_some_root c.args.volume.now.root c.next_id-id.ensures.serial c.requires.valid.serial c.requires.counter c.args.filer.now.swapper.layout c.args.filer.now.swapper.accepted (λ d told. g.met.D.Disk.whole c.args.filer.now.swapper.under d told ∙ c.requires.size) c.args.kind c.args.pages (returns-in-Err-clause-stopped g c)
+
+pub returns-in-Err-cut-clause-root : goal.returns-in-Err-cut-clause-root
+returns-in-Err-cut-clause-root g c = created_some_root c.args.volume.now.root c.next_id-id.ensures.serial c.requires.valid.serial c.requires.counter c.args.filer.now.swapper.layout c.args.filer.now.swapper.accepted (λ d told. g.met.D.Disk.whole c.args.filer.now.swapper.under d told ∙ c.requires.size) c.args.kind c.args.pages (returns-in-Err-cut-clause-stopped g c)
+
+pub returns-in-Err-make_file-clause-root : goal.returns-in-Err-make_file-clause-root
+returns-in-Err-make_file-clause-root g c = created_some_root c.args.volume.now.root c.next_id-id.ensures.serial c.requires.valid.serial c.requires.counter c.args.filer.now.swapper.layout c.args.filer.now.swapper.accepted (λ d told. g.met.D.Disk.whole c.args.filer.now.swapper.under d told ∙ c.requires.size) c.args.kind c.args.pages (returns-in-Err-make_file-clause-stopped g c)
+
+pub returns-clause-root : goal.returns-clause-root
+returns-clause-root g c = created_root c.args.volume.now.root c.next_id-id.ensures.serial c.requires.valid.serial c.requires.counter c.args.filer.now.swapper.layout c.args.filer.now.swapper.accepted (λ d told. g.met.D.Disk.whole c.args.filer.now.swapper.under d told ∙ c.requires.size) c.args.kind c.args.pages (returns-clause-makes g c)

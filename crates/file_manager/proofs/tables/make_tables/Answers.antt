@@ -2,6 +2,7 @@ use Rattle.std.proofs.Common.{rules, refl, inl, ◌≡◌, ◌<◌, arith}
 use Rattle.file_manager.proofs.TablesMade.{tables_none, tables_more, tables_sound, tables_all, tables_made, tables_cost}
 use Rattle.file_manager.proofs.UpTo.{up_cause, up_cost, up_stopped}
 use Rattle.file_manager.proofs.Faults.{counted_then}
+use Rattle.file_manager.proofs.RootCalls.{grew_root, grown_root}
 use Rattle.file_manager.proofs.tables.make_tables.Goals as goal
 
 pub loop-page-init : goal.loop-page-init
@@ -51,3 +52,9 @@ pub returns-in-Err-clause-cause : goal.returns-in-Err-clause-cause
 returns-in-Err-clause-cause g c =
     let below : c.loop-page.page < 96 = search rules in
     up_cause 3 0 0 96 c.loop-page.page _ _ _ c.args.filer.now.swapper.accepted _ _ _ _ _ c.loop-page.invariant.up (omega arith) (λ p. p < 96) (λ p own. own.1) (g.D.Disk.state c.make_run.new.filer.swapper.under) c.make_run.new.filer.swapper.pool c.in-Err.halt below (rw c.loop-page.invariant.up.same_layout at c.in-Err.ensures.cause)
+
+pub returns-in-Err-clause-root : goal.returns-in-Err-clause-root
+returns-in-Err-clause-root g c = grew_root {id = 3} (λ same. omega (arith, same)) (returns-in-Err-clause-stopped g c)
+
+pub returns-clause-root : goal.returns-clause-root
+returns-clause-root g c = grown_root {id = 3} (λ same. omega (arith, same)) (returns-clause-makes g c)
