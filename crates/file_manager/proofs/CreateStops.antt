@@ -96,10 +96,13 @@ module _ (layout : Layout) (is : IsLayout layout) (id : ℕ) (root : Root) {a b 
   -- where the map is cut
   cut_evidence : (e : Evidence) (c : DiskState) (t : Slots) → MapHalts layout b s c (Damaged e) ⊎ IsToCut id 0 (MapShows layout b s) → CutHalts layout b s c t (Damaged e) → CreateEvidence layout id a s c t e
   cut_evidence (Mismatch sector wanted found) c t begun why = elim why.reason [ inl held ↦ inl held | inr own ↦ inr (inl (FileMap, own)) ]
-  cut_evidence (Malformed window page) c t begun why = (why.0, elim begun [
-    | inl broken ↦ inl (broken_shown (MapShows layout b s) (MapShows layout a s) (shown_before layout root_told) layout.sectors page broken.1)
-    | inr cut ↦ inr (inl (record { run = cut.run; page = cut.page; shown = shown_before layout root_told (Entry cut.page (run_bytes cut.run)) cut.shown; of_file = cut.of_file; behind = cut.behind }))
-  ])
+  cut_evidence (Malformed window page) c t begun why = (
+    why.0,
+    elim begun [
+      | inl broken ↦ inl (broken_shown (MapShows layout b s) (MapShows layout a s) (shown_before layout root_told) layout.sectors page broken.1)
+      | inr cut ↦ inr (inl (record { run = cut.run; page = cut.page; shown = shown_before layout root_told (Entry cut.page (run_bytes cut.run)) cut.shown; of_file = cut.of_file; behind = cut.behind }))
+    ],
+  )
   cut_evidence (Missing missing page) c t begun why = absurd why
 
   pub create_of_cut : (c : DiskState) (t : Slots) (halt : Halt) → MapHalts layout b s c halt ⊎ IsToCut id 0 (MapShows layout b s) → CutHalts layout b s c t halt → CreateHalts layout id a s c t halt
@@ -123,12 +126,15 @@ module _ (layout : Layout) (is : IsLayout layout) (id : ℕ) (root : Root) {a b 
 
     make_evidence : (e : Evidence) → MakeEvidence layout id every_page c t d u e → CreateEvidence layout id a s d u e
     make_evidence (Mismatch sector wanted found) is = label_home_before (maps_come beside) since_cut (home_at sector wanted) is
-    make_evidence (Malformed window page) is = (is.0, inr (inr (record {
-      run = root_write root ∷ is.1.run;
-      makes = makes_then (makes_wider volume_page (λ id page none. absurd none) rooted.makes) (makes_then (map_makes beside) is.1.makes);
-      labelled = labels_behind id (root_write root ∷ []) is.1.run is.1.labelled;
-      in_form = form_behind page is.1.in_form;
-    })))
+    make_evidence (Malformed window page) is = (
+      is.0,
+      inr (inr (record {
+        run = root_write root ∷ is.1.run;
+        makes = makes_then (makes_wider volume_page (λ id page none. absurd none) rooted.makes) (makes_then (map_makes beside) is.1.makes);
+        labelled = labels_behind id (root_write root ∷ []) is.1.run is.1.labelled;
+        in_form = form_behind page is.1.in_form;
+      })),
+    )
     make_evidence (Missing missing page) is = (is.0, is.1, room_before (maps_come beside) since_cut d u is.2)
 
     pub create_of_make : (halt : Halt) → MakeHalts layout id every_page c t d u halt → CreateHalts layout id a s d u halt

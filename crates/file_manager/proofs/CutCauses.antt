@@ -60,9 +60,12 @@ module _ {given : Type 0} {layout : Layout} {id : ℕ} {a b : DiskState} {s t : 
 
   back_before : (e : Evidence) → PutsBack (IsUnframed t id) layout b t c u e → PutsBack given layout a s c u e
   back_before (Mismatch sector wanted found) is = absurd is
-  back_before (Malformed window page) is = (is.0, λ g m named stands map.
-      let now = keep.told g map.bytes (record { memory = m; stands = stands; shows = map.shows; size = size }) in
-      is.1 (keep.unframed g) now.memory named now.stands (record { bytes = map.bytes; shows = now.shows; names = map.names }))
+  back_before (Malformed window page) is = (
+    is.0,
+    λ g m named stands map.
+        let now = keep.told g map.bytes (record { memory = m; stands = stands; shows = map.shows; size = size }) in
+        is.1 (keep.unframed g) now.memory named now.stands (record { bytes = map.bytes; shows = now.shows; names = map.names }),
+  )
   back_before (Missing missing page) is = absurd is
 
   -- the halt of a call that shrinks the file, behind them
@@ -96,15 +99,18 @@ shrink_of_add given {layout = layout} kept id from pages {b = b} {c = c} {t = t}
   where
     filled : (m : List Sector) (named : Triples) → (n : List Sector) × Stands b t n × MapIs layout (without_from named id from) n × IsFaultOrMost layout b t (Damaged (Malformed window page)) → (page ≡ 0) × IsFullStill layout named c u
     filled m named (n, stands, map, inl not) = absurd not
-    filled m named (n, stands, map, inr (same, counts)) = (ap page_in same, record {
-      disk = b;
-      slots = t;
-      memory = n;
-      stands = stands;
-      later = without_from named id from;
-      map = map;
-      only = λ i p sector is. (and_parts (named i p sector) (not ((i == id) && nat_le from p)) is).0;
-      full = counts;
-      until = beside_here second;
-    })
+    filled m named (n, stands, map, inr (same, counts)) = (
+      ap page_in same,
+      record {
+        disk = b;
+        slots = t;
+        memory = n;
+        stands = stands;
+        later = without_from named id from;
+        map = map;
+        only = λ i p sector is. (and_parts (named i p sector) (not ((i == id) && nat_le from p)) is).0;
+        full = counts;
+        until = beside_here second;
+      },
+    )
 shrink_of_add given kept id from pages first second (Damaged (Missing missing page)) is right = absurd is

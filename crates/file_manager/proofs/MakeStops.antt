@@ -4,6 +4,7 @@ use Rattle.std.specs.Prelude.{slice_get}
 use Rattle.std.specs.List.{range_with_len}
 use Rattle.std.proofs.lemmas.Bool.{true≢false}
 use Rattle.std.proofs.lemmas.Option.{none-some}
+use Rattle.std.proofs.lemmas.List.{append_assoc}
 use Rattle.std.proofs.lemmas.List.FromFn.{length-range_with_len}
 use Rattle.labelled_disk.specs.declared.disk.DiskWrite.{DiskWrite}
 use Rattle.labelled_disk.specs.declared.disk.DiskWrite.TheVariants.{Whole}
@@ -34,7 +35,7 @@ use Rattle.filer_kernel.specs.Causes.{MapShows, MapCounts, AddEvidence, AddHalts
 use Rattle.filer_kernel.specs.Marks.{Marks, BitsAre, AreAll}
 use Rattle.filer_kernel.specs.Triples.{MapIs}
 use Rattle.session_words.specs.Volume.{volume_page}
-use Rattle.file_manager.specs.Grounds.{IsMapsHome, IsUnframed, MakesFor, IsBrokenOrFull, LabelsOne, HadAdded, IsFilled, StopsInForm, StopsAddition, WasClear, TookAll, HasNoRoom, IsToBeFree, TakeEvidence, TakeHalts, MakeEvidence, MakeHalts}
+use Rattle.file_manager.specs.Grounds.{IsMapsHome, IsUnframed, MakesFor, IsBrokenOrFull, LabelsOne, LabelsRun, EndsAt, HadAdded, IsFilled, StopsInForm, StopsAddition, WasClear, TookAll, HasNoRoom, IsToBeFree, TakeEvidence, TakeHalts, MakeEvidence, MakeHalts}
 use Rattle.file_manager.specs.Making.{sectors_of}
 use Rattle.file_manager.specs.Taking.{TakesSectors, AddsPages, NamesNoneOf, every_page, no_page_of}
 use Rattle.file_manager.proofs.Keeping.{broken_shown}
@@ -132,7 +133,7 @@ leaves_apart layout id p q r a s of_p of_q apart = record {
 }
 
 module _ {layout : Layout} {id : ℕ} (p q r : ℕ → Type 0) {run : List DiskWrite} {a b : DiskState} {s t : Slots} (makes : Makes volume_page run a s b t) (since : MakesFor layout id p a s b t) (leaves : LeavesUnnamed layout id p q r a s)
-    (begun : (IsUnframed s 0 → (bytes : List ℕ) → Tells FileMap a s layout bytes → Tells FileMap b t layout bytes) ⊎ LabelsOne id run) (c : DiskState) (u : Slots) where
+    (begun : (IsUnframed s 0 → (bytes : List ℕ) → Tells FileMap a s layout bytes → Tells FileMap b t layout bytes) ⊎ LabelsRun layout id a s b t) (c : DiskState) (u : Slots) where
   form_before : (page : ℕ) → StopsInForm layout id q page b t c u → StopsInForm layout id r page a s c u
   form_before page stops none m named stands map nothing =
       let now = since.memory none m stands in
@@ -140,13 +141,42 @@ module _ {layout : Layout} {id : ℕ} (p q r : ℕ → Type 0) {run : List DiskW
       let e = stops (unframed_still since.brings none) now.0 names.0 now.1 names.1 (leaves.next m named names.0 stands map nothing names.2) in
       (e.0, filled_before layout id p named names.0 c u names.2 e.1)
 
-  had_before : HadAdded id b t c u → HadAdded id a s c u
+  ended_before : {d : DiskState} {v : Slots} (sector : ℕ) → layout.first ≤ sector → (IsUnframed t 0 → (n : List Sector) (marks : Marks) → Stands b t n → BitsAre layout marks n → EndsAt layout id n marks d v sector)
+      → IsUnframed s 0 → (m : List Sector) (marks : Marks) → Stands a s m → BitsAre layout marks m → EndsAt layout id m marks d v sector
+  ended_before sector from ended none m marks stands bits =
+      let now = since.memory none m stands in
+      let later = now.2.taken.bits marks bits in
+      let e = ended (unframed_still since.brings none) now.0 later.0 now.1 later.1 in
+      record {
+        memory = e.memory;
+        stands = e.stands;
+        labels = labels_then now.2.taken.labels e.labels;
+        ends = elim e.ends [
+          | inl past ↦ inl past
+          | inr (inr taken) ↦ inr (inr (taken_before sector from now.2.taken.labels taken))
+          | inr (inl used) ↦ elim (later.2 sector from) [
+            | inl same ↦ inr (inl (sym same ∙ used))
+            | inr (_, taken) ↦ inr (inr (taken_then sector from taken e.labels))
+          ]
+        ];
+      }
+
+  run_before : {d : DiskState} {v : Slots} → LabelsRun layout id b t d v → LabelsRun layout id a s d v
+  run_before {d = d} {v = v} h = record {
+    front = run ++ h.front;
+    kind = h.kind;
+    run = h.run;
+    some = h.some;
+    from = h.from;
+    makes = subst (λ (ws : List DiskWrite). Makes volume_page ws a s d v) (sym (append_assoc run h.front (growth id h.kind h.run.first (sectors_of h.run)))) (makes_then makes h.makes);
+    ended = elim h.ended [ inl leader ↦ inl leader | inr ended ↦ inr (ended_before (h.run.sector + h.run.pages) (let from = h.from in omega (arith, from)) ended) ];
+  }
+
+  had_before : HadAdded layout id b t c u → HadAdded layout id a s c u
   had_before had = record {
     disk = had.disk;
     slots = had.slots;
-    first = run ++ had.first;
-    since = makes_then makes had.since;
-    added = labels_behind id run had.first had.added;
+    added = run_before had.added;
     more = had.more;
     until = had.until;
     labelled = had.labelled;
@@ -160,7 +190,7 @@ module _ {layout : Layout} {id : ℕ} (p q r : ℕ → Type 0) {run : List DiskW
     in_form = form_before page h.in_form;
     bytes = elim begun [
       | inl told ↦ elim h.bytes [ inl at ↦ inl (λ none. broken_before layout (told none) page (at (unframed_still since.brings none))) | inr had ↦ inr (had_before had) ]
-      | inr one ↦ inr (record { disk = b; slots = t; first = run; since = makes; added = one; more = h.run; until = h.makes; labelled = h.labelled })
+      | inr one ↦ inr (record { disk = b; slots = t; added = one; more = h.run; until = h.makes; labelled = h.labelled })
     ];
   }
 
@@ -192,9 +222,13 @@ module _ (layout : Layout) (id : ℕ) (pages : ℕ → Type 0) (a b : DiskState)
   take_evidence : (e : Evidence) → TakeEvidence layout a s b t e → MakeEvidence layout id pages a s b t e
   take_evidence (Mismatch sector wanted found) is = elim is.reason [ inl held ↦ inl held | inr own ↦ inr (inl (AllocationMap, own)) ]
   take_evidence (Malformed window page) is = absurd is
-  take_evidence (Missing missing page) is = (is.0, is.1, λ none m marks stands bits.
-      let full = is.2 m marks stands bits in
-      record { memory = m; stands = full.1; labels = labels_none layout id m; all = λ sector from below free. absurd (true≢false (sym (full.0 sector from below) ∙ free)) })
+  take_evidence (Missing missing page) is = (
+    is.0,
+    is.1,
+    λ none m marks stands bits.
+        let full = is.2 m marks stands bits in
+        record { memory = m; stands = full.1; labels = labels_none layout id m; all = λ sector from below free. absurd (true≢false (sym (full.0 sector from below) ∙ free)) },
+  )
 
   pub take_halts : (halt : Halt) → TakeHalts layout a s b t halt → MakeHalts layout id pages a s b t halt
   take_halts Disk is = is
@@ -235,17 +269,20 @@ module _ {layout later : Layout} (run : Run) (kind : ℕ) (pages : ℕ → Type 
       let map_now : MapIs layout named now.0 = record { bytes = map.bytes; shows = now.2.map map.bytes map.shows; names = map.names } in
       elim (right now.0 named now.1 map_now (new_run run named (λ p sector own. nothing p sector (few p own)))) [
         | inl not ↦ absurd not
-        | inr (same, counts) ↦ (ap page_in same, record {
-          disk = b;
-          slots = t;
-          memory = now.0;
-          stands = now.1;
-          later = named;
-          map = map_now;
-          adds = adds_none run.id every_page named;
-          full = counts;
-          until = beside_here beside;
-        })
+        | inr (same, counts) ↦ (
+          ap page_in same,
+          record {
+            disk = b;
+            slots = t;
+            memory = now.0;
+            stands = now.1;
+            later = named;
+            map = map_now;
+            adds = adds_none run.id every_page named;
+            full = counts;
+            until = beside_here beside;
+          },
+        )
       ]
 
   added_evidence : (e : Evidence) → AddEvidence layout b t e → ((n : List Sector) (named : Triples) → Stands b t n → MapIs layout named n → IsNew named run → IsFaultOrMost layout b t (Damaged e)) → MakeEvidence layout run.id pages a s c u e
@@ -253,13 +290,16 @@ module _ {layout later : Layout} (run : Run) (kind : ℕ) (pages : ℕ → Type 
     | inl held ↦ elim (come.homes (home_at sector wanted) held) [ inl was ↦ inl was | inr own ↦ inr (inl own) ]
     | inr own ↦ inr (inl (FileMap, own))
   ]
-  added_evidence (Malformed window page) is right = (is.0, record {
-    run = growth run.id kind run.first (sectors_of run);
-    makes = makes;
-    labelled = growth_labels_one run.id kind run.first (sectors_of run) (let long = length-range_with_len run.sector run.pages in omega (arith, long, some));
-    in_form = filled window page right;
-    bytes = inl (λ none. broken_before layout (told none) page is.1);
-  })
+  added_evidence (Malformed window page) is right = (
+    is.0,
+    record {
+      run = growth run.id kind run.first (sectors_of run);
+      makes = makes;
+      labelled = growth_labels_one run.id kind run.first (sectors_of run) (let long = length-range_with_len run.sector run.pages in omega (arith, long, some));
+      in_form = filled window page right;
+      bytes = inl (λ none. broken_before layout (told none) page is.1);
+    },
+  )
   added_evidence (Missing missing page) is right = absurd is
 
   pub added_halts : (halt : Halt) → AddHalts layout b t c halt → ((n : List Sector) (named : Triples) → Stands b t n → MapIs layout named n → IsNew named run → IsFaultOrMost layout b t halt) → MakeHalts layout run.id pages a s c u halt

@@ -63,19 +63,20 @@ file_no_root id high same = omega (arith, high, same)
 
 -- ---- A file is created.
 
-module _ (root : Root) (serial : root.serial < 2 ^ 32) (some : 1 ≤ root.serial) (counter : root.counter < 4294967295) (layout : Layout) (is : IsLayout layout) {a b : DiskState} {s t : Slots} (whole : (d : List Sector) → a.contents ≡ Some d → length d ≡ layout.sectors) where
-  there : (d : List Sector) → a.contents ≡ Some d → 0 < length d
-  there d told = let long = whole d told in let least = is.0.0 in omega (arith, long, least)
+new_is_no_root : (root : Root) → 1 ≤ root.serial → next_id root ≢ 4
+new_is_no_root root some same = omega (arith, same, some)
 
-  new_is_no_root : next_id root ≢ 4
-  new_is_no_root same = omega (arith, same, some)
+some_there : (layout : Layout) → IsLayout layout → (a : DiskState) → ((d : List Sector) → a.contents ≡ Some d → length d ≡ layout.sectors) → (d : List Sector) → a.contents ≡ Some d → 0 < length d
+some_there layout is a whole d told = let long = whole d told in let least = is.0.0 in omega (arith, long, least)
 
-  pub created_root : (kind pages : ℕ) → NewMade root kind pages a s b t → RootCounts root a b
-  created_root kind pages h =
-      let rest = creation (next_id root) kind h.leader h.sectors in
-      root_counts root rest (creation_none (next_id root) kind h.leader h.sectors new_is_no_root) serial counter (length (root_write (counted root) ∷ rest)) there
-      (subst (λ (ws : List DiskWrite). Makes volume_page ws a s b t) (sym (take_all (root_write (counted root) ∷ rest))) h.makes)
+pub created_root : (root : Root) → root.serial < 2 ^ 32 → 1 ≤ root.serial → root.counter < 4294967295 → (layout : Layout) → IsLayout layout → {a b : DiskState} {s t : Slots} → ((d : List Sector) → a.contents ≡ Some d → length d ≡ layout.sectors)
+    → (kind pages : ℕ) → NewMade root kind pages a s b t → RootCounts root a b
+created_root root serial some counter layout is {a = a} {b = b} {s = s} {t = t} whole kind pages h =
+    let rest = creation (next_id root) kind h.leader h.sectors in
+    root_counts root rest (creation_none (next_id root) kind h.leader h.sectors (new_is_no_root root some)) serial counter (length (root_write (counted root) ∷ rest)) (some_there layout is a whole)
+    (subst (λ (ws : List DiskWrite). Makes volume_page ws a s b t) (sym (take_all (root_write (counted root) ∷ rest))) h.makes)
 
-  pub created_some_root : (kind pages : ℕ) → NewSome root kind pages a s b t → RootCounts root a b
-  created_some_root kind pages h =
-      root_counts root (creation (next_id root) kind h.leader h.sectors) (creation_none (next_id root) kind h.leader h.sectors new_is_no_root) serial counter h.count there h.makes
+pub created_some_root : (root : Root) → root.serial < 2 ^ 32 → 1 ≤ root.serial → root.counter < 4294967295 → (layout : Layout) → IsLayout layout → {a b : DiskState} {s t : Slots} → ((d : List Sector) → a.contents ≡ Some d → length d ≡ layout.sectors)
+    → (kind pages : ℕ) → NewSome root kind pages a s b t → RootCounts root a b
+created_some_root root serial some counter layout is {a = a} whole kind pages h =
+    root_counts root (creation (next_id root) kind h.leader h.sectors) (creation_none (next_id root) kind h.leader h.sectors (new_is_no_root root some)) serial counter h.count (some_there layout is a whole) h.makes

@@ -227,7 +227,7 @@ module _ (root : Root) (serial counter : ℕ) (same_serial : root.serial ≡ ser
       let now = slice_get_within (written (write.Page i w bytes) d) 0 one.0 (stays ∙ one.1) in
       counts_later serial counter d (write.Page i w bytes) writes refl is_serial is_counter
       (counts_run n writes (written (write.Page i w bytes) d) labels (lawful_rest (write.Page i w bytes) writes d lawful) now
-          (serial_same d (written (write.Page i w bytes) d) stays ∙ is_serial) (counter_same d (written (write.Page i w bytes) d) stays ∙ is_counter))
+      (serial_same d (written (write.Page i w bytes) d) stays ∙ is_serial) (counter_same d (written (write.Page i w bytes) d) stays ∙ is_counter))
   counts_run zero (write.Whole i l bytes ∷ writes) d labels lawful some is_serial is_counter = absurd (none_first (write.Whole i l bytes) (filter (λ w. not (is_page_write w)) writes) labels)
   counts_run (suc n) (write.Whole i l bytes ∷ writes) d labels lawful some is_serial is_counter =
       let head : write.Whole i l bytes ≡ root_write root = same_first (write.Whole i l bytes) (root_write root) (filter (λ w. not (is_page_write w)) writes) (take n rest) labels in

@@ -1,5 +1,5 @@
 -- Why the calls that free and make pages of files stop the session: what was wanted in a sector, and what the maps said.
-use Rattle.std.specs.Prelude.{◌≡◌, ◌⊎◌, ℕ, ◌<◌, ◌≤◌, true, false, List, Some, slice_get}
+use Rattle.std.specs.Prelude.{◌≡◌, ◌⊎◌, ℕ, ◌<◌, ◌≤◌, ◌+◌, true, false, List, ◌++◌, Some, slice_get}
 use Rattle.labelled_disk.specs.declared.disk.DiskWrite.{DiskWrite}
 use Rattle.labelled_disk.specs.declared.disk.DiskWrite.TheVariants.{Whole}
 use Rattle.labelled_disk.specs.declared.evidence.Evidence.{Evidence}
@@ -7,7 +7,7 @@ use Rattle.labelled_disk.specs.declared.evidence.Evidence.TheVariants.{Mismatch,
 use Rattle.labelled_disk.specs.declared.evidence.Halt.{Halt}
 use Rattle.labelled_disk.specs.declared.layout.Layout.{Layout}
 use Rattle.labelled_disk.specs.Label.{leader_page}
-use Rattle.labelled_disk.specs.Runs.{page_label, zero_bytes}
+use Rattle.labelled_disk.specs.Runs.{growth, page_label, zero_bytes}
 use Rattle.labelled_disk.specs.Sectors.{Sector}
 use Rattle.labelled_disk.specs.State.{DiskState}
 use Rattle.frame_pool.specs.declared.home.Home.{Home}
@@ -31,6 +31,7 @@ use Rattle.filer_kernel.specs.Triples.{MapIs, IsOneOf}
 use Rattle.session_words.specs.FrameLaws.{IsThere}
 use Rattle.session_words.specs.Volume.{volume_page}
 use Rattle.file_manager.specs.Causes.{NamesNone, LeaderEvidence}
+use Rattle.file_manager.specs.Making.{sectors_of}
 use Rattle.file_manager.specs.Taking.{IsTakenFor, TakesLabels, TakesFor, AddsPages, NamesNoneOf, every_page, no_page_of}
 
 -- a page of either map, where the layout has it
@@ -113,13 +114,29 @@ IsBrokenOrFull layout page disk slots = (IsBroken layout.sectors (MapShows layou
 abbrev pub LabelsOne : ℕ → List DiskWrite → Type 0
 LabelsOne id run = (k sector kind page : ℕ) × (slice_get run k ≡ Some (Whole sector (page_label id kind page) zero_bytes))
 
--- labels of pages of this file were written, and then others of its labels
-pub record HadAdded (id : ℕ) (old : DiskState) (before : Slots) (new : DiskState) (after : Slots) : Type 0 where
+-- The file has taken sectors of a memory, and this sector is past the volume's end; or it had been marked used, or was taken.
+pub record EndsAt (layout : Layout) (id : ℕ) (m : List Sector) (marks : Marks) (disk : DiskState) (slots : Slots) (sector : ℕ) : Type 0 where
+  pub memory : List Sector
+  pub stands : Stands disk slots memory
+  pub labels : TakesLabels layout id m memory
+  pub ends : (layout.sectors ≤ sector) ⊎ ((marks sector ≡ true) ⊎ IsTakenFor id m memory sector)
+
+-- The labels of a run of this file were the last that were written. It is the leader's; or, where no frame had a page that a
+-- free label would name, the allocation map let it be no longer.
+pub record LabelsRun (layout : Layout) (id : ℕ) (old : DiskState) (before : Slots) (disk : DiskState) (slots : Slots) : Type 0 where
+  pub front : List DiskWrite
+  pub kind : ℕ
+  pub run : Run
+  pub some : 1 ≤ run.pages
+  pub from : layout.first ≤ run.sector
+  pub makes : Makes volume_page (front ++ growth id kind run.first (sectors_of run)) old before disk slots
+  pub ended : (run.first ≡ leader_page) ⊎ (IsUnframed before 0 → (m : List Sector) (marks : Marks) → Stands old before m → BitsAre layout marks m → EndsAt layout id m marks disk slots (run.sector + run.pages))
+
+-- a run of this file had been added, and then other labels of the file were written
+pub record HadAdded (layout : Layout) (id : ℕ) (old : DiskState) (before : Slots) (new : DiskState) (after : Slots) : Type 0 where
   pub disk : DiskState
   pub slots : Slots
-  pub first : List DiskWrite
-  pub since : Makes volume_page first old before disk slots
-  pub added : LabelsOne id first
+  pub added : LabelsRun layout id old before disk slots
   pub more : List DiskWrite
   pub until : Makes volume_page more disk slots new after
   pub labelled : LabelsOne id more
@@ -149,7 +166,7 @@ pub record StopsAddition (layout : Layout) (id : ℕ) (pages : ℕ → Type 0) (
   pub makes : Makes volume_page run old before new after
   pub labelled : LabelsOne id run
   pub in_form : StopsInForm layout id pages page old before new after
-  pub bytes : (IsUnframed before 0 → IsBrokenOrFull layout page old before) ⊎ HadAdded id old before new after
+  pub bytes : (IsUnframed before 0 → IsBrokenOrFull layout page old before) ⊎ HadAdded layout id old before new after
 
 -- where no frame had a page that a free label would name, the allocation map had the sector as free
 abbrev pub WasClear : Layout → DiskState → Slots → ℕ → Type 0

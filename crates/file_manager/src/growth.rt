@@ -124,6 +124,8 @@ pub(crate) fn make_run<D: Disk, A: Allocator>(
         → AreUnownedUpto tables shapes id page most → 1 ≤ free_count filer.old.swapper.layout x
         → IfOk result (λ run. Leads (Grows id kind page (sectors_of run)) (growth id kind page (sectors_of run)) (D.state filer.old.swapper.under) filer.old.swapper.pool filer.old.swapper.layout (D.state filer.new.swapper.under) filer.new.swapper.pool filer.new.runs) }
     ensures cause { IfErr result (MakeHalts filer.old.swapper.layout id (λ p. (page ≤ p) × (p < page + most)) (D.state filer.old.swapper.under) filer.old.swapper.pool (D.state filer.new.swapper.under) filer.new.swapper.pool) }
+    ensures longest { IfOk result (λ run. run.pages < most → (m : List Sector) (marks : Marks) → Stands (D.state filer.old.swapper.under) filer.old.swapper.pool m → BitsAre filer.old.swapper.layout marks m
+        → run.sector + run.pages < filer.old.swapper.layout.sectors → marks (run.sector + run.pages) ≡ true) }
     ensures takes { IfOk result (λ run. MakesFor filer.old.swapper.layout id (λ p. (page ≤ p) × (p < page + run.pages)) (D.state filer.old.swapper.under) filer.old.swapper.pool (D.state filer.new.swapper.under) filer.new.swapper.pool) }
     ensures come { Brings (IsMapsHome filer.old.swapper.layout) filer.old.swapper.pool filer.new.swapper.pool }
     ensures so { IfErr result (ShowsSo (D.state filer.new.swapper.under)) }

@@ -97,5 +97,5 @@ returns-in-Err-add-clause-cause g c =
     let right = rw lay at c.in-Err-add.ensures.right in
     shrink_of_add (IsUnframed c.args.filer.now.swapper.pool c.args.id) (runs_of layout.sectors c.args.filer.now.runs) c.args.id c.args.from (λ p. ⊥) c.cut.ensures.beside (rw lay at c.add.ensures.beside) c.in-Err-add.halt (rw lay at c.in-Err-add.ensures.cause)
     (λ m named stands map.
-        let b = c.in-Ok.ensures.cut m named stands map in
-        (b.memory, b.stands, b.is, right b.memory (without_from named c.args.id c.args.from) b.stands b.is (leader_new named c.args.id c.args.from c.args.leader few)))
+    let b = c.in-Ok.ensures.cut m named stands map in
+    (b.memory, b.stands, b.is, right b.memory (without_from named c.args.id c.args.from) b.stands b.is (leader_new named c.args.id c.args.from c.args.leader few)))

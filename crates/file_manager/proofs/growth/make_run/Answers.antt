@@ -197,6 +197,9 @@ returns-in-Err-add-clause-cause g c =
     (added_makes run c.args.kind kept refl made beside) (labelled_so is run c.args.kind c.args.most form kept c.in-Ok.ensures.taken made were) (bytes_told is run c.args.kind c.args.most form kept c.in-Ok.ensures.taken made were) beside
     c.in-Err-add.halt (rw (frames, lay) at c.in-Err-add.ensures.cause) (rw (frames, lay) at c.in-Err-add.ensures.right)
 
+pub returns-clause-longest : goal.returns-clause-longest
+returns-clause-longest g c = λ few m marks stands bits below. (c.in-Ok.ensures.lowest m marks stands bits).longest few below
+
 pub returns-clause-takes : goal.returns-clause-takes
 returns-clause-takes g c =
     let layout = c.args.filer.now.swapper.layout in

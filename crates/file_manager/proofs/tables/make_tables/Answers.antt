@@ -11,7 +11,7 @@ loop-page-init g c = tables_none _ _ _ _ c.requires.size
 pub loop-page-preserved : goal.loop-page-preserved
 loop-page-preserved g c =
     let below : c.loop-page.page < 96 = search rules in
-    tables_more c.loop-page.page _ _ _ c.args.filer.now.swapper.accepted _ _ _ _ _ c.loop-page.invariant below c.in-Ok.run' _ _ _ _ c.in-Ok.ensures.form c.in-Ok.ensures.makes c.in-Ok.ensures.made c.in-Ok.ensures.layout c.in-Ok.ensures.runs c.in-Ok.ensures.cost_made c.make_run.ensures.come c.in-Ok.ensures.takes
+    tables_more c.loop-page.page _ _ _ c.args.filer.now.swapper.accepted _ _ _ _ _ c.loop-page.invariant below c.in-Ok.run' _ _ _ _ c.in-Ok.ensures.form c.in-Ok.ensures.makes c.in-Ok.ensures.made c.in-Ok.ensures.layout c.in-Ok.ensures.runs c.in-Ok.ensures.cost_made c.make_run.ensures.come c.in-Ok.ensures.takes c.in-Ok.ensures.longest
 
 pub make_run-requires-clause-of_file : goal.make_run-requires-clause-of_file
 make_run-requires-clause-of_file g c = let below = c.loop-page.invariant.up.below in inl (refl, refl, omega (arith, below))
