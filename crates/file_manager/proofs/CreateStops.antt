@@ -1,5 +1,5 @@
 -- Why a call that creates a file stops the session: the root is written, the map is cut, and then pages are made.
-use Rattle.std.proofs.Common.{◌≡◌, ◌≢◌, ◌⊎◌, inl, inr, ℕ, ◌+◌, ◌<◌, ◌≤◌, Bool, true, false, not, ◌&&◌, List, [], ◌∷◌, length, refl, sym, ◌∙◌, ap, subst, arith, length-set}
+use Rattle.std.proofs.Common.{◌≡◌, ◌≢◌, ◌⊎◌, inl, inr, ℕ, ◌+◌, Bool, true, false, not, ◌&&◌, List, [], ◌∷◌, refl, sym, ◌∙◌, ap, subst, arith, length-set}
 use Rattle.std.specs.Prelude.{slice_get, slice_set, ◌==◌, nat_le}
 use Rattle.std.proofs.lemmas.Bool.{true≢false, and_parts, ne_eqb, cases_eq}
 use Rattle.labelled_disk.specs.declared.evidence.Evidence.{Evidence}
@@ -30,7 +30,7 @@ use Rattle.session_words.specs.Volume.{volume_page}
 use Rattle.volume_root.specs.declared.root.Root.{Root}
 use Rattle.volume_root.specs.RootPage.{root_bytes, root_label, root_write}
 use Rattle.file_manager.specs.Grounds.{IsUnframed, IsFilled, StopsInForm, MakeEvidence, MakeHalts, CreateEvidence, CreateHalts}
-use Rattle.file_manager.specs.Taking.{TakesSectors, AddsPages, NamesNoneOf, every_page}
+use Rattle.file_manager.specs.Taking.{TakesSectors, NamesNoneOf, every_page}
 use Rattle.file_manager.proofs.FreedRun.{first_is, map_makes, shows_still}
 use Rattle.file_manager.proofs.Keeping.{broken_shown}
 use Rattle.file_manager.proofs.MadeRun.{maps_come, unframed_still, file_map_alone}

@@ -4,7 +4,6 @@ use Rattle.std.specs.Prelude.{slice_get, slice_set, nat_le, nat_lt, ◌==◌, if
 use Rattle.std.proofs.lemmas.Bool.{and_parts, leb-true, ltb-true, eqb-true}
 use Rattle.std.proofs.lemmas.Bool.Decides.{nat_tests}
 use Rattle.std.proofs.lemmas.Option.{same_Some, none-some, slice_get_within}
-use Rattle.labelled_disk.specs.declared.disk.DiskWrite.{DiskWrite}
 use Rattle.labelled_disk.specs.declared.label.Label.{Label}
 use Rattle.labelled_disk.specs.declared.layout.Layout.{Layout}
 use Rattle.labelled_disk.specs.Calls.{TellsSame}
@@ -23,7 +22,6 @@ use Rattle.swapper_kernel.specs.declared.manager.Manager.{Manager}
 use Rattle.swapper_kernel.specs.declared.manager.Manager.TheVariants.{AllocationMap, FileMap}
 use Rattle.swapper_kernel.specs.Differs.{Differs}
 use Rattle.swapper_kernel.specs.DiffersLaws.{other_sector, same_length, names_id}
-use Rattle.swapper_kernel.specs.Goes.{Makes, no_page}
 use Rattle.swapper_kernel.specs.HaltLaws.{brings_itself, brings_then, brings_wider}
 use Rattle.swapper_kernel.specs.Homes.{IsLayout, Brings, wanted_at}
 use Rattle.swapper_kernel.specs.Stands.{Stands, labels_of}
@@ -36,7 +34,7 @@ use Rattle.filer_kernel.specs.Triples.{MapIs}
 use Rattle.filer_kernel.proofs.MapLemmas.{within_or_not}
 use Rattle.file_manager.specs.Grounds.{IsMapsHome, IsUnframed, MakesFor}
 use Rattle.file_manager.specs.Making.{sectors_of}
-use Rattle.file_manager.specs.Taking.{IsTakenFor, TakesLabels, TakesBits, TakesSectors, TakesFor, NamesNoneOf, AddsPages, no_page_of}
+use Rattle.file_manager.specs.Taking.{IsTakenFor, TakesLabels, TakesBits, TakesSectors, NamesNoneOf, AddsPages, no_page_of}
 use Rattle.file_manager.proofs.FreedRun.{behind_map, first_is, one_memory, shows_still}
 use Rattle.file_manager.proofs.FreedSectors.{row_at}
 use Rattle.file_manager.proofs.GrowSteps.{long_grown}

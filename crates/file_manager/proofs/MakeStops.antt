@@ -1,9 +1,7 @@
 -- Why calls that make pages stop the session, behind others.
-use Rattle.std.proofs.Common.{◌≡◌, inl, inr, ⊎_elim, ◌⊎◌, ℕ, zero, suc, ◌+◌, ◌<◌, ◌≤◌, true, false, List, [], ◌∷◌, ◌++◌, length, Some, refl, sym, ◌∙◌, ap, subst, arith}
+use Rattle.std.proofs.Common.{◌≡◌, inl, inr, ◌⊎◌, ℕ, zero, suc, ◌+◌, ◌<◌, ◌≤◌, false, List, [], ◌∷◌, ◌++◌, length, Some, refl, sym, ◌∙◌, ap, subst, arith}
 use Rattle.std.specs.Prelude.{slice_get}
-use Rattle.std.specs.List.{range_with_len}
 use Rattle.std.proofs.lemmas.Bool.{true≢false}
-use Rattle.std.proofs.lemmas.Option.{none-some}
 use Rattle.std.proofs.lemmas.List.{append_assoc}
 use Rattle.std.proofs.lemmas.List.FromFn.{length-range_with_len}
 use Rattle.labelled_disk.specs.declared.disk.DiskWrite.{DiskWrite}
@@ -24,18 +22,18 @@ use Rattle.file_map.specs.Entries.{Sight, Stops}
 use Rattle.swapper_kernel.specs.declared.manager.Manager.TheVariants.{AllocationMap, FileMap}
 use Rattle.swapper_kernel.specs.Goes.{Makes, no_page}
 use Rattle.swapper_kernel.specs.GoesLaws.{makes_nothing, makes_then, makes_wider}
-use Rattle.swapper_kernel.specs.HaltLaws.{brings_itself, brings_then, rose_wider}
-use Rattle.swapper_kernel.specs.Halts.{HasCause, IsMismatch, Halts, held_or}
+use Rattle.swapper_kernel.specs.HaltLaws.{rose_wider}
+use Rattle.swapper_kernel.specs.Halts.{HasCause, Halts, held_or}
 use Rattle.swapper_kernel.specs.Homes.{Brings, home_at}
 use Rattle.swapper_kernel.specs.Maps.{IsMapHome}
 use Rattle.swapper_kernel.specs.Stands.{Stands}
 use Rattle.swapper_kernel.specs.Window.{Tells, Beside}
 use Rattle.label_calls.specs.Runs.{IsOneTaken}
-use Rattle.filer_kernel.specs.Causes.{MapShows, MapCounts, AddEvidence, AddHalts, IsFaultOrMost}
+use Rattle.filer_kernel.specs.Causes.{MapShows, AddEvidence, AddHalts, IsFaultOrMost}
 use Rattle.filer_kernel.specs.Marks.{Marks, BitsAre, AreAll}
 use Rattle.filer_kernel.specs.Triples.{MapIs}
 use Rattle.session_words.specs.Volume.{volume_page}
-use Rattle.file_manager.specs.Grounds.{IsMapsHome, IsUnframed, MakesFor, IsBrokenOrFull, LabelsOne, LabelsRun, EndsAt, HadAdded, IsFilled, StopsInForm, StopsAddition, WasClear, TookAll, HasNoRoom, IsToBeFree, TakeEvidence, TakeHalts, MakeEvidence, MakeHalts}
+use Rattle.file_manager.specs.Grounds.{IsMapsHome, IsUnframed, MakesFor, IsBrokenOrFull, LabelsOne, LabelsRun, EndsAt, HadAdded, IsFilled, StopsInForm, StopsAddition, WasClear, HasNoRoom, IsToBeFree, TakeEvidence, TakeHalts, MakeEvidence, MakeHalts}
 use Rattle.file_manager.specs.Making.{sectors_of}
 use Rattle.file_manager.specs.Taking.{TakesSectors, AddsPages, NamesNoneOf, every_page, no_page_of}
 use Rattle.file_manager.proofs.Keeping.{broken_shown}

@@ -1,4 +1,4 @@
-use Rattle.std.proofs.Common.{rules, ◌≡◌, ◌<◌, ◌≤◌, ℕ}
+use Rattle.std.proofs.Common.{rules, ◌≡◌, ◌<◌, ◌≤◌}
 use Rattle.file_manager.proofs.UpTo.{up_all, up_cause, up_cost, up_none, up_more, up_sound, up_stopped}
 use Rattle.file_manager.proofs.GrowBroken.{up_broken}
 use Rattle.file_manager.proofs.Faults.{counted_then}
