@@ -50,7 +50,7 @@ unframed_then {layout = layout} file brings none page there = elim (brings.homes
 ]
 
 -- what is shown less of is broken less
-broken_shown : (p q : Sight → Type 0) → ((sight : Sight) → p sight → q sight) → (n page : ℕ) → IsBroken n p page → IsBroken n q page
+pub broken_shown : (p q : Sight → Type 0) → ((sight : Sight) → p sight → q sight) → (n page : ℕ) → IsBroken n p page → IsBroken n q page
 broken_shown p q all n page h = elim h [
   | inl broken ↦ inl (all (Broken page) broken)
   | inr (inl (entry, shows, other)) ↦ inr (inl (entry, all (Entry page entry) shows, other))

@@ -40,7 +40,12 @@ pub mod SoLemmas
 pub mod Keeping
 pub mod RunCauses
 pub mod CutCauses
+pub mod TakingLemmas
+pub mod MadeRun
 pub mod MakeStops
+pub mod CreateStops
 pub mod ResizeStops
 pub mod Forgotten
 pub mod OwnSteps
+pub mod RootSteps
+pub mod RootCalls

@@ -1,5 +1,5 @@
 -- Why a call that gives a file another size stops the session.
-use Rattle.std.proofs.Common.{inl, inr, ℕ, ◌<◌, ◌≤◌, List, sym, ◌∙◌, ap, subst}
+use Rattle.std.proofs.Common.{◌≡◌, inl, inr, ℕ, ◌<◌, ◌≤◌, Bool, true, false, List, refl, sym, ◌∙◌, ap, subst, arith}
 use Rattle.labelled_disk.specs.declared.evidence.Evidence.{Evidence}
 use Rattle.labelled_disk.specs.declared.evidence.Evidence.TheVariants.{Mismatch, Malformed, Missing}
 use Rattle.labelled_disk.specs.declared.evidence.Halt.{Halt}
@@ -10,11 +10,14 @@ use Rattle.labelled_disk.specs.Label.{leader_page, names}
 use Rattle.labelled_disk.specs.State.{DiskState, HasLabel}
 use Rattle.frame_pool.specs.Frames.{Slots}
 use Rattle.file_map.specs.declared.run.Run.{Run}
+use Rattle.file_map.specs.FileMap.{Triples, IsSize}
 use Rattle.swapper_kernel.specs.Homes.{home_at}
 use Rattle.filer_kernel.specs.Causes.{MapEvidence, IsRunHome}
 use Rattle.file_manager.specs.Causes.{LeaderEvidence}
 use Rattle.file_manager.specs.Finding.{IsNoLeader, FileHalts}
-use Rattle.file_manager.specs.Grounds.{IsUnframed, IsBelowSize, FreeEvidence, PutsBack, MakeEvidence, MakeHalts, ShrinkHalts, ResizeHalts}
+use Rattle.file_manager.specs.Grounds.{IsUnframed, IsBelowSize, FreeEvidence, MakeHalts, ShrinkHalts, ResizeHalts}
+use Rattle.file_manager.specs.Taking.{AddsPages, NamesNoneOf, no_page_of}
+use Rattle.file_manager.proofs.TakingLemmas.{none_later}
 
 module _ (layout : Layout) (kept : List Run) (id pages : ℕ) (a c : DiskState) (s u : Slots) where
   searched : (e : Evidence) → MapEvidence layout a s e → LeaderEvidence layout kept id a s e
@@ -40,7 +43,7 @@ module _ (layout : Layout) (kept : List Run) (id pages : ℕ) (a c : DiskState) 
   resize_of_file (Damaged e) is = elim is [ inl map ↦ inl (searched e map) | inr other ↦ inl (no_leader e other) ]
 
   -- where pages are made
-  pub resize_of_make : (halt : Halt) → MakeHalts layout a s c u halt → ResizeHalts layout kept id pages a s c u halt
+  pub resize_of_make : (halt : Halt) → MakeHalts layout id no_page_of a s c u halt → ResizeHalts layout kept id pages a s c u halt
   resize_of_make Disk is = is
   resize_of_make (Damaged e) is = inr (inl is)
 
@@ -49,16 +52,19 @@ module _ (layout : Layout) (kept : List Run) (id pages : ℕ) (a c : DiskState) 
   fewer size told (Malformed window page) is = is
   fewer size told (Missing missing page) is = (is.0, (is.1.0, told page is.1.1), is.2)
 
-  put_back : (e : Evidence) → PutsBack layout a s c u e → MakeEvidence layout a s c u e
-  put_back (Mismatch sector wanted found) is = absurd is
-  put_back (Malformed window page) is = is
-  put_back (Missing missing page) is = absurd is
+  -- no page from the size of a file on is named
+  pub above_size : (size : ℕ) (named later : Triples) → pages < 4294967295 → IsSize named id size → AddsPages id no_page_of named later → NamesNoneOf id (λ p. (size ≤ p) × (p < pages)) later
+  above_size size named later few sized adds = none_later id no_page_of (λ p. (size ≤ p) × (p < pages)) named later adds (λ p sector own. either p sector own.0 own.1 (named id p sector) refl) (λ p own not. not)
+    where
+      either : (p sector : ℕ) → size ≤ p → p < pages → (b : Bool) → named id p sector ≡ b → named id p sector ≡ false
+      either p sector from below false e = e
+      either p sector from below true e = let within = sized.highest p sector e (omega (arith, below, few)) in absurd (omega (arith, within, from))
 
   -- where pages are freed
   pub resize_of_shrink : (size : ℕ) → ((page : ℕ) → page < size → IsBelowSize layout a s id page) → (halt : Halt) → ShrinkHalts (IsUnframed s id) layout kept id pages (λ p. (pages ≤ p) × (p < size)) a s c u halt → ResizeHalts layout kept id pages a s c u halt
   resize_of_shrink size told Disk is = is
   resize_of_shrink size told (Damaged e) is = elim is [
     | inl free ↦ inr (inr (inl (fewer size told e free)))
-    | inr (inl out) ↦ inr (inr (inr out))
-    | inr (inr back) ↦ inr (inl (put_back e back))
+    | inr (inl out) ↦ inr (inr (inr (inl out)))
+    | inr (inr back) ↦ inr (inr (inr (inr back)))
   ]

@@ -1,5 +1,5 @@
 -- The pages of the space tables, made run by run.
-use Rattle.std.proofs.Common.{◌≡◌, inl, inr, ℕ, suc, ◌+◌, ◌-◌, ◌*◌, ◌<◌, ◌≤◌, Bool, false, ◌&&◌, ◌||◌, List, [], ◌∷◌, ◌++◌, length, Option, Some, None, refl, sym, ◌∙◌, ap, subst, arith}
+use Rattle.std.proofs.Common.{◌≡◌, inl, inr, ℕ, suc, ◌+◌, ◌-◌, ◌*◌, ◌<◌, ◌≤◌, Bool, true, false, ◌&&◌, ◌||◌, List, [], ◌∷◌, ◌++◌, length, Option, Some, None, refl, sym, ◌∙◌, ap, subst, arith}
 use Rattle.std.specs.Prelude.{slice_get, slice_set, nat_lt, ◌==◌, IsTrue, IsSomeAnd}
 use Rattle.std.specs.Option.{option_map_or}
 use Rattle.std.proofs.lemmas.Option.{none-some}
@@ -26,6 +26,7 @@ use Rattle.swapper_kernel.specs.GoesLaws.{goes_then, goes_wider, makes_nothing}
 use Rattle.swapper_kernel.specs.HaltLaws.{brings_itself, brings_then}
 use Rattle.filer_kernel.specs.declared.cached.CachedRuns.{CachedRuns}
 use Rattle.filer_kernel.specs.Cached.{runs_of}
+use Rattle.filer_kernel.specs.Marks.{Marks, BitsAre}
 use Rattle.session_words.specs.Found.{AreShapes}
 use Rattle.session_words.specs.Parts.{Shape, Shapes, is_owned_upto, is_marked, HasPages, HasLeaders, HasMapLabels, MarksFit, HasTriples}
 use Rattle.session_words.specs.PlaceLaws.{IsMade}
@@ -41,7 +42,7 @@ use Rattle.session_words.proofs.StartLemmas.{start_laws}
 use Rattle.file_manager.specs.Book.{BooksUpto, Leads, AreTrue}
 use Rattle.file_manager.specs.Making.{AreUnownedUpto, ShowsNoFree, GrownBy, MakesAll, IsRunFor, free_count, sectors_of}
 use Rattle.file_manager.specs.Tables.{MayBegin, BegunBy}
-use Rattle.file_manager.specs.Grounds.{IsMapsHome}
+use Rattle.file_manager.specs.Grounds.{IsMapsHome, MakesFor}
 use Rattle.file_manager.proofs.BookLemmas.{root_label_grown}
 use Rattle.file_manager.proofs.GrowSteps.{growth_append, grows_then, grows_none, long_grown}
 use Rattle.file_manager.proofs.RunLeads.{one_memory, own_known}
@@ -207,9 +208,10 @@ module _ (page : ℕ) (d0 : DiskState) (s0 : Slots) (layout : Layout) (is_layout
   -- a run more
   pub tables_more : (run : Run) (d2 : DiskState) (s2 : Slots) (l2 : Layout) (r2 : CachedRuns) → IsRunFor later.sectors 3 page (96 - page) run → Makes volume_page (growth 3 0 page (sectors_of run)) d s d2 s2
       → Asks page d s later runs (Leads (Grows 3 0 page (sectors_of run)) (growth 3 0 page (sectors_of run)) d s later d2 s2 r2)
-      → l2 ≡ later → r2 ≡ runs → d2.transfers ≤ d.transfers + (8 * later.vam + 2 * run.pages + 98) → Brings (IsMapsHome later) s s2 → AreTablesUpTo (page + run.pages) d0 s0 layout kept d2 s2 l2 r2
-  tables_more run d2 s2 l2 r2 for_it makes made same_layout same_runs cost come = record {
-    up = up_more 3 0 0 96 page d0 s0 layout is_layout kept d s later runs h.up (omega arith) run d2 s2 l2 r2 below for_it makes (made 96) same_layout same_runs cost come;
+      → l2 ≡ later → r2 ≡ runs → d2.transfers ≤ d.transfers + (8 * later.vam + 2 * run.pages + 98) → Brings (IsMapsHome later) s s2 → MakesFor later 3 (λ p. (page ≤ p) × (p < page + run.pages)) d s d2 s2
+      → (run.pages < 96 - page → (m : List Sector) (marks : Marks) → Stands d s m → BitsAre later marks m → run.sector + run.pages < later.sectors → marks (run.sector + run.pages) ≡ true) → AreTablesUpTo (page + run.pages) d0 s0 layout kept d2 s2 l2 r2
+  tables_more run d2 s2 l2 r2 for_it makes made same_layout same_runs cost come takes longest = record {
+    up = up_more 3 0 0 96 page d0 s0 layout is_layout kept d s later runs h.up (omega arith) run d2 s2 l2 r2 below for_it makes (made 96) same_layout same_runs cost come takes longest;
     begun = λ x shapes spaces may.
         let g = h.begun x shapes spaces may in
         let here = asked (Leads (Grows 3 0 page (sectors_of run)) (growth 3 0 page (sectors_of run)) d s later d2 s2 r2) made x shapes spaces may in

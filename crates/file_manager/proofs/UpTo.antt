@@ -1,11 +1,13 @@
 -- The pages of a file up to one, in a loop over runs.
-use Rattle.std.proofs.Common.{◌≡◌, ℕ, zero, suc, ◌+◌, ◌-◌, ◌*◌, ◌<◌, ◌≤◌, List, [], ◌∷◌, ◌++◌, length, take, refl, sym, ◌∙◌, ap, subst, arith}
+use Rattle.std.proofs.Common.{◌≡◌, ◌⊎◌, inl, inr, ℕ, zero, suc, ◌+◌, ◌-◌, ◌*◌, ◌<◌, ◌≤◌, List, [], ◌∷◌, ◌++◌, true, length, take, refl, sym, ◌∙◌, ap, subst, arith}
+use Rattle.std.proofs.lemmas.Bool.{cases_eq, cases_lt}
 use Rattle.std.proofs.lemmas.List.{length-append}
 use Rattle.labelled_disk.specs.declared.disk.DiskWrite.{DiskWrite}
 use Rattle.labelled_disk.specs.declared.evidence.Halt.{Halt}
 use Rattle.labelled_disk.specs.declared.evidence.Halt.TheVariants as halt
 use Rattle.labelled_disk.specs.declared.layout.Layout.{Layout}
 use Rattle.labelled_disk.specs.Label.{leader_page}
+use Rattle.labelled_disk.specs.Layout.{first_data}
 use Rattle.labelled_disk.specs.Runs.{growth}
 use Rattle.labelled_disk.specs.Sectors.{Sector}
 use Rattle.labelled_disk.specs.State.{DiskState}
@@ -13,21 +15,28 @@ use Rattle.frame_pool.specs.Frames.{Slots}
 use Rattle.file_map.specs.declared.run.Run.{Run}
 use Rattle.flat_machine.specs.declared.space.Space.{Space}
 use Rattle.swapper_kernel.specs.Homes.{IsLayout, Brings}
+use Rattle.swapper_kernel.specs.declared.manager.Manager.TheVariants.{FileMap}
 use Rattle.swapper_kernel.specs.Goes.{Makes}
 use Rattle.swapper_kernel.specs.GoesLaws.{makes_nothing, makes_then}
 use Rattle.swapper_kernel.specs.HaltLaws.{brings_itself, brings_then}
 use Rattle.filer_kernel.specs.declared.cached.CachedRuns.{CachedRuns}
 use Rattle.filer_kernel.specs.Cached.{runs_of}
+use Rattle.filer_kernel.specs.Marks.{Marks, BitsAre}
+use Rattle.filer_kernel.specs.PlaceLaws.{data_first}
 use Rattle.session_words.specs.Parts.{Shape, Shapes}
 use Rattle.session_words.specs.GrowLaws.{Grows}
 use Rattle.session_words.specs.Volume.{volume_page}
 use Rattle.file_manager.specs.Book.{Books, Leads, AreTrue}
 use Rattle.file_manager.specs.Making.{AreUnowned, ShowsNoFree, MayGrow, GrownBy, MakesAll, MakesSome, IsRunFor, free_count, sectors_of}
-use Rattle.file_manager.specs.Grounds.{IsMapsHome}
+use Rattle.file_manager.specs.Grounds.{IsMapsHome, IsUnframed, LabelsRun, EndsAt, MakesFor, MakeHalts}
 use Rattle.file_manager.proofs.GrowSteps.{growth_append, grows_none}
 use Rattle.file_manager.proofs.RunLeads.{one_memory}
 use Rattle.file_manager.proofs.UpLemmas.{after, books_then, unowned_then, some_then, run_then, longer}
-use Rattle.swapper_kernel.specs.Stands.{labels_of}
+use Rattle.swapper_kernel.specs.Stands.{Stands, labels_of}
+use Rattle.swapper_kernel.specs.Window.{Tells}
+use Rattle.file_manager.proofs.MadeRun.{made_none, made_then, unframed_still}
+use Rattle.file_manager.proofs.MakeStops.{leaves_apart, make_halts_before}
+use Rattle.file_manager.proofs.TakingLemmas.{labels_then, taken_then}
 
 pub record IsUpTo (id kind from end page : ℕ) (d0 : DiskState) (s0 : Slots) (layout : Layout) (kept : CachedRuns) (d : DiskState) (s : Slots) (later : Layout) (runs : CachedRuns) : Type 0 where
   pub above : from ≤ page
@@ -38,6 +47,9 @@ pub record IsUpTo (id kind from end page : ℕ) (d0 : DiskState) (s0 : Slots) (l
   pub cost : d.transfers ≤ d0.transfers + (page - from) * (8 * layout.vam + 100)
   pub makes : MakesAll id kind from (page - from) d0 s0 d s
   pub come : Brings (IsMapsHome layout) s0 s
+  pub takes : MakesFor layout id (λ p. (from ≤ p) × (p < page)) d0 s0 d s
+  pub untouched : page ≡ from → (bytes : List ℕ) → Tells FileMap d0 s0 layout bytes → Tells FileMap d s layout bytes
+  pub last : from < page → page < end → LabelsRun layout id d0 s0 d s
   pub told : (x : List Sector) (shapes : Shapes) (spaces : List Space) (f : Shape) → MayGrow d0 s0 layout kept shapes spaces id f end x → f.size ≡ from → GrownBy id kind from (page - from) d0 s0 layout d s kept
 
 -- what a run costs is at most so much a page
@@ -64,6 +76,9 @@ up_none id kind from end d0 s0 layout kept order size = record {
   cost = omega arith;
   makes = record { sectors = []; long = omega arith; makes = makes_nothing volume_page d0 s0 };
   come = brings_itself (IsMapsHome layout) s0;
+  takes = made_none layout id (λ p. (from ≤ p) × (p < from)) d0 s0;
+  untouched = λ same bytes tells. tells;
+  last = λ past below. absurd (omega (arith, past));
   told = λ x shapes spaces f may is. record {
     sectors = [];
     long = omega arith;
@@ -84,8 +99,9 @@ module _ (id kind from end page : ℕ) (d0 : DiskState) (s0 : Slots) (layout : L
   pub up_more : (run : Run) (d2 : DiskState) (s2 : Slots) (l2 : Layout) (r2 : CachedRuns) → page < end → IsRunFor later.sectors id page (end - page) run → Makes volume_page (growth id kind page (sectors_of run)) d s d2 s2
       → ((x : List Sector) (shapes : Shapes) (spaces : List Space) → Books d s later runs shapes spaces x → ShowsNoFree spaces → AreUnowned shapes id page (end - page) → 1 ≤ free_count later x
       → Leads (Grows id kind page (sectors_of run)) (growth id kind page (sectors_of run)) d s later d2 s2 r2)
-      → l2 ≡ later → r2 ≡ runs → d2.transfers ≤ d.transfers + (8 * later.vam + 2 * run.pages + 98) → Brings (IsMapsHome later) s s2 → IsUpTo id kind from end (page + run.pages) d0 s0 layout kept d2 s2 l2 r2
-  up_more run d2 s2 l2 r2 below for_it makes made same_layout same_runs cost come =
+      → l2 ≡ later → r2 ≡ runs → d2.transfers ≤ d.transfers + (8 * later.vam + 2 * run.pages + 98) → Brings (IsMapsHome later) s s2 → MakesFor later id (λ p. (page ≤ p) × (p < page + run.pages)) d s d2 s2
+      → (run.pages < end - page → (m : List Sector) (marks : Marks) → Stands d s m → BitsAre later marks m → run.sector + run.pages < later.sectors → marks (run.sector + run.pages) ≡ true) → IsUpTo id kind from end (page + run.pages) d0 s0 layout kept d2 s2 l2 r2
+  up_more run d2 s2 l2 r2 below for_it makes made same_layout same_runs cost come takes longest =
       let few = for_it.few in
       let above = up.above in
       let all = up.makes in
@@ -107,6 +123,19 @@ module _ (id kind from end page : ℕ) (d0 : DiskState) (s0 : Slots) (layout : L
               (makes_then all.makes (subst (λ (n : ℕ). Makes volume_page (growth id kind n (sectors_of run)) d s d2 s2) (sym so_far) makes));
         };
         come = brings_then up.come (subst (λ (l : Layout). Brings (IsMapsHome l) s s2) up.same_layout come);
+        takes = made_then (λ p. (from ≤ p) × (p < page)) (λ p. (page ≤ p) × (p < page + run.pages)) (λ p. (from ≤ p) × (p < page + run.pages))
+            (λ p own. (own.0, let below = own.1 in omega (arith, below))) (λ p own. (let after = own.0 in omega (arith, above, after), own.1)) (λ p own other. let after = own.0 in let before = other.1 in omega (arith, after, before))
+            up.takes (subst (λ (l : Layout). MakesFor l id (λ p. (page ≤ p) × (p < page + run.pages)) d s d2 s2) up.same_layout takes);
+        untouched = λ same. let some = for_it.form.some in absurd (omega (arith, same, above, some));
+        last = λ past short. record {
+          front = growth id kind from all.sectors;
+          kind = kind;
+          run = run;
+          some = for_it.form.some;
+          from = from_first;
+          makes = makes_then all.makes (subst (λ (n : ℕ). Makes volume_page (growth id kind n (sectors_of run)) d s d2 s2) (sym for_it.same_first) makes);
+          ended = inr (run_ends (omega (arith, short, few)) (subst (λ (l : Layout). MakesFor l id (λ p. (page ≤ p) × (p < page + run.pages)) d s d2 s2) up.same_layout takes) (rw up.same_layout at longest));
+        };
         told = λ x shapes spaces f may size.
             let g = up.told x shapes spaces f may size in
             let at = reached f g.sectors size g.long in
@@ -125,6 +154,30 @@ module _ (id kind from end page : ℕ) (d0 : DiskState) (s0 : Slots) (layout : L
             };
       }
     where
+      from_first : layout.first ≤ run.sector
+      from_first = let is = data_first layout is_layout in let sectors = subst (λ (l : Layout). first_data l.sectors ≤ run.sector) up.same_layout for_it.form.from_data in omega (arith, is, sectors)
+
+      run_ends : run.pages < end - page → MakesFor layout id (λ p. (page ≤ p) × (p < page + run.pages)) d s d2 s2
+          → (run.pages < end - page → (m : List Sector) (marks : Marks) → Stands d s m → BitsAre layout marks m → run.sector + run.pages < layout.sectors → marks (run.sector + run.pages) ≡ true)
+          → IsUnframed s0 0 → (m : List Sector) (marks : Marks) → Stands d0 s0 m → BitsAre layout marks m → EndsAt layout id m marks d2 s2 (run.sector + run.pages)
+      run_ends short takes longest none m marks stands bits =
+          let now = up.takes.memory none m stands in
+          let later = now.2.taken.bits marks bits in
+          let two = takes.memory (unframed_still up.takes.brings none) now.0 now.1 in
+          let at : layout.first ≤ run.sector + run.pages = let from = from_first in omega (arith, from) in
+          record {
+            memory = two.0;
+            stands = two.1;
+            labels = labels_then now.2.taken.labels two.2.taken.labels;
+            ends = elim (cases_lt (run.sector + run.pages) layout.sectors) [
+              | inr past ↦ inl past
+              | inl below ↦ elim (later.2 (run.sector + run.pages) at) [
+                | inl same ↦ inr (inl (sym same ∙ longest short now.0 later.0 now.1 later.1 below))
+                | inr (_, taken) ↦ inr (inr (taken_then (run.sector + run.pages) at taken two.2.taken.labels))
+              ]
+            ];
+          }
+
       from_page : (is : List ℕ) → length is ≡ page - from → from + length is ≡ page
       from_page is long = let above = up.above in omega (arith, long, above)
 
@@ -164,6 +217,23 @@ module _ (id kind from end page : ℕ) (d0 : DiskState) (s0 : Slots) (layout : L
             (sym (ap (take (length (growth id kind from all.sectors) + some.count)) (growth_append id kind from all.sectors some.sectors) ∙ take_past (growth id kind from all.sectors) (growth id kind (from + length all.sectors) some.sectors) some.count))
             (makes_then all.makes (subst (λ (n : ℕ). Makes volume_page (take some.count (growth id kind n some.sectors)) d s d2 s2) (sym so_far) some.makes));
       }
+
+  -- why it stopped
+  pub up_cause : (r : ℕ → Type 0) → ((p : ℕ) → (from ≤ p) × (p < end) → r p) → (d2 : DiskState) (s2 : Slots) (e : Halt) → page < end → MakeHalts layout id (λ p. (page ≤ p) × (p < page + (end - page))) d s d2 s2 e → MakeHalts layout id r d0 s0 d2 s2 e
+  up_cause r within d2 s2 e below why =
+      let above = up.above in
+      make_halts_before (λ p. (from ≤ p) × (p < page)) (λ p. (page ≤ p) × (p < page + (end - page))) r up.makes.makes up.takes
+      (leaves_apart layout id (λ p. (from ≤ p) × (p < page)) (λ p. (page ≤ p) × (p < page + (end - page))) r d0 s0
+      (λ p own. within p (own.0, let before = own.1 in omega (arith, before, below)))
+      (λ p own. within p (let after = own.0 in omega (arith, after, above), let before = own.1 in omega (arith, before, below)))
+      (λ p own other. let after = own.0 in let before = other.1 in omega (arith, after, before)))
+      begun d2 s2 e why
+    where
+      begun : (IsUnframed s0 0 → (bytes : List ℕ) → Tells FileMap d0 s0 layout bytes → Tells FileMap d s layout bytes) ⊎ LabelsRun layout id d0 s0 d s
+      begun = elim (cases_eq page from) [
+        | inl same ↦ inl (λ none. up.untouched same)
+        | inr other ↦ let above = up.above in inr (up.last (omega (arith, other, above)) below)
+      ]
 
 -- all pages are made
 pub up_all : (id kind from end page : ℕ) (d0 : DiskState) (s0 : Slots) (layout : Layout) (kept : CachedRuns) (d : DiskState) (s : Slots) (later : Layout) (runs : CachedRuns) → page ≡ end

@@ -1,23 +1,25 @@
 -- Why the calls that free and make pages of files stop the session: what was wanted in a sector, and what the maps said.
-use Rattle.std.specs.Prelude.{◌≡◌, ◌⊎◌, ℕ, ◌<◌, ◌≤◌, true, false, List}
+use Rattle.std.specs.Prelude.{◌≡◌, ◌⊎◌, ℕ, ◌<◌, ◌≤◌, ◌+◌, true, false, List, ◌++◌, Some, slice_get}
 use Rattle.labelled_disk.specs.declared.disk.DiskWrite.{DiskWrite}
+use Rattle.labelled_disk.specs.declared.disk.DiskWrite.TheVariants.{Whole}
 use Rattle.labelled_disk.specs.declared.evidence.Evidence.{Evidence}
 use Rattle.labelled_disk.specs.declared.evidence.Evidence.TheVariants.{Mismatch, Malformed, Missing}
 use Rattle.labelled_disk.specs.declared.evidence.Halt.{Halt}
 use Rattle.labelled_disk.specs.declared.layout.Layout.{Layout}
 use Rattle.labelled_disk.specs.Label.{leader_page}
+use Rattle.labelled_disk.specs.Runs.{growth, page_label, zero_bytes}
 use Rattle.labelled_disk.specs.Sectors.{Sector}
 use Rattle.labelled_disk.specs.State.{DiskState}
 use Rattle.frame_pool.specs.declared.home.Home.{Home}
 use Rattle.frame_pool.specs.Frames.{Slots}
 use Rattle.file_map.specs.declared.run.Run.{Run}
-use Rattle.file_map.specs.FileMap.{Triples, IsSize}
+use Rattle.file_map.specs.FileMap.{Triples, IsSize, most_records}
 use Rattle.file_map.specs.Cause.{IsBroken, IsMost, IsToCut}
 use Rattle.swapper_kernel.specs.declared.manager.Manager.{Manager}
 use Rattle.swapper_kernel.specs.declared.manager.Manager.TheVariants.{AllocationMap, FileMap}
 use Rattle.swapper_kernel.specs.Maps.{IsMapHome}
 use Rattle.swapper_kernel.specs.Homes.{Homes, Brings, home_at}
-use Rattle.swapper_kernel.specs.Halts.{HasCause, held_or}
+use Rattle.swapper_kernel.specs.Halts.{HasCause, IsOther, held_or}
 use Rattle.swapper_kernel.specs.Stands.{Stands}
 use Rattle.swapper_kernel.specs.Goes.{Makes}
 use Rattle.swapper_kernel.specs.Window.{Tells, Beside}
@@ -29,6 +31,8 @@ use Rattle.filer_kernel.specs.Triples.{MapIs, IsOneOf}
 use Rattle.session_words.specs.FrameLaws.{IsThere}
 use Rattle.session_words.specs.Volume.{volume_page}
 use Rattle.file_manager.specs.Causes.{NamesNone, LeaderEvidence}
+use Rattle.file_manager.specs.Making.{sectors_of}
+use Rattle.file_manager.specs.Taking.{IsTakenFor, TakesLabels, TakesFor, AddsPages, NamesNoneOf, every_page, no_page_of}
 
 -- a page of either map, where the layout has it
 abbrev pub IsMapsHome : Layout → Homes
@@ -96,32 +100,100 @@ pub record KeepsMap (given : Type 0) (layout : Layout) (id : ℕ) (old : DiskSta
 
 -- ---- Pages that are made.
 
--- As disk and frames were when the last accesses to a map began, P held.
-pub record HeldOnce (which : Manager) (layout : Layout) (P : DiskState → Slots → Type 0) (old : DiskState) (before : Slots) (new : DiskState) (after : Slots) : Type 0 where
-  pub disk : DiskState
-  pub slots : Slots
-  pub run : List DiskWrite
-  pub since : Makes volume_page run old before disk slots
-  pub come : Brings (IsMapsHome layout) before slots
-  pub until : Beside which disk slots layout new after layout
-  pub held : P disk slots
+-- What calls that make these pages of a file leave: pages of the maps alone came into frames; and where no frame had a page
+-- that a free label would name, the file took sectors for these pages, and nothing else of labels and maps changed.
+pub record MakesFor (layout : Layout) (id : ℕ) (pages : ℕ → Type 0) (old : DiskState) (before : Slots) (new : DiskState) (after : Slots) : Type 0 where
+  pub brings : Brings (IsMapsHome layout) before after
+  pub memory : IsUnframed before 0 → (m : List Sector) → Stands old before m → (n : List Sector) × Stands new after n × TakesFor layout id pages m n
 
 -- the page of the map breaks its form, or no record can be put in there, or it is page 0 and the map has as many as it may
 abbrev pub IsBrokenOrFull : Layout → ℕ → DiskState → Slots → Type 0
 IsBrokenOrFull layout page disk slots = (IsBroken layout.sectors (MapShows layout disk slots) page ⊎ MapShows layout disk slots (Stops page)) ⊎ ((page ≡ 0) × IsMost layout.sectors (MapCounts layout disk slots))
 
--- no data sector is free
-abbrev pub HasNoRoom : Layout → DiskState → Slots → Type 0
-HasNoRoom layout disk slots = (m : List Sector) (marks : Marks) → Stands disk slots m → BitsAre layout marks m → AreAll true marks layout.first layout.sectors
+-- the label of a page of this file is among the writes
+abbrev pub LabelsOne : ℕ → List DiskWrite → Type 0
+LabelsOne id run = (k sector kind page : ℕ) × (slice_get run k ≡ Some (Whole sector (page_label id kind page) zero_bytes))
 
--- as disk and frames were when the sector was taken, the allocation map had it as free
-pub record WasClear (layout : Layout) (old : DiskState) (before : Slots) (sector : ℕ) : Type 0 where
+-- The file has taken sectors of a memory, and this sector is past the volume's end; or it had been marked used, or was taken.
+pub record EndsAt (layout : Layout) (id : ℕ) (m : List Sector) (marks : Marks) (disk : DiskState) (slots : Slots) (sector : ℕ) : Type 0 where
+  pub memory : List Sector
+  pub stands : Stands disk slots memory
+  pub labels : TakesLabels layout id m memory
+  pub ends : (layout.sectors ≤ sector) ⊎ ((marks sector ≡ true) ⊎ IsTakenFor id m memory sector)
+
+-- The labels of a run of this file were the last that were written. It is the leader's; or, where no frame had a page that a
+-- free label would name, the allocation map let it be no longer.
+pub record LabelsRun (layout : Layout) (id : ℕ) (old : DiskState) (before : Slots) (disk : DiskState) (slots : Slots) : Type 0 where
+  pub front : List DiskWrite
+  pub kind : ℕ
+  pub run : Run
+  pub some : 1 ≤ run.pages
+  pub from : layout.first ≤ run.sector
+  pub makes : Makes volume_page (front ++ growth id kind run.first (sectors_of run)) old before disk slots
+  pub ended : (run.first ≡ leader_page) ⊎ (IsUnframed before 0 → (m : List Sector) (marks : Marks) → Stands old before m → BitsAre layout marks m → EndsAt layout id m marks disk slots (run.sector + run.pages))
+
+-- a run of this file had been added, and then other labels of the file were written
+pub record HadAdded (layout : Layout) (id : ℕ) (old : DiskState) (before : Slots) (new : DiskState) (after : Slots) : Type 0 where
   pub disk : DiskState
   pub slots : Slots
+  pub added : LabelsRun layout id old before disk slots
+  pub more : List DiskWrite
+  pub until : Makes volume_page more disk slots new after
+  pub labelled : LabelsOne id more
+
+-- When the last accesses to the file map began, it was in form, and had as many records as it may: it named what it had named
+-- before, and besides it pages of this file alone.
+pub record IsFilled (layout : Layout) (id : ℕ) (named : Triples) (new : DiskState) (after : Slots) : Type 0 where
+  pub disk : DiskState
+  pub slots : Slots
+  pub memory : List Sector
+  pub stands : Stands disk slots memory
+  pub later : Triples
+  pub map : MapIs layout later memory
+  pub adds : AddsPages id every_page named later
+  pub full : MapCounts layout disk slots (most_records layout.sectors)
+  pub until : Beside FileMap disk slots layout new after layout
+
+-- where the map was in form, and named none of these pages of the file, it is page 0, and the file has filled the map
+abbrev pub StopsInForm : Layout → ℕ → (ℕ → Type 0) → ℕ → DiskState → Slots → DiskState → Slots → Type 0
+StopsInForm layout id pages page old before new after =
+    IsUnframed before 0 → (m : List Sector) (named : Triples) → Stands old before m → MapIs layout named m → NamesNoneOf id pages named → (page ≡ 0) × IsFilled layout id named new after
+
+-- The page of the map stops the addition of a run of the file, of whose pages labels were written. The page was broken or full
+-- at the start, where no frame had a page that a free label would name; or another run of the file had been added.
+pub record StopsAddition (layout : Layout) (id : ℕ) (pages : ℕ → Type 0) (page : ℕ) (old : DiskState) (before : Slots) (new : DiskState) (after : Slots) : Type 0 where
   pub run : List DiskWrite
-  pub since : Makes volume_page run old before disk slots
-  pub come : Brings (IsMapsHome layout) before slots
-  pub clear : (m : List Sector) (marks : Marks) → Stands disk slots m → BitsAre layout marks m → marks sector ≡ false
+  pub makes : Makes volume_page run old before new after
+  pub labelled : LabelsOne id run
+  pub in_form : StopsInForm layout id pages page old before new after
+  pub bytes : (IsUnframed before 0 → IsBrokenOrFull layout page old before) ⊎ HadAdded layout id old before new after
+
+-- where no frame had a page that a free label would name, the allocation map had the sector as free
+abbrev pub WasClear : Layout → DiskState → Slots → ℕ → Type 0
+WasClear layout disk slots sector = IsUnframed slots 0 → (m : List Sector) (marks : Marks) → Stands disk slots m → BitsAre layout marks m → marks sector ≡ false
+
+-- the evidence is a label, another than that of a home of the allocation map or of a frame; or a page of the space tables, where
+-- no data sector is free, and the memory is as it was
+abbrev pub TakeEvidence : Layout → DiskState → Slots → DiskState → Slots → Evidence → Type 0
+TakeEvidence layout old before new after (Mismatch sector wanted found) = IsOther (held_or before (IsMapHome AllocationMap layout)) old sector wanted found
+TakeEvidence layout old before new after (Malformed window page) = ⊥
+TakeEvidence layout old before new after (Missing id page) =
+    (id ≡ 3) × (page ≡ 0) × ((m : List Sector) (marks : Marks) → Stands old before m → BitsAre layout marks m → AreAll true marks layout.first layout.sectors × Stands new after m)
+
+-- the halt of a call that takes sectors
+abbrev pub TakeHalts : Layout → DiskState → Slots → DiskState → Slots → Halt → Type 0
+TakeHalts layout old before new after halt = HasCause (TakeEvidence layout old before new after) old new halt
+
+-- Each data sector that the allocation map had as free was taken for the file.
+pub record TookAll (layout : Layout) (id : ℕ) (m : List Sector) (marks : Marks) (new : DiskState) (after : Slots) : Type 0 where
+  pub memory : List Sector
+  pub stands : Stands new after memory
+  pub labels : TakesLabels layout id m memory
+  pub all : (sector : ℕ) → layout.first ≤ sector → sector < layout.sectors → marks sector ≡ false → IsTakenFor id m memory sector
+
+-- that is so, where no frame had a page that a free label would name
+abbrev pub HasNoRoom : Layout → ℕ → DiskState → Slots → DiskState → Slots → Type 0
+HasNoRoom layout id old before new after = IsUnframed before 0 → (m : List Sector) (marks : Marks) → Stands old before m → BitsAre layout marks m → TookAll layout id m marks new after
 
 -- a data sector, where nobody's page is wanted, since the allocation map had it as free
 pub record IsToBeFree (layout : Layout) (old : DiskState) (before : Slots) (home : Home) : Type 0 where
@@ -131,33 +203,69 @@ pub record IsToBeFree (layout : Layout) (old : DiskState) (before : Slots) (home
   pub was : WasClear layout old before home.sector
 
 -- The evidence is a label in a home of a map or of a frame, or one of a data sector that was to be free; or a page of the
--- map; or a page of the space tables, where no data sector is free.
-abbrev pub MakeEvidence : Layout → DiskState → Slots → DiskState → Slots → Evidence → Type 0
-MakeEvidence layout old before new after (Mismatch sector wanted found) = held_or before (λ home. IsMapsHome layout home ⊎ IsToBeFree layout old before home) (home_at sector wanted)
-MakeEvidence layout old before new after (Malformed window page) = (window ≡ 2) × HeldOnce FileMap layout (IsBrokenOrFull layout page) old before new after
-MakeEvidence layout old before new after (Missing id page) = (id ≡ 3) × (page ≡ 0) × HeldOnce AllocationMap layout (HasNoRoom layout) old before new after
+-- map that stops an addition; or a page of the space tables, where no data sector is left.
+abbrev pub MakeEvidence : Layout → ℕ → (ℕ → Type 0) → DiskState → Slots → DiskState → Slots → Evidence → Type 0
+MakeEvidence layout file pages old before new after (Mismatch sector wanted found) = held_or before (λ home. IsMapsHome layout home ⊎ IsToBeFree layout old before home) (home_at sector wanted)
+MakeEvidence layout file pages old before new after (Malformed window page) = (window ≡ 2) × StopsAddition layout file pages page old before new after
+MakeEvidence layout file pages old before new after (Missing id page) = (id ≡ 3) × (page ≡ 0) × HasNoRoom layout file old before new after
 
--- the halt of a call that makes pages
-abbrev pub MakeHalts : Layout → DiskState → Slots → DiskState → Slots → Halt → Type 0
-MakeHalts layout old before new after halt = HasCause (MakeEvidence layout old before new after) old new halt
+-- the halt of a call that makes these pages of a file
+abbrev pub MakeHalts : Layout → ℕ → (ℕ → Type 0) → DiskState → Slots → DiskState → Slots → Halt → Type 0
+MakeHalts layout id pages old before new after halt = HasCause (MakeEvidence layout id pages old before new after) old new halt
+
+-- ---- A new file, which the map is cut of first.
+
+-- The page of the map stops an addition, after a label of the file was written.
+pub record StopsCreation (layout : Layout) (id page : ℕ) (old : DiskState) (before : Slots) (new : DiskState) (after : Slots) : Type 0 where
+  pub run : List DiskWrite
+  pub makes : Makes volume_page run old before new after
+  pub labelled : LabelsOne id run
+  pub in_form : StopsInForm layout id every_page page old before new after
+
+-- As where its pages are made. Or the page of the map broke its form at the start; or the map had a record of the file, which
+-- was to be taken out.
+abbrev pub CreateEvidence : Layout → ℕ → DiskState → Slots → DiskState → Slots → Evidence → Type 0
+CreateEvidence layout file old before new after (Mismatch sector wanted found) = held_or before (λ home. IsMapsHome layout home ⊎ IsToBeFree layout old before home) (home_at sector wanted)
+CreateEvidence layout file old before new after (Malformed window page) =
+    (window ≡ 2) × (IsBroken layout.sectors (MapShows layout old before) page ⊎ (IsToCut file 0 (MapShows layout old before) ⊎ StopsCreation layout file page old before new after))
+CreateEvidence layout file old before new after (Missing id page) = (id ≡ 3) × (page ≡ 0) × HasNoRoom layout file old before new after
+
+-- the halt of a call that creates this file
+abbrev pub CreateHalts : Layout → ℕ → DiskState → Slots → DiskState → Slots → Halt → Type 0
+CreateHalts layout id old before new after halt = HasCause (CreateEvidence layout id old before new after) old new halt
 
 -- ---- Another size.
 
--- the evidence is a page of the map, as the last accesses to it found it
-abbrev pub PutsBack : Layout → DiskState → Slots → DiskState → Slots → Evidence → Type 0
-PutsBack layout old before new after (Mismatch sector wanted found) = ⊥
-PutsBack layout old before new after (Malformed window page) = (window ≡ 2) × HeldOnce FileMap layout (IsBrokenOrFull layout page) old before new after
-PutsBack layout old before new after (Missing id page) = ⊥
+-- When the last accesses to the file map began, it was in form, and had as many records as it may: it named nothing that it
+-- had not named before.
+pub record IsFullStill (layout : Layout) (named : Triples) (new : DiskState) (after : Slots) : Type 0 where
+  pub disk : DiskState
+  pub slots : Slots
+  pub memory : List Sector
+  pub stands : Stands disk slots memory
+  pub later : Triples
+  pub map : MapIs layout later memory
+  pub only : (id page sector : ℕ) → later id page sector ≡ true → named id page sector ≡ true
+  pub full : MapCounts layout disk slots (most_records layout.sectors)
+  pub until : Beside FileMap disk slots layout new after layout
+
+-- the evidence is a page of the map: where that was in form and something is given, it is page 0, and the map is full
+abbrev pub PutsBack : Type 0 → Layout → DiskState → Slots → DiskState → Slots → Evidence → Type 0
+PutsBack given layout old before new after (Mismatch sector wanted found) = ⊥
+PutsBack given layout old before new after (Malformed window page) =
+    (window ≡ 2) × (given → (m : List Sector) (named : Triples) → Stands old before m → MapIs layout named m → (page ≡ 0) × IsFullStill layout named new after)
+PutsBack given layout old before new after (Missing id page) = ⊥
 
 -- The halt of a call that frees these pages of a file, takes it from page `from` on out of the map, and puts its leader in
 -- again.
 abbrev pub ShrinkHalts : Type 0 → Layout → List Run → ℕ → ℕ → (ℕ → Type 0) → DiskState → Slots → DiskState → Slots → Halt → Type 0
 ShrinkHalts given layout kept id from pages old before new after halt =
-    HasCause (λ evidence. FreeEvidence given layout kept id pages old before evidence ⊎ (TakesOut given layout id from old before evidence ⊎ PutsBack layout old before new after evidence)) old new halt
+    HasCause (λ evidence. FreeEvidence given layout kept id pages old before evidence ⊎ (TakesOut given layout id from old before evidence ⊎ PutsBack given layout old before new after evidence)) old new halt
 
 -- The halt of a call that gives a file so many pages: it has no leader; or pages could not be made; or as where those from the
 -- new size on are freed.
 abbrev pub ResizeHalts : Layout → List Run → ℕ → ℕ → DiskState → Slots → DiskState → Slots → Halt → Type 0
 ResizeHalts layout kept id pages old before new after halt =
-    HasCause (λ evidence. LeaderEvidence layout kept id old before evidence ⊎ (MakeEvidence layout old before new after evidence
-    ⊎ (FreeEvidence (IsUnframed before id) layout kept id (λ page. (pages ≤ page) × IsBelowSize layout old before id page) old before evidence ⊎ TakesOut (IsUnframed before id) layout id pages old before evidence))) old new halt
+    HasCause (λ evidence. LeaderEvidence layout kept id old before evidence ⊎ (MakeEvidence layout id no_page_of old before new after evidence
+    ⊎ (FreeEvidence (IsUnframed before id) layout kept id (λ page. (pages ≤ page) × IsBelowSize layout old before id page) old before evidence
+    ⊎ (TakesOut (IsUnframed before id) layout id pages old before evidence ⊎ PutsBack (IsUnframed before id) layout old before new after evidence)))) old new halt

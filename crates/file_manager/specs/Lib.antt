@@ -12,4 +12,6 @@ pub mod Shrinking
 pub mod Resizing
 pub mod Tables
 pub mod Causes
+pub mod Taking
+pub mod Roots
 pub mod Grounds

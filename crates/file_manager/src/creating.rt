@@ -10,11 +10,12 @@ ghost use Rattle.label_calls.specs.Labels.{MayHaveWritten};
 ghost use Rattle.session_words.specs.Parts.{Shapes};
 ghost use Rattle.swapper_kernel.specs.Goes.{Goes, no_page};
 ghost use Rattle.volume_root.specs.RootPage.{IsValidRoot, root_write};
-ghost use Rattle.file_manager.specs.Grounds.{MakeHalts};
+ghost use Rattle.file_manager.specs.Grounds.{CreateHalts};
 ghost use Rattle.filer_kernel.specs.Evidence.{ShowsSo};
 ghost use Rattle.file_manager.specs.CreateBroken.{CreatedSome};
 ghost use Rattle.file_manager.specs.Creating.{next_id, counted, CreatedAs, NewMade, NewSome};
 ghost use Rattle.file_manager.specs.Making.{MayCreate};
+ghost use Rattle.file_manager.specs.Roots.{RootCounts};
 
 use crate::Volume;
 use crate::growth::frames_of;
@@ -86,13 +87,14 @@ pub fn create<D: Disk, A: Allocator>(
         → IfErr result (λ e. e ≡ halt.Disk) }
     ensures broken { (x : List Sector) (shapes : Shapes) (spaces : List Space) → MayCreate (D.state filer.old.swapper.under) filer.old.swapper.pool filer.old.swapper.layout filer.old.runs shapes spaces (next_id volume.old.root) pages x
         → OnErr result (CreatedSome (root_write (counted volume.old.root) ∷ []) (next_id volume.old.root) kind pages x (D.state filer.old.swapper.under) filer.old.swapper.pool (D.state filer.new.swapper.under) filer.new.swapper.pool) }
-    ensures cause { IfErr result (MakeHalts filer.old.swapper.layout (D.state filer.old.swapper.under) filer.old.swapper.pool (D.state filer.new.swapper.under) filer.new.swapper.pool) }
+    ensures cause { IfErr result (CreateHalts filer.old.swapper.layout (next_id volume.old.root) (D.state filer.old.swapper.under) filer.old.swapper.pool (D.state filer.new.swapper.under) filer.new.swapper.pool) }
     ensures so { IfErr result (ShowsSo (D.state filer.new.swapper.under)) }
     ensures counted { result ≡ Err halt.Disk → Rose (D.state filer.old.swapper.under).faults (D.state filer.new.swapper.under).faults }
     ensures new_volume { OnOk result (volume.new ≡ record volume.old { root = counted volume.old.root; used = volume.old.used + pages + 1 }) }
     ensures same_volume { OnErr result (volume.new ≡ volume.old) }
     ensures makes { OnOk result (NewMade volume.old.root kind pages (D.state filer.old.swapper.under) filer.old.swapper.pool (D.state filer.new.swapper.under) filer.new.swapper.pool) }
     ensures stopped { OnErr result (NewSome volume.old.root kind pages (D.state filer.old.swapper.under) filer.old.swapper.pool (D.state filer.new.swapper.under) filer.new.swapper.pool) }
+    ensures root { RootCounts volume.old.root (D.state filer.old.swapper.under) (D.state filer.new.swapper.under) }
     ensures layout { filer.new.swapper.layout ≡ filer.old.swapper.layout }
     ensures cost { (D.state filer.new.swapper.under).transfers ≤ (D.state filer.old.swapper.under).transfers + (1 + 2 * (1 + 51 * most_records filer.old.swapper.layout.sectors) + (pages + 1) * (8 * filer.old.swapper.layout.vam + 100)) }
 {

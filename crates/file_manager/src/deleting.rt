@@ -14,6 +14,7 @@ ghost use Rattle.filer_kernel.specs.Evidence.{ShowsSo};
 ghost use Rattle.file_manager.specs.Book.{Books};
 ghost use Rattle.file_manager.specs.Deleting.{DeletedBy, DeletesFirst, MakesOneFree};
 ghost use Rattle.file_manager.specs.Freeing.{MakesSomeFree};
+ghost use Rattle.file_manager.specs.Roots.{RootStays};
 
 use crate::Volume;
 use crate::free_all::free_all;
@@ -49,6 +50,7 @@ pub fn delete<D: Disk, A: Allocator>(
     ensures cause { IfErr result (DeleteHalts filer.old.swapper.layout (runs_of filer.old.swapper.layout.sectors filer.old.runs) id (D.state filer.old.swapper.under) filer.old.swapper.pool (D.state filer.new.swapper.under)) }
     ensures so { IfErr result (ShowsSo (D.state filer.new.swapper.under)) }
     ensures counted { result ≡ Err halt.Disk → Rose (D.state filer.old.swapper.under).faults (D.state filer.new.swapper.under).faults }
+    ensures root { RootStays (D.state filer.old.swapper.under) (D.state filer.new.swapper.under) }
     ensures layout { filer.new.swapper.layout ≡ filer.old.swapper.layout }
     ensures cost { (D.state filer.new.swapper.under).transfers ≤ (D.state filer.old.swapper.under).transfers + (14 + 2 ^ 32 * (16 + 4 * filer.old.swapper.layout.vam) + 2 * (1 + 51 * most_records filer.old.swapper.layout.sectors)) }
     ensures cost_told { (x : List Sector) (shapes : Shapes) (spaces : List Space) (f : Shape) → Books (D.state filer.old.swapper.under) filer.old.swapper.pool filer.old.swapper.layout filer.old.runs shapes spaces x → shapes id ≡ Some f

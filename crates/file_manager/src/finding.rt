@@ -1,5 +1,5 @@
 //! The leader of a file, with its label, and how many pages the file has.
-ghost use Rattle.std.specs.Prelude.{◌≡◌, ◌+◌, ◌≤◌, ◌<◌, true, List, [], Ok, None, IfOk, IfErr, IfSome, MatchResult};
+ghost use Rattle.std.specs.Prelude.{◌≡◌, ℕ, ◌+◌, ◌≤◌, ◌<◌, true, List, [], Ok, None, IfOk, IfErr, OnOk, IfSome, MatchResult};
 ghost use Rattle.labelled_disk.specs.Calls.{TellsSame};
 ghost use Rattle.labelled_disk.specs.Label.{leader_page, names};
 ghost use Rattle.labelled_disk.specs.Sectors.{Sector};
@@ -13,7 +13,10 @@ ghost use Rattle.label_calls.specs.Labels.{HasOne, IsNotOf, ones_of};
 ghost use Rattle.session_words.specs.Parts.{Shapes};
 ghost use Rattle.session_words.specs.Volume.{volume_page};
 ghost use Rattle.filer_kernel.specs.Cached.{runs_of};
-ghost use Rattle.file_manager.specs.Grounds.{KeepsMap, IsUnframed};
+ghost use Rattle.file_manager.specs.Grounds.{KeepsMap, MakesFor, IsUnframed};
+ghost use Rattle.file_manager.specs.Taking.{no_page_of};
+ghost use Rattle.swapper_kernel.specs.declared.manager.Manager.TheVariants.{FileMap};
+ghost use Rattle.swapper_kernel.specs.Window.{Tells};
 ghost use Rattle.filer_kernel.specs.Evidence.{ShowsSo};
 ghost use Rattle.filer_kernel.specs.Triples.{MapIs};
 ghost use Rattle.file_map.specs.FileMap.{Triples, IsSize};
@@ -85,6 +88,8 @@ pub(crate) fn find_file<D: Disk, A: Allocator>(
     ensures place { IfOk result (λ found. IfSome found (λ file. (filer.old.swapper.layout.first ≤ file.sector) × (file.sector < filer.old.swapper.layout.sectors))) }
     ensures size { (m : List Sector) (named : Triples) → Stands (D.state filer.old.swapper.under) filer.old.swapper.pool m → MapIs filer.old.swapper.layout named m → IfOk result (λ found. IfSome found (λ file. IsSize named id file.pages)) }
     ensures missing { result ≡ Ok None → NamesNone filer.old.swapper.layout (D.state filer.old.swapper.under) filer.old.swapper.pool id leader_page }
+    ensures same_bytes { OnOk result ((b : List ℕ) → Tells FileMap (D.state filer.old.swapper.under) filer.old.swapper.pool filer.old.swapper.layout b → Tells FileMap (D.state filer.new.swapper.under) filer.new.swapper.pool filer.old.swapper.layout b) }
+    ensures takes { OnOk result (MakesFor filer.old.swapper.layout id no_page_of (D.state filer.old.swapper.under) filer.old.swapper.pool (D.state filer.new.swapper.under) filer.new.swapper.pool) }
     ensures makes { Makes volume_page [] (D.state filer.old.swapper.under) filer.old.swapper.pool (D.state filer.new.swapper.under) filer.new.swapper.pool }
     ensures brings { BringsOwn filer.old.swapper.pool filer.new.swapper.pool }
     ensures cause { IfErr result (FileHalts filer.old.swapper.layout (runs_of filer.old.swapper.layout.sectors filer.old.runs) id (D.state filer.old.swapper.under) filer.old.swapper.pool (D.state filer.new.swapper.under)) }

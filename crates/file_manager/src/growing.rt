@@ -38,7 +38,7 @@ pub fn grow<D: Disk, A: Allocator>(
         → OnErr result (GrewSome id kind size (pages - size) x (D.state filer.old.swapper.under) filer.old.swapper.pool (D.state filer.new.swapper.under) filer.new.swapper.pool) }
     ensures makes { OnOk result (MakesAll id kind size (pages - size) (D.state filer.old.swapper.under) filer.old.swapper.pool (D.state filer.new.swapper.under) filer.new.swapper.pool) }
     ensures stopped { OnErr result (MakesSome id kind size (pages - size) (D.state filer.old.swapper.under) filer.old.swapper.pool (D.state filer.new.swapper.under) filer.new.swapper.pool) }
-    ensures cause { IfErr result (MakeHalts filer.old.swapper.layout (D.state filer.old.swapper.under) filer.old.swapper.pool (D.state filer.new.swapper.under) filer.new.swapper.pool) }
+    ensures cause { IfErr result (MakeHalts filer.old.swapper.layout id (λ p. (size ≤ p) × (p < pages)) (D.state filer.old.swapper.under) filer.old.swapper.pool (D.state filer.new.swapper.under) filer.new.swapper.pool) }
     ensures so { IfErr result (ShowsSo (D.state filer.new.swapper.under)) }
     ensures counted { result ≡ Err halt.Disk → Rose (D.state filer.old.swapper.under).faults (D.state filer.new.swapper.under).faults }
     ensures used { OnOk result (volume.new ≡ record volume.old { used = min (volume.old.used + (pages - size)) volume.old.layout.capacity }) }

@@ -1,5 +1,5 @@
 //! Pages of a file that are made: free sectors are taken, labelled, and put into the file map.
-ghost use Rattle.std.specs.Prelude.{◌≡◌, ℕ, ◌+◌, ◌-◌, ◌*◌, ◌^◌, ◌≤◌, ◌<◌, true, false, List, IfOk, IfErr, OnErr, OnOk, Err};
+ghost use Rattle.std.specs.Prelude.{◌≡◌, ℕ, ◌+◌, ◌-◌, ◌*◌, ◌^◌, ◌≤◌, ◌<◌, true, false, List, Some, IfOk, IfErr, OnErr, OnOk, Err};
 ghost use Rattle.labelled_disk.specs.declared.evidence.Halt.TheVariants as halt;
 ghost use Rattle.labelled_disk.specs.Calls.{Rose};
 ghost use Rattle.labelled_disk.specs.Label.{is_file_id};
@@ -17,7 +17,7 @@ ghost use Rattle.label_calls.specs.Labels.{free_ones};
 ghost use Rattle.label_calls.specs.Runs.{AreOfFile, AreUncovered, HaveOnes, RelabelsRun, MadeSome, IsOneTaken};
 ghost use Rattle.filer_kernel.specs.Becomes.{Becomes};
 ghost use Rattle.filer_kernel.specs.Marks.{Marks, BitsAre, marked, IsLowestRun};
-ghost use Rattle.file_manager.specs.Grounds.{IsMapsHome, MakeHalts};
+ghost use Rattle.file_manager.specs.Grounds.{IsMapsHome, TakeHalts, MakeHalts, MakesFor};
 ghost use Rattle.swapper_kernel.specs.Halts.{HasCause};
 ghost use Rattle.filer_kernel.specs.Evidence.{ShowsSo};
 ghost use Rattle.session_words.specs.Parts.{Shape, Shapes};
@@ -50,7 +50,7 @@ fn take_run<D: Disk, A: Allocator>(
         → IfOk result (λ run. Becomes AllocationMap filer.old.swapper.layout m (BitsAre filer.old.swapper.layout (marked true run.0 run.1 marks)) (D.state filer.new.swapper.under) filer.new.swapper.pool) }
     ensures sound { (m : List Sector) (marks : Marks) (k : ℕ) → Stands (D.state filer.old.swapper.under) filer.old.swapper.pool m → BitsAre filer.old.swapper.layout marks m → AreNamed m (IsMapHome AllocationMap filer.old.swapper.layout)
         → filer.old.swapper.layout.first ≤ k → k < filer.old.swapper.layout.sectors → marks k ≡ false → IfErr result (λ e. e ≡ halt.Disk) }
-    ensures cause { IfErr result (MakeHalts filer.old.swapper.layout (D.state filer.old.swapper.under) filer.old.swapper.pool (D.state filer.new.swapper.under) filer.new.swapper.pool) }
+    ensures cause { IfErr result (TakeHalts filer.old.swapper.layout (D.state filer.old.swapper.under) filer.old.swapper.pool (D.state filer.new.swapper.under) filer.new.swapper.pool) }
     ensures so { IfErr result (ShowsSo (D.state filer.new.swapper.under)) }
     ensures counted { result ≡ Err halt.Disk → Rose (D.state filer.old.swapper.under).faults (D.state filer.new.swapper.under).faults }
     ensures form { IfOk result (IsDataRun filer.old.swapper.layout.first filer.old.swapper.layout.sectors most) }
@@ -80,6 +80,7 @@ fn label_run<D: Disk, A: Allocator>(
     requires numbers { run.first + run.pages ≤ 2 ^ 32 }
     requires of_file { AreOfFile run.id kind run.first run.pages }
     ensures made { OnOk result (RelabelsRun run.sector run.pages (growth run.id kind run.first (sectors_of run)) (D.state filer.old.swapper.under) filer.old.swapper.pool (D.state filer.new.swapper.under)) }
+    ensures were { OnOk result ((d : List Sector) → (D.state filer.old.swapper.under).contents ≡ Some d → HaveOnes (λ k. free_ones) d run.sector run.pages) }
     ensures stopped { OnErr result (MadeSome (growth run.id kind run.first (sectors_of run)) (D.state filer.old.swapper.under) filer.old.swapper.pool (D.state filer.new.swapper.under)) }
     ensures sound { (m : List Sector) → Stands (D.state filer.old.swapper.under) filer.old.swapper.pool m → AreUncovered filer.old.swapper.pool run.sector run.pages
         → HaveOnes (λ k. free_ones) m run.sector run.pages → IfErr result (λ e. e ≡ halt.Disk) }
@@ -122,7 +123,10 @@ pub(crate) fn make_run<D: Disk, A: Allocator>(
     ensures made { (tables : ℕ) (x : List Sector) (shapes : Shapes) (spaces : List Space) → BooksUpto tables (D.state filer.old.swapper.under) filer.old.swapper.pool filer.old.swapper.layout filer.old.runs shapes spaces x → ShowsNoFree spaces
         → AreUnownedUpto tables shapes id page most → 1 ≤ free_count filer.old.swapper.layout x
         → IfOk result (λ run. Leads (Grows id kind page (sectors_of run)) (growth id kind page (sectors_of run)) (D.state filer.old.swapper.under) filer.old.swapper.pool filer.old.swapper.layout (D.state filer.new.swapper.under) filer.new.swapper.pool filer.new.runs) }
-    ensures cause { IfErr result (MakeHalts filer.old.swapper.layout (D.state filer.old.swapper.under) filer.old.swapper.pool (D.state filer.new.swapper.under) filer.new.swapper.pool) }
+    ensures cause { IfErr result (MakeHalts filer.old.swapper.layout id (λ p. (page ≤ p) × (p < page + most)) (D.state filer.old.swapper.under) filer.old.swapper.pool (D.state filer.new.swapper.under) filer.new.swapper.pool) }
+    ensures longest { IfOk result (λ run. run.pages < most → (m : List Sector) (marks : Marks) → Stands (D.state filer.old.swapper.under) filer.old.swapper.pool m → BitsAre filer.old.swapper.layout marks m
+        → run.sector + run.pages < filer.old.swapper.layout.sectors → marks (run.sector + run.pages) ≡ true) }
+    ensures takes { IfOk result (λ run. MakesFor filer.old.swapper.layout id (λ p. (page ≤ p) × (p < page + run.pages)) (D.state filer.old.swapper.under) filer.old.swapper.pool (D.state filer.new.swapper.under) filer.new.swapper.pool) }
     ensures come { Brings (IsMapsHome filer.old.swapper.layout) filer.old.swapper.pool filer.new.swapper.pool }
     ensures so { IfErr result (ShowsSo (D.state filer.new.swapper.under)) }
     ensures counted { result ≡ Err halt.Disk → Rose (D.state filer.old.swapper.under).faults (D.state filer.new.swapper.under).faults }
@@ -180,7 +184,8 @@ pub(crate) fn make_up<D: Disk, A: Allocator>(
         → OnErr result (GrewSome id kind from (end - from) x (D.state filer.old.swapper.under) filer.old.swapper.pool (D.state filer.new.swapper.under) filer.new.swapper.pool) }
     ensures makes { OnOk result (MakesAll id kind from (end - from) (D.state filer.old.swapper.under) filer.old.swapper.pool (D.state filer.new.swapper.under) filer.new.swapper.pool) }
     ensures stopped { OnErr result (MakesSome id kind from (end - from) (D.state filer.old.swapper.under) filer.old.swapper.pool (D.state filer.new.swapper.under) filer.new.swapper.pool) }
-    ensures cause { IfErr result (MakeHalts filer.old.swapper.layout (D.state filer.old.swapper.under) filer.old.swapper.pool (D.state filer.new.swapper.under) filer.new.swapper.pool) }
+    ensures cause { IfErr result (MakeHalts filer.old.swapper.layout id (λ p. (from ≤ p) × (p < end)) (D.state filer.old.swapper.under) filer.old.swapper.pool (D.state filer.new.swapper.under) filer.new.swapper.pool) }
+    ensures takes { OnOk result (MakesFor filer.old.swapper.layout id (λ p. (from ≤ p) × (p < end)) (D.state filer.old.swapper.under) filer.old.swapper.pool (D.state filer.new.swapper.under) filer.new.swapper.pool) }
     ensures come { Brings (IsMapsHome filer.old.swapper.layout) filer.old.swapper.pool filer.new.swapper.pool }
     ensures so { IfErr result (ShowsSo (D.state filer.new.swapper.under)) }
     ensures counted { result ≡ Err halt.Disk → Rose (D.state filer.old.swapper.under).faults (D.state filer.new.swapper.under).faults }

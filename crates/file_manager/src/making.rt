@@ -10,6 +10,7 @@ ghost use Rattle.file_manager.specs.Grounds.{MakeHalts};
 ghost use Rattle.filer_kernel.specs.Evidence.{ShowsSo};
 ghost use Rattle.file_manager.specs.CreateBroken.{CreatedSome};
 ghost use Rattle.file_manager.specs.Making.{MayCreate, CreatedBy, CreatesAll, CreatesSome};
+ghost use Rattle.file_manager.specs.Taking.{every_page};
 
 use crate::growth::{make_run, make_up};
 use filer_kernel::FilerOver;
@@ -36,7 +37,7 @@ pub fn make_file<D: Disk, A: Allocator>(
         → OnErr result (CreatedSome [] id kind pages x (D.state filer.old.swapper.under) filer.old.swapper.pool (D.state filer.new.swapper.under) filer.new.swapper.pool) }
     ensures makes { OnOk result (CreatesAll id kind pages (D.state filer.old.swapper.under) filer.old.swapper.pool (D.state filer.new.swapper.under) filer.new.swapper.pool) }
     ensures stopped { OnErr result (CreatesSome id kind pages (D.state filer.old.swapper.under) filer.old.swapper.pool (D.state filer.new.swapper.under) filer.new.swapper.pool) }
-    ensures cause { IfErr result (MakeHalts filer.old.swapper.layout (D.state filer.old.swapper.under) filer.old.swapper.pool (D.state filer.new.swapper.under) filer.new.swapper.pool) }
+    ensures cause { IfErr result (MakeHalts filer.old.swapper.layout id every_page (D.state filer.old.swapper.under) filer.old.swapper.pool (D.state filer.new.swapper.under) filer.new.swapper.pool) }
     ensures so { IfErr result (ShowsSo (D.state filer.new.swapper.under)) }
     ensures counted { result ≡ Err halt.Disk → Rose (D.state filer.old.swapper.under).faults (D.state filer.new.swapper.under).faults }
     ensures layout { filer.new.swapper.layout ≡ filer.old.swapper.layout }

@@ -17,6 +17,7 @@ ghost use Rattle.file_manager.specs.Broken.{MarksFirst};
 ghost use Rattle.file_manager.specs.Causes.{LeaderHalts};
 ghost use Rattle.filer_kernel.specs.Cached.{runs_of};
 ghost use Rattle.filer_kernel.specs.Evidence.{ShowsSo};
+ghost use Rattle.file_manager.specs.Roots.{RootStays};
 
 use crate::leader::{LEADER, leader_of};
 use filer_kernel::FilerOver;
@@ -43,6 +44,7 @@ fn mark<D: Disk, A: Allocator>(
     ensures cause { IfErr result (LeaderHalts filer.old.swapper.layout (runs_of filer.old.swapper.layout.sectors filer.old.runs) id (D.state filer.old.swapper.under) filer.old.swapper.pool (D.state filer.new.swapper.under)) }
     ensures so { IfErr result (ShowsSo (D.state filer.new.swapper.under)) }
     ensures counted { result ≡ Err halt.Disk → Rose (D.state filer.old.swapper.under).faults (D.state filer.new.swapper.under).faults }
+    ensures root { RootStays (D.state filer.old.swapper.under) (D.state filer.new.swapper.under) }
     ensures layout { filer.new.swapper.layout ≡ filer.old.swapper.layout }
     ensures cost { (D.state filer.new.swapper.under).transfers ≤ (D.state filer.old.swapper.under).transfers + 16 }
     ensures own { RelabelsOwn id (D.state filer.old.swapper.under) (D.state filer.new.swapper.under) }
@@ -80,6 +82,7 @@ pub fn make_permanent<D: Disk, A: Allocator>(
     ensures cause { IfErr result (LeaderHalts filer.old.swapper.layout (runs_of filer.old.swapper.layout.sectors filer.old.runs) id (D.state filer.old.swapper.under) filer.old.swapper.pool (D.state filer.new.swapper.under)) }
     ensures so { IfErr result (ShowsSo (D.state filer.new.swapper.under)) }
     ensures counted { result ≡ Err halt.Disk → Rose (D.state filer.old.swapper.under).faults (D.state filer.new.swapper.under).faults }
+    ensures root { RootStays (D.state filer.old.swapper.under) (D.state filer.new.swapper.under) }
     ensures layout { filer.new.swapper.layout ≡ filer.old.swapper.layout }
     ensures cost { (D.state filer.new.swapper.under).transfers ≤ (D.state filer.old.swapper.under).transfers + 16 }
     ensures own { RelabelsOwn id (D.state filer.old.swapper.under) (D.state filer.new.swapper.under) }
@@ -108,6 +111,7 @@ pub fn make_immutable<D: Disk, A: Allocator>(
     ensures cause { IfErr result (LeaderHalts filer.old.swapper.layout (runs_of filer.old.swapper.layout.sectors filer.old.runs) id (D.state filer.old.swapper.under) filer.old.swapper.pool (D.state filer.new.swapper.under)) }
     ensures so { IfErr result (ShowsSo (D.state filer.new.swapper.under)) }
     ensures counted { result ≡ Err halt.Disk → Rose (D.state filer.old.swapper.under).faults (D.state filer.new.swapper.under).faults }
+    ensures root { RootStays (D.state filer.old.swapper.under) (D.state filer.new.swapper.under) }
     ensures layout { filer.new.swapper.layout ≡ filer.old.swapper.layout }
     ensures cost { (D.state filer.new.swapper.under).transfers ≤ (D.state filer.old.swapper.under).transfers + 16 }
     ensures own { RelabelsOwn id (D.state filer.old.swapper.under) (D.state filer.new.swapper.under) }

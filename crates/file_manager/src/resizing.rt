@@ -16,6 +16,7 @@ ghost use Rattle.file_manager.specs.Broken.{GrewSome};
 ghost use Rattle.file_manager.specs.Making.{MayGrow, GrownBy};
 ghost use Rattle.file_manager.specs.Resizing.{Resizes, ResizesSome};
 ghost use Rattle.file_manager.specs.Shrinking.{MayShrink, ShrunkBy, ShrunkSome};
+ghost use Rattle.file_manager.specs.Roots.{RootStays};
 
 use crate::Volume;
 use crate::cutting::shrink;
@@ -60,6 +61,7 @@ pub fn set_size<D: Disk, A: Allocator>(
     ensures cause { IfErr result (ResizeHalts filer.old.swapper.layout (runs_of filer.old.swapper.layout.sectors filer.old.runs) id pages (D.state filer.old.swapper.under) filer.old.swapper.pool (D.state filer.new.swapper.under) filer.new.swapper.pool) }
     ensures so { IfErr result (ShowsSo (D.state filer.new.swapper.under)) }
     ensures counted { result ≡ Err halt.Disk → Rose (D.state filer.old.swapper.under).faults (D.state filer.new.swapper.under).faults }
+    ensures root { RootStays (D.state filer.old.swapper.under) (D.state filer.new.swapper.under) }
     ensures layout { filer.new.swapper.layout ≡ filer.old.swapper.layout }
     ensures cost { (D.state filer.new.swapper.under).transfers ≤ (D.state filer.old.swapper.under).transfers + (129 + 4294967295 * (8 * filer.old.swapper.layout.vam + 100) + 102 * most_records filer.old.swapper.layout.sectors) }
     ensures cost_told { (x : List Sector) (shapes : Shapes) (spaces : List Space) (f : Shape) → Books (D.state filer.old.swapper.under) filer.old.swapper.pool filer.old.swapper.layout filer.old.runs shapes spaces x → shapes id ≡ Some f

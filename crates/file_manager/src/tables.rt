@@ -18,6 +18,7 @@ ghost use Rattle.file_manager.specs.Book.{Books};
 ghost use Rattle.file_manager.specs.Freeing.{MakesFree, MakesSomeFree};
 ghost use Rattle.file_manager.specs.Making.{MakesAll, MakesSome};
 ghost use Rattle.file_manager.specs.Tables.{MayBegin, BegunBy, EndedBy, EndedSome};
+ghost use Rattle.file_manager.specs.Roots.{RootStays};
 
 use crate::growth::{TABLES, frames_of, make_run};
 use crate::release::free_up;
@@ -38,9 +39,10 @@ pub fn make_tables<D: Disk, A: Allocator>(filer: &mut FilerOver<D, A>) -> Result
         → IfErr result (λ e. e ≡ halt.Disk) }
     ensures makes { OnOk result (MakesAll 3 0 0 96 (D.state filer.old.swapper.under) filer.old.swapper.pool (D.state filer.new.swapper.under) filer.new.swapper.pool) }
     ensures stopped { OnErr result (MakesSome 3 0 0 96 (D.state filer.old.swapper.under) filer.old.swapper.pool (D.state filer.new.swapper.under) filer.new.swapper.pool) }
-    ensures cause { IfErr result (MakeHalts filer.old.swapper.layout (D.state filer.old.swapper.under) filer.old.swapper.pool (D.state filer.new.swapper.under) filer.new.swapper.pool) }
+    ensures cause { IfErr result (MakeHalts filer.old.swapper.layout 3 (λ p. p < 96) (D.state filer.old.swapper.under) filer.old.swapper.pool (D.state filer.new.swapper.under) filer.new.swapper.pool) }
     ensures so { IfErr result (ShowsSo (D.state filer.new.swapper.under)) }
     ensures counted { result ≡ Err halt.Disk → Rose (D.state filer.old.swapper.under).faults (D.state filer.new.swapper.under).faults }
+    ensures root { RootStays (D.state filer.old.swapper.under) (D.state filer.new.swapper.under) }
     ensures layout { filer.new.swapper.layout ≡ filer.old.swapper.layout }
     ensures runs { filer.new.runs ≡ filer.old.runs }
     ensures cost { (D.state filer.new.swapper.under).transfers ≤ (D.state filer.old.swapper.under).transfers + 96 * (8 * filer.old.swapper.layout.vam + 100) }
@@ -85,6 +87,7 @@ pub fn free_tables<D: Disk, A: Allocator>(filer: &mut FilerOver<D, A>) -> Result
     ensures cause { IfErr result (CutFileHalts (AreTables filer.old.swapper.pool) filer.old.swapper.layout (runs_of filer.old.swapper.layout.sectors filer.old.runs) 3 0 (λ page. page < 96) (D.state filer.old.swapper.under) filer.old.swapper.pool (D.state filer.new.swapper.under)) }
     ensures so { IfErr result (ShowsSo (D.state filer.new.swapper.under)) }
     ensures counted { result ≡ Err halt.Disk → Rose (D.state filer.old.swapper.under).faults (D.state filer.new.swapper.under).faults }
+    ensures root { RootStays (D.state filer.old.swapper.under) (D.state filer.new.swapper.under) }
     ensures layout { filer.new.swapper.layout ≡ filer.old.swapper.layout }
     ensures cost { (D.state filer.new.swapper.under).transfers ≤ (D.state filer.old.swapper.under).transfers + (96 * (16 + 4 * filer.old.swapper.layout.vam) + 2 * (1 + 51 * most_records filer.old.swapper.layout.sectors)) }
     ensures own { RelabelsOwn 3 (D.state filer.old.swapper.under) (D.state filer.new.swapper.under) }

@@ -18,13 +18,10 @@ use Rattle.file_manager.proofs.creating.create.Given as given
 use Rattle.file_manager.proofs.creating.create.Goals.{After-frames_of}
 use Rattle.filer_kernel.specs.EvidenceLaws.{so_of_cut}
 use Rattle.file_manager.proofs.SoLemmas.{fault_shows}
-use Rattle.file_manager.proofs.MakeStops.{maps_come, make_halts_before, gone_halts}
+use Rattle.file_manager.proofs.CreateStops.{create_of_cut, create_of_make}
 use Rattle.labelled_disk.specs.declared.evidence.Halt.{Halt}
-use Rattle.swapper_kernel.specs.HaltLaws.{brings_itself}
-use Rattle.swapper_kernel.specs.GoesLaws.{makes_then, makes_wider}
-use Rattle.session_words.specs.Volume.{volume_page}
-use Rattle.file_manager.specs.Grounds.{IsMapsHome, MakeHalts}
-use Rattle.file_manager.proofs.FreedRun.{map_makes}
+use Rattle.file_manager.specs.Grounds.{CreateHalts}
+use Rattle.file_manager.proofs.RootCalls.{created_root, created_some_root}
 use Rattle.file_manager.proofs.creating.create.Goals as goal
 
 pub returns-in-Err-clause-sound : goal.returns-in-Err-clause-sound
@@ -146,19 +143,36 @@ returns-in-Err-cut-clause-so g c = so_of_cut c.cut.ensures.beside.goes.makes c.i
 
 pub returns-in-Err-clause-cause : goal.returns-in-Err-clause-cause
 returns-in-Err-clause-cause g c =
-    subst (λ (e : Halt). MakeHalts c.args.filer.now.swapper.layout (g.D.Disk.state c.args.filer.now.swapper.under) c.args.filer.now.swapper.pool (g.D.Disk.state c.write_over.new.filer.swapper.under) c.write_over.new.filer.swapper.pool e) (sym c.in-Err.ensures.fault) c.in-Err.ensures.counted
+    subst (λ (e : Halt). CreateHalts c.args.filer.now.swapper.layout (next_id c.args.volume.now.root) (g.D.Disk.state c.args.filer.now.swapper.under) c.args.filer.now.swapper.pool (g.D.Disk.state c.write_over.new.filer.swapper.under) c.write_over.new.filer.swapper.pool e) (sym c.in-Err.ensures.fault) c.in-Err.ensures.counted
 
 pub returns-in-Err-cut-clause-cause : goal.returns-in-Err-cut-clause-cause
 returns-in-Err-cut-clause-cause g c =
     let layout = c.args.filer.now.swapper.layout in
-    let pool = c.args.filer.now.swapper.pool in
+    let root = c.args.volume.now.root in
+    let id : c.next_id-id.result ≡ next_id root = c.next_id-id.ensures.next in
+    let begun = rw (c.in-Ok.ensures.frames, c.in-Ok.ensures.layout, id) at c.in-Err-cut.ensures.begun in
     let why = rw (c.in-Ok.ensures.frames, c.in-Ok.ensures.layout) at c.in-Err-cut.ensures.cause in
-    make_halts_before (makes_wider volume_page (λ id page none. absurd none) c.in-Ok.ensures.made.makes) (brings_itself (IsMapsHome layout) pool) (g.D.Disk.state c.cut.new.self.swapper.under) c.cut.new.self.swapper.pool c.in-Err-cut.halt
-    (gone_halts layout (g.D.Disk.state c.write_over.new.filer.swapper.under) (g.D.Disk.state c.cut.new.self.swapper.under) pool c.cut.new.self.swapper.pool c.in-Err-cut.halt why)
+    create_of_cut layout c.args.filer.now.swapper.accepted (next_id root) (counted root) c.in-Ok.ensures.made (g.D.Disk.state c.cut.new.self.swapper.under) c.cut.new.self.swapper.pool c.in-Err-cut.halt begun why
 
 pub returns-in-Err-make_file-clause-cause : goal.returns-in-Err-make_file-clause-cause
 returns-in-Err-make_file-clause-cause g c =
-    let lay : c.cut.new.self.swapper.layout ≡ c.args.filer.now.swapper.layout = c.in-Ok-cut.ensures.beside.layout ∙ c.in-Ok.ensures.layout in
+    let layout = c.args.filer.now.swapper.layout in
+    let root = c.args.volume.now.root in
+    let id : c.next_id-id.result ≡ next_id root = c.next_id-id.ensures.next in
+    let lay : c.cut.new.self.swapper.layout ≡ layout = c.in-Ok-cut.ensures.beside.layout ∙ c.in-Ok.ensures.layout in
     let beside = rw (c.in-Ok.ensures.frames, c.in-Ok.ensures.layout) at c.in-Ok-cut.ensures.beside in
-    make_halts_before (makes_then (makes_wider volume_page (λ id page none. absurd none) c.in-Ok.ensures.made.makes) (map_makes beside)) (maps_come beside) (g.D.Disk.state c.make_file.new.filer.swapper.under) c.make_file.new.filer.swapper.pool c.in-Err-make_file.halt
-    (rw (c.frames_of.ensures.same, lay) at c.in-Err-make_file.ensures.cause)
+    let cut = rw (c.in-Ok.ensures.frames, c.in-Ok.ensures.layout, id) at c.in-Ok-cut.ensures.cut in
+    create_of_make layout c.args.filer.now.swapper.accepted (next_id root) (counted root) c.in-Ok.ensures.made beside cut (g.D.Disk.state c.make_file.new.filer.swapper.under) c.make_file.new.filer.swapper.pool c.in-Err-make_file.halt
+    (rw (c.frames_of.ensures.same, lay, id) at c.in-Err-make_file.ensures.cause)
+
+pub returns-in-Err-clause-root : goal.returns-in-Err-clause-root
+returns-in-Err-clause-root g c = created_some_root c.args.volume.now.root c.next_id-id.ensures.serial c.requires.valid.serial c.requires.counter c.args.filer.now.swapper.layout c.args.filer.now.swapper.accepted (λ d told. g.met.D.Disk.whole c.args.filer.now.swapper.under d told ∙ c.requires.size) c.args.kind c.args.pages (returns-in-Err-clause-stopped g c)
+
+pub returns-in-Err-cut-clause-root : goal.returns-in-Err-cut-clause-root
+returns-in-Err-cut-clause-root g c = created_some_root c.args.volume.now.root c.next_id-id.ensures.serial c.requires.valid.serial c.requires.counter c.args.filer.now.swapper.layout c.args.filer.now.swapper.accepted (λ d told. g.met.D.Disk.whole c.args.filer.now.swapper.under d told ∙ c.requires.size) c.args.kind c.args.pages (returns-in-Err-cut-clause-stopped g c)
+
+pub returns-in-Err-make_file-clause-root : goal.returns-in-Err-make_file-clause-root
+returns-in-Err-make_file-clause-root g c = created_some_root c.args.volume.now.root c.next_id-id.ensures.serial c.requires.valid.serial c.requires.counter c.args.filer.now.swapper.layout c.args.filer.now.swapper.accepted (λ d told. g.met.D.Disk.whole c.args.filer.now.swapper.under d told ∙ c.requires.size) c.args.kind c.args.pages (returns-in-Err-make_file-clause-stopped g c)
+
+pub returns-clause-root : goal.returns-clause-root
+returns-clause-root g c = created_root c.args.volume.now.root c.next_id-id.ensures.serial c.requires.valid.serial c.requires.counter c.args.filer.now.swapper.layout c.args.filer.now.swapper.accepted (λ d told. g.met.D.Disk.whole c.args.filer.now.swapper.under d told ∙ c.requires.size) c.args.kind c.args.pages (returns-clause-makes g c)

@@ -2,6 +2,7 @@ use Rattle.std.proofs.Common.{◌≤◌, refl, sym, subst, arith}
 use Rattle.labelled_disk.specs.declared.layout.Layout.{Layout}
 use Rattle.labelled_disk.specs.Label.{leader_page}
 use Rattle.file_map.specs.Run.{IsRun}
+use Rattle.file_map.specs.FileMap.{without_from}
 use Rattle.swapper_kernel.specs.declared.manager.Manager.TheVariants.{FileMap}
 use Rattle.swapper_kernel.specs.DiffersLaws.{differs_then}
 use Rattle.swapper_kernel.specs.FormLaws.{memory_in_form}
@@ -91,4 +92,10 @@ pub returns-in-Err-add-clause-cause : goal.returns-in-Err-add-clause-cause
 returns-in-Err-add-clause-cause g c =
     let layout = c.args.filer.now.swapper.layout in
     let lay = c.cut.ensures.beside.layout in
+    let fits = c.ranges.from.fits in
+    let few : c.args.from ≤ leader_page = omega (arith, fits) in
+    let right = rw lay at c.in-Err-add.ensures.right in
     shrink_of_add (IsUnframed c.args.filer.now.swapper.pool c.args.id) (runs_of layout.sectors c.args.filer.now.runs) c.args.id c.args.from (λ p. ⊥) c.cut.ensures.beside (rw lay at c.add.ensures.beside) c.in-Err-add.halt (rw lay at c.in-Err-add.ensures.cause)
+    (λ m named stands map.
+    let b = c.in-Ok.ensures.cut m named stands map in
+    (b.memory, b.stands, b.is, right b.memory (without_from named c.args.id c.args.from) b.stands b.is (leader_new named c.args.id c.args.from c.args.leader few)))

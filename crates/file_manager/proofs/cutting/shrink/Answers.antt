@@ -70,7 +70,7 @@ returns-in-Err-clause-cause g c =
 
 pub returns-in-Err-cut_to-clause-cause : goal.returns-in-Err-cut_to-clause-cause
 returns-in-Err-cut_to-clause-cause g c =
-    shrink_halts_behind c.in-Ok.ensures.keeps c.in-Ok.ensures.makes.makes c.requires.sectors c.args.pages (λ p. ⊥) (λ p. (c.args.pages ≤ p) × (p < c.args.size)) (λ p none. absurd none) (g.D.Disk.state c.cut_to.new.filer.swapper.under) c.cut_to.new.filer.swapper.pool c.in-Err-cut_to.halt
+    shrink_halts_behind c.in-Ok.ensures.keeps c.requires.sectors c.args.pages (λ p. ⊥) (λ p. (c.args.pages ≤ p) × (p < c.args.size)) (λ p none. absurd none) (g.D.Disk.state c.cut_to.new.filer.swapper.under) c.cut_to.new.filer.swapper.pool c.in-Err-cut_to.halt
     (rw c.in-Ok.ensures.layout at c.in-Err-cut_to.ensures.cause)
 
 pub returns-in-Err-clause-own : goal.returns-in-Err-clause-own

@@ -15,6 +15,7 @@ use Rattle.filer_kernel.specs.Triples.{IsOneOf}
 use Rattle.file_manager.specs.Grounds.{IsUnframed, IsPageOf}
 use Rattle.label_calls.specs.OwnLaws.{relabels_own, own_then}
 use Rattle.file_manager.proofs.OwnSteps.{map_own, freed_own, some_own, own_after}
+use Rattle.file_manager.proofs.RootCalls.{freed_some_root, deleted_root}
 use Rattle.file_manager.proofs.deleting.delete.Goals as goal
 
 pub returns-in-Err-clause-sound : goal.returns-in-Err-clause-sound
@@ -265,3 +266,15 @@ returns-in-Err-cut-clause-own g c = own_after (map_own c.args.id c.size.ensures.
 
 pub returns-clause-own : goal.returns-clause-own
 returns-clause-own g c = rw c.frames_of-volume.ensures.same (own_after (map_own c.args.id c.size.ensures.beside) (own_then (freed_own c.in-Ok-free_all.ensures.makes c.in-Ok-free_all.ensures.own) (map_own c.args.id c.in-Ok-cut.ensures.beside)))
+
+pub returns-in-Err-clause-root : goal.returns-in-Err-clause-root
+returns-in-Err-clause-root g c = freed_some_root (returns-in-Err-clause-stopped g c)
+
+pub returns-in-Err-free_all-clause-root : goal.returns-in-Err-free_all-clause-root
+returns-in-Err-free_all-clause-root g c = freed_some_root (returns-in-Err-free_all-clause-stopped g c)
+
+pub returns-in-Err-cut-clause-root : goal.returns-in-Err-cut-clause-root
+returns-in-Err-cut-clause-root g c = freed_some_root (returns-in-Err-cut-clause-stopped g c)
+
+pub returns-clause-root : goal.returns-clause-root
+returns-clause-root g c = deleted_root (returns-clause-makes g c)

@@ -17,6 +17,7 @@ use Rattle.file_manager.proofs.FreedRun.{map_makes, map_brings}
 use Rattle.file_manager.proofs.MarkLemmas.{leader_one}
 use Rattle.file_manager.proofs.FindingLemmas.{shape_by_leader, leader_halts, no_leader_before, map_halts_before, books_read, read_makes, read_map_brings, read_bytes, read_brings}
 use Rattle.filer_kernel.specs.EvidenceLaws.{so_of_map}
+use Rattle.file_manager.proofs.MadeRun.{made_read, made_look, reads_then}
 use Rattle.file_manager.proofs.Keeping.{keeps_read, keeps_look, keeps_then}
 use Rattle.file_manager.proofs.finding.find_file.Goals as goal
 
@@ -176,3 +177,23 @@ returns-in-Ok-size-clause-size g c = λ m named stands map.
     let lay : c.leader_label.new.filer.swapper.layout ≡ layout = c.leader_label.ensures.layout ∙ c.leader_of.ensures.layout in
     let now = read_bytes c.leader_of.ensures.beside c.leader_label.ensures.same c.leader_label.ensures.makes c.leader_label.ensures.frames c.leader_of.ensures.same_bytes map.bytes (record { memory = m; stands = stands; shows = map.shows; size = c.requires.size }) in
     (rw lay at c.in-Ok-size.ensures.size) now.memory named now.stands (record { bytes = map.bytes; shows = now.shows; names = map.names })
+
+pub returns-in-Ok-None-clause-same_bytes : goal.returns-in-Ok-None-clause-same_bytes
+returns-in-Ok-None-clause-same_bytes g c = c.leader_of.ensures.same_bytes
+
+pub returns-in-Ok-None-clause-takes : goal.returns-in-Ok-None-clause-takes
+returns-in-Ok-None-clause-takes g c = made_read c.args.id c.requires.size c.leader_of.ensures.beside c.leader_of.ensures.same_bytes
+
+pub returns-in-Ok-size-clause-same_bytes : goal.returns-in-Ok-size-clause-same_bytes
+returns-in-Ok-size-clause-same_bytes g c = λ bytes tells.
+    let layout = c.args.filer.now.swapper.layout in
+    let lay : c.leader_label.new.filer.swapper.layout ≡ layout = c.leader_label.ensures.layout ∙ c.leader_of.ensures.layout in
+    (rw lay at c.size.ensures.same_bytes) bytes (read_bytes c.leader_of.ensures.beside c.leader_label.ensures.same c.leader_label.ensures.makes c.leader_label.ensures.frames c.leader_of.ensures.same_bytes bytes tells)
+
+pub returns-in-Ok-size-clause-takes : goal.returns-in-Ok-size-clause-takes
+returns-in-Ok-size-clause-takes g c =
+    let layout = c.args.filer.now.swapper.layout in
+    let lay : c.leader_label.new.filer.swapper.layout ≡ layout = c.leader_label.ensures.layout ∙ c.leader_of.ensures.layout in
+    let size = c.leader_label.ensures.makes.went.sectors ∙ c.leader_of.ensures.makes.went.sectors ∙ c.requires.size in
+    reads_then (made_read c.args.id c.requires.size c.leader_of.ensures.beside c.leader_of.ensures.same_bytes)
+    (reads_then (made_look layout c.args.id c.leader_label.ensures.same c.leader_label.ensures.frames) (made_read c.args.id size (rw lay at c.size.ensures.beside) (rw lay at c.size.ensures.same_bytes)))

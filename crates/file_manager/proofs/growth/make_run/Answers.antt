@@ -1,4 +1,4 @@
-use Rattle.std.proofs.Common.{◌≡◌, [], sym, ◌∙◌, subst, refl, arith}
+use Rattle.std.proofs.Common.{◌≡◌, ℕ, ◌+◌, ◌<◌, ◌≤◌, [], sym, ◌∙◌, subst, refl, arith}
 use Rattle.labelled_disk.specs.declared.layout.Layout.{Layout}
 use Rattle.file_map.specs.Run.{IsRun}
 use Rattle.swapper_kernel.specs.declared.manager.Manager.TheVariants.{AllocationMap}
@@ -11,7 +11,9 @@ use Rattle.file_manager.proofs.RunLeads.{above_maps, fewer_of_file, map_makes, a
 use Rattle.file_manager.proofs.GrowBroken.{none_grew, labels_grew, all_grew}
 use Rattle.file_manager.proofs.Faults.{counted, counted_then}
 use Rattle.filer_kernel.specs.EvidenceLaws.{so_of_add}
-use Rattle.file_manager.proofs.MakeStops.{maps_come, labels_there, make_halts_before, label_halts, added_halts}
+use Rattle.file_manager.proofs.MadeRun.{maps_come, bytes_told, made_run}
+use Rattle.file_manager.proofs.MadeRun.{labelled as labelled_so}
+use Rattle.file_manager.proofs.MakeStops.{labels_there, take_halts, label_halts, added_halts}
 use Rattle.swapper_kernel.specs.HaltLaws.{brings_then}
 use Rattle.swapper_kernel.specs.Homes.{Brings}
 use Rattle.frame_pool.specs.Frames.{Slots}
@@ -164,21 +166,51 @@ returns-in-Err-add-clause-counted g c =
 pub returns-in-Err-add-clause-so : goal.returns-in-Err-add-clause-so
 returns-in-Err-add-clause-so g c = so_of_add c.add.ensures.beside.goes.makes c.in-Err-add.halt c.label_run.new.filer.swapper.layout c.in-Err-add.ensures.cause
 
+pub returns-in-Err-clause-cause : goal.returns-in-Err-clause-cause
+returns-in-Err-clause-cause g c =
+    let layout = c.args.filer.now.swapper.layout in
+    let pages = λ (p : ℕ). (c.args.page ≤ p) × (p < c.args.page + c.args.most) in
+    take_halts layout c.args.id pages (g.D.Disk.state c.args.filer.now.swapper.under) (g.D.Disk.state c.take_run.new.filer.swapper.under) c.args.filer.now.swapper.pool c.take_run.new.filer.swapper.pool c.in-Err.halt c.in-Err.ensures.cause
+
 pub returns-in-Err-label_run-clause-cause : goal.returns-in-Err-label_run-clause-cause
 returns-in-Err-label_run-clause-cause g c =
     let form = c.in-Ok.ensures.form in
-    label_halts c.in-Ok.ensures.kept c.in-Ok.taken.0 c.in-Ok.taken.1 form.above form.inside (λ m marks stands bits. (c.in-Ok.ensures.lowest m marks stands bits).free) (g.D.Disk.state c.label_run.new.filer.swapper.under) c.label_run.new.filer.swapper.pool
+    let pages = λ (p : ℕ). (c.args.page ≤ p) × (p < c.args.page + c.args.most) in
+    label_halts c.in-Ok.ensures.kept c.in-Ok.taken.0 c.in-Ok.taken.1 form.above form.inside (λ m marks stands bits. (c.in-Ok.ensures.lowest m marks stands bits).free) c.args.id pages (g.D.Disk.state c.label_run.new.filer.swapper.under) c.label_run.new.filer.swapper.pool
     c.in-Err-label_run.halt c.in-Err-label_run.ensures.cause
 
 pub returns-in-Err-add-clause-cause : goal.returns-in-Err-add-clause-cause
 returns-in-Err-add-clause-cause g c =
     let layout = c.args.filer.now.swapper.layout in
+    let is = c.args.filer.now.swapper.accepted in
+    let run = row_run c.args.id c.args.page c.in-Ok.taken.0 c.in-Ok.taken.1 in
+    let pages = λ (p : ℕ). (c.args.page ≤ p) × (p < c.args.page + c.args.most) in
+    let kept = c.in-Ok.ensures.kept in
     let form = c.in-Ok.ensures.form in
-    let lay : c.label_run.new.filer.swapper.layout ≡ layout = c.in-Ok-label_run.ensures.layout ∙ c.in-Ok.ensures.kept.layout in
+    let fewer = form.few in
+    let lay : c.label_run.new.filer.swapper.layout ≡ layout = c.in-Ok-label_run.ensures.layout ∙ kept.layout in
     let frames = c.in-Ok-label_run.ensures.frames in
-    let come = subst (λ (s : Slots). Brings (IsMapsHome layout) c.args.filer.now.swapper.pool s) (sym frames) (maps_come c.in-Ok.ensures.kept) in
-    let made = labels_there frames c.in-Ok-label_run.ensures.made.makes in
-    make_halts_before (makes_then (map_makes c.in-Ok.ensures.kept) made) come (g.D.Disk.state c.add.new.self.swapper.under) c.add.new.self.swapper.pool c.in-Err-add.halt (added_halts (rw lay at c.add.ensures.beside) c.in-Err-add.halt (rw lay at c.in-Err-add.ensures.cause))
+    let made = c.in-Ok-label_run.ensures.made in
+    let were = c.in-Ok-label_run.ensures.were in
+    let beside = rw (frames, lay) at c.add.ensures.beside in
+    added_halts run c.args.kind pages form.some (λ p own. let from = own.0 in let below = own.1 in (from, omega (arith, below, fewer))) (maps_come kept) (makes_then (map_makes kept) (labels_there refl made.makes))
+    (added_makes run c.args.kind kept refl made beside) (labelled_so is run c.args.kind c.args.most form kept c.in-Ok.ensures.taken made were) (bytes_told is run c.args.kind c.args.most form kept c.in-Ok.ensures.taken made were) beside
+    c.in-Err-add.halt (rw (frames, lay) at c.in-Err-add.ensures.cause) (rw (frames, lay) at c.in-Err-add.ensures.right)
+
+pub returns-clause-longest : goal.returns-clause-longest
+returns-clause-longest g c = λ few m marks stands bits below. (c.in-Ok.ensures.lowest m marks stands bits).longest few below
+
+pub returns-clause-takes : goal.returns-clause-takes
+returns-clause-takes g c =
+    let layout = c.args.filer.now.swapper.layout in
+    let is = c.args.filer.now.swapper.accepted in
+    let run = row_run c.args.id c.args.page c.in-Ok.taken.0 c.in-Ok.taken.1 in
+    let kept = c.in-Ok.ensures.kept in
+    let lay : c.label_run.new.filer.swapper.layout ≡ layout = c.in-Ok-label_run.ensures.layout ∙ kept.layout in
+    let frames = c.in-Ok-label_run.ensures.frames in
+    let beside = rw (frames, lay) at c.in-Ok-add.ensures.beside in
+    let added = rw (frames, lay) at c.in-Ok-add.ensures.added in
+    rw c.frames_of.ensures.same (made_run is run c.args.kind c.args.most c.in-Ok.ensures.form kept c.in-Ok.ensures.taken c.in-Ok-label_run.ensures.made c.in-Ok-label_run.ensures.were beside added)
 
 pub returns-in-Err-clause-come : goal.returns-in-Err-clause-come
 returns-in-Err-clause-come g c = maps_come c.in-Err.ensures.kept

@@ -1,8 +1,7 @@
-use Rattle.std.proofs.Common.{rules, ◌≡◌, ◌<◌}
-use Rattle.file_manager.proofs.UpTo.{up_all, up_cost, up_none, up_more, up_sound, up_stopped}
+use Rattle.std.proofs.Common.{rules, ◌≡◌, ◌<◌, ◌≤◌}
+use Rattle.file_manager.proofs.UpTo.{up_all, up_cause, up_cost, up_none, up_more, up_sound, up_stopped}
 use Rattle.file_manager.proofs.GrowBroken.{up_broken}
 use Rattle.file_manager.proofs.Faults.{counted_then}
-use Rattle.file_manager.proofs.MakeStops.{make_halts_before}
 use Rattle.swapper_kernel.specs.HaltLaws.{brings_then}
 use Rattle.file_manager.proofs.growth.make_up.Goals as goal
 
@@ -12,7 +11,7 @@ loop-page-init g c = up_none _ _ _ _ _ _ _ _ c.requires.order c.requires.size
 pub loop-page-preserved : goal.loop-page-preserved
 loop-page-preserved g c =
     let below : c.loop-page.page < c.args.end = search rules in
-    up_more _ _ _ _ c.loop-page.page _ _ _ c.args.filer.now.swapper.accepted _ _ _ _ _ c.loop-page.invariant c.requires.numbers c.in-Ok.run' _ _ _ _ below c.in-Ok.ensures.form c.in-Ok.ensures.makes (c.in-Ok.ensures.made 96) c.in-Ok.ensures.layout c.in-Ok.ensures.runs c.in-Ok.ensures.cost_made c.make_run.ensures.come
+    up_more _ _ _ _ c.loop-page.page _ _ _ c.args.filer.now.swapper.accepted _ _ _ _ _ c.loop-page.invariant c.requires.numbers c.in-Ok.run' _ _ _ _ below c.in-Ok.ensures.form c.in-Ok.ensures.makes (c.in-Ok.ensures.made 96) c.in-Ok.ensures.layout c.in-Ok.ensures.runs c.in-Ok.ensures.cost_made c.make_run.ensures.come c.in-Ok.ensures.takes c.in-Ok.ensures.longest
 
 pub returns-in-Err-clause-sound : goal.returns-in-Err-clause-sound
 returns-in-Err-clause-sound g c =
@@ -43,10 +42,16 @@ returns-in-Err-clause-counted g c = counted_then _ _ _ c.loop-page.invariant.mak
 
 pub returns-in-Err-clause-cause : goal.returns-in-Err-clause-cause
 returns-in-Err-clause-cause g c =
-    make_halts_before c.loop-page.invariant.makes.makes c.loop-page.invariant.come (g.D.Disk.state c.make_run.new.filer.swapper.under) c.make_run.new.filer.swapper.pool c.in-Err.halt (rw c.loop-page.invariant.same_layout at c.in-Err.ensures.cause)
+    let below : c.loop-page.page < c.args.end = search rules in
+    up_cause _ c.args.kind _ _ c.loop-page.page _ _ _ c.args.filer.now.swapper.accepted _ _ _ _ _ c.loop-page.invariant c.requires.numbers (λ p. (c.args.from ≤ p) × (p < c.args.end)) (λ p own. own) (g.D.Disk.state c.make_run.new.filer.swapper.under) c.make_run.new.filer.swapper.pool c.in-Err.halt below (rw c.loop-page.invariant.same_layout at c.in-Err.ensures.cause)
 
 pub returns-in-Err-clause-come : goal.returns-in-Err-clause-come
 returns-in-Err-clause-come g c = brings_then c.loop-page.invariant.come (rw c.loop-page.invariant.same_layout at c.in-Err.ensures.come)
 
 pub returns-clause-come : goal.returns-clause-come
 returns-clause-come g c = c.loop-page.invariant.come
+
+pub returns-clause-takes : goal.returns-clause-takes
+returns-clause-takes g c =
+    let all : c.loop-page.page ≡ c.args.end = search rules in
+    rw all at c.loop-page.invariant.takes

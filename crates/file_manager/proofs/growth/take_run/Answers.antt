@@ -4,8 +4,7 @@ use Rattle.alloc_map.specs.Runs.{IfMem}
 use Rattle.labelled_disk.specs.declared.evidence.Halt.TheVariants as halt
 use Rattle.file_manager.proofs.Faults.{counted, no_fault}
 use Rattle.filer_kernel.specs.EvidenceLaws.{so_of_halts}
-use Rattle.file_manager.proofs.MakeStops.{take_halts, held_here}
-use Rattle.file_manager.specs.Grounds.{HasNoRoom}
+use Rattle.file_manager.proofs.MakeStops.{taken_halt}
 use Rattle.file_manager.proofs.growth.take_run.Goals as goal
 
 pub returns-in-Err-NoRoom-clause-sound : goal.returns-in-Err-NoRoom-clause-sound
@@ -36,9 +35,10 @@ returns-in-Err-Mem-clause-so g c =
 pub returns-in-Err-NoRoom-clause-cause : goal.returns-in-Err-NoRoom-clause-cause
 returns-in-Err-NoRoom-clause-cause g c =
     let full = rw (c.in-Err-NoRoom.is, c.in-Err-NoRoom.field-0-is) at c.take.ensures.no_room in
-    (refl, refl, held_here (HasNoRoom c.args.filer.now.swapper.layout) c.take.ensures.kept (λ m marks stands bits. full m marks stands bits refl))
+    let same = rw (c.in-Err-NoRoom.is, c.in-Err-NoRoom.field-0-is) at c.take.ensures.same in
+    (refl, refl, λ m marks stands bits. (full m marks stands bits refl, same m marks stands bits refl))
 
 pub returns-in-Err-Mem-clause-cause : goal.returns-in-Err-Mem-clause-cause
 returns-in-Err-Mem-clause-cause g c =
     let cause = c.in-Err-Mem.ensures.cause in
-    take_halts c.args.filer.now.swapper.layout (g.D.Disk.state c.args.filer.now.swapper.under) (g.D.Disk.state c.take.new.self.swapper.under) c.args.filer.now.swapper.pool c.take.new.self.swapper.pool _ (rw (c.in-Err-Mem.field-0-is, c.in-Err-Mem.halt-is) at cause)
+    taken_halt c.args.filer.now.swapper.layout (g.D.Disk.state c.args.filer.now.swapper.under) (g.D.Disk.state c.take.new.self.swapper.under) c.args.filer.now.swapper.pool c.take.new.self.swapper.pool _ (rw (c.in-Err-Mem.field-0-is, c.in-Err-Mem.halt-is) at cause)

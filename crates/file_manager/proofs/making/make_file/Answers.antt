@@ -1,11 +1,17 @@
-use Rattle.std.proofs.Common.{◌∙◌, arith}
+use Rattle.std.proofs.Common.{◌∙◌, inl, inr, ℕ, ◌+◌, ◌≤◌, ◌<◌, [], sym, subst, arith}
 use Rattle.labelled_disk.specs.Label.{leader_page}
 use Rattle.session_words.proofs.FoundLemmas.{above_reserved}
 use Rattle.file_manager.specs.Making.{sectors_of}
 use Rattle.file_manager.proofs.CreateBroken.{leader_broken, pages_broken}
 use Rattle.file_manager.proofs.LeaderLemmas.{one_sector, unowned_file, led_by, file_made, file_sound, creates_all, stopped_leader, stopped_pages}
 use Rattle.file_manager.proofs.Faults.{counted_then}
-use Rattle.file_manager.proofs.MakeStops.{make_halts_before}
+use Rattle.file_manager.proofs.MakeStops.{leaves_apart, make_halts_before, make_halts_wider}
+use Rattle.file_manager.specs.Grounds.{LabelsRun}
+use Rattle.filer_kernel.specs.PlaceLaws.{data_first}
+use Rattle.swapper_kernel.specs.Goes.{Makes}
+use Rattle.session_words.specs.Volume.{volume_page}
+use Rattle.labelled_disk.specs.Runs.{growth}
+use Rattle.file_manager.specs.Taking.{every_page}
 use Rattle.file_manager.proofs.making.make_file.Goals as goal
 
 pub returns-in-Err-clause-sound : goal.returns-in-Err-clause-sound
@@ -64,4 +70,23 @@ returns-in-Err-make_up-clause-broken g c = λ x shapes spaces may.
 
 pub returns-in-Err-make_up-clause-cause : goal.returns-in-Err-make_up-clause-cause
 returns-in-Err-make_up-clause-cause g c =
-    make_halts_before c.in-Ok.ensures.makes c.make_run.ensures.come (g.D.Disk.state c.make_up.new.filer.swapper.under) c.make_up.new.filer.swapper.pool c.in-Err-make_up.halt (rw c.in-Ok.ensures.layout at c.in-Err-make_up.ensures.cause)
+    let layout = c.args.filer.now.swapper.layout in
+    let old = g.D.Disk.state c.args.filer.now.swapper.under in
+    let pool = c.args.filer.now.swapper.pool in
+    let run = c.in-Ok._run in
+    let below = c.requires.numbers in
+    let form = c.in-Ok.ensures.form in
+    let sectors = form.form.from_data in
+    let first = data_first layout c.args.filer.now.swapper.accepted in
+    let old_run = subst (λ (n : ℕ). Makes volume_page (growth c.args.id c.args.kind n (sectors_of run)) old pool (g.D.Disk.state c.make_run.new.filer.swapper.under) c.make_run.new.filer.swapper.pool) (sym form.same_first) c.in-Ok.ensures.makes in
+    let one : LabelsRun layout c.args.id old pool (g.D.Disk.state c.make_run.new.filer.swapper.under) c.make_run.new.filer.swapper.pool = record { front = []; kind = c.args.kind; run = run; some = form.form.some; from = omega (arith, sectors, first); makes = old_run; ended = inl form.same_first } in
+    let leader = λ (p : ℕ). (4294967295 ≤ p) × (p < 4294967295 + run.pages) in
+    let pages = λ (p : ℕ). (0 ≤ p) × (p < c.args.pages) in
+    let leaves = leaves_apart layout c.args.id leader pages every_page old pool (λ p own. tt) (λ p own. tt) (λ p own other. let before = own.1 in let from = other.0 in omega (arith, below, before, from)) in
+    make_halts_before leader pages every_page c.in-Ok.ensures.makes c.in-Ok.ensures.takes leaves (inr one)
+    (g.D.Disk.state c.make_up.new.filer.swapper.under) c.make_up.new.filer.swapper.pool c.in-Err-make_up.halt (rw c.in-Ok.ensures.layout at c.in-Err-make_up.ensures.cause)
+
+pub returns-in-Err-clause-cause : goal.returns-in-Err-clause-cause
+returns-in-Err-clause-cause g c =
+    let leader = λ (p : ℕ). (4294967295 ≤ p) × (p < 4294967295 + 1) in
+    make_halts_wider c.args.filer.now.swapper.layout c.args.id leader every_page (λ p own. tt) (g.D.Disk.state c.args.filer.now.swapper.under) (g.D.Disk.state c.make_run.new.filer.swapper.under) c.args.filer.now.swapper.pool c.make_run.new.filer.swapper.pool c.in-Err.halt c.in-Err.ensures.cause

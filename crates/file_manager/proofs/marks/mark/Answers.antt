@@ -16,6 +16,7 @@ use Rattle.file_manager.proofs.Faults.{counted, no_fault}
 use Rattle.file_manager.proofs.SoLemmas.{so_of_other}
 use Rattle.label_calls.specs.OwnLaws.{relabels_own, wrote_own, quiet_own}
 use Rattle.file_manager.proofs.OwnSteps.{leader_own, own_after}
+use Rattle.file_manager.proofs.RootCalls.{quiet_root, marked_root}
 use Rattle.file_manager.proofs.marks.mark.Goals as goal
 
 pub returns-in-Ok-None-clause-sound : goal.returns-in-Ok-None-clause-sound
@@ -103,3 +104,15 @@ pub returns-clause-own : goal.returns-clause-own
 returns-clause-own g c =
     let made = rw c.swapper_over-swapper.ensures.value at c.in-Ok.ensures.marked in
     own_after (quiet_own c.args.id c.leader_of.ensures.makes) (wrote_own made.1.makes (rw c.swapper_over-swapper.ensures.value at c.mark_leader.ensures.own))
+
+pub returns-in-Ok-None-clause-root : goal.returns-in-Ok-None-clause-root
+returns-in-Ok-None-clause-root g c = quiet_root c.leader_of.ensures.makes
+
+pub returns-in-Err-clause-root : goal.returns-in-Err-clause-root
+returns-in-Err-clause-root g c = quiet_root c.leader_of.ensures.makes
+
+pub returns-in-Err-mark_leader-clause-root : goal.returns-in-Err-mark_leader-clause-root
+returns-in-Err-mark_leader-clause-root g c = marked_root c.args.mark (returns-in-Err-mark_leader-clause-makes g c)
+
+pub returns-clause-root : goal.returns-clause-root
+returns-clause-root g c = marked_root c.args.mark (returns-clause-makes g c)

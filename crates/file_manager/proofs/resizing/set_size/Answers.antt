@@ -10,14 +10,16 @@ use Rattle.file_manager.proofs.CountedLemmas.{of_answer, rose_after}
 use Rattle.file_manager.proofs.Faults.{counted, counted_then, no_fault}
 use Rattle.file_manager.proofs.NextLemmas.{file_id}
 use Rattle.file_manager.proofs.SizeSteps.{shape_is, may_grow_now, may_shrink_now, grown_told, shrunk_told, grew_told, some_told, grew_none, some_none, grown_makes, grown_stops, shrunk_makes, shrunk_stops, none_resized, room_grown, room_shrunk, grow_cost, shrink_cost}
-use Rattle.file_manager.proofs.ResizeStops.{resize_of_file, resize_of_make, resize_of_shrink}
-use Rattle.file_manager.proofs.MakeStops.{make_halts_before}
+use Rattle.file_manager.proofs.ResizeStops.{above_size, resize_of_file, resize_of_make, resize_of_shrink}
+use Rattle.file_manager.proofs.MakeStops.{LeavesUnnamed, make_halts_before}
+use Rattle.file_manager.specs.Taking.{no_page_of}
 use Rattle.file_manager.proofs.CutCauses.{shrink_halts_behind}
 use Rattle.filer_kernel.specs.Cached.{runs_of}
 use Rattle.label_calls.specs.OwnLaws.{relabels_own, quiet_own}
 use Rattle.file_manager.proofs.OwnSteps.{grown_own, grew_own, freed_own, some_own, own_after}
 use Rattle.filer_kernel.specs.Triples.{MapIs}
 use Rattle.file_manager.specs.declared.finding.FoundFile.{FoundFile}
+use Rattle.file_manager.proofs.RootCalls.{quiet_root, file_no_root, resized_root, resized_some_root}
 use Rattle.file_manager.proofs.resizing.set_size.Goals as goal
 
 pub find_file-requires-clause-client : goal.find_file-requires-clause-client
@@ -311,8 +313,15 @@ returns-in-Err-grow-clause-cause g c =
     let old = (g.D.Disk.state c.args.filer.now.swapper.under) in
     let pool = c.args.filer.now.swapper.pool in
     let kept = runs_of layout.sectors c.args.filer.now.runs in
-    resize_of_make layout kept c.args.id c.args.pages old (g.D.Disk.state c.grow.new.filer.swapper.under) pool c.grow.new.filer.swapper.pool c.in-Err-grow.halt
-    (make_halts_before c.find_file.ensures.makes c.find_file.ensures.keeps.brings (g.D.Disk.state c.grow.new.filer.swapper.under) c.grow.new.filer.swapper.pool c.in-Err-grow.halt (rw c.find_file.ensures.layout at c.in-Err-grow.ensures.cause))
+    let more = λ (p : ℕ). (c.in-Ok-Some.file.pages ≤ p) × (p < c.args.pages) in
+    let sized = λ (m : List Sector) (named : Triples) (stands : Stands old pool m) (map : MapIs layout named m). subst (λ (o : Option FoundFile). IfSome o (λ file. IsSize named c.args.id file.pages)) c.in-Ok-Some.field-0-is (c.in-Ok-Some.ensures.size m named stands map) in
+    let new = g.D.Disk.state c.grow.new.filer.swapper.under in
+    let leaves : LeavesUnnamed layout c.args.id no_page_of more no_page_of old pool = record {
+      own = λ m named stands map none page sector not. absurd not;
+      next = λ m named later stands map none adds. above_size layout kept c.args.id c.args.pages old new pool c.grow.new.filer.swapper.pool c.in-Ok-Some.file.pages named later c.requires.numbers (sized m named stands map) adds;
+    } in
+    resize_of_make layout kept c.args.id c.args.pages old new pool c.grow.new.filer.swapper.pool c.in-Err-grow.halt
+    (make_halts_before no_page_of more no_page_of c.find_file.ensures.makes c.in-Ok-Some.ensures.takes leaves (inl (λ none. c.in-Ok-Some.ensures.same_bytes)) (g.D.Disk.state c.grow.new.filer.swapper.under) c.grow.new.filer.swapper.pool c.in-Err-grow.halt (rw c.find_file.ensures.layout at c.in-Err-grow.ensures.cause))
 
 pub returns-in-Err-shrink-clause-cause : goal.returns-in-Err-shrink-clause-cause
 returns-in-Err-shrink-clause-cause g c =
@@ -323,7 +332,7 @@ returns-in-Err-shrink-clause-cause g c =
     let pages = λ (p : ℕ). (c.args.pages ≤ p) × (p < c.in-Ok-Some.file.pages) in
     let sized = λ (m : List Sector) (named : Triples) (stands : Stands old pool m) (map : MapIs layout named m). subst (λ (o : Option FoundFile). IfSome o (λ file. IsSize named c.args.id file.pages)) c.in-Ok-Some.field-0-is (c.in-Ok-Some.ensures.size m named stands map) in
     resize_of_shrink layout kept c.args.id c.args.pages old (g.D.Disk.state c.shrink.new.filer.swapper.under) pool c.shrink.new.filer.swapper.pool c.in-Ok-Some.file.pages (λ p below m named stands map. (c.in-Ok-Some.file.pages, sized m named stands map, below)) c.in-Err-shrink.halt
-    (shrink_halts_behind c.find_file.ensures.keeps c.find_file.ensures.makes c.requires.sectors c.args.pages pages pages (λ p own. own) (g.D.Disk.state c.shrink.new.filer.swapper.under) c.shrink.new.filer.swapper.pool c.in-Err-shrink.halt (rw c.find_file.ensures.layout at c.in-Err-shrink.ensures.cause))
+    (shrink_halts_behind c.find_file.ensures.keeps c.requires.sectors c.args.pages pages pages (λ p own. own) (g.D.Disk.state c.shrink.new.filer.swapper.under) c.shrink.new.filer.swapper.pool c.in-Err-shrink.halt (rw c.find_file.ensures.layout at c.in-Err-shrink.ensures.cause))
 
 pub returns-in-Ok-None-clause-own : goal.returns-in-Ok-None-clause-own
 returns-in-Ok-None-clause-own g c = relabels_own (quiet_own c.args.id c.find_file.ensures.makes)
@@ -342,3 +351,21 @@ returns-in-Ok-shrink-clause-own g c = own_after (quiet_own c.args.id c.find_file
 
 pub returns-in-Err-shrink-clause-own : goal.returns-in-Err-shrink-clause-own
 returns-in-Err-shrink-clause-own g c = own_after (quiet_own c.args.id c.find_file.ensures.makes) (some_own c.in-Err-shrink.ensures.stopped c.in-Err-shrink.ensures.own)
+
+pub returns-in-Ok-None-clause-root : goal.returns-in-Ok-None-clause-root
+returns-in-Ok-None-clause-root g c = quiet_root c.find_file.ensures.makes
+
+pub returns-in-Err-clause-root : goal.returns-in-Err-clause-root
+returns-in-Err-clause-root g c = quiet_root c.find_file.ensures.makes
+
+pub returns-in-Ok-clause-root : goal.returns-in-Ok-clause-root
+returns-in-Ok-clause-root g c = resized_root (file_no_root c.args.id (file_id c.args.id c.requires.of_file)) (returns-in-Ok-clause-makes g c)
+
+pub returns-in-Err-grow-clause-root : goal.returns-in-Err-grow-clause-root
+returns-in-Err-grow-clause-root g c = resized_some_root c.args.pages (file_no_root c.args.id (file_id c.args.id c.requires.of_file)) (returns-in-Err-grow-clause-stopped g c)
+
+pub returns-in-Ok-shrink-clause-root : goal.returns-in-Ok-shrink-clause-root
+returns-in-Ok-shrink-clause-root g c = resized_root (file_no_root c.args.id (file_id c.args.id c.requires.of_file)) (returns-in-Ok-shrink-clause-makes g c)
+
+pub returns-in-Err-shrink-clause-root : goal.returns-in-Err-shrink-clause-root
+returns-in-Err-shrink-clause-root g c = resized_some_root c.args.pages (file_no_root c.args.id (file_id c.args.id c.requires.of_file)) (returns-in-Err-shrink-clause-stopped g c)

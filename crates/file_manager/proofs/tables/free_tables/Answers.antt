@@ -12,6 +12,7 @@ use Rattle.filer_kernel.specs.Cached.{runs_of}
 use Rattle.file_manager.specs.Grounds.{AreTables}
 use Rattle.label_calls.specs.OwnLaws.{own_then, quiet_own}
 use Rattle.file_manager.proofs.OwnSteps.{map_own, freed_own, some_own, own_after}
+use Rattle.file_manager.proofs.RootCalls.{freed_some_root, freed_root}
 use Rattle.file_manager.proofs.tables.free_tables.Goals as goal
 
 pub returns-in-Err-clause-sound : goal.returns-in-Err-clause-sound
@@ -121,3 +122,12 @@ returns-in-Err-cut-clause-own g c = own_after (quiet_own 3 c.forget_tables.ensur
 
 pub returns-clause-own : goal.returns-clause-own
 returns-clause-own g c = rw c.frames_of.ensures.same (own_after (quiet_own 3 c.forget_tables.ensures.goes.makes) (own_then (freed_own c.in-Ok.ensures.makes c.in-Ok.ensures.own) (map_own 3 c.in-Ok-cut.ensures.beside)))
+
+pub returns-in-Err-clause-root : goal.returns-in-Err-clause-root
+returns-in-Err-clause-root g c = freed_some_root (returns-in-Err-clause-stopped g c)
+
+pub returns-in-Err-cut-clause-root : goal.returns-in-Err-cut-clause-root
+returns-in-Err-cut-clause-root g c = freed_some_root (returns-in-Err-cut-clause-stopped g c)
+
+pub returns-clause-root : goal.returns-clause-root
+returns-clause-root g c = freed_root (returns-clause-makes g c)

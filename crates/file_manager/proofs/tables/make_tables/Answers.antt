@@ -1,8 +1,8 @@
 use Rattle.std.proofs.Common.{rules, refl, inl, ◌≡◌, ◌<◌, arith}
 use Rattle.file_manager.proofs.TablesMade.{tables_none, tables_more, tables_sound, tables_all, tables_made, tables_cost}
-use Rattle.file_manager.proofs.UpTo.{up_cost, up_stopped}
+use Rattle.file_manager.proofs.UpTo.{up_cause, up_cost, up_stopped}
 use Rattle.file_manager.proofs.Faults.{counted_then}
-use Rattle.file_manager.proofs.MakeStops.{make_halts_before}
+use Rattle.file_manager.proofs.RootCalls.{grew_root, grown_root}
 use Rattle.file_manager.proofs.tables.make_tables.Goals as goal
 
 pub loop-page-init : goal.loop-page-init
@@ -11,7 +11,7 @@ loop-page-init g c = tables_none _ _ _ _ c.requires.size
 pub loop-page-preserved : goal.loop-page-preserved
 loop-page-preserved g c =
     let below : c.loop-page.page < 96 = search rules in
-    tables_more c.loop-page.page _ _ _ c.args.filer.now.swapper.accepted _ _ _ _ _ c.loop-page.invariant below c.in-Ok.run' _ _ _ _ c.in-Ok.ensures.form c.in-Ok.ensures.makes c.in-Ok.ensures.made c.in-Ok.ensures.layout c.in-Ok.ensures.runs c.in-Ok.ensures.cost_made c.make_run.ensures.come
+    tables_more c.loop-page.page _ _ _ c.args.filer.now.swapper.accepted _ _ _ _ _ c.loop-page.invariant below c.in-Ok.run' _ _ _ _ c.in-Ok.ensures.form c.in-Ok.ensures.makes c.in-Ok.ensures.made c.in-Ok.ensures.layout c.in-Ok.ensures.runs c.in-Ok.ensures.cost_made c.make_run.ensures.come c.in-Ok.ensures.takes c.in-Ok.ensures.longest
 
 pub make_run-requires-clause-of_file : goal.make_run-requires-clause-of_file
 make_run-requires-clause-of_file g c = let below = c.loop-page.invariant.up.below in inl (refl, refl, omega (arith, below))
@@ -50,4 +50,11 @@ returns-in-Err-clause-counted g c = counted_then _ _ _ c.loop-page.invariant.up.
 
 pub returns-in-Err-clause-cause : goal.returns-in-Err-clause-cause
 returns-in-Err-clause-cause g c =
-    make_halts_before c.loop-page.invariant.up.makes.makes c.loop-page.invariant.up.come (g.D.Disk.state c.make_run.new.filer.swapper.under) c.make_run.new.filer.swapper.pool c.in-Err.halt (rw c.loop-page.invariant.up.same_layout at c.in-Err.ensures.cause)
+    let below : c.loop-page.page < 96 = search rules in
+    up_cause 3 0 0 96 c.loop-page.page _ _ _ c.args.filer.now.swapper.accepted _ _ _ _ _ c.loop-page.invariant.up (omega arith) (λ p. p < 96) (λ p own. own.1) (g.D.Disk.state c.make_run.new.filer.swapper.under) c.make_run.new.filer.swapper.pool c.in-Err.halt below (rw c.loop-page.invariant.up.same_layout at c.in-Err.ensures.cause)
+
+pub returns-in-Err-clause-root : goal.returns-in-Err-clause-root
+returns-in-Err-clause-root g c = grew_root {id = 3} (λ same. omega (arith, same)) (returns-in-Err-clause-stopped g c)
+
+pub returns-clause-root : goal.returns-clause-root
+returns-clause-root g c = grown_root {id = 3} (λ same. omega (arith, same)) (returns-clause-makes g c)

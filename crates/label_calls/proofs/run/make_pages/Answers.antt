@@ -68,3 +68,8 @@ returns-in-Err-clause-own g c = λ other.
 
 pub returns-clause-own : goal.returns-clause-own
 returns-clause-own g c = λ other. relabels_own (so_far_whole (λ k. c.args.sector + k) (λ k. page_label c.args.id c.args.kind (c.args.page + k)) zero_bytes _ other c.loop-k.k c.loop-k.invariant)
+
+pub returns-clause-were : goal.returns-clause-were
+returns-clause-were g c = λ d told k below.
+    let all : c.loop-k.k ≡ c.args.pages = search rules in
+    c.loop-k.invariant.found d told k (omega (arith, all, below))

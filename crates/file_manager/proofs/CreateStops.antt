@@ -1,0 +1,142 @@
+-- Why a call that creates a file stops the session: the root is written, the map is cut, and then pages are made.
+use Rattle.std.proofs.Common.{◌≡◌, ◌≢◌, ◌⊎◌, inl, inr, ℕ, ◌+◌, Bool, true, false, not, ◌&&◌, List, [], ◌∷◌, refl, sym, ◌∙◌, ap, subst, arith, length-set}
+use Rattle.std.specs.Prelude.{slice_get, slice_set, ◌==◌, nat_le}
+use Rattle.std.proofs.lemmas.Bool.{true≢false, and_parts, ne_eqb, cases_eq}
+use Rattle.labelled_disk.specs.declared.evidence.Evidence.{Evidence}
+use Rattle.labelled_disk.specs.declared.evidence.Evidence.TheVariants.{Mismatch, Malformed, Missing}
+use Rattle.labelled_disk.specs.declared.evidence.Halt.{Halt}
+use Rattle.labelled_disk.specs.declared.evidence.Halt.TheVariants.{Disk, Damaged}
+use Rattle.labelled_disk.specs.declared.layout.Layout.{Layout}
+use Rattle.labelled_disk.specs.Moment.{written}
+use Rattle.labelled_disk.specs.Sectors.{Sector}
+use Rattle.labelled_disk.specs.State.{DiskState}
+use Rattle.labelled_disk.proofs.Finds.{get_set_other}
+use Rattle.frame_pool.specs.Frames.{Slots}
+use Rattle.file_map.specs.Run.{run_bytes}
+use Rattle.file_map.specs.Cause.{IsToCut}
+use Rattle.file_map.specs.Entries.{Entry}
+use Rattle.file_map.specs.FileMap.{Triples, without_from}
+use Rattle.swapper_kernel.specs.declared.manager.Manager.TheVariants.{AllocationMap, FileMap}
+use Rattle.swapper_kernel.specs.Goes.{Goes, no_page}
+use Rattle.swapper_kernel.specs.GoesLaws.{makes_then, makes_wider}
+use Rattle.swapper_kernel.specs.HaltLaws.{rose_wider}
+use Rattle.swapper_kernel.specs.Homes.{IsLayout, home_at}
+use Rattle.swapper_kernel.specs.Stands.{Stands}
+use Rattle.swapper_kernel.specs.Window.{Shows, Tells, Beside}
+use Rattle.filer_kernel.specs.Becomes.{Becomes}
+use Rattle.filer_kernel.specs.Causes.{MapShows, MapHalts, CutHalts}
+use Rattle.filer_kernel.specs.Triples.{MapIs}
+use Rattle.session_words.specs.Volume.{volume_page}
+use Rattle.volume_root.specs.declared.root.Root.{Root}
+use Rattle.volume_root.specs.RootPage.{root_bytes, root_label, root_write}
+use Rattle.file_manager.specs.Grounds.{IsUnframed, IsFilled, StopsInForm, MakeEvidence, MakeHalts, CreateEvidence, CreateHalts}
+use Rattle.file_manager.specs.Taking.{TakesSectors, NamesNoneOf, every_page}
+use Rattle.file_manager.proofs.FreedRun.{first_is, map_makes, shows_still}
+use Rattle.file_manager.proofs.Keeping.{broken_shown}
+use Rattle.file_manager.proofs.MadeRun.{maps_come, unframed_still, file_map_alone}
+use Rattle.file_manager.proofs.MakeStops.{labels_behind, shown_before, label_home_before, room_before}
+use Rattle.file_manager.proofs.TakingLemmas.{sectors_then}
+
+-- a map that named none of a file names the same once it is cut of it
+cut_kept : (id : ℕ) (named : Triples) → NamesNoneOf id every_page named → (i page sector : ℕ) → named i page sector ≡ true → without_from named id 0 i page sector ≡ true
+cut_kept id named nothing i page sector is = elim (cases_eq i id) [
+  | inl same ↦ absurd (true≢false (sym is ∙ ap (λ (n : ℕ). named n page sector) same ∙ nothing page sector tt))
+  | inr other ↦ let apart : (i == id) ≡ false = ne_eqb i id other in (λ j. is j && not (apart j && nat_le 0 page))
+]
+
+cut_only : (id : ℕ) (named : Triples) (i page sector : ℕ) → without_from named id 0 i page sector ≡ true → named i page sector ≡ true
+cut_only id named i page sector is = (and_parts (named i page sector) (not ((i == id) && nat_le 0 page)) is).0
+
+cut_none : (id : ℕ) (named : Triples) → NamesNoneOf id every_page named → NamesNoneOf id every_page (without_from named id 0)
+cut_none id named nothing page sector own = ap (λ (b : Bool). b && not ((id == id) && nat_le 0 page)) (nothing page sector tt)
+
+cut_filled : (layout : Layout) (id : ℕ) (named : Triples) (c : DiskState) (u : Slots) → NamesNoneOf id every_page named → IsFilled layout id (without_from named id 0) c u → IsFilled layout id named c u
+cut_filled layout id named c u nothing h = record {
+  disk = h.disk;
+  slots = h.slots;
+  memory = h.memory;
+  stands = h.stands;
+  later = h.later;
+  map = h.map;
+  adds = record {
+    kept = λ i page sector is. h.adds.kept i page sector (cut_kept id named nothing i page sector is);
+    only = λ i page sector is. elim (h.adds.only i page sector is) [ inl was ↦ inl (cut_only id named i page sector was) | inr own ↦ inr own ];
+  };
+  full = h.full;
+  until = h.until;
+}
+
+module _ (layout : Layout) (is : IsLayout layout) (id : ℕ) (root : Root) {a b : DiskState} {s : Slots} (rooted : Goes (λ m n. n ≡ written (root_write root) m) no_page (root_write root ∷ []) a s b s) where
+  -- the memory with that root
+  after : (m : List Sector) → Stands a s m → Stands b s (slice_set m 0 (root_label, root_bytes root))
+  after m stands = let now = rooted.memory m stands in subst (Stands b s) now.2 now.1
+
+  behind : (m : List Sector) (k : ℕ) → k ≢ 0 → slice_get (slice_set m 0 (root_label, root_bytes root)) k ≡ slice_get m k
+  behind m k other = get_set_other m 0 k (root_label, root_bytes root) other
+
+  root_taken : (m : List Sector) → TakesSectors layout id m (slice_set m 0 (root_label, root_bytes root))
+  root_taken m = record {
+    labels = record {
+      long = length-set m 0 (root_label, root_bytes root);
+      each = λ k t from here. inl (t, behind m k (λ e. let f = first_is layout is in omega (arith, e, f, from)) ∙ here, refl);
+    };
+    bits = λ marks bits. (
+      marks,
+      record { bytes = bits.bytes; shows = shows_still AllocationMap layout m (slice_set m 0 (root_label, root_bytes root)) bits.bytes (λ k t below here. behind m (1 + k) (λ e. omega (arith, e)) ∙ here) bits.shows; are = bits.are },
+      λ k from. inl refl,
+    );
+  }
+
+  map_rooted : (m : List Sector) (bytes : List ℕ) → Shows FileMap m layout bytes → Shows FileMap (slice_set m 0 (root_label, root_bytes root)) layout bytes
+  map_rooted m bytes shows = shows_still FileMap layout m (slice_set m 0 (root_label, root_bytes root)) bytes (λ k t below here. behind m (1 + layout.vam + k) (λ e. omega (arith, e)) ∙ here) shows
+
+  root_told : (bytes : List ℕ) → Tells FileMap a s layout bytes → Tells FileMap b s layout bytes
+  root_told bytes tells = record { memory = slice_set tells.memory 0 (root_label, root_bytes root); stands = after tells.memory tells.stands; shows = map_rooted tells.memory bytes tells.shows; size = rooted.makes.went.sectors ∙ tells.size }
+
+  -- where the map is cut
+  cut_evidence : (e : Evidence) (c : DiskState) (t : Slots) → MapHalts layout b s c (Damaged e) ⊎ IsToCut id 0 (MapShows layout b s) → CutHalts layout b s c t (Damaged e) → CreateEvidence layout id a s c t e
+  cut_evidence (Mismatch sector wanted found) c t begun why = elim why.reason [ inl held ↦ inl held | inr own ↦ inr (inl (FileMap, own)) ]
+  cut_evidence (Malformed window page) c t begun why = (
+    why.0,
+    elim begun [
+      | inl broken ↦ inl (broken_shown (MapShows layout b s) (MapShows layout a s) (shown_before layout root_told) layout.sectors page broken.1)
+      | inr cut ↦ inr (inl (record { run = cut.run; page = cut.page; shown = shown_before layout root_told (Entry cut.page (run_bytes cut.run)) cut.shown; of_file = cut.of_file; behind = cut.behind }))
+    ],
+  )
+  cut_evidence (Missing missing page) c t begun why = absurd why
+
+  pub create_of_cut : (c : DiskState) (t : Slots) (halt : Halt) → MapHalts layout b s c halt ⊎ IsToCut id 0 (MapShows layout b s) → CutHalts layout b s c t halt → CreateHalts layout id a s c t halt
+  create_of_cut c t Disk begun why = rose_wider a.faults b.faults c.faults c.faults rooted.makes.went.faults (omega arith) why
+  create_of_cut c t (Damaged e) begun why = cut_evidence e c t begun why
+
+  -- and where pages are made
+  module _ {c : DiskState} {t : Slots} {later : Layout} (beside : Beside FileMap b s layout c t later)
+      (cut : (m : List Sector) (named : Triples) → Stands b s m → MapIs layout named m → Becomes FileMap layout m (MapIs layout (without_from named id 0)) c t) (d : DiskState) (u : Slots) where
+    since_cut : IsUnframed s 0 → (m : List Sector) → Stands a s m → (n : List Sector) × Stands c t n × TakesSectors layout id m n
+    since_cut none m stands =
+        let now = beside.goes.memory (slice_set m 0 (root_label, root_bytes root)) (after m stands) in
+        (now.0, now.1, sectors_then (root_taken m) (file_map_alone layout id (slice_set m 0 (root_label, root_bytes root)) now.0 now.2))
+
+    form_behind : (page : ℕ) → StopsInForm layout id every_page page c t d u → StopsInForm layout id every_page page a s d u
+    form_behind page stops none m named stands map nothing =
+        let rooted_map : MapIs layout named (slice_set m 0 (root_label, root_bytes root)) = record { bytes = map.bytes; shows = map_rooted m map.bytes map.shows; names = map.names } in
+        let now = cut (slice_set m 0 (root_label, root_bytes root)) named (after m stands) rooted_map in
+        let e = stops (unframed_still (maps_come beside) none) now.memory (without_from named id 0) now.stands now.is (cut_none id named nothing) in
+        (e.0, cut_filled layout id named d u nothing e.1)
+
+    make_evidence : (e : Evidence) → MakeEvidence layout id every_page c t d u e → CreateEvidence layout id a s d u e
+    make_evidence (Mismatch sector wanted found) is = label_home_before (maps_come beside) since_cut (home_at sector wanted) is
+    make_evidence (Malformed window page) is = (
+      is.0,
+      inr (inr (record {
+        run = root_write root ∷ is.1.run;
+        makes = makes_then (makes_wider volume_page (λ id page none. absurd none) rooted.makes) (makes_then (map_makes beside) is.1.makes);
+        labelled = labels_behind id (root_write root ∷ []) is.1.run is.1.labelled;
+        in_form = form_behind page is.1.in_form;
+      })),
+    )
+    make_evidence (Missing missing page) is = (is.0, is.1, room_before (maps_come beside) since_cut d u is.2)
+
+    pub create_of_make : (halt : Halt) → MakeHalts layout id every_page c t d u halt → CreateHalts layout id a s d u halt
+    create_of_make Disk is = let first = rooted.makes.went.faults in let next = beside.goes.makes.went.faults in rose_wider a.faults c.faults d.faults d.faults (omega (arith, first, next)) (omega arith) is
+    create_of_make (Damaged e) is = make_evidence e is

@@ -1,0 +1,282 @@
+-- A run that is taken, labelled and added: what it makes of a memory, whatever that held.
+use Rattle.std.proofs.Common.{◌≡◌, ◌≢◌, ◌⊎◌, inl, inr, ℕ, zero, suc, ◌+◌, ◌<◌, ◌≤◌, Bool, true, false, ◌&&◌, ◌||◌, List, [], ◌∷◌, length, Some, refl, sym, ◌∙◌, ap, subst, arith, length-set}
+use Rattle.std.specs.Prelude.{slice_get, slice_set, nat_le, nat_lt, ◌==◌, if◌then◌else◌}
+use Rattle.std.proofs.lemmas.Bool.{and_parts, leb-true, ltb-true, eqb-true}
+use Rattle.std.proofs.lemmas.Bool.Decides.{nat_tests}
+use Rattle.std.proofs.lemmas.Option.{same_Some, none-some, slice_get_within}
+use Rattle.labelled_disk.specs.declared.label.Label.{Label}
+use Rattle.labelled_disk.specs.declared.layout.Layout.{Layout}
+use Rattle.labelled_disk.specs.Calls.{TellsSame}
+use Rattle.labelled_disk.specs.Runs.{growth, page_label, zero_bytes}
+use Rattle.labelled_disk.specs.Sectors.{Sector}
+use Rattle.labelled_disk.specs.State.{DiskState}
+use Rattle.labelled_disk.specs.WriteRuns.{after_writes}
+use Rattle.labelled_disk.proofs.Finds.{get_set_same}
+use Rattle.frame_pool.specs.declared.home.Home.{Home}
+use Rattle.frame_pool.specs.Frames.{Slots}
+use Rattle.alloc_map.specs.Runs.{IsDataRun}
+use Rattle.file_map.specs.declared.run.Run.{Run}
+use Rattle.file_map.specs.Run.{holds, sector_at}
+use Rattle.file_map.specs.FileMap.{Triples, IsNew, with_run, run_names}
+use Rattle.swapper_kernel.specs.declared.manager.Manager.{Manager}
+use Rattle.swapper_kernel.specs.declared.manager.Manager.TheVariants.{AllocationMap, FileMap}
+use Rattle.swapper_kernel.specs.Differs.{Differs}
+use Rattle.swapper_kernel.specs.DiffersLaws.{other_sector, same_length, names_id}
+use Rattle.swapper_kernel.specs.HaltLaws.{brings_itself, brings_then, brings_wider}
+use Rattle.swapper_kernel.specs.Homes.{IsLayout, Brings, wanted_at}
+use Rattle.swapper_kernel.specs.Stands.{Stands, labels_of}
+use Rattle.swapper_kernel.specs.Window.{Shows, Tells, Beside, in_map}
+use Rattle.label_calls.specs.Labels.{free_ones}
+use Rattle.label_calls.specs.Runs.{AreUncovered, HaveOnes, RelabelsRun}
+use Rattle.filer_kernel.specs.Becomes.{Becomes}
+use Rattle.filer_kernel.specs.Marks.{Marks, BitsAre, marked}
+use Rattle.filer_kernel.specs.Triples.{MapIs}
+use Rattle.filer_kernel.proofs.MapLemmas.{within_or_not}
+use Rattle.file_manager.specs.Grounds.{IsMapsHome, IsUnframed, MakesFor}
+use Rattle.file_manager.specs.Making.{sectors_of}
+use Rattle.file_manager.specs.Taking.{IsTakenFor, TakesLabels, TakesBits, TakesSectors, NamesNoneOf, AddsPages, no_page_of}
+use Rattle.file_manager.proofs.FreedRun.{behind_map, first_is, one_memory, shows_still}
+use Rattle.file_manager.proofs.FreedSectors.{row_at}
+use Rattle.file_manager.proofs.GrowSteps.{long_grown}
+use Rattle.file_manager.proofs.RowLemmas.{is_in, in_row, growth_labels, growth_elsewhere}
+use Rattle.file_manager.proofs.RunStages.{beside_map, there_is}
+use Rattle.file_manager.proofs.TakingLemmas.{takes_none, takes_then, takes_wider, sectors_then, adds_none}
+
+-- ---- Frames.
+
+-- a call on a map brings pages of maps
+pub maps_come : {which : Manager} {layout later : Layout} {a b : DiskState} {s t : Slots} → Beside which a s layout b t later → Brings (IsMapsHome layout) s t
+maps_come {which = which} {layout = layout} beside = brings_wider (IsMapsHome layout) (λ home own. (which, own)) beside.brings
+
+-- no page of a map is one that a free label would name
+map_no_free : (layout : Layout) (home : Home) → IsMapsHome layout home → home.id ≡ 0 → ⊥
+map_no_free layout home (AllocationMap, (page, below, at)) none = let own : home.id ≡ 1 = ap (λ (h : Home). h.id) at in omega (arith, own, none)
+map_no_free layout home (FileMap, (page, below, at)) none = let own : home.id ≡ 2 = ap (λ (h : Home). h.id) at in omega (arith, own, none)
+
+pub unframed_still : {layout : Layout} {s t : Slots} → Brings (IsMapsHome layout) s t → IsUnframed s 0 → IsUnframed t 0
+unframed_still {layout = layout} brings none page there = elim (brings.homes there.frame.home (record { slot = there.slot; frame = there.frame; has = there.has; at = refl })) [
+  | inl was ↦ none page (record { slot = was.slot; frame = was.frame; has = was.has; same_id = ap (λ (h : Home). h.id) was.at ∙ there.same_id; same_page = ap (λ (h : Home). h.page) was.at ∙ there.same_page })
+  | inr own ↦ map_no_free layout there.frame.home own there.same_id
+]
+
+-- ---- Calls in a row.
+
+pub made_none : (layout : Layout) (id : ℕ) (p : ℕ → Type 0) (a : DiskState) (s : Slots) → MakesFor layout id p a s a s
+made_none layout id p a s = record { brings = brings_itself (IsMapsHome layout) s; memory = λ none m stands. (m, stands, takes_wider no_page_of p (λ page not. absurd not) (takes_none layout id m)) }
+
+pub made_then : {layout : Layout} {id : ℕ} (p q r : ℕ → Type 0) {a b c : DiskState} {s t u : Slots} → ((page : ℕ) → p page → r page) → ((page : ℕ) → q page → r page) → ((page : ℕ) → q page → p page → ⊥)
+    → MakesFor layout id p a s b t → MakesFor layout id q b t c u → MakesFor layout id r a s c u
+made_then p q r of_p of_q apart first next = record {
+  brings = brings_then first.brings next.brings;
+  memory = λ none m stands.
+      let one = first.memory none m stands in
+      let two = next.memory (unframed_still first.brings none) one.0 one.1 in
+      (two.0, two.1, takes_then p q r of_p of_q apart one.2 two.2);
+}
+
+-- calls that only read
+pub reads_then : {layout : Layout} {id : ℕ} {a b c : DiskState} {s t u : Slots} → MakesFor layout id no_page_of a s b t → MakesFor layout id no_page_of b t c u → MakesFor layout id no_page_of a s c u
+reads_then first next = made_then no_page_of no_page_of no_page_of (λ page not. not) (λ page not. not) (λ page not other. not) first next
+
+-- ---- What single calls make.
+
+-- where labels are the same, and the allocation map's pages
+pub same_labels : (layout : Layout) (id : ℕ) (m n : List Sector) → labels_of n ≡ labels_of m → TakesLabels layout id m n
+same_labels layout id m n labels = record { long = same_length m n labels; each = λ sector s from here. inl (other_sector n m (sym labels) sector s here) }
+
+pub file_map_alone : (layout : Layout) (id : ℕ) (m n : List Sector) → Differs (in_map FileMap layout) m n → TakesSectors layout id m n
+file_map_alone layout id m n differs = record {
+  labels = same_labels layout id m n differs.labels;
+  bits = λ marks bits. (
+    marks,
+    record { bytes = bits.bytes; shows = shows_still AllocationMap layout m n bits.bytes (λ k s below here. differs.pages (1 + k) s here (beside_map FileMap layout (1 + k) s.0 (inl (omega (arith, below))))) bits.shows; are = bits.are },
+    λ sector from. inl refl,
+  );
+}
+
+-- a call that reads the file map
+pub made_read : {layout later : Layout} (id : ℕ) {a b : DiskState} {s t : Slots} → a.sectors ≡ layout.sectors → Beside FileMap a s layout b t later
+    → ((bytes : List ℕ) → Tells FileMap a s layout bytes → Tells FileMap b t layout bytes) → MakesFor layout id no_page_of a s b t
+made_read {layout = layout} id {b = b} {t = t} size beside stays = record {
+  brings = maps_come beside;
+  memory = λ none m stands.
+      let now = beside.goes.memory m stands in (
+        now.0,
+        now.1,
+        record {
+          taken = file_map_alone layout id m now.0 now.2;
+          names = λ named map nothing.
+              let told = stays map.bytes (record { memory = m; stands = stands; shows = map.shows; size = size }) in
+              let same = one_memory b t told.memory now.0 told.stands now.1 in
+              (named, record { bytes = map.bytes; shows = subst (λ (x : List Sector). Shows FileMap x layout map.bytes) same told.shows; names = map.names }, adds_none id no_page_of named);
+        },
+      );
+}
+
+-- a label that is read
+pub made_look : (layout : Layout) (id : ℕ) {a b : DiskState} {s t : Slots} → TellsSame a b → t ≡ s → MakesFor layout id no_page_of a s b t
+made_look layout id {a = a} {b = b} {s = s} told frames = subst (λ (u : Slots). MakesFor layout id no_page_of a s b u) (sym frames) (record {
+  brings = brings_itself (IsMapsHome layout) s;
+  memory = λ none m stands. (m, record { sectors = stands.sectors; told = told.contents ∙ stands.told; merged = stands.merged }, takes_none layout id m);
+})
+
+-- ---- A run: its sectors are taken, and labelled.
+
+-- the labels of a growth are of its file
+growth_own : (id kind page : ℕ) (is : List ℕ) (d : List Sector) (j k : ℕ) (s : Sector) → slice_get is j ≡ Some k → slice_get (after_writes (growth id kind page is) d) k ≡ Some s → s.0.id ≡ id
+growth_own id kind page [] d j k s at here = absurd (none-some k at)
+growth_own id kind page (i ∷ is) d (suc j) k s at here = growth_own id kind (page + 1) is (slice_set d i (page_label id kind page, zero_bytes)) j k s at here
+growth_own id kind page (i ∷ is) d zero k s at here = elim (is_in is k) [
+  | inl (j, later) ↦ growth_own id kind (page + 1) is (slice_set d i (page_label id kind page, zero_bytes)) j k s later here
+  | inr none ↦
+      let own : i ≡ k = same_Some i k at in
+      let now : slice_get (slice_set d i (page_label id kind page, zero_bytes)) i ≡ Some s =
+      ap (slice_get (slice_set d i (page_label id kind page, zero_bytes))) own ∙ sym (growth_elsewhere id kind (page + 1) is (slice_set d i (page_label id kind page, zero_bytes)) k none) ∙ here in
+      let within = slice_get_within (slice_set d i (page_label id kind page, zero_bytes)) i s now in
+      let inside : i < length d = let long = length-set d i (page_label id kind page, zero_bytes) in omega (arith, within, long) in
+      ap (λ (t : Sector). t.0.id) (same_Some {A = Sector} s (page_label id kind page, zero_bytes) (sym now ∙ get_set_same d i (page_label id kind page, zero_bytes) inside))
+]
+
+-- the pages of a run
+run_pages : (run : Run) (id page : ℕ) → holds run id page ≡ true → (run.id ≡ id) × (run.first ≤ page) × (page < run.first + run.pages)
+run_pages run id page held =
+    let parts = and_parts (run.id == id) (nat_le run.first page && nat_lt page (run.first + run.pages)) held in
+    let more = and_parts (nat_le run.first page) (nat_lt page (run.first + run.pages)) parts.1 in
+    (eqb-true run.id id parts.0, leb-true run.first page more.0, ltb-true page (run.first + run.pages) more.1)
+
+pub new_run : (run : Run) (named : Triples) → NamesNoneOf run.id (λ page. (run.first ≤ page) × (page < run.first + run.pages)) named → IsNew named run
+new_run run named nothing page sector held = let own = run_pages run run.id page held in nothing page sector (own.1, own.2)
+
+run_adds : (run : Run) (named : Triples) → AddsPages run.id (λ page. (run.first ≤ page) × (page < run.first + run.pages)) named (with_run named run)
+run_adds run named = record {
+  kept = λ i page sector is. ap (λ (b : Bool). b || run_names run i page sector) is;
+  only = λ i page sector is. either i page sector (named i page sector) refl is;
+}
+  where
+    either : (i page sector : ℕ) (b : Bool) → named i page sector ≡ b → (b || run_names run i page sector) ≡ true → (named i page sector ≡ true) ⊎ ((i ≡ run.id) × ((run.first ≤ page) × (page < run.first + run.pages)))
+    either i page sector true e is = inl e
+    either i page sector false e is =
+        let held = (and_parts (holds run i page) (sector == sector_at run page) is).0 in
+        let own = run_pages run i page held in
+        inr (sym own.0, (own.1, own.2))
+
+-- the file has taken the run's sectors, and the file map's pages are as they were
+pub record IsLabelledFor (layout : Layout) (id : ℕ) (m n : List Sector) : Type 0 where
+  pub taken : TakesSectors layout id m n
+  pub map : (bytes : List ℕ) → Shows FileMap m layout bytes → Shows FileMap n layout bytes
+
+module _ {layout l1 : Layout} {a b c : DiskState} {s t : Slots} (is : IsLayout layout) (run : Run) (kind most : ℕ) (form : IsDataRun layout.first layout.sectors most (run.sector, run.pages)) (taken : Beside AllocationMap a s layout b t l1)
+    (marked_so : (m : List Sector) (marks : Marks) → Stands a s m → BitsAre layout marks m → Becomes AllocationMap layout m (BitsAre layout (marked true run.sector run.pages marks)) b t)
+    (made : RelabelsRun run.sector run.pages (growth run.id kind run.first (sectors_of run)) b t c) (were : (d : List Sector) → b.contents ≡ Some d → HaveOnes (λ k. free_ones) d run.sector run.pages) where
+  -- no frame is over a label that was found free
+  none_over : IsUnframed t 0 → (m : List Sector) → Stands b t m → AreUncovered t run.sector run.pages
+  none_over none m stands k below i f in_slot at =
+      let disk = were stands.sectors stands.told k below in
+      let one = other_sector m stands.sectors (sym stands.merged.labels) (run.sector + k) disk.0 disk.1 in
+      let home = stands.merged.frames i f in_slot in
+      let label : home.label ≡ one.0.0 = ap (λ (x : Sector). x.0) (same_Some {A = Sector} (home.label, f.bytes) one.0 (sym home.keeps ∙ ap (slice_get m) at ∙ one.1)) in
+      let ids : f.home.id ≡ 0 = sym (names_id home.label (wanted_at f.home) home.named) ∙ ap (λ (l : Label). l.id) (label ∙ one.2) ∙ eqb-true disk.0.0.id 0 disk.2 in
+      none f.home.page (record { slot = i; frame = f; has = in_slot; same_id = ids; same_page = refl })
+
+  module _ (m : List Sector) (stands : Stands a s m) (m1 : List Sector) (stands1 : Stands b t m1) (differs : Differs (in_map AllocationMap layout) m m1) (m2 : List Sector) (is2 : m2 ≡ after_writes (growth run.id kind run.first (sectors_of run)) m1) where
+    grown_long : length m2 ≡ length m1
+    grown_long = long_grown run.id kind run.first (sectors_of run) m1 m2 (ap (λ (l : List Sector). labels_of l) is2 ∙ growth_labels run.id kind run.first (sectors_of run) m1)
+
+    elsewhere : (k : ℕ) → ((j : ℕ) → slice_get (sectors_of run) j ≢ Some k) → slice_get m2 k ≡ slice_get m1 k
+    elsewhere k none = ap (λ (l : List Sector). slice_get l k) is2 ∙ growth_elsewhere run.id kind run.first (sectors_of run) m1 k none
+
+    -- sectors of root and maps are none of the run's
+    low_apart : (k : ℕ) → k < layout.first → (j : ℕ) → slice_get (sectors_of run) j ≢ Some k
+    low_apart k low j at = let r = in_row run.sector run.pages j k at in let same = r.1 in let above = form.above in omega (arith, low, same, above)
+
+    one_taken : (j k : ℕ) → j < run.pages → k ≡ run.sector + j → IsTakenFor run.id m m2 k
+    one_taken j k below same =
+        let disk = were stands1.sectors stands1.told j below in
+        let one = other_sector m stands1.sectors (sym stands1.merged.labels ∙ differs.labels) (run.sector + j) disk.0 disk.1 in
+        let within = slice_get_within m (run.sector + j) one.0 one.1 in
+        let long = same_length m m1 differs.labels in
+        let grown = grown_long in
+        let now = there_is m2 k (omega (arith, within, same, long, grown)) in
+        let at : slice_get (sectors_of run) j ≡ Some k = row_at run.sector run.pages j below ∙ ap (λ (i : ℕ). Some i) (sym same) in
+        record {
+          was = (one.0, ap (slice_get m) same ∙ one.1, ap (λ (l : Label). l.id == 0) one.2 ∙ disk.2);
+          now = (now.0, now.1, growth_own run.id kind run.first (sectors_of run) m1 j k now.0 at (ap (λ (l : List Sector). slice_get l k) (sym is2) ∙ now.1));
+        }
+
+    run_labels : TakesLabels layout run.id m m2
+    run_labels = record {
+      long = grown_long ∙ same_length m m1 differs.labels;
+      each = λ k s from here. elim (is_in (sectors_of run) k) [
+        | inl (j, at) ↦ let r = in_row run.sector run.pages j k at in inr (one_taken j k r.0 r.1)
+        | inr none ↦ let one = other_sector m1 m (sym differs.labels) k s here in inl (one.0, elsewhere k none ∙ one.1, one.2)
+      ];
+    }
+
+    run_bits : (marks : Marks) → TakesBits layout run.id m m2 marks (marked true run.sector run.pages marks)
+    run_bits marks k from = elim (within_or_not run.sector run.pages k) [
+      | inl out ↦ inl (ap (λ (b : Bool). if b then true else marks k) out)
+      | inr (j, below, same) ↦ inr (ap (λ (b : Bool). if b then true else marks k) (inside run.sector run.pages j k below same), one_taken j k below same)
+    ]
+      where
+        inside : (first n j k : ℕ) → j < n → k ≡ first + j → (nat_le first k && nat_lt k (first + n)) ≡ true
+        inside first n j k below same = grind (arith, nat_tests)
+
+    -- the pages of a map, but for those of the allocation map that was told
+    bits_stay : (marks : Marks) → BitsAre layout marks m1 → BitsAre layout marks m2
+    bits_stay marks bits = record {
+      bytes = bits.bytes;
+      shows = shows_still AllocationMap layout m1 m2 bits.bytes (λ k s below here. elsewhere (1 + k) (low_apart (1 + k) (let f = first_is layout is in omega (arith, f, below))) ∙ here) bits.shows;
+      are = bits.are;
+    }
+
+    map_stays : (bytes : List ℕ) → Shows FileMap m layout bytes → Shows FileMap m2 layout bytes
+    map_stays bytes shows = shows_still FileMap layout m m2 bytes (λ k s below here.
+        elsewhere (1 + layout.vam + k) (low_apart (1 + layout.vam + k) (let f = first_is layout is in omega (arith, f, below)))
+        ∙ differs.pages (1 + layout.vam + k) s here (behind_map AllocationMap layout (1 + layout.vam + k) s.0 (omega arith))) shows
+
+    run_taken : TakesSectors layout run.id m m2
+    run_taken = record {
+      labels = run_labels;
+      bits = λ marks bits.
+          let now = marked_so m marks stands bits in
+          let later = marked true run.sector run.pages marks in
+          let one = one_memory b t now.memory m1 now.stands stands1 in
+          (later, bits_stay later (subst (BitsAre layout later) one now.is), run_bits marks);
+    }
+
+  pub labelled : IsUnframed s 0 → (m : List Sector) → Stands a s m → (n : List Sector) × Stands c t n × IsLabelledFor layout run.id m n
+  labelled none m stands =
+      let one = taken.goes.memory m stands in
+      let two = (made.goes (none_over (unframed_still (maps_come taken) none) one.0 one.1)).memory one.0 one.1 in
+      (two.0, two.1, record { taken = run_taken m stands one.0 one.1 one.2 two.0 two.2; map = map_stays m stands one.0 one.1 one.2 two.0 two.2 })
+
+  -- the bytes of the file map are told as they were
+  pub bytes_told : IsUnframed s 0 → (bytes : List ℕ) → Tells FileMap a s layout bytes → Tells FileMap c t layout bytes
+  bytes_told none bytes tells =
+      let now = labelled none tells.memory tells.stands in
+      record { memory = now.0; stands = now.1; shows = now.2.map bytes tells.shows; size = made.makes.went.sectors ∙ taken.goes.makes.went.sectors ∙ tells.size }
+
+  pub map_then : (m n : List Sector) (named : Triples) → IsLabelledFor layout run.id m n → MapIs layout named m → MapIs layout named n
+  map_then m n named h map = record { bytes = map.bytes; shows = h.map map.bytes map.shows; names = map.names }
+
+  -- ---- And it is added to the file map.
+
+  module _ {d : DiskState} {u : Slots} {l3 : Layout} (beside : Beside FileMap c t layout d u l3)
+      (added : (m : List Sector) (named : Triples) → Stands c t m → MapIs layout named m → IsNew named run → Becomes FileMap layout m (MapIs layout (with_run named run)) d u) where
+    pub made_run : MakesFor layout run.id (λ page. (run.first ≤ page) × (page < run.first + run.pages)) a s d u
+    made_run = record {
+      brings = brings_then (maps_come taken) (maps_come beside);
+      memory = λ none m stands.
+          let now = labelled none m stands in
+          let last = beside.goes.memory now.0 now.1 in (
+            last.0,
+            last.1,
+            record {
+              taken = sectors_then now.2.taken (file_map_alone layout run.id now.0 last.0 last.2);
+              names = λ named map nothing.
+                  let more = added now.0 named now.1 (map_then m now.0 named now.2 map) (new_run run named nothing) in
+                  let one = one_memory d u more.memory last.0 more.stands last.1 in
+                  (with_run named run, subst (MapIs layout (with_run named run)) one more.is, run_adds run named);
+            },
+          );
+    }
