@@ -29,14 +29,14 @@ use Rattle.volume_view.proofs.ListLemmas.{dropped, in_pushed, pushed_front, push
 abbrev in_sector : ℕ → Triple → Bool
 in_sector sector t = t.sector == sector
 
-one_more : (ts : List Triple) (t : Triple) (sector : ℕ) → count_by (in_sector sector) (ts ++ t ∷ []) ≡ count_by (in_sector sector) ts + cond (in_sector sector t) 1 0
-one_more ts t sector = sum_by-append (λ (u : Triple). cond (in_sector sector u) 1 0) ts (t ∷ [])
+one_more : (ts : List Triple) (t : Triple) (sector : ℕ) → count_by (in_sector sector) (ts ++ t ∷ []) ≡ count_by (in_sector sector) ts + cond {A = ℕ} (in_sector sector t) 1 0
+one_more ts t sector = omega (arith, sum_by-append (λ (u : Triple). cond {A = ℕ} (in_sector sector u) 1 0) ts (t ∷ []))
 
-hit : (a b : ℕ) → a ≡ b → cond (eqb a b) 1 0 ≡ 1
-hit a b same = ap (λ (x : Bool). cond x 1 0) (eq-eqb a b same)
+hit : (a b : ℕ) → a ≡ b → cond {A = ℕ} (eqb a b) 1 0 ≡ 1
+hit a b same = ap (λ (x : Bool). cond {A = ℕ} x 1 0) (eq-eqb a b same)
 
-miss : (a b : ℕ) → a ≢ b → cond (eqb a b) 1 0 ≡ 0
-miss a b other = ap (λ (x : Bool). cond x 1 0) (ne_eqb a b other)
+miss : (a b : ℕ) → a ≢ b → cond {A = ℕ} (eqb a b) 1 0 ≡ 0
+miss a b other = ap (λ (x : Bool). cond {A = ℕ} x 1 0) (ne_eqb a b other)
 
 pub none_stray : (first : ℕ) (labels : List Label) (standings : List Standing) → AreStrays first labels standings 0 []
 none_stray first labels standings = record {

@@ -3,6 +3,7 @@ use Rattle.flat_mem.specs.Vec.{vec_mem_bytes}
 use Rattle.file_map.specs.declared.run.Run.{Run}
 use Rattle.volume_view.specs.Names.{labelled, NamesIn, AddsUnlabelled}
 use Rattle.volume_view.specs.Recorded.{AreRecorded}
+use Rattle.volume_view.specs.Records.{AreAllInForm}
 use Rattle.volume_view.proofs.LayoutLemmas.{of_layout, first_within}
 use Rattle.volume_view.proofs.NameLemmas.{compared}
 use Rattle.volume_view.proofs.names.compare_names.Goals as goal
@@ -12,6 +13,9 @@ find_unmapped-requires-clause-few g c =
     let parts = of_layout c.args.layout.now c.args.layout.now.sectors c.requires.layout in
     let within = first_within c.args.layout.now.sectors c.requires.counted in
     omega (arith, c.requires.all, parts.first, within)
+
+pub find_unlabelled-requires : goal.find_unlabelled-requires
+find_unlabelled-requires g c = subst (AreAllInForm c.args.layout.now.sectors) (sym c.deref.ensures.value) c.in-Ok.ensures.form
 
 pub returns-clause-compared : goal.returns-clause-compared
 returns-clause-compared g c = λ named is.
