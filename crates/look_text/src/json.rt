@@ -117,16 +117,16 @@ fn names_value(alloc: Global, names: &Names<Global>) -> Result<Value, AllocError
     match names {
         Names::Malformed { page } => {
             let page = *page;
-            json!(in alloc; {"agrees": false, "malformed": page})
+            json!(in alloc; {"alike": false, "malformed": page})
         }
         Names::Read { differences } => {
             let mut values = Vec::new(alloc);
             for difference in differences {
                 values.push(difference_value(alloc, difference)?)?;
             }
-            let agrees = differences.is_empty();
+            let alike = differences.is_empty();
             let listed = Value::Array(values);
-            json!(in alloc; {"agrees": agrees, "differences": listed})
+            json!(in alloc; {"alike": alike, "differences": listed})
         }
     }
 }

@@ -79,7 +79,10 @@ pub(crate) fn write_names(out: &mut String, names: &Names<Global>) -> Result<(),
         }
         Names::Read { differences } => {
             if differences.is_empty() {
-                return writeln!(out, "file map         agrees with the labels");
+                return writeln!(
+                    out,
+                    "file map         names what the labels name; its form as a whole was not tested"
+                );
             }
             writeln!(out, "file map         differs from the labels, first here:")?;
             write_differences(out, differences)

@@ -4,5 +4,7 @@ mod LayoutLemmas
 mod BitLemmas
 mod RecordLemmas
 mod NameLemmas
+mod RecordedLemmas
+mod LeftoverLemmas
 mod FileLemmas
 mod LookLemmas

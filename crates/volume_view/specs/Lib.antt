@@ -2,7 +2,10 @@ pub mod Pages
 pub mod Bits
 pub mod Records
 pub mod Names
+pub mod Recorded
 pub mod Files
 pub mod Listed
+pub mod Leftovers
+pub mod Strays
 pub mod Found
 pub mod View

@@ -63,3 +63,8 @@ pub record IsComparison (named said : Triples) (differences : List NameDifferenc
 abbrev pub IsToldOf : {A : Type 0} → Triples → List Sector → Names A → Type 0
 IsToldOf named d (Malformed page) = ⊥
 IsToldOf named d (Read differences) = IsComparison named (label_triples d) differences.items
+
+-- it is said that the map names what the labels name
+abbrev pub SaysAlike : {A : Type 0} → Names A → Type 0
+SaysAlike (Malformed page) = ⊥
+SaysAlike (Read differences) = differences.items ≡ []

@@ -1,11 +1,32 @@
 //! What no permanent file has: temporary files that were left, and labels of no file.
-ghost use Rattle.std.specs.Prelude.{◌≡◌, ◌+◌, ◌<◌, ◌^◌, length};
+ghost use Rattle.std.specs.Prelude.{◌≡◌, ◌+◌, ◌<◌, ◌^◌, List, length, map, IfOk};
+ghost use Rattle.std.specs.List.Sorted.{IsPermutation};
+ghost use Rattle.labelled_disk.specs.Layout.{data_sectors, first_data};
+ghost use Rattle.labelled_disk.specs.Sectors.{Sector};
+ghost use Rattle.label_survey.specs.Standings.{AreStandings};
+ghost use Rattle.volume_view.specs.Leftovers.{is_stray, AreLeftovers};
+ghost use Rattle.volume_view.specs.Strays.{AreStrays};
 
 use label_survey::{Standing, Triple};
 use labelled_disk::Label;
 use std::alloc::{AllocError, Allocator};
 
-fn sort_triples(triples: &mut [Triple]) {
+// Whether the sector is neither free nor of a permanent file.
+fn is_stray(standing: Standing) -> bool
+    ensures { result ≡ is_stray standing }
+{
+    match standing {
+        Standing::Stray => true,
+        Standing::Free => false,
+        Standing::Lost => false,
+        Standing::Leader => false,
+        Standing::Page => false,
+    }
+}
+
+fn sort_triples(triples: &mut [Triple])
+    ensures { IsPermutation triples.old triples.new }
+{
     triples.sort_unstable();
 }
 
@@ -18,10 +39,12 @@ fn collect_leftovers<A: Allocator>(
 ) -> Result<Vec<Triple, A>, AllocError>
     requires few { first + length labels.now < 2 ^ 32 }
     requires same_length { length standings.now ≡ length labels.now }
+    ensures { IfOk result (λ triples.
+        AreStrays first labels.now standings.now (length labels.now) triples.items) }
 {
     let mut triples = Vec::new(alloc);
     for i in 0..labels.len() {
-        if standings[i] == Standing::Stray {
+        if is_stray(standings[i]) {
             let label = &labels[i];
             triples.push(Triple {
                 id: label.id,
@@ -42,6 +65,9 @@ pub(crate) fn leftovers_of<A: Allocator>(
 ) -> Result<Vec<Triple, A>, AllocError>
     requires few { first + length labels.now < 2 ^ 32 }
     requires same_length { length standings.now ≡ length labels.now }
+    ensures { IfOk result (λ triples. (d : List Sector) → first ≡ first_data (length d)
+        → labels.now ≡ map (λ s. s.0) (data_sectors d) → AreStandings d standings.now
+        → AreLeftovers d triples.items) }
 {
     let mut triples = collect_leftovers(alloc, first, labels, standings)?;
     sort_triples(&mut triples);

@@ -1,13 +1,14 @@
 //! The file map beside the labels.
-ghost use Rattle.std.specs.Prelude.{◌≡◌, ◌*◌, ◌-◌, ◌+◌, List, Some, Err, length, map, IfOk, IfErr, MatchResult};
+ghost use Rattle.std.specs.Prelude.{◌≡◌, [], ◌*◌, ◌-◌, ◌+◌, List, Some, Err, length, map, IfOk, IfErr, MatchResult};
 ghost use Rattle.flat_mem.specs.Vec.{vec_mem_bytes};
 ghost use Rattle.labelled_disk.specs.Calls.{ReadsAtMost, Rose};
 ghost use Rattle.labelled_disk.specs.Layout.{IsCount, layout_of, data_sectors, first_data, vfm};
 ghost use Rattle.labelled_disk.specs.Sectors.{Sector};
 ghost use Rattle.file_map.specs.FileMap.{Triples};
-ghost use Rattle.file_map.specs.InSectors.{MapNames};
-ghost use Rattle.volume_view.specs.Names.{labelled, NamesIn, IsComparison, IsToldOf};
+ghost use Rattle.file_map.specs.InSectors.{MapNames, label_triples, map_bytes};
+ghost use Rattle.volume_view.specs.Names.{labelled, NamesIn, IsComparison, IsToldOf, SaysAlike};
 ghost use Rattle.volume_view.specs.Pages.{IsDiskOrMemory};
+ghost use Rattle.volume_view.specs.Recorded.{AreReadAlike};
 ghost use Rattle.volume_view.specs.Records.{IsNoMemory};
 
 use crate::LookFault;
@@ -50,9 +51,12 @@ fn compare_names<A: Allocator + Clone>(
     requires layout { layout.now ≡ layout_of layout.now.sectors }
     requires size { length (vec_mem_bytes map.old) ≡ 512 * vfm layout.now.sectors }
     requires all { length labels.now ≡ layout.now.sectors - first_data layout.now.sectors }
-    ensures { (named : Triples) → NamesIn layout.now.sectors (vec_mem_bytes map.old) named
+    ensures compared { (named : Triples)
+        → NamesIn layout.now.sectors (vec_mem_bytes map.old) named
         → MatchResult result (λ differences.
         IsComparison named (labelled layout.now.first labels.now) differences.items) IsNoMemory }
+    ensures alike { IfOk result (λ differences. differences.items ≡ [] → AreReadAlike
+        layout.now.sectors (vec_mem_bytes map.old) (labelled layout.now.first labels.now)) }
 {
     let runs = match read_runs(alloc.clone()?, map, layout) {
         Ok(runs) => runs,
@@ -86,6 +90,9 @@ pub(crate) fn look_at_names<A: Allocator + Clone, D: Disk>(
     ensures told { IfOk result (λ names. (d : List Sector) → (D.state disk.old).contents ≡ Some d
         → labels.now ≡ map (λ s. s.0) (data_sectors d)
         → (named : Triples) → MapNames d named → IsToldOf named d names) }
+    ensures alike { IfOk result (λ names. (d : List Sector) → (D.state disk.old).contents ≡ Some d
+        → labels.now ≡ map (λ s. s.0) (data_sectors d) → SaysAlike names
+        → AreReadAlike (length d) (map_bytes d) (label_triples d)) }
     ensures err { IfErr result IsDiskOrMemory }
     ensures cause { result ≡ Err LookFault.Disk
         → Rose (D.state disk.old).faults (D.state disk.new).faults }

@@ -1,8 +1,10 @@
 //! All records of the file map, in their order.
-ghost use Rattle.std.specs.Prelude.{◌≡◌, ◌*◌, ◌≤◌, ℕ, List, length, IfOk, MatchResult};
+ghost use Rattle.std.specs.Prelude.{◌≡◌, ◌*◌, ◌≤◌, ℕ, List, length, IfOk, IfSome, MatchResult};
 ghost use Rattle.flat_mem.specs.Vec.{vec_mem_bytes};
 ghost use Rattle.labelled_disk.specs.Layout.{IsCount, layout_of, vfm};
 ghost use Rattle.file_map.specs.declared.run.Run.{Run as MapRun};
+ghost use Rattle.page_tree.specs.Page.{page_at, count_in};
+ghost use Rattle.volume_view.specs.Recorded.{AllStand, Stands};
 ghost use Rattle.volume_view.specs.Records.{AreRunsOfMap, AreAllInForm, IsInForm, IsNoMemory, IsStep, last_of};
 
 use crate::record::{key_of, read_behind};
@@ -19,6 +21,7 @@ fn count_of<A: Allocator>(map: &mut VecMem<A>, sectors: u32) -> Result<u32, Stop
     requires size { length (vec_mem_bytes map.old) ≡ 512 * vfm sectors }
     ensures count { (runs : List MapRun) → AreRunsOfMap sectors (vec_mem_bytes map.old) runs
         → MatchResult result (λ n. n ≡ length runs) IsNoMemory }
+    ensures header { IfOk result (λ n. n ≡ count_in (page_at (vec_mem_bytes map.old) 0)) }
     ensures same { vec_mem_bytes map.new ≡ vec_mem_bytes map.old }
 {
     match PageTree::<&mut VecMem<A>, 24, 12>::over(map).count() {
@@ -43,6 +46,7 @@ fn next_run<A: Allocator>(
         → last ≡ last_of runs k → k ≤ length runs
         → MatchResult result (IsStep runs k) IsNoMemory }
     ensures form { IfOk result (IsInForm layout.now.sectors) }
+    ensures stands { IfOk result (λ found. IfSome found (Stands (vec_mem_bytes map.old))) }
     ensures same { vec_mem_bytes map.new ≡ vec_mem_bytes map.old }
 {
     let mut bytes = [0; 24];
@@ -96,6 +100,9 @@ pub(crate) fn read_runs<A: Allocator>(
         → AreRunsOfMap layout.now.sectors (vec_mem_bytes map.old) runs
         → MatchResult result (λ found. found.items ≡ runs) IsNoMemory }
     ensures form { IfOk result (λ found. AreAllInForm layout.now.sectors found.items) }
+    ensures stand { IfOk result (λ found. AllStand (vec_mem_bytes map.old) found.items) }
+    ensures counted { IfOk result (λ found. length found.items
+        ≡ count_in (page_at (vec_mem_bytes map.old) 0)) }
     ensures same { vec_mem_bytes map.new ≡ vec_mem_bytes map.old }
 {
     let count = match count_of(map, layout.sectors) {

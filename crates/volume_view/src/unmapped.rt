@@ -1,9 +1,11 @@
 //! Pages that labels name and the file map does not.
-ghost use Rattle.std.specs.Prelude.{◌≡◌, ◌*◌, ◌+◌, ◌<◌, ◌≤◌, length, MatchResult};
+ghost use Rattle.std.specs.Prelude.{◌≡◌, ◌*◌, ◌+◌, ◌<◌, ◌≤◌, true, false, [], None, length, IfOk, MatchResult};
 ghost use Rattle.flat_mem.specs.Vec.{vec_mem_bytes};
+ghost use Rattle.labelled_disk.specs.Label.{is_free};
 ghost use Rattle.labelled_disk.specs.Layout.{IsCount, layout_of, vfm};
 ghost use Rattle.file_map.specs.FileMap.{Triples};
 ghost use Rattle.volume_view.specs.Names.{labelled, NamesIn, IsUnmapped, IsDifferenceAt};
+ghost use Rattle.volume_view.specs.Recorded.{IsRecorded, AreRecorded};
 ghost use Rattle.volume_view.specs.Records.{IsNoMemory};
 
 use crate::names::NameDifference;
@@ -20,6 +22,8 @@ fn is_mapped<A: Allocator>(map: &mut VecMem<A>, sectors: u32, triple: Triple) ->
     requires size { length (vec_mem_bytes map.old) ≡ 512 * vfm sectors }
     ensures mapped { (named : Triples) → NamesIn sectors (vec_mem_bytes map.old) named
         → MatchResult result (λ yes. yes ≡ named triple.id triple.page triple.sector) IsNoMemory }
+    ensures recorded { IfOk result (λ yes. yes ≡ true
+        → IsRecorded sectors (vec_mem_bytes map.old) triple.id triple.page triple.sector) }
     ensures same { vec_mem_bytes map.new ≡ vec_mem_bytes map.old }
 {
     match FileMap::<&mut VecMem<A>>::over(map, sectors).find(triple.id, triple.page) {
@@ -45,6 +49,8 @@ fn difference_at<A: Allocator>(
     requires size { length (vec_mem_bytes map.old) ≡ 512 * vfm sectors }
     ensures difference { (named : Triples) → NamesIn sectors (vec_mem_bytes map.old) named
         → MatchResult result (IsDifferenceAt named label.now sector) IsNoMemory }
+    ensures recorded { IfOk result (λ found. found ≡ None → is_free label.now ≡ false
+        → IsRecorded sectors (vec_mem_bytes map.old) label.now.id label.now.page sector) }
     ensures same { vec_mem_bytes map.new ≡ vec_mem_bytes map.old }
 {
     if label.is_free() {
@@ -76,6 +82,8 @@ pub(crate) fn find_unmapped<A: Allocator>(
         → NamesIn layout.now.sectors (vec_mem_bytes map.old) named
         → MatchResult result (λ differences.
         IsUnmapped named (labelled layout.now.first labels.now) differences.items) IsNoMemory }
+    ensures recorded { IfOk result (λ differences. differences.items ≡ [] → AreRecorded
+        layout.now.sectors (vec_mem_bytes map.old) (labelled layout.now.first labels.now)) }
     ensures same { vec_mem_bytes map.new ≡ vec_mem_bytes map.old }
 {
     let mut differences = Vec::new(alloc);

@@ -1,11 +1,14 @@
-//! Drawn lines on files, spaces and bytes, beside the replies of the plain machine; and a sweep.
+//! Drawn lines on files, spaces and bytes over a disk in memory and over an image file, beside the replies of the plain
+//! machine; and a sweep.
 
 use super::command;
 use super::machine::{draw, replies};
 use flat_machine::Call;
+use image_disk::{new_image, open_image};
 use labelled_disk::{Disk, MemoryDisk};
 use slow_machine::SlowMachine;
 use std::alloc::Global;
+use std::fs;
 use std::test::Fail;
 
 // A line on a space, or on bytes.
@@ -69,6 +72,23 @@ fn drawn_trace(alloc: Global, seed: u64, lines: u32) -> Result<String, Fail> {
     Ok(trace)
 }
 
+// What a run of 1,000 drawn lines over the disk writes, and what the plain machine replies to them.
+// Both are closed afterwards.
+fn run_beside<D: Disk>(
+    alloc: Global,
+    disk: &mut D,
+    machine: &mut SlowMachine<Global>,
+    frames: &str,
+    seed: u64,
+) -> Result<(Vec<u8>, Vec<u8>), Fail> {
+    let trace = drawn_trace(alloc, seed, 1000)?;
+    let words = ["run", "--frames", frames];
+    let outcome = command(alloc, &words, disk, trace.as_bytes(), &[], &[])?;
+    let wanted = replies(alloc, machine, trace.as_bytes())?;
+    let _ = machine.step(&Call::Close)?;
+    Ok((outcome.out, wanted))
+}
+
 // What is written is there in the next run.
 #[test]
 fn drawn_lines_on_spaces_are_answered_as_by_the_plain_machine(rt: HostRuntime) -> Result<(), Fail> {
@@ -78,14 +98,29 @@ fn drawn_lines_on_spaces_are_answered_as_by_the_plain_machine(rt: HostRuntime) -
         let _ = command(rt.alloc(), &words, &mut disk, b"", &[], &[])?;
         let mut machine = SlowMachine::new(rt.alloc(), 7, 1, 124)?;
         for number in 0u64..3 {
-            let trace = drawn_trace(rt.alloc(), number + 7, 1000)?;
-            let words = ["run", "--frames", frames];
-            let bytes = trace.as_bytes();
-            let outcome = command(rt.alloc(), &words, &mut disk, bytes, &[], &[])?;
-            let wanted = replies(rt.alloc(), &mut machine, bytes)?;
-            assert_eq!(rt; outcome.out.as_slice(), wanted.as_slice(), "run {number}");
-            let _ = machine.step(&Call::Close)?;
+            let (out, wanted) =
+                run_beside(rt.alloc(), &mut disk, &mut machine, frames, number + 7)?;
+            assert_eq!(rt; out.as_slice(), wanted.as_slice(), "run {number}");
         }
+    }
+    Ok(())
+}
+
+// The same in 24 frames over an image file, which is opened anew for each run.
+#[test]
+fn drawn_lines_over_an_image_file_are_answered_as_by_the_plain_machine(
+    rt: HostRuntime,
+) -> Result<(), Fail> {
+    let _ = fs::remove_file(&rt, "drawn");
+    let mut made = new_image(&rt, 256, "drawn")?;
+    let words = ["format", "--serial", "7"];
+    let _ = command(rt.alloc(), &words, &mut made, b"", &[], &[])?;
+    drop(made);
+    let mut machine = SlowMachine::new(rt.alloc(), 7, 1, 124)?;
+    for number in 0u64..3 {
+        let mut disk = open_image(&rt, "drawn")?;
+        let (out, wanted) = run_beside(rt.alloc(), &mut disk, &mut machine, "24", number + 7)?;
+        assert_eq!(rt; out.as_slice(), wanted.as_slice(), "run {number}");
     }
     Ok(())
 }

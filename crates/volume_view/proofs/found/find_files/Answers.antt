@@ -16,4 +16,5 @@ returns g c = λ d at are.
       triples = c.in_ok-triples.triples.items;
       sorted = sorted;
       runs = subst (λ (ts : List Triple). AreRunsOf ts c.in_ok-runs.runs.items) c.deref-3.ensures.value c.in_ok-runs.ensures;
+      leftovers = c.in_ok-leftovers.ensures d at are (subst (AreStandings d) (sym c.deref-4.ensures.value) tells.standings);
     }

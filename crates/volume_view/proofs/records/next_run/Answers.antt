@@ -2,6 +2,7 @@ use Rattle.std.proofs.Common.{◌≡◌, ◌*◌, ◌∙◌, [], ap, sym, refl, 
 use Rattle.flat_mem.specs.Vec.{vec_mem_bytes}
 use Rattle.labelled_disk.specs.Layout.{vfm}
 use Rattle.file_map.specs.Run.{run_bytes}
+use Rattle.volume_view.proofs.RecordedLemmas.{stands_by}
 use Rattle.volume_view.proofs.LayoutLemmas.{of_layout}
 use Rattle.volume_view.proofs.RecordLemmas.{to_tree, never_malformed, next_some, next_none, found_step, found_record, none_step}
 use Rattle.volume_view.proofs.records.next_run.Goals as goal
@@ -36,3 +37,8 @@ returns-in-Err-Malformed-clause-next g c = λ runs k is last within.
     let same : vec_mem_bytes c.over.result.mem.now ≡ vec_mem_bytes c.args.map.now = search rules in
     let tree = to_tree c.args.layout.now.sectors (vec_mem_bytes c.args.map.now) (vec_mem_bytes c.over.result.mem.now) (map run_bytes runs) same (ap length same ∙ c.requires.size) is.listed in
     never_malformed c.in-Err-Malformed.field-0 _ c.in-Err-Malformed.field-0-is (c.in-Err-Malformed.ensures.found (map run_bytes runs) tree)
+
+pub returns-in-Some-clause-stands : goal.returns-in-Some-clause-stands
+returns-in-Some-clause-stands g c =
+    let same : vec_mem_bytes c.over.result.mem.now ≡ vec_mem_bytes c.args.map.now = search rules in
+    stands_by (vec_mem_bytes c.args.map.now) (vec_mem_bytes c.over.result.mem.now) _ _ _ c.in-Some.run' c.in-Ok-Some.field-0-is same c.in-Ok-Some.ensures.page c.in-Some.ensures.same

@@ -1,10 +1,12 @@
 use Rattle.std.proofs.Common.{◌≡◌, inl, inr, ℕ, suc, ◌+◌, ◌∙◌, List, Some, length, take, MatchResult, sym, ap, subst, arith}
 use Rattle.std.specs.Prelude.{slice_get}
-use Rattle.std.proofs.lemmas.List.{take_all}
+use Rattle.std.proofs.lemmas.List.{take_all, length_push}
 use Rattle.flat_mem.specs.Vec.{vec_mem_bytes}
 use Rattle.file_map.specs.declared.run.Run.{Run}
 use Rattle.file_map.specs.Run.{IsRun}
 use Rattle.volume_view.specs.Records.{AreRunsOfMap, AreAllInForm, IsInForm, IsNoMemory, IsStep, last_of}
+use Rattle.volume_view.specs.Recorded.{Stands, AllStand}
+use Rattle.volume_view.proofs.RecordedLemmas.{in_some, stand_more}
 use Rattle.volume_view.proofs.ListLemmas.{in_pushed, if_ok_more}
 use Rattle.volume_view.proofs.RecordLemmas.{taken_more}
 use Rattle.volume_view.proofs.records.read_runs.Goals as goal
@@ -20,6 +22,9 @@ loop-k-preserved g c =
     (c.in-Ok-next_run.ensures.next runs c.loop-k.k (subst (λ (b : List ℕ). AreRunsOfMap n b runs) (sym so_far.same) is) (so_far.last runs is) (omega (arith, c.loop-k-test.true, c.in-Ok.ensures.count runs is))) in
     record {
       same = c.in-Ok-next_run.ensures.same ∙ so_far.same;
+      stand = stand_more (vec_mem_bytes c.args.map.now) c.loop-k.runs.items c.push.new.self.items c.in-Some.run' so_far.stand
+          (subst (λ (b : List ℕ). Stands b c.in-Some.run') so_far.same (in_some _ c.in-Some.run' (Stands (vec_mem_bytes c.loop-k.map)) c.in-Some.is c.in-Ok-next_run.ensures.stands)) pushed;
+      counted = omega (arith, ap length pushed, length_push c.loop-k.runs.items c.in-Some.run', so_far.counted);
       form = λ j r at. elim (in_pushed c.loop-k.runs.items c.in-Some.run' j r (ap (λ (l : List Run). slice_get l j) (sym pushed) ∙ at)) [
         | inl old ↦ so_far.form j r old
         | inr last ↦ subst (IsRun n) last form
@@ -37,3 +42,11 @@ returns-clause-read g c = λ runs is.
 
 pub returns-clause-form : goal.returns-clause-form
 returns-clause-form g c = if_ok_more c.end_of.result _ _ c.end_of.ensures.found (λ x same. subst (AreAllInForm c.args.layout.now.sectors) (sym same) c.loop-k.invariant.form)
+
+pub returns-clause-stand : goal.returns-clause-stand
+returns-clause-stand g c = if_ok_more c.end_of.result _ _ c.end_of.ensures.found (λ x same. subst (AllStand (vec_mem_bytes c.args.map.now)) (sym same) c.loop-k.invariant.stand)
+
+pub returns-clause-counted : goal.returns-clause-counted
+returns-clause-counted g c =
+    let all : c.loop-k.k ≡ c.in-Ok.count = omega (arith, c.loop-k-test.false, c.loop-k.auto.k-end) in
+    if_ok_more c.end_of.result _ _ c.end_of.ensures.found (λ x same. ap length same ∙ c.loop-k.invariant.counted ∙ all ∙ c.in-Ok.ensures.header)

@@ -4,6 +4,8 @@ use Rattle.labelled_disk.specs.Sectors.{free_label}
 use Rattle.flat_mem.specs.Vec.{vec_mem_bytes}
 use Rattle.volume_view.specs.declared.names.NameDifference.{NameDifference}
 use Rattle.volume_view.specs.Names.{NamesIn, IsDifferenceAt}
+use Rattle.volume_view.proofs.RecordedLemmas.{recorded_more, recorded_all}
+use Rattle.volume_view.proofs.ListLemmas.{pushed_some}
 use Rattle.volume_view.proofs.NameLemmas.{IsUnmappedTo, unmapped_at, unmapped_not, unmapped_all}
 use Rattle.volume_view.proofs.unmapped.find_unmapped.Goals as goal
 use Rattle.volume_view.proofs.unmapped.find_unmapped.Goals.{in-Some+in-Ok-push, in-None}
@@ -20,6 +22,12 @@ loop-i-preserved g c =
     let here = slice_get-get_or labels i free_label c.loop-i-test.true in
     record {
       same = c.in-Ok.ensures.same ∙ so_far.same;
+      recorded = λ none. elim c.match-found.branch [
+        | in-Some+in-Ok-push w ↦ absurd (pushed_some c.loop-i.differences.items w.in-Some.difference (sym (ap (λ v. v.items) w.differences-is ∙ w.in-Ok-push.ensures.items) ∙ none))
+        | in-None w ↦
+            recorded_more c.args.layout.now.sectors (vec_mem_bytes c.args.map.now) first labels i (slice_index_or labels i free_label) (vec_mem_bytes c.loop-i.map) _ here (so_far.recorded (sym (ap (λ v. v.items) w.differences-is) ∙ none)) so_far.same
+            (omega (arith, c.requires.few, c.loop-i-test.true, c.requires.counted.1)) (c.in-Ok.ensures.recorded w.in-None.is)
+      ];
       unmapped = λ named is.
           let answer = c.in-Ok.ensures.difference named (subst (λ (b : List ℕ). NamesIn c.args.layout.now.sectors b named) (sym so_far.same) is) in
           elim c.match-found.branch [
@@ -35,3 +43,6 @@ loop-i-preserved g c =
 
 pub returns-clause-unmapped : goal.returns-clause-unmapped
 returns-clause-unmapped g c = λ named is. unmapped_all c.args.layout.now.first c.args.labels.now named c.loop-i.i c.loop-i.differences.items (omega (arith, c.loop-i-test.false)) (c.loop-i.invariant.unmapped named is)
+
+pub returns-clause-recorded : goal.returns-clause-recorded
+returns-clause-recorded g c = λ none. recorded_all c.args.layout.now.sectors (vec_mem_bytes c.args.map.now) c.args.layout.now.first c.args.labels.now c.loop-i.i (omega (arith, c.loop-i-test.false)) (c.loop-i.invariant.recorded none)

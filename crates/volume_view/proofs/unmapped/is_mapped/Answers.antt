@@ -2,6 +2,7 @@ use Rattle.std.proofs.Common.{◌≡◌, ◌*◌, ◌+◌, ◌-◌, ◌∙◌, a
 use Rattle.std.proofs.lemmas.Bool.{eqb-true, eq-eqb, true≢false, false≢true}
 use Rattle.flat_mem.specs.Vec.{vec_mem_bytes}
 use Rattle.labelled_disk.specs.Layout.{vfm}
+use Rattle.volume_view.proofs.RecordedLemmas.{recorded_by}
 use Rattle.volume_view.proofs.NameLemmas.{to_map, found_tells, found_some, found_none, never_broken}
 use Rattle.volume_view.proofs.unmapped.is_mapped.Goals as goal
 
@@ -24,3 +25,9 @@ returns-in-Err-Malformed-clause-mapped g c = λ named is.
     let same : vec_mem_bytes c.over.result.mem.now ≡ vec_mem_bytes c.args.map.now = search rules in
     let names = to_map c.args.sectors c.over.result.sectors (vec_mem_bytes c.args.map.now) (vec_mem_bytes c.over.result.mem.now) named c.over.ensures.sectors same (ap length same ∙ c.requires.size) is in
     never_broken c.in-Err-Malformed.field-0 _ c.in-Err-Malformed.field-0-is (c.in-Err-Malformed.ensures.found named names)
+
+pub returns-in-Ok-Some-clause-recorded : goal.returns-in-Ok-Some-clause-recorded
+returns-in-Ok-Some-clause-recorded g c = λ e.
+    let same : vec_mem_bytes c.over.result.mem.now ≡ vec_mem_bytes c.args.map.now = search rules in
+    recorded_by c.args.sectors c.over.result.sectors (vec_mem_bytes c.args.map.now) (vec_mem_bytes c.over.result.mem.now) c.args.triple.id c.args.triple.page c.args.triple.sector _ _ c.in-Ok-Some.field-0-is c.over.ensures.sectors same
+    c.in-Ok-Some.ensures.form c.in-Ok-Some.ensures.holds c.in-Ok-Some.ensures.read (omega (arith, eqb-true _ _ e, c.from.ensures, c.from-in-Ok-Some.ensures, c.from-in-Ok-Some-2.ensures))
