@@ -120,15 +120,16 @@ fn run(rt: &HostRuntime, held: io::Result<()>) -> Status {
     }
 }
 
-/// Carries out the command of this process, and gives its exit status, which is that of a `Status`.
-fn process(rt: &HostRuntime) -> ExitCode
-    ensures exit { (status : Status) × (exit_status result ≡ exit_of status) }
+/// Carries out a command, and gives the exit status of the `Status` that it answered.
+fn process<F: FnOnce() -> Status>(command: F) -> ExitCode
+    requires { F.IsAlwaysCallable command }
+    ensures exit { (status : Status) × F.post command status × (exit_status result ≡ exit_of status) }
 {
-    let streams = hold_streams(rt);
-    let held = streams.as_ref().map(|_| ()).map_err(|error| *error);
-    ExitCode::from(run(rt, held).exit())
+    ExitCode::from(command().exit())
 }
 
 fn main(rt: HostRuntime) -> ExitCode {
-    process(&rt)
+    let streams = hold_streams(&rt);
+    let held = streams.as_ref().map(|_| ()).map_err(|error| *error);
+    process(|| run(&rt, held))
 }

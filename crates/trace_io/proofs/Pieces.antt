@@ -1,8 +1,8 @@
 -- A piece that is written part by part.
-use Rattle.std.proofs.Common.{◌≡◌, ℕ, ◌+◌, List, Option, Result, Ok, Err, [], take, drop, sym}
+use Rattle.std.proofs.Common.{◌≡◌, ℕ, ◌+◌, ◌-◌, ◌≤◌, List, Option, Some, None, Result, Ok, Err, [], ◌++◌, length, take, drop, sym, ap, ◌∙◌, append_assoc, arith}
 use Rattle.std.proofs.Math.Seq.{take-add}
-use Rattle.std.proofs.lemmas.List.{take-append-drop}
-use Rattle.std.specs.Io.KnownBytes.{Appends, WriteAppends, prepend_known}
+use Rattle.std.proofs.lemmas.List.{take-append-drop, drop-take, length-take-le, take-append-le, take_all, drop-drop}
+use Rattle.std.specs.Io.KnownBytes.{Appends, Consumes, WriteAppends, prepend_known}
 use Rattle.std.proofs.KnownBytes.{Appends-trans, Appends-kept, prepend_known-nil}
 use Rattle.trace_io.specs.Stream.{IsFrontOf}
 
@@ -21,3 +21,21 @@ written_front a b c piece at (Err e) first next =
 
 pub nothing_before : (a : Option (List ℕ)) → prepend_known [] a ≡ a
 nothing_before a = prepend_known-nil a
+
+-- the bytes of a buffer that are at hand, of which n were copied to the front of some room
+module _ (buffer room copied : List ℕ) (at end n : ℕ) (copy : copied ≡ take n (take (end - at) (drop at buffer))) (within : n ≤ length (take (end - at) (drop at buffer))) (ordered : at ≤ end) where
+  hand : drop at (take end buffer) ≡ take (end - at) (drop at buffer)
+  hand = let whole : end ≡ at + (end - at) = omega arith in ap (λ (k : ℕ). drop at (take k buffer)) whole ∙ drop-take at (end - at) buffer
+
+  long : length copied ≡ n
+  long = ap length copy ∙ length-take-le n (take (end - at) (drop at buffer)) within
+
+  pub copied_front : take n (copied ++ drop n room) ≡ take n (drop at (take end buffer))
+  copied_front = take-append-le n copied (drop n room) (omega (arith, long)) ∙ take_all n copied (omega (arith, long)) ∙ copy ∙ ap (take n) (sym hand)
+
+  pub hands_over : (known : Option (List ℕ)) → Consumes (prepend_known (drop at (take end buffer)) known) (prepend_known (drop (at + n) (take end buffer)) known) (take n (copied ++ drop n room))
+  hands_over None = tt
+  hands_over (Some xs) =
+      let bytes = drop at (take end buffer) in
+      let rest : drop (at + n) (take end buffer) ≡ drop n bytes = sym (drop-drop n at (take end buffer)) in
+      ap (λ b. b ++ xs) (sym (take-append-drop n bytes)) ∙ append_assoc (take n bytes) (drop n bytes) xs ∙ ap (λ f. f ++ (drop n bytes ++ xs)) (sym copied_front) ∙ ap (λ r. take n (copied ++ drop n room) ++ (r ++ xs)) (sym rest)

@@ -1,5 +1,6 @@
 //! The call that a line says, by its words.
-ghost use Rattle.std.specs.Prelude.{◌≡◌};
+ghost use Rattle.std.specs.Prelude.{◌≡◌, if◌then◌else◌, Some, None};
+ghost use Rattle.std.specs.Str.{bytes_eq};
 ghost use Rattle.trace_io.specs.Grammar.{verb_of, with_fields, call_of};
 ghost use Rattle.trace_io.specs.Words.{rest_words};
 
@@ -38,60 +39,44 @@ pub(crate) enum Verb {
     Halt,
 }
 
-#[tactic(auto, unfolding(crate::specs::Grammar::verb_of))]
+// The verb, where the word is its name.
+fn named(word: &[u8], name: &[u8], verb: Verb) -> Option<Verb>
+    ensures { result ≡ (if bytes_eq word.now name.now then Some verb else None) }
+{
+    if word == name { Some(verb) } else { None }
+}
+
 fn verb_of(word: &[u8]) -> Option<Verb>
     ensures { result ≡ verb_of word.now }
 {
-    if word == b"create".as_slice() {
-        Some(Verb::Create)
-    } else if word == b"delete".as_slice() {
-        Some(Verb::Delete)
-    } else if word == b"attr".as_slice() {
-        Some(Verb::Attr)
-    } else if word == b"setsize".as_slice() {
-        Some(Verb::SetSize)
-    } else if word == b"permanent".as_slice() {
-        Some(Verb::Permanent)
-    } else if word == b"immutable".as_slice() {
-        Some(Verb::Immutable)
-    } else if word == b"next".as_slice() {
-        Some(Verb::Next)
-    } else if word == b"volume".as_slice() {
-        Some(Verb::Volume)
-    } else if word == b"space".as_slice() {
-        Some(Verb::Space)
-    } else if word == b"remove".as_slice() {
-        Some(Verb::Remove)
-    } else if word == b"where".as_slice() {
-        Some(Verb::Where)
-    } else if word == b"units".as_slice() {
-        Some(Verb::Units)
-    } else if word == b"map".as_slice() {
-        Some(Verb::Map)
-    } else if word == b"mapdata".as_slice() {
-        Some(Verb::MapData)
-    } else if word == b"unmap".as_slice() {
-        Some(Verb::Unmap)
-    } else if word == b"protect".as_slice() {
-        Some(Verb::Protect)
-    } else if word == b"load".as_slice() {
-        Some(Verb::Load)
-    } else if word == b"store".as_slice() {
-        Some(Verb::Store)
-    } else if word == b"activate".as_slice() {
-        Some(Verb::Activate)
-    } else if word == b"deactivate".as_slice() {
-        Some(Verb::Deactivate)
-    } else if word == b"kill".as_slice() {
-        Some(Verb::Kill)
-    } else if word == b"force".as_slice() {
-        Some(Verb::Force)
-    } else if word == b"close".as_slice() {
-        Some(Verb::Close)
-    } else if word == b"halt".as_slice() {
-        Some(Verb::Halt)
-    } else {
-        None
+    match *word.first()? {
+        b'c' => named(word, b"create", Verb::Create).or(named(word, b"close", Verb::Close)),
+        b'd' => named(word, b"delete", Verb::Delete).or(named(
+            word,
+            b"deactivate",
+            Verb::Deactivate,
+        )),
+        b'a' => named(word, b"attr", Verb::Attr).or(named(word, b"activate", Verb::Activate)),
+        b's' => named(word, b"setsize", Verb::SetSize)
+            .or(named(word, b"space", Verb::Space))
+            .or(named(word, b"store", Verb::Store)),
+        b'p' => named(word, b"permanent", Verb::Permanent).or(named(
+            word,
+            b"protect",
+            Verb::Protect,
+        )),
+        b'i' => named(word, b"immutable", Verb::Immutable),
+        b'n' => named(word, b"next", Verb::Next),
+        b'v' => named(word, b"volume", Verb::Volume),
+        b'r' => named(word, b"remove", Verb::Remove),
+        b'w' => named(word, b"where", Verb::Where),
+        b'u' => named(word, b"units", Verb::Units).or(named(word, b"unmap", Verb::Unmap)),
+        b'm' => named(word, b"map", Verb::Map).or(named(word, b"mapdata", Verb::MapData)),
+        b'l' => named(word, b"load", Verb::Load),
+        b'k' => named(word, b"kill", Verb::Kill),
+        b'f' => named(word, b"force", Verb::Force),
+        b'h' => named(word, b"halt", Verb::Halt),
+        _ => None,
     }
 }
 

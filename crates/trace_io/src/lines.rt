@@ -4,7 +4,7 @@ ghost use Rattle.trace_io.specs.Stream.{Rose};
 ghost use Rattle.trace_io.specs.Grammar.{call_of};
 ghost use Rattle.flat_machine.specs.Form.{IsInForm};
 ghost use Rattle.trace_io.specs.Form.{GivesForm};
-ghost use Rattle.trace_io.specs.Scan.{Scans, Keeps255};
+ghost use Rattle.trace_io.specs.Scan.{Scans, TakesFront, Keeps255};
 ghost use Rattle.trace_io.specs.Lines.{TakesNext, answer_of, line_of};
 
 use crate::progress::{Line, Stop};
@@ -51,6 +51,17 @@ pub(crate) struct Scan {
     end: Ending,
 }
 
+// Takes the front of a line that is at hand, but no more than the buffer and the room have space
+// for, and gives its length.
+fn take_front<S: Source>(source: &mut S, buffer: &mut [u8; LINE], room: u64) -> u64
+    ensures front { TakesFront (S.left source.old) (S.left source.new) buffer.new result }
+    ensures within { result ≤ room }
+    ensures faults { S.faults source.new ≡ S.faults source.old }
+{
+    let most = room.min(LINE as u64) as usize;
+    source.take_before(b'\n', &mut buffer[..most]) as u64
+}
+
 // Takes bytes to the next line feed, but no more than there is room for, and keeps the front of
 // them.
 fn take_line<S: Source>(source: &mut S, buffer: &mut [u8; LINE], room: u64) -> Scan
@@ -58,7 +69,8 @@ fn take_line<S: Source>(source: &mut S, buffer: &mut [u8; LINE], room: u64) -> S
     ensures faults { S.faults source.old ≤ S.faults source.new }
     ensures fault { result.end ≡ Ending.Fault → Rose (S.faults source.old) (S.faults source.new) }
 {
-    for size in 0..room {
+    let front = take_front(source, buffer, room);
+    for size in front..room {
         let Ok(got) = source.next() else {
             return Scan {
                 size,

@@ -5,6 +5,7 @@ ghost use Rattle.hex.specs.Hex.{encode_lower};
 ghost use Rattle.flat_machine.specs.Text.{id_text};
 ghost use Rattle.trace_io.specs.CallText.{mode_text};
 
+use crate::digits::write_digits;
 use arrayvec::ArrayVec;
 use itoa::Buffer;
 use std::marker::Model;
@@ -57,7 +58,7 @@ impl Text {
     {
         let mut digits = [0u8; 128];
         let digits = &mut digits[..2 * bytes.len()];
-        let _ = hex::encode_to_slice(bytes, digits);
+        write_digits(bytes, digits);
         self.put(digits);
     }
 
