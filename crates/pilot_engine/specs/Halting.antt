@@ -1,0 +1,54 @@
+-- Why a call on files stops the session, and one that shows a file which comes and goes with its window: the halt of a call
+-- from one state to another, with so many intervals at its start.
+use Rattle.std.specs.Prelude.{◌≡◌, ◌⊎◌, ℕ}
+use Rattle.labelled_disk.specs.declared.evidence.Halt.{Halt}
+use Rattle.session_words.specs.Volume.{volume_page}
+use Rattle.filer_kernel.specs.Causes.{MapHalts}
+use Rattle.file_manager.specs.Causes.{LeaderHalts}
+use Rattle.file_manager.specs.Grounds.{DeleteHalts, MakeHalts, ResizeHalts}
+use Rattle.running_words.specs.Session.{WroteIn}
+use Rattle.fault_core.specs.Reach.{Reaches}
+use Rattle.fault_core.specs.View.{View, kept_by}
+use Rattle.space_calls.specs.Halts.{After, ChangeHalts, Looked, OnFileHalts, PathHalts, SightHalts, TakeHalts}
+
+-- ---- What is done to a file.
+
+-- it is made
+abbrev pub CreateHalts : View → View → Halt → Type 0
+CreateHalts v w e = MakeHalts v.layout v.disk v.slots w.disk w.slots e
+
+-- it is removed
+abbrev pub RemoveHalts : ℕ → View → View → Halt → Type 0
+RemoveHalts id v w e = DeleteHalts v.layout (kept_by v) id v.disk v.slots w.disk e
+
+-- it gets so many pages
+abbrev pub SizeHalts : ℕ → ℕ → View → View → Halt → Type 0
+SizeHalts id pages v w e = ResizeHalts v.layout (kept_by v) id pages v.disk v.slots w.disk w.slots e
+
+-- it gets a mark
+abbrev pub MarkHalts : ℕ → View → View → Halt → Type 0
+MarkHalts id v w e = LeaderHalts v.layout (kept_by v) id v.disk v.slots w.disk e
+
+-- ---- The files in order.
+
+-- the file map is searched for the next one, and then the tables are asked whether it may be named
+abbrev pub TurnHalts : ℕ → View → View → Halt → Type 0
+TurnHalts count v w e = MapHalts v.layout v.disk v.slots w.disk e ⊎ After Looked (SightHalts count) v w e
+
+-- so it is with one of the next ones
+abbrev pub NextHalts : ℕ → View → View → Halt → Type 0
+NextHalts count v w e = After Looked (TurnHalts count) v w e
+
+-- ---- A file that comes and goes with its window.
+
+-- a file was made, or it was refused: labels were written
+abbrev pub Made : View → View → Type 0
+Made v w = WroteIn volume_page v.disk v.slots w.disk w.slots × (w.layout ≡ v.layout)
+
+-- the path of a space is looked up, a file is made, and then the tables change
+abbrev pub MapNewHalts : ℕ → View → View → Halt → Type 0
+MapNewHalts count v w e = PathHalts v w e ⊎ After Reaches (λ u x e. CreateHalts u x e ⊎ After Made (ChangeHalts count) u x e) v w e
+
+-- the window of a space is taken away, and then the file that it showed is removed, if it came with it
+abbrev pub UnmapHalts : ℕ → ℕ → View → View → Halt → Type 0
+UnmapHalts space count v w e = TakeHalts space count v w e ⊎ After Looked (λ u x e. (id : ℕ) × OnFileHalts id (RemoveHalts id) u x e) v w e
