@@ -1,10 +1,8 @@
 -- Why a call stops the session that asks the tables and looks at a file, one after the other.
-use Rattle.std.proofs.Common.{◌≡◌, ◌⊎◌, inl, inr, ℕ, Bool, true, false, refl, ◌∙◌, subst, arith}
-use Rattle.std.specs.Prelude.{[]}
+use Rattle.std.proofs.Common.{◌≡◌, inl, inr, ℕ, Bool, true, false, refl, ◌∙◌, subst, arith}
 use Rattle.labelled_disk.specs.declared.evidence.Halt.{Halt}
 use Rattle.space_tables.specs.Form.{Breaks, BreaksHierarchy, BreaksLookUp, BreaksSlot}
 use Rattle.session_words.specs.Volume.{volume_page}
-use Rattle.swapper_kernel.specs.Goes.{Makes}
 use Rattle.swapper_kernel.specs.GoesLaws.{makes_nothing, makes_then}
 use Rattle.swapper_kernel.specs.Homes.{IsLayout}
 use Rattle.fault_core.specs.Reach.{Reaches, ReachHalts}
@@ -13,7 +11,7 @@ use Rattle.fault_core.specs.View.{View}
 use Rattle.fault_core.proofs.ReachLemmas.{halts_before, reaches_itself}
 use Rattle.table_calls.specs.Answers.{TablesBreak}
 use Rattle.space_calls.specs.Ranges.{BreaksWindow}
-use Rattle.space_calls.specs.Halts.{BreaksSight, ChangeHalts, Looked, LookHalts, MapFileHalts, NamedHalts, OnFileHalts, OnNamedHalts, PathHalts, ProtectHalts, SightHalts, SlotHalts, TakeHalts, WritableHalts}
+use Rattle.space_calls.specs.Halts.{BreaksSight, ChangeHalts, Looked, MapFileHalts, NamedHalts, PathHalts, ProtectHalts, SightHalts, SlotHalts, WritableHalts}
 use Rattle.space_calls.proofs.RunLemmas.{reached_makes}
 
 -- ---- What a look leaves.

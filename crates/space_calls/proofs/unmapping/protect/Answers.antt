@@ -1,5 +1,5 @@
-use Rattle.std.proofs.Common.{Bool, sym, ◌∙◌, subst, refl, Err, Result}
-use Rattle.std.specs.Prelude.{IfOk, IfErr}
+use Rattle.std.proofs.Common.{Bool, true, sym, ◌∙◌, subst}
+use Rattle.std.specs.Prelude.{IfOk}
 use Rattle.std.proofs.lemmas.Bool.{true≢false}
 use Rattle.std.proofs.lemmas.Option.{none-some}
 use Rattle.flat_machine.specs.declared.call.Call.TheVariants as call
@@ -10,8 +10,7 @@ use Rattle.space_calls.proofs.FileLemmas.{found_refused, found_told}
 use Rattle.space_calls.proofs.RunLemmas.{nothing_labelled, quiet_passes}
 use Rattle.space_calls.proofs.TakeLemmas.{row_refused}
 use Rattle.fault_core.specs.Core.{state}
-use Rattle.fault_core.proofs.ReachLemmas.{reaches_itself}
-use Rattle.space_calls.proofs.WindowHalts.{slot_window, if_window_halt}
+use Rattle.space_calls.proofs.WindowHalts.{if_window_halt}
 use Rattle.space_calls.specs.Halts.{ProtectHalts, WritableHalts}
 use Rattle.filer_kernel.proofs.Outcomes.{err_wider}
 use Rattle.space_calls.proofs.HaltLemmas.{slot_protect, writable_protect}

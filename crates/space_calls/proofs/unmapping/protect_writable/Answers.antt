@@ -64,8 +64,7 @@ returns-in-Err-clause-cause g c = (c.args.shown.id, inl c.in-Err.ensures.cause)
 
 pub returns-in-Err-change_window-clause-cause : goal.returns-in-Err-change_window-clause-cause
 returns-in-Err-change_window-clause-cause g c =
-    let x = c.shows_immutable.new.core in
-    (
+    let x = c.shows_immutable.new.core in (
       c.args.shown.id,
       inr (
         state x,
