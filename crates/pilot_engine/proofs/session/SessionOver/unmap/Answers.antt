@@ -179,7 +179,7 @@ returns-in-Err-wait-clause-cause g c =
     let v = state c.args.self.now.core in
     let u = state c.take_window.new.core in
     let x = state c.delete_unseen.new.self.core in
-    let w = state c.wait.new.core in
+    let w = state c.settle.new.core in
     let first = c.take_window.ensures.makes.went.faults in
     let later = c.delete_unseen.ensures.wrote.makes.went.faults in
     inl (fault_halt (BreaksWindow v c.args.self.now.core.intervals c.args.space) v x w c.in-Err-wait.halt (omega (arith, first, later)) c.in-Err-wait.ensures.fault c.in-Err-wait.ensures.counted)
