@@ -1,13 +1,17 @@
 -- Why a call on files stops the session, and one that shows a file which comes and goes with its window: the halt of a call
 -- from one state to another, with so many intervals at its start.
-use Rattle.std.specs.Prelude.{◌≡◌, ◌⊎◌, ℕ}
+use Rattle.std.specs.Prelude.{◌≡◌, ◌⊎◌, ℕ, ◌<◌}
 use Rattle.labelled_disk.specs.declared.evidence.Halt.{Halt}
+use Rattle.flat_machine.specs.Space.{root_pages}
 use Rattle.session_words.specs.Volume.{volume_page}
+use Rattle.swapper_kernel.specs.Halts.{Halts}
+use Rattle.swapper_kernel.specs.Homes.{no_home}
 use Rattle.filer_kernel.specs.Causes.{MapHalts}
 use Rattle.file_manager.specs.Causes.{LeaderHalts}
-use Rattle.file_manager.specs.Grounds.{DeleteHalts, MakeHalts, ResizeHalts}
+use Rattle.file_manager.specs.Grounds.{AreTables, CutFileHalts, DeleteHalts, MakeHalts, ResizeHalts}
 use Rattle.running_words.specs.Session.{WroteIn}
-use Rattle.fault_core.specs.Reach.{Reaches}
+use Rattle.fault_core.specs.Kill.{BreaksWithin}
+use Rattle.fault_core.specs.Reach.{Reaches, ReachHalts}
 use Rattle.fault_core.specs.View.{View, kept_by}
 use Rattle.space_calls.specs.Halts.{After, ChangeHalts, Looked, OnFileHalts, PathHalts, SightHalts, TakeHalts}
 
@@ -41,7 +45,7 @@ NextHalts count v w e = After Looked (TurnHalts count) v w e
 
 -- ---- A file that comes and goes with its window.
 
--- a file was made, or it was refused: labels were written
+-- labels were written, and no page but those of the volume's own became dirty
 abbrev pub Made : View → View → Type 0
 Made v w = WroteIn volume_page v.disk v.slots w.disk w.slots × (w.layout ≡ v.layout)
 
@@ -52,3 +56,21 @@ MapNewHalts count v w e = PathHalts v w e ⊎ After Reaches (λ u x e. CreateHal
 -- the window of a space is taken away, and then the file that it showed is removed, if it came with it
 abbrev pub UnmapHalts : ℕ → ℕ → View → View → Halt → Type 0
 UnmapHalts space count v w e = TakeHalts space count v w e ⊎ After Looked (λ u x e. (id : ℕ) × OnFileHalts id (RemoveHalts id) u x e) v w e
+
+-- ---- The session's end.
+
+-- the next temporary file is searched for, looked up, and removed
+abbrev pub ClearHalts : View → View → Halt → Type 0
+ClearHalts v w e = MapHalts v.layout v.disk v.slots w.disk e ⊎ After Looked (λ u x e. (id : ℕ) × OnFileHalts id (RemoveHalts id) u x e) v w e
+
+-- the pages of the space tables are freed
+abbrev pub FreeTablesHalts : View → View → Halt → Type 0
+FreeTablesHalts v w e = CutFileHalts (AreTables v.slots) v.layout (kept_by v) 3 0 (λ page. page < 96) v.disk v.slots w.disk e
+
+-- dirty frames are written out
+abbrev pub WriteHalts : View → View → Halt → Type 0
+WriteHalts v w e = Halts no_home v.disk v.slots w.disk e
+
+-- the frames of all pages of the root are given up; then one of these is done
+abbrev pub EndHalts : ℕ → View → View → Halt → Type 0
+EndHalts count v w e = ReachHalts (BreaksWithin v count 0 root_pages) v w e ⊎ After Made (λ u x e. ClearHalts u x e ⊎ (FreeTablesHalts u x e ⊎ WriteHalts u x e)) v w e
