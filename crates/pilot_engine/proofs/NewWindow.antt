@@ -1,5 +1,5 @@
 -- A new file is shown in a space, and no call names it.
-use Rattle.std.proofs.Common.{◌≡◌, ◌≢◌, inr, ℕ, zero, suc, ◌+◌, ◌<◌, ◌≤◌, ◌^◌, Bool, true, false, cond, List, [], ◌∷◌, Option, Some, None, Result, Ok, Err, refl, sym, ◌∙◌, ap, subst, arith, eqb}
+use Rattle.std.proofs.Common.{◌≡◌, inr, ℕ, zero, suc, ◌+◌, ◌<◌, ◌≤◌, ◌^◌, Bool, true, false, cond, List, [], ◌∷◌, Option, Some, None, Result, Ok, Err, refl, sym, ◌∙◌, ap, subst, arith}
 use Rattle.std.specs.Prelude.{IfOk, MatchOption, option_and_then, ◌==◌}
 use Rattle.std.specs.Option.{option_map_or}
 use Rattle.std.proofs.lemmas.Bool.{eq-eqb, eqb-true, true≢false}
@@ -21,7 +21,6 @@ use Rattle.flat_machine.specs.Machine.{Machine, IsFileId}
 use Rattle.flat_machine.specs.Next.{next, new_file, new_id, mapped_anonymous, set_window, with_new_file}
 use Rattle.flat_machine.specs.Refusal.{first_of, refusal, no_ids, no_room, no_room_for_space, is_root}
 use Rattle.flat_machine.specs.Space.{is_mapped, overlap, space_at}
-use Rattle.flat_machine.proofs.Keep.{spaces_of}
 use Rattle.flat_machine.proofs.KeepAnonymous.{map_anonymous_keeps}
 use Rattle.flat_machine.proofs.KeepNew.{create_keeps}
 use Rattle.flat_machine.proofs.KeepWindows.{own_free}

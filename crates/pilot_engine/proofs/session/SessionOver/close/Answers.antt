@@ -1,4 +1,4 @@
-use Rattle.std.proofs.Common.{subst, sym, arith, inl, inr, ◌∙◌}
+use Rattle.std.proofs.Common.{subst, sym, arith, inl, inr}
 use Rattle.file_manager.specs.declared.volume.Volume.{Volume}
 use Rattle.file_manager.proofs.Faults.{counted_then}
 use Rattle.pilot_engine.specs.Closing.{IsOpenStop, IsReady, IsStop}

@@ -1,9 +1,6 @@
-use Rattle.std.proofs.Common.{rules, ℕ, ◌<◌, ◌^◌, ◌∙◌, Option, refl, sym, ap, subst, arith}
+use Rattle.std.proofs.Common.{rules, ℕ, ◌<◌, ◌^◌, ◌∙◌, Option, refl, subst, arith}
 use Rattle.std.specs.Prelude.{IfSome}
 use Rattle.flat_machine.specs.declared.call.Call.TheVariants as call
-use Rattle.flat_machine.specs.Machine.{Machine}
-use Rattle.flat_machine.specs.IsMachine.{IsMachine}
-use Rattle.running_words.specs.Running.{Runs}
 use Rattle.file_manager.proofs.Faults.{counted_then}
 use Rattle.swapper_kernel.specs.GoesLaws.{makes_then}
 use Rattle.pilot_engine.specs.declared.order.Passed.{Passed}
