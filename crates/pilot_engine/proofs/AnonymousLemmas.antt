@@ -1,12 +1,11 @@
 -- A window is taken away, and an anonymous one's file goes with it.
-use Rattle.std.proofs.Common.{◌≡◌, ◌≢◌, inl, inr, ℕ, zero, suc, Bool, true, false, ◌&&◌, not, List, Option, Some, None, Result, Ok, Err, map, filter, refl, sym, ◌∙◌, ap, subst, eqb}
+use Rattle.std.proofs.Common.{◌≡◌, inl, ℕ, zero, suc, Bool, true, false, ◌&&◌, not, List, Option, Some, None, Result, Ok, Err, refl, sym, ◌∙◌, ap, subst, eqb}
 use Rattle.std.specs.Prelude.{find, IfOk, OnOk, MatchOption, option_map, ◌==◌, if◌then◌else◌}
 use Rattle.std.specs.Option.{option_map_or}
-use Rattle.std.specs.List.{list_any}
-use Rattle.std.proofs.lemmas.Bool.{and_parts, cases_eq, eq-eqb, eqb-true, ne_eqb, true≢false}
+use Rattle.std.proofs.lemmas.Bool.{and_parts, eq-eqb, eqb-true, true≢false}
 use Rattle.labelled_disk.specs.declared.disk.Disk.{Ghosts}
 use Rattle.labelled_disk.specs.declared.evidence.Halt.{Halt}
-use Rattle.labelled_disk.specs.File.{File, size, file_at}
+use Rattle.labelled_disk.specs.File.{size}
 use Rattle.flat_machine.specs.declared.call.Call.{Call}
 use Rattle.flat_machine.specs.declared.call.Call.TheVariants as call
 use Rattle.flat_machine.specs.declared.call.Refusal.{Refusal}

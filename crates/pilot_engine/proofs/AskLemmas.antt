@@ -1,18 +1,17 @@
 -- What the machine replies to calls that ask.
-use Rattle.std.proofs.Common.{◌≡◌, ◌≢◌, ◌⊎◌, inl, inr, ℕ, ◌-◌, ◌<◌, ◌≤◌, Bool, true, false, ◌&&◌, List, [], ◌∷◌, Option, Some, None, refl, sym, ◌∙◌, ap, subst, arith}
+use Rattle.std.proofs.Common.{◌≡◌, ◌≢◌, ◌⊎◌, inl, inr, ℕ, ◌-◌, ◌<◌, ◌≤◌, Bool, true, false, ◌&&◌, List, [], ◌∷◌, Option, Some, None, refl, sym, ◌∙◌, ap, arith}
 use Rattle.std.specs.Prelude.{find, nat_lt, option_map}
-use Rattle.std.specs.Option.{option_map_or, is_some}
+use Rattle.std.specs.Option.{is_some}
 use Rattle.std.proofs.lemmas.Bool.Decides.{nat_tests}
 use Rattle.std.proofs.lemmas.Bool.{cases_lt}
 use Rattle.std.proofs.lemmas.Option.{none-some}
 use Rattle.labelled_disk.specs.File.{File, file_at}
 use Rattle.labelled_disk.specs.Rising.{AreRising}
-use Rattle.labelled_disk.proofs.RisingLemmas.{at_low, at_head, at_tail, at_id}
+use Rattle.labelled_disk.proofs.RisingLemmas.{at_low, at_head, at_tail}
 use Rattle.flat_machine.specs.declared.call.Call.TheVariants as call
 use Rattle.flat_machine.specs.declared.call.Reply.TheVariants as reply
-use Rattle.flat_machine.specs.Space.{root}
-use Rattle.flat_machine.specs.Machine.{Machine, used, nameable}
-use Rattle.flat_machine.specs.Allows.{next_file, plain_reply}
+use Rattle.flat_machine.specs.Machine.{Machine, used}
+use Rattle.flat_machine.specs.Allows.{plain_reply}
 use Rattle.session_words.specs.Parts.{shapes_of, shape_of}
 use Rattle.file_manager.specs.Answer.{IsNextFile}
 

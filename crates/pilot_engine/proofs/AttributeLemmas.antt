@@ -1,5 +1,5 @@
 -- What is told of a file that may be named, over a core.
-use Rattle.std.proofs.Common.{◌≡◌, ℕ, Bool, true, false, cond, Option, Some, None, refl, sym, ◌∙◌, ap, subst}
+use Rattle.std.proofs.Common.{◌≡◌, ℕ, Option, Some, None, refl, ap, subst}
 use Rattle.std.specs.Prelude.{is_none}
 use Rattle.std.specs.Bool.{then_some}
 use Rattle.labelled_disk.specs.declared.disk.Disk.{Ghosts}

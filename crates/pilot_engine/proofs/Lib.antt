@@ -13,6 +13,7 @@ pub mod StartRuns
 pub mod StartFaults
 pub mod FreshLemmas
 pub mod StepLemmas
+pub mod CauseLemmas
 pub mod SpaceLeft
 pub mod AloneLemmas
 pub mod ShedLemmas

@@ -22,7 +22,6 @@ use Rattle.flat_machine.specs.Machine.{Machine, IsFileId}
 use Rattle.flat_machine.specs.Next.{next, new_file, new_id, mapped_anonymous, set_window, with_new_file}
 use Rattle.flat_machine.specs.Refusal.{first_of, refusal, no_ids, no_room, no_room_for_space, is_root}
 use Rattle.flat_machine.specs.Space.{is_mapped, overlap, space_at}
-use Rattle.flat_machine.proofs.Keep.{spaces_of}
 use Rattle.flat_machine.proofs.KeepAnonymous.{map_anonymous_keeps}
 use Rattle.flat_machine.proofs.KeepNew.{create_keeps}
 use Rattle.flat_machine.proofs.KeepWindows.{own_free}

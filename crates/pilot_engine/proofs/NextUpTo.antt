@@ -1,8 +1,5 @@
 -- Files that an anonymous window shows are passed over, in a loop.
-use Rattle.std.proofs.Common.{◌≡◌, ℕ, ◌+◌, ◌*◌, ◌<◌, ◌≤◌, Bool, true, false, not, List, [], Option, Some, None, refl, sym, ◌∙◌, ap, subst, arith}
-use Rattle.std.specs.Prelude.{IfSome}
-use Rattle.labelled_disk.specs.declared.evidence.Halt.{Halt}
-use Rattle.labelled_disk.specs.declared.evidence.Halt.TheVariants as halt
+use Rattle.std.proofs.Common.{◌≡◌, ℕ, ◌+◌, ◌*◌, ◌≤◌, Bool, true, false, not, [], Option, Some, None, refl, sym, ◌∙◌, ap, subst, arith}
 use Rattle.labelled_disk.specs.declared.layout.Layout.{Layout}
 use Rattle.labelled_disk.specs.File.{size}
 use Rattle.labelled_disk.specs.State.{DiskState}
@@ -14,7 +11,7 @@ use Rattle.swapper_kernel.specs.Goes.{Makes}
 use Rattle.swapper_kernel.specs.GoesLaws.{makes_nothing, makes_then}
 use Rattle.session_words.specs.Volume.{volume_page}
 use Rattle.file_manager.specs.declared.volume.Volume.{Volume}
-use Rattle.running_words.specs.Bound.{CostsOther, room_above}
+use Rattle.running_words.specs.Bound.{room_above}
 use Rattle.pilot_engine.specs.declared.order.Passed.{Passed}
 use Rattle.pilot_engine.specs.Order.{IsTurn, turn_cost}
 use Rattle.pilot_engine.proofs.EndCosts.{next_there, room_step, room_all}

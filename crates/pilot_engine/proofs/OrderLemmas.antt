@@ -1,6 +1,6 @@
 -- The file with the least identifier above one that a call may name: files that an anonymous window shows are passed over.
-use Rattle.std.proofs.Common.{◌≡◌, ◌≢◌, inl, inr, ℕ, ◌+◌, ◌*◌, ◌<◌, ◌≤◌, Bool, true, false, not, ◌&&◌, cond, List, [], ◌∷◌, Option, Some, None, refl, sym, ◌∙◌, ap, subst, arith}
-use Rattle.std.specs.Prelude.{find, nat_lt, option_map, ◌==◌}
+use Rattle.std.proofs.Common.{◌≡◌, inl, inr, ℕ, ◌<◌, ◌≤◌, Bool, true, false, ◌&&◌, cond, List, [], ◌∷◌, Option, Some, None, refl, sym, ◌∙◌, ap, subst, arith}
+use Rattle.std.specs.Prelude.{find, nat_lt, option_map}
 use Rattle.std.specs.Option.{option_map_or, is_some}
 use Rattle.std.proofs.lemmas.Bool.Decides.{nat_tests}
 use Rattle.std.proofs.lemmas.Bool.{and_parts, cases_eq, cases_lt, true≢false}
@@ -13,7 +13,7 @@ use Rattle.flat_machine.specs.declared.call.Reply.TheVariants as reply
 use Rattle.flat_machine.specs.Machine.{Machine, nameable, is_anonymous}
 use Rattle.flat_machine.specs.Allows.{next_file, plain_reply}
 use Rattle.flat_machine.proofs.Lists.{In, find_in, look_up, not_found}
-use Rattle.session_words.specs.Parts.{shapes_of, shape_of}
+use Rattle.session_words.specs.Parts.{shapes_of}
 use Rattle.file_manager.specs.Answer.{IsNextFile}
 use Rattle.pilot_engine.proofs.AskLemmas.{first_above, has_shape}
 

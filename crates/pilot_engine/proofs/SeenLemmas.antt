@@ -1,12 +1,11 @@
 -- What windows show of the files of a machine.
-use Rattle.std.proofs.Common.{◌≡◌, ◌≢◌, ◌⊎◌, inl, inr, ℕ, ◌+◌, ◌<◌, ◌≤◌, Bool, true, false, ◌&&◌, not, List, Option, Some, None, refl, sym, ◌∙◌, ap, subst, arith, eqb}
+use Rattle.std.proofs.Common.{◌≡◌, inl, inr, ℕ, ◌+◌, ◌≤◌, Bool, true, false, ◌&&◌, List, Option, Some, None, refl, sym, ◌∙◌, ap, arith, eqb}
 use Rattle.std.specs.Prelude.{find, nat_le, nat_lt, option_map, ◌==◌}
 use Rattle.std.specs.Option.{option_map_or}
 use Rattle.std.proofs.lemmas.Bool.{and_parts, ne_eqb, eq-eqb, eqb-true, true≢false, cases_eq}
 use Rattle.std.proofs.lemmas.Bool.Decides.{nat_tests}
 use Rattle.std.proofs.lemmas.Option.{same_Some, none-some}
 use Rattle.labelled_disk.specs.File.{File, size, file_at}
-use Rattle.flat_machine.specs.declared.call.Refusal.{Refusal}
 use Rattle.flat_machine.specs.declared.call.Refusal.TheVariants as why
 use Rattle.flat_machine.specs.declared.space.Space.{Space}
 use Rattle.flat_machine.specs.declared.space.Window.{Window}
@@ -15,7 +14,7 @@ use Rattle.labelled_disk.proofs.RisingLemmas.{at_id, each_at}
 use Rattle.flat_machine.specs.Machine.{Machine, IsFileId, is_anonymous, shares_anonymous}
 use Rattle.flat_machine.specs.Refusal.{refusal, file_mapped, lowest_handle}
 use Rattle.flat_machine.specs.declared.call.Call.TheVariants as call
-use Rattle.flat_machine.specs.Space.{has_window, shows, space_at}
+use Rattle.flat_machine.specs.Space.{has_window, shows}
 use Rattle.flat_machine.proofs.FileLemmas.{window_file}
 use Rattle.flat_machine.proofs.Keep.{window_at}
 use Rattle.flat_machine.proofs.Lists.{In, any_not, find_in, in_any, look_up}

@@ -1,5 +1,5 @@
 -- The settled files say less where more pages are unforced.
-use Rattle.std.proofs.Common.{◌≡◌, ℕ, zero, suc, ◌+◌, Bool, true, false, cond, List, [], ◌∷◌, map, filter, length, Some, None, refl, sym, ◌∙◌, ap, subst, arith}
+use Rattle.std.proofs.Common.{◌≡◌, ℕ, zero, suc, ◌+◌, Bool, true, false, cond, List, [], ◌∷◌, map, filter, length, None, refl, sym, ◌∙◌, subst, arith}
 use Rattle.std.specs.Prelude.{replicate, if◌then◌else◌}
 use Rattle.std.specs.List.{AllByRecursion, AllZip, enumerate_from}
 use Rattle.std.proofs.lemmas.Bool.{true≢false}
@@ -9,7 +9,7 @@ use Rattle.flat_machine.specs.File.{File, Page, Cell, any_page}
 use Rattle.flat_machine.specs.declared.space.FilePage.{FilePage}
 use Rattle.flat_machine.specs.IsMachine.{IsMachine}
 use Rattle.flat_machine.specs.Machine.{Machine, IsFile}
-use Rattle.flat_machine.specs.Settled.{settled, settled_file, is_unforced, FileAgrees, PageAgrees, CellAgrees, Agrees}
+use Rattle.flat_machine.specs.Settled.{settled_file, is_unforced, FileAgrees, PageAgrees, CellAgrees, Agrees}
 use Rattle.flat_machine.proofs.Lists.{all_in, in_all, in_filter}
 use Rattle.session_words.specs.StandsFor.{TellsSettled}
 

@@ -1,6 +1,6 @@
 -- What an end has written: the last of its writes alone may set the clean flag.
 use Rattle.std.proofs.Common.{◌≡◌, ◌⊎◌, inl, inr, ℕ, zero, suc, ◌+◌, ◌<◌, ◌^◌, List, [], ◌∷◌, ◌++◌, length, Some, refl, sym, ◌∙◌, ap, subst, arith, append_assoc}
-use Rattle.std.specs.Prelude.{filter, not, slice_get, option_map}
+use Rattle.std.specs.Prelude.{not, slice_get, option_map}
 use Rattle.std.proofs.lemmas.List.Elements.{filter-append}
 use Rattle.std.proofs.lemmas.Option.{same_Some, none-some}
 use Rattle.labelled_disk.specs.declared.disk.DiskWrite.{DiskWrite}

@@ -1,6 +1,6 @@
 -- Which calls are on spaces, and what the frames show after them.
 use Rattle.std.proofs.Common.{◌≡◌, ℕ, ◌+◌, Bool, true, false, List, Option, Some, Result, Ok, Err, refl, sym}
-use Rattle.std.specs.Prelude.{IfErr, OnOk}
+use Rattle.std.specs.Prelude.{OnOk}
 use Rattle.labelled_disk.specs.declared.evidence.Halt.{Halt}
 use Rattle.flat_machine.specs.declared.call.Reply.{Reply}
 use Rattle.flat_machine.specs.declared.space.Space.{Space}
@@ -73,8 +73,3 @@ nothing_told (Err halt) = tt
 pub of_pages : (P : ℕ → ℕ → Type 0) (spaces : List Space) (handle : ℕ) (result : Result Reply Halt) → ((s : Space) → space_at spaces handle ≡ Some s → OnOk result (P s.first (s.first + s.pages))) → OnOk result (OfPages P spaces handle)
 of_pages P spaces handle (Ok reply) each = each
 of_pages P spaces handle (Err halt) each = tt
-
--- nothing is said of a halt
-pub none_said : {T : Type 0} (r : Result T Halt) → IfErr r (λ e. Unit {0})
-none_said (Ok x) = tt
-none_said (Err e) = tt

@@ -4,5 +4,6 @@ pub mod Room
 pub mod Closing
 pub mod Seen
 pub mod Order
+pub mod Halting
 pub mod Stepping
 pub mod Advised

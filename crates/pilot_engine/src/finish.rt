@@ -1,11 +1,11 @@
 //! The end of a session: its temporary files and the pages of the space tables go, and the volume is closed.
-ghost use Rattle.std.specs.Prelude.{◌≡◌, ℕ, ◌+◌, ◌*◌, ◌^◌, ◌<◌, ◌≤◌, true, List, [], ◌∷◌, length, IfErr, OnOk, OnErr, Err, Some};
+ghost use Rattle.std.specs.Prelude.{◌≡◌, ◌⊎◌, ℕ, ◌+◌, ◌*◌, ◌^◌, ◌<◌, ◌≤◌, true, List, [], ◌∷◌, length, IfErr, OnOk, OnErr, Err, Some};
 ghost use Rattle.labelled_disk.specs.declared.evidence.Halt.TheVariants as halt;
 ghost use Rattle.labelled_disk.specs.Calls.{Rose};
 ghost use Rattle.labelled_disk.specs.Sectors.{Sector};
 ghost use Rattle.filer_kernel.specs.Evidence.{ShowsSo};
 ghost use Rattle.flat_machine.specs.Machine.{Machine};
-ghost use Rattle.flat_machine.specs.Space.{root};
+ghost use Rattle.flat_machine.specs.Space.{root, root_pages};
 ghost use Rattle.swapper_kernel.specs.Goes.{IsDirty, Swaps};
 ghost use Rattle.swapper_kernel.specs.Maps.{id_of};
 ghost use Rattle.swapper_kernel.specs.Stands.{Stands};
@@ -15,6 +15,11 @@ ghost use Rattle.running_words.specs.Running.{Runs};
 ghost use Rattle.running_words.specs.Session.{IsOpen, IsAlone, Wrote};
 ghost use Rattle.pilot_engine.specs.Closing.{AreWritten, HasShut, IsEmptied, IsOpenStop, IsReady, IsStop, TellsShut, Throughout, WroteAny, WroteOn, closed_root};
 ghost use Rattle.pilot_engine.specs.Opening.{IsUnset, LeavesOpen, root_alone};
+ghost use Rattle.fault_core.specs.Core.{state};
+ghost use Rattle.fault_core.specs.Kill.{BreaksWithin};
+ghost use Rattle.fault_core.specs.Reach.{ReachHalts};
+ghost use Rattle.space_calls.specs.Halts.{After};
+ghost use Rattle.pilot_engine.specs.Halting.{ClearHalts, EndHalts, FreeTablesHalts, Made, WriteHalts};
 
 use crate::SessionOver;
 use crate::frames::look_at_frames;
@@ -61,6 +66,7 @@ impl<D: Disk, A: Allocator> SessionOver<D, A> {
         ensures sound { (m : Machine) → Runs self.old.core self.old.volume m → IfErr result (λ e. e ≡ halt.Disk) }
         ensures stops { (m : Machine) → Runs self.old.core self.old.volume m → Throughout (IsOpenStop m) (D.state self.old.core.filer.swapper.under) (D.state self.new.core.filer.swapper.under) }
         ensures counted { result ≡ Err halt.Disk → Rose (D.state self.old.core.filer.swapper.under).faults (D.state self.new.core.filer.swapper.under).faults }
+        ensures cause { IfErr result (ReachHalts (BreaksWithin (state self.old.core) self.old.core.intervals 0 root_pages) (state self.old.core) (state self.new.core)) }
         ensures so { IfErr result (ShowsSo (D.state self.new.core.filer.swapper.under)) }
         ensures wrote { Wrote (D.state self.old.core.filer.swapper.under) self.old.core.filer.swapper.pool (D.state self.new.core.filer.swapper.under) self.new.core.filer.swapper.pool }
         ensures layout { self.new.core.filer.swapper.layout ≡ self.old.core.filer.swapper.layout }
@@ -83,6 +89,7 @@ impl<D: Disk, A: Allocator> SessionOver<D, A> {
         ensures sound { (m : Machine) → Runs self.old.core self.old.volume m → IfErr result (λ e. e ≡ halt.Disk) }
         ensures stops { (m : Machine) → Runs self.old.core self.old.volume m → Throughout (IsOpenStop m) (D.state self.old.core.filer.swapper.under) (D.state self.new.core.filer.swapper.under) }
         ensures counted { result ≡ Err halt.Disk → Rose (D.state self.old.core.filer.swapper.under).faults (D.state self.new.core.filer.swapper.under).faults }
+        ensures cause { IfErr result (ReachHalts (BreaksWithin (state self.old.core) self.old.core.intervals 0 root_pages) (state self.old.core) (state self.new.core)) }
         ensures so { IfErr result (ShowsSo (D.state self.new.core.filer.swapper.under)) }
         ensures wrote { Wrote (D.state self.old.core.filer.swapper.under) self.old.core.filer.swapper.pool (D.state self.new.core.filer.swapper.under) self.new.core.filer.swapper.pool }
         ensures layout { self.new.core.filer.swapper.layout ≡ self.old.core.filer.swapper.layout }
@@ -108,6 +115,7 @@ impl<D: Disk, A: Allocator> SessionOver<D, A> {
         ensures stops { (spaces_of : TablesMeaning) (m : Machine) → IsAlone spaces_of (D.state self.old.core.filer.swapper.under) self.old.core.filer.swapper.pool self.old.core.filer.swapper.layout self.old.core.filer.runs self.old.volume m
             → Throughout (IsOpenStop m) (D.state self.old.core.filer.swapper.under) (D.state self.new.core.filer.swapper.under) }
         ensures counted { result ≡ Err halt.Disk → Rose (D.state self.old.core.filer.swapper.under).faults (D.state self.new.core.filer.swapper.under).faults }
+        ensures cause { IfErr result (After Made (λ u x e. ClearHalts u x e ⊎ FreeTablesHalts u x e) (state self.old.core) (state self.new.core)) }
         ensures so { IfErr result (ShowsSo (D.state self.new.core.filer.swapper.under)) }
         ensures wrote { Wrote (D.state self.old.core.filer.swapper.under) self.old.core.filer.swapper.pool (D.state self.new.core.filer.swapper.under) self.new.core.filer.swapper.pool }
         ensures open_still { IsOpen self.new.core.filer.swapper.layout self.new.volume }
@@ -131,6 +139,7 @@ impl<D: Disk, A: Allocator> SessionOver<D, A> {
         ensures clean { OnOk result ((page : ℕ) → IsDirty self.new.core.filer.swapper.pool (id_of which) page → ⊥) }
         ensures sound { (x : List Sector) → Stands (D.state self.old.core.filer.swapper.under) self.old.core.filer.swapper.pool x → IfErr result (λ e. e ≡ halt.Disk) }
         ensures counted { result ≡ Err halt.Disk → Rose (D.state self.old.core.filer.swapper.under).faults (D.state self.new.core.filer.swapper.under).faults }
+        ensures cause { IfErr result (WriteHalts (state self.old.core) (state self.new.core)) }
         ensures so { IfErr result (ShowsSo (D.state self.new.core.filer.swapper.under)) }
         ensures swaps { Swaps (D.state self.old.core.filer.swapper.under) self.old.core.filer.swapper.pool (D.state self.new.core.filer.swapper.under) self.new.core.filer.swapper.pool }
         ensures layout { self.new.core.filer.swapper.layout ≡ self.old.core.filer.swapper.layout }
@@ -152,6 +161,7 @@ impl<D: Disk, A: Allocator> SessionOver<D, A> {
         ensures clean { OnOk result (AreWritten self.new.core.filer.swapper.pool) }
         ensures sound { (x : List Sector) → Stands (D.state self.old.core.filer.swapper.under) self.old.core.filer.swapper.pool x → IfErr result (λ e. e ≡ halt.Disk) }
         ensures counted { result ≡ Err halt.Disk → Rose (D.state self.old.core.filer.swapper.under).faults (D.state self.new.core.filer.swapper.under).faults }
+        ensures cause { IfErr result (After Made WriteHalts (state self.old.core) (state self.new.core)) }
         ensures so { IfErr result (ShowsSo (D.state self.new.core.filer.swapper.under)) }
         ensures swaps { Swaps (D.state self.old.core.filer.swapper.under) self.old.core.filer.swapper.pool (D.state self.new.core.filer.swapper.under) self.new.core.filer.swapper.pool }
         ensures layout { self.new.core.filer.swapper.layout ≡ self.old.core.filer.swapper.layout }
@@ -200,6 +210,7 @@ impl<D: Disk, A: Allocator> SessionOver<D, A> {
         ensures stops { (m : Machine) → Runs self.old.core self.old.volume m
             → Throughout (IsStop m) (D.state self.old.core.filer.swapper.under) (D.state self.new.core.filer.swapper.under) }
         ensures counted { result ≡ Err halt.Disk → Rose (D.state self.old.core.filer.swapper.under).faults (D.state self.new.core.filer.swapper.under).faults }
+        ensures cause { IfErr result (EndHalts self.old.core.intervals (state self.old.core) (state self.new.core)) }
         ensures so { IfErr result (ShowsSo (D.state self.new.core.filer.swapper.under)) }
         ensures left_open { IsUnset (D.state self.old.core.filer.swapper.under) → IfErr result (LeavesOpen (D.state self.new.core.filer.swapper.under)) }
         ensures wrote { WroteAny (D.state self.old.core.filer.swapper.under) self.old.core.filer.swapper.pool (D.state self.new.core.filer.swapper.under) self.new.core.filer.swapper.pool }
@@ -255,6 +266,7 @@ impl<D: Disk, A: Allocator> SessionOver<D, A> {
         ensures stops { (m : Machine) → Runs self.core self.volume m
             → Throughout (IsStop m) (D.state self.core.filer.swapper.under) (D.state result.1) }
         ensures counted { result.0 ≡ Err halt.Disk → Rose (D.state self.core.filer.swapper.under).faults (D.state result.1).faults }
+        ensures cause { IfErr result.0 (EndHalts self.core.intervals (state self.core) (record (state self.core) { disk = D.state result.1 })) }
         ensures so { IfErr result.0 (ShowsSo (D.state result.1)) }
         ensures left_open { IsUnset (D.state self.core.filer.swapper.under) → IfErr result.0 (LeavesOpen (D.state result.1)) }
         ensures wrote { WroteOn self.core.filer.swapper.pool (D.state self.core.filer.swapper.under) (D.state result.1) }

@@ -10,9 +10,11 @@ ghost use Rattle.session_words.specs.Parts.{TablesMeaning};
 ghost use Rattle.running_words.specs.Session.{IsOpen, IsSession, Carries, Wrote};
 ghost use Rattle.running_words.specs.Stages.{Passes};
 ghost use Rattle.flat_machine.specs.Refusal.{file_mapped};
-ghost use Rattle.fault_core.specs.Core.{kept};
+ghost use Rattle.fault_core.specs.Core.{kept, state};
 ghost use Rattle.running_words.specs.Bound.{CostsOther};
 ghost use Rattle.running_words.specs.Running.{Carried, Runs};
+ghost use Rattle.space_calls.specs.Halts.{OnFileHalts, OnNamedHalts};
+ghost use Rattle.pilot_engine.specs.Halting.{MarkHalts};
 
 use crate::SessionOver;
 use crate::sight::Sight;
@@ -36,6 +38,7 @@ impl<D: Disk, A: Allocator> SessionOver<D, A> {
             → is_anonymous m.spaces id ≡ false
             → Passes m (call.MakePermanent id) (D.state self.old.core.filer.swapper.under) (D.state self.new.core.filer.swapper.under) }
         ensures counted { result ≡ Err halt.Disk → Rose (D.state self.old.core.filer.swapper.under).faults (D.state self.new.core.filer.swapper.under).faults }
+        ensures cause { IfErr result (OnFileHalts id (MarkHalts id) (state self.old.core) (state self.new.core)) }
         ensures so { IfErr result (ShowsSo (D.state self.new.core.filer.swapper.under)) }
         ensures wrote { Wrote (D.state self.old.core.filer.swapper.under) self.old.core.filer.swapper.pool (D.state self.new.core.filer.swapper.under) self.new.core.filer.swapper.pool }
         ensures open_still { IsOpen self.new.core.filer.swapper.layout self.new.volume }
@@ -70,6 +73,7 @@ impl<D: Disk, A: Allocator> SessionOver<D, A> {
             → is_anonymous m.spaces id ≡ false → file_mapped m id (λ w. w.writable) ≡ None
             → Passes m (call.MakeImmutable id) (D.state self.old.core.filer.swapper.under) (D.state self.new.core.filer.swapper.under) }
         ensures counted { result ≡ Err halt.Disk → Rose (D.state self.old.core.filer.swapper.under).faults (D.state self.new.core.filer.swapper.under).faults }
+        ensures cause { IfErr result (OnFileHalts id (MarkHalts id) (state self.old.core) (state self.new.core)) }
         ensures so { IfErr result (ShowsSo (D.state self.new.core.filer.swapper.under)) }
         ensures wrote { Wrote (D.state self.old.core.filer.swapper.under) self.old.core.filer.swapper.pool (D.state self.new.core.filer.swapper.under) self.new.core.filer.swapper.pool }
         ensures open_still { IsOpen self.new.core.filer.swapper.layout self.new.volume }
@@ -99,6 +103,7 @@ impl<D: Disk, A: Allocator> SessionOver<D, A> {
         ensures sound { (m : Machine) → Runs self.old.core self.old.volume m → IfErr result (λ e. e ≡ halt.Disk) }
         ensures passes { (m : Machine) → Runs self.old.core self.old.volume m → Passes m (call.MakePermanent id) (D.state self.old.core.filer.swapper.under) (D.state self.new.core.filer.swapper.under) }
         ensures counted { result ≡ Err halt.Disk → Rose (D.state self.old.core.filer.swapper.under).faults (D.state self.new.core.filer.swapper.under).faults }
+        ensures cause { IfErr result (OnNamedHalts id self.old.core.intervals (MarkHalts id) (state self.old.core) (state self.new.core)) }
         ensures so { IfErr result (ShowsSo (D.state self.new.core.filer.swapper.under)) }
         ensures wrote { Wrote (D.state self.old.core.filer.swapper.under) self.old.core.filer.swapper.pool (D.state self.new.core.filer.swapper.under) self.new.core.filer.swapper.pool }
         ensures open_still { IsOpen self.new.core.filer.swapper.layout self.new.volume }
@@ -122,6 +127,7 @@ impl<D: Disk, A: Allocator> SessionOver<D, A> {
         ensures sound { (m : Machine) → Runs self.old.core self.old.volume m → IfErr result (λ e. e ≡ halt.Disk) }
         ensures passes { (m : Machine) → Runs self.old.core self.old.volume m → Passes m (call.MakeImmutable id) (D.state self.old.core.filer.swapper.under) (D.state self.new.core.filer.swapper.under) }
         ensures counted { result ≡ Err halt.Disk → Rose (D.state self.old.core.filer.swapper.under).faults (D.state self.new.core.filer.swapper.under).faults }
+        ensures cause { IfErr result (OnNamedHalts id self.old.core.intervals (MarkHalts id) (state self.old.core) (state self.new.core)) }
         ensures so { IfErr result (ShowsSo (D.state self.new.core.filer.swapper.under)) }
         ensures wrote { Wrote (D.state self.old.core.filer.swapper.under) self.old.core.filer.swapper.pool (D.state self.new.core.filer.swapper.under) self.new.core.filer.swapper.pool }
         ensures open_still { IsOpen self.new.core.filer.swapper.layout self.new.volume }

@@ -12,6 +12,8 @@ ghost use Rattle.running_words.specs.Running.{Carried, Runs};
 ghost use Rattle.running_words.specs.Session.{IsOpen, Wrote};
 ghost use Rattle.running_words.specs.Stages.{Passes};
 ghost use Rattle.pilot_engine.specs.Order.{IsTurn, turn_cost};
+ghost use Rattle.fault_core.specs.Core.{state};
+ghost use Rattle.pilot_engine.specs.Halting.{NextHalts, TurnHalts};
 
 use crate::SessionOver;
 use crate::sight::Sight;
@@ -35,11 +37,13 @@ impl<D: Disk, A: Allocator> SessionOver<D, A> {
         ensures runs { (m : Machine) → Runs self.old.core self.old.volume m → Runs self.new.core self.new.volume m }
         ensures sound { (m : Machine) → Runs self.old.core self.old.volume m → IfErr result (λ e. e ≡ halt.Disk) }
         ensures counted { result ≡ Err halt.Disk → Rose (D.state self.old.core.filer.swapper.under).faults (D.state self.new.core.filer.swapper.under).faults }
+        ensures cause { IfErr result (TurnHalts self.old.core.intervals (state self.old.core) (state self.new.core)) }
         ensures so { IfErr result (ShowsSo (D.state self.new.core.filer.swapper.under)) }
         ensures makes { Makes volume_page [] (D.state self.old.core.filer.swapper.under) self.old.core.filer.swapper.pool (D.state self.new.core.filer.swapper.under) self.new.core.filer.swapper.pool }
         ensures layout { self.new.core.filer.swapper.layout ≡ self.old.core.filer.swapper.layout }
         ensures volume { self.new.volume ≡ self.old.volume }
         ensures running { self.new.running ≡ self.old.running }
+        ensures intervals { self.new.core.intervals ≡ self.old.core.intervals }
         ensures cost { (D.state self.new.core.filer.swapper.under).transfers ≤ (D.state self.old.core.filer.swapper.under).transfers + turn_cost }
     {
         let id = match file_manager::next(&mut self.core.filer, cursor) {
@@ -62,6 +66,7 @@ impl<D: Disk, A: Allocator> SessionOver<D, A> {
         ensures sound { (m : Machine) → Runs self.old.core self.old.volume m → IfErr result (λ e. e ≡ halt.Disk) }
         ensures passes { (m : Machine) → Runs self.old.core self.old.volume m → Passes m (call.Next id) (D.state self.old.core.filer.swapper.under) (D.state self.new.core.filer.swapper.under) }
         ensures counted { result ≡ Err halt.Disk → Rose (D.state self.old.core.filer.swapper.under).faults (D.state self.new.core.filer.swapper.under).faults }
+        ensures cause { IfErr result (NextHalts self.old.core.intervals (state self.old.core) (state self.new.core)) }
         ensures so { IfErr result (ShowsSo (D.state self.new.core.filer.swapper.under)) }
         ensures wrote { Wrote (D.state self.old.core.filer.swapper.under) self.old.core.filer.swapper.pool (D.state self.new.core.filer.swapper.under) self.new.core.filer.swapper.pool }
         ensures open_still { IsOpen self.new.core.filer.swapper.layout self.new.volume }

@@ -8,6 +8,9 @@ ghost use Rattle.session_words.specs.Volume.{volume_page};
 ghost use Rattle.swapper_kernel.specs.Goes.{Makes};
 ghost use Rattle.running_words.specs.Running.{Runs};
 ghost use Rattle.pilot_engine.specs.Seen.{IsSight};
+ghost use Rattle.fault_core.specs.Core.{state};
+ghost use Rattle.space_calls.specs.Halts.{SightHalts};
+ghost use Rattle.fault_core.specs.Reach.{Reaches};
 
 use crate::SessionOver;
 use labelled_disk::{Disk, FileId, Halt};
@@ -31,11 +34,14 @@ impl<D: Disk, A: Allocator> SessionOver<D, A> {
         ensures runs { (m : Machine) → Runs self.old.core self.old.volume m → Runs self.new.core self.new.volume m }
         ensures sound { (m : Machine) → Runs self.old.core self.old.volume m → IfErr result (λ e. e ≡ halt.Disk) }
         ensures counted { result ≡ Err halt.Disk → Rose (D.state self.old.core.filer.swapper.under).faults (D.state self.new.core.filer.swapper.under).faults }
+        ensures cause { IfErr result (SightHalts self.old.core.intervals (state self.old.core) (state self.new.core)) }
         ensures so { IfErr result (ShowsSo (D.state self.new.core.filer.swapper.under)) }
+        ensures reaches { Reaches (state self.old.core) (state self.new.core) }
         ensures makes { Makes volume_page [] (D.state self.old.core.filer.swapper.under) self.old.core.filer.swapper.pool (D.state self.new.core.filer.swapper.under) self.new.core.filer.swapper.pool }
         ensures layout { self.new.core.filer.swapper.layout ≡ self.old.core.filer.swapper.layout }
         ensures volume { self.new.volume ≡ self.old.volume }
         ensures running { self.new.running ≡ self.old.running }
+        ensures intervals { self.new.core.intervals ≡ self.old.core.intervals }
         ensures cost { (D.state self.new.core.filer.swapper.under).transfers ≤ (D.state self.old.core.filer.swapper.under).transfers + 14532 }
     {
         match window_on(&mut self.core, id, false) {

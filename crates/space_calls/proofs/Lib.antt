@@ -15,8 +15,9 @@ mod SettledCore
 mod LoadLemmas
 mod MovedLemmas
 mod StoreLemmas
-mod RangeLemmas
+pub mod RangeLemmas
 mod WindowHalts
+pub mod HaltLemmas
 pub mod BareLemmas
 pub mod TakenMachine
 pub mod AwayLemmas

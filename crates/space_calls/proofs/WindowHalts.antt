@@ -1,5 +1,5 @@
 -- Why a window could not be taken away, or made read-only.
-use Rattle.std.proofs.Common.{◌≡◌, inl, inr, ℕ, ◌≤◌, List, Result, Ok, Err, subst, arith}
+use Rattle.std.proofs.Common.{◌≡◌, inl, inr, ℕ, Result, Ok, Err, subst, arith}
 use Rattle.std.specs.Prelude.{IfErr}
 use Rattle.labelled_disk.specs.declared.evidence.Halt.{Halt}
 use Rattle.space_tables.specs.Form.{Breaks, BreaksSlot}

@@ -2,3 +2,4 @@ pub mod Naming
 pub mod Unmapping
 pub mod Mapping
 pub mod Ranges
+pub mod Halts

@@ -11,6 +11,9 @@ ghost use Rattle.swapper_kernel.specs.Goes.{Makes};
 ghost use Rattle.file_manager.specs.declared.volume.Volume.{Volume};
 ghost use Rattle.running_words.specs.Running.{Runs};
 ghost use Rattle.filer_kernel.specs.Evidence.{ShowsSo};
+ghost use Rattle.fault_core.specs.Core.{state};
+ghost use Rattle.fault_core.specs.Reach.{Reaches, ReachHalts};
+ghost use Rattle.fault_core.specs.Told.{BreaksTables};
 
 use fault_core::CoreOver;
 use labelled_disk::{Disk, Halt};
@@ -24,7 +27,9 @@ pub(crate) fn shows_nothing<D: Disk, A: Allocator>(core: &mut CoreOver<D, A>) ->
     ensures runs { (volume : Volume) (m : Machine) → Runs core.old volume m → Runs core.new volume m }
     ensures sound { (volume : Volume) (m : Machine) → Runs core.old volume m → IfErr result (λ e. e ≡ halt.Disk) }
     ensures counted { result ≡ Err halt.Disk → Rose (D.state core.old.filer.swapper.under).faults (D.state core.new.filer.swapper.under).faults }
+    ensures cause { IfErr result (ReachHalts (BreaksTables (state core.old) core.old.intervals 0) (state core.old) (state core.new)) }
     ensures so { IfErr result (ShowsSo (D.state core.new.filer.swapper.under)) }
+    ensures reaches { Reaches (state core.old) (state core.new) }
     ensures makes { Makes volume_page [] (D.state core.old.filer.swapper.under) core.old.filer.swapper.pool (D.state core.new.filer.swapper.under) core.new.filer.swapper.pool }
     ensures layout { core.new.filer.swapper.layout ≡ core.old.filer.swapper.layout }
     ensures intervals { core.new.intervals ≡ core.old.intervals }

@@ -20,12 +20,11 @@ ghost use Rattle.projection_laws.specs.Spaces.{MayHaveWindow};
 ghost use Rattle.space_tables.specs.Shows.{window_of};
 ghost use Rattle.swapper_kernel.specs.Goes.{Makes};
 ghost use Rattle.flat_machine.specs.declared.call.Reply.TheVariants as answer;
-ghost use Rattle.table_calls.specs.Answers.{TablesBreak, Tells};
+ghost use Rattle.table_calls.specs.Answers.{Tells};
 ghost use Rattle.space_calls.specs.Mapping.{IsInReach};
 ghost use Rattle.filer_kernel.specs.Evidence.{ShowsSo};
-ghost use Rattle.space_tables.specs.Form.{Breaks};
 ghost use Rattle.fault_core.specs.Core.{state};
-ghost use Rattle.fault_core.specs.Reach.{ReachHalts};
+ghost use Rattle.space_calls.specs.Halts.{ChangeHalts, MapFileHalts};
 
 use crate::framing::frame_count;
 use crate::naming::named_file;
@@ -49,7 +48,7 @@ pub fn give_window<D: Disk, A: Allocator>(
         → IfOk result (λ reply. (reply ≡ answer.Done) × Runs core.new volume (record m { spaces = set_window space (Some (window_of shown)) m.spaces })) }
     ensures sound { (volume : Volume) (m : Machine) (x : Space) → Runs core.old volume m → MayHaveWindow m.spaces x → x.handle ≡ space → x.window ≡ None → WindowFits x.pages (window_of shown) → IfErr result (λ e. e ≡ halt.Disk) }
     ensures counted { result ≡ Err halt.Disk → Rose (D.state core.old.filer.swapper.under).faults (D.state core.new.filer.swapper.under).faults }
-    ensures cause { IfErr result (ReachHalts (TablesBreak (state core.old) (Breaks core.old.intervals)) (state core.old) (state core.new)) }
+    ensures cause { IfErr result (ChangeHalts core.old.intervals (state core.old) (state core.new)) }
     ensures so { IfErr result (ShowsSo (D.state core.new.filer.swapper.under)) }
     ensures makes { Makes volume_page [] (D.state core.old.filer.swapper.under) core.old.filer.swapper.pool (D.state core.new.filer.swapper.under) core.new.filer.swapper.pool }
     ensures layout { core.new.filer.swapper.layout ≡ core.old.filer.swapper.layout }
@@ -86,9 +85,11 @@ fn may_map<D: Disk, A: Allocator>(
     ensures runs { (volume : Volume) (m : Machine) → Runs core.old volume m → Runs core.new volume m }
     ensures sound { (volume : Volume) (m : Machine) → Runs core.old volume m → IfErr result (λ e. e ≡ halt.Disk) }
     ensures counted { result ≡ Err halt.Disk → Rose (D.state core.old.filer.swapper.under).faults (D.state core.new.filer.swapper.under).faults }
+    ensures cause { IfErr result (MapFileHalts space id core.old.intervals (state core.old) (state core.new)) }
     ensures so { IfErr result (ShowsSo (D.state core.new.filer.swapper.under)) }
     ensures makes { Makes volume_page [] (D.state core.old.filer.swapper.under) core.old.filer.swapper.pool (D.state core.new.filer.swapper.under) core.new.filer.swapper.pool }
     ensures layout { core.new.filer.swapper.layout ≡ core.old.filer.swapper.layout }
+    ensures intervals { core.new.intervals ≡ core.old.intervals }
     ensures cost { (D.state core.new.filer.swapper.under).transfers ≤ (D.state core.old.filer.swapper.under).transfers + 28953 }
 {
     match bounds(core, space) {
@@ -131,6 +132,7 @@ pub fn map<D: Disk, A: Allocator>(
     ensures sound { (volume : Volume) (m : Machine) → Runs core.old volume m → IfErr result (λ e. e ≡ halt.Disk) }
     ensures passes { (volume : Volume) (m : Machine) → Runs core.old volume m → Passes m (call.Map space id page writable) (D.state core.old.filer.swapper.under) (D.state core.new.filer.swapper.under) }
     ensures counted { result ≡ Err halt.Disk → Rose (D.state core.old.filer.swapper.under).faults (D.state core.new.filer.swapper.under).faults }
+    ensures cause { IfErr result (MapFileHalts space id core.old.intervals (state core.old) (state core.new)) }
     ensures so { IfErr result (ShowsSo (D.state core.new.filer.swapper.under)) }
     ensures wrote { WroteIn (volume_page) (D.state core.old.filer.swapper.under) core.old.filer.swapper.pool (D.state core.new.filer.swapper.under) core.new.filer.swapper.pool }
     ensures layout { core.new.filer.swapper.layout ≡ core.old.filer.swapper.layout }

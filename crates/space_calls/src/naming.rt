@@ -18,6 +18,9 @@ ghost use Rattle.swapper_kernel.specs.Goes.{Makes};
 ghost use Rattle.space_tables.specs.Shows.{IsFirstWith, shows};
 ghost use Rattle.space_calls.specs.Naming.{IsNameable, IsSeen};
 ghost use Rattle.filer_kernel.specs.Evidence.{ShowsSo};
+ghost use Rattle.fault_core.specs.Core.{state};
+ghost use Rattle.fault_core.specs.Reach.{Reaches};
+ghost use Rattle.space_calls.specs.Halts.{NamedHalts, SightHalts};
 
 use crate::bare::shows_nothing;
 use fault_core::CoreOver;
@@ -38,7 +41,9 @@ pub fn window_on<D: Disk, A: Allocator>(
     ensures runs { (volume : Volume) (m : Machine) → Runs core.old volume m → Runs core.new volume m }
     ensures sound { (volume : Volume) (m : Machine) → Runs core.old volume m → IfErr result (λ e. e ≡ halt.Disk) }
     ensures counted { result ≡ Err halt.Disk → Rose (D.state core.old.filer.swapper.under).faults (D.state core.new.filer.swapper.under).faults }
+    ensures cause { IfErr result (SightHalts core.old.intervals (state core.old) (state core.new)) }
     ensures so { IfErr result (ShowsSo (D.state core.new.filer.swapper.under)) }
+    ensures reaches { Reaches (state core.old) (state core.new) }
     ensures makes { Makes volume_page [] (D.state core.old.filer.swapper.under) core.old.filer.swapper.pool (D.state core.new.filer.swapper.under) core.new.filer.swapper.pool }
     ensures layout { core.new.filer.swapper.layout ≡ core.old.filer.swapper.layout }
     ensures intervals { core.new.intervals ≡ core.old.intervals }
@@ -59,7 +64,9 @@ fn may_be_named<D: Disk, A: Allocator>(core: &mut CoreOver<D, A>, id: FileId) ->
     ensures runs { (volume : Volume) (m : Machine) → Runs core.old volume m → Runs core.new volume m }
     ensures sound { (volume : Volume) (m : Machine) → Runs core.old volume m → IfErr result (λ e. e ≡ halt.Disk) }
     ensures counted { result ≡ Err halt.Disk → Rose (D.state core.old.filer.swapper.under).faults (D.state core.new.filer.swapper.under).faults }
+    ensures cause { IfErr result (SightHalts core.old.intervals (state core.old) (state core.new)) }
     ensures so { IfErr result (ShowsSo (D.state core.new.filer.swapper.under)) }
+    ensures reaches { Reaches (state core.old) (state core.new) }
     ensures makes { Makes volume_page [] (D.state core.old.filer.swapper.under) core.old.filer.swapper.pool (D.state core.new.filer.swapper.under) core.new.filer.swapper.pool }
     ensures layout { core.new.filer.swapper.layout ≡ core.old.filer.swapper.layout }
     ensures intervals { core.new.intervals ≡ core.old.intervals }
@@ -82,6 +89,7 @@ pub fn named_file<D: Disk, A: Allocator>(
     ensures runs { (volume : Volume) (m : Machine) → Runs core.old volume m → Runs core.new volume m }
     ensures sound { (volume : Volume) (m : Machine) → Runs core.old volume m → IfErr result (λ e. e ≡ halt.Disk) }
     ensures counted { result ≡ Err halt.Disk → Rose (D.state core.old.filer.swapper.under).faults (D.state core.new.filer.swapper.under).faults }
+    ensures cause { IfErr result (NamedHalts id core.old.intervals (state core.old) (state core.new)) }
     ensures so { IfErr result (ShowsSo (D.state core.new.filer.swapper.under)) }
     ensures makes { Makes volume_page [] (D.state core.old.filer.swapper.under) core.old.filer.swapper.pool (D.state core.new.filer.swapper.under) core.new.filer.swapper.pool }
     ensures layout { core.new.filer.swapper.layout ≡ core.old.filer.swapper.layout }

@@ -1,5 +1,5 @@
 //! Spaces that are made, removed and looked at.
-ghost use Rattle.std.specs.Prelude.{◌≡◌, ◌⊎◌, ◌≤◌, ◌+◌, ℕ, true, length, List, Some, None, Ok, Err, IfOk, IfErr, OnOk};
+ghost use Rattle.std.specs.Prelude.{◌≡◌, ◌≤◌, ◌+◌, ℕ, true, length, List, Some, None, Ok, Err, IfOk, IfErr, OnOk};
 ghost use Rattle.labelled_disk.specs.declared.evidence.Halt.TheVariants as halt;
 ghost use Rattle.labelled_disk.specs.Calls.{Rose};
 ghost use Rattle.flat_machine.specs.declared.call.Call.TheVariants as call;
@@ -13,10 +13,8 @@ ghost use Rattle.running_words.specs.Running.{Carried, Runs};
 ghost use Rattle.running_words.specs.Session.{WroteIn};
 ghost use Rattle.running_words.specs.Stages.{Passes};
 ghost use Rattle.filer_kernel.specs.Evidence.{ShowsSo};
-ghost use Rattle.space_tables.specs.Form.{first_in_slot, Breaks, BreaksAt, BreaksFor, BreaksHierarchy, MakesTooMany};
 ghost use Rattle.fault_core.specs.Core.{state};
-ghost use Rattle.fault_core.specs.Reach.{ReachHalts};
-ghost use Rattle.table_calls.specs.Answers.{TablesBreak};
+ghost use Rattle.space_calls.specs.Halts.{ChangeHalts, MakeSpaceHalts, PlaceHalts, RemoveSpaceHalts};
 
 use crate::framing::frame_count;
 use fault_core::CoreOver;
@@ -37,7 +35,7 @@ pub fn make_space<D: Disk, A: Allocator>(
     ensures sound { (volume : Volume) (m : Machine) → Runs core.old volume m → IfErr result (λ e. e ≡ halt.Disk) }
     ensures passes { (volume : Volume) (m : Machine) → Runs core.old volume m → Passes m (call.MakeSpace parent pages first) (D.state core.old.filer.swapper.under) (D.state core.new.filer.swapper.under) }
     ensures counted { result ≡ Err halt.Disk → Rose (D.state core.old.filer.swapper.under).faults (D.state core.new.filer.swapper.under).faults }
-    ensures cause { IfErr result (ReachHalts (TablesBreak (state core.old) (λ b page. BreaksHierarchy b page ⊎ (BreaksAt first core.old.intervals b page ⊎ MakesTooMany core.old.intervals b parent pages first page))) (state core.old) (state core.new)) }
+    ensures cause { IfErr result (MakeSpaceHalts parent pages first core.old.intervals (state core.old) (state core.new)) }
     ensures so { IfErr result (ShowsSo (D.state core.new.filer.swapper.under)) }
     ensures wrote { WroteIn (volume_page) (D.state core.old.filer.swapper.under) core.old.filer.swapper.pool (D.state core.new.filer.swapper.under) core.new.filer.swapper.pool }
     ensures layout { core.new.filer.swapper.layout ≡ core.old.filer.swapper.layout }
@@ -64,7 +62,7 @@ pub fn remove_space<D: Disk, A: Allocator>(
     ensures sound { (volume : Volume) (m : Machine) → Runs core.old volume m → IfErr result (λ e. e ≡ halt.Disk) }
     ensures passes { (volume : Volume) (m : Machine) → Runs core.old volume m → Passes m (call.RemoveSpace space) (D.state core.old.filer.swapper.under) (D.state core.new.filer.swapper.under) }
     ensures counted { result ≡ Err halt.Disk → Rose (D.state core.old.filer.swapper.under).faults (D.state core.new.filer.swapper.under).faults }
-    ensures cause { IfErr result (ReachHalts (TablesBreak (state core.old) (λ b page. BreaksFor (first_in_slot b space) core.old.intervals b page)) (state core.old) (state core.new)) }
+    ensures cause { IfErr result (RemoveSpaceHalts space core.old.intervals (state core.old) (state core.new)) }
     ensures so { IfErr result (ShowsSo (D.state core.new.filer.swapper.under)) }
     ensures wrote { WroteIn (volume_page) (D.state core.old.filer.swapper.under) core.old.filer.swapper.pool (D.state core.new.filer.swapper.under) core.new.filer.swapper.pool }
     ensures layout { core.new.filer.swapper.layout ≡ core.old.filer.swapper.layout }
@@ -88,7 +86,7 @@ pub fn place<D: Disk, A: Allocator>(core: &mut CoreOver<D, A>, page: u32) -> Res
     ensures sound { (volume : Volume) (m : Machine) → Runs core.old volume m → IfErr result (λ e. e ≡ halt.Disk) }
     ensures passes { (volume : Volume) (m : Machine) → Runs core.old volume m → Passes m (call.Place page) (D.state core.old.filer.swapper.under) (D.state core.new.filer.swapper.under) }
     ensures counted { result ≡ Err halt.Disk → Rose (D.state core.old.filer.swapper.under).faults (D.state core.new.filer.swapper.under).faults }
-    ensures cause { IfErr result (ReachHalts (TablesBreak (state core.old) (λ b broken. BreaksFor page core.old.intervals b broken)) (state core.old) (state core.new)) }
+    ensures cause { IfErr result (PlaceHalts page core.old.intervals (state core.old) (state core.new)) }
     ensures so { IfErr result (ShowsSo (D.state core.new.filer.swapper.under)) }
     ensures wrote { WroteIn (volume_page) (D.state core.old.filer.swapper.under) core.old.filer.swapper.pool (D.state core.new.filer.swapper.under) core.new.filer.swapper.pool }
     ensures layout { core.new.filer.swapper.layout ≡ core.old.filer.swapper.layout }
@@ -116,7 +114,7 @@ pub fn set_units<D: Disk, A: Allocator>(
     ensures sound { (volume : Volume) (m : Machine) → Runs core.old volume m → IfErr result (λ e. e ≡ halt.Disk) }
     ensures passes { (volume : Volume) (m : Machine) → Runs core.old volume m → Passes m (call.Units space pages) (D.state core.old.filer.swapper.under) (D.state core.new.filer.swapper.under) }
     ensures counted { result ≡ Err halt.Disk → Rose (D.state core.old.filer.swapper.under).faults (D.state core.new.filer.swapper.under).faults }
-    ensures cause { IfErr result (ReachHalts (TablesBreak (state core.old) (λ b page. Breaks core.old.intervals b page)) (state core.old) (state core.new)) }
+    ensures cause { IfErr result (ChangeHalts core.old.intervals (state core.old) (state core.new)) }
     ensures so { IfErr result (ShowsSo (D.state core.new.filer.swapper.under)) }
     ensures wrote { WroteIn (volume_page) (D.state core.old.filer.swapper.under) core.old.filer.swapper.pool (D.state core.new.filer.swapper.under) core.new.filer.swapper.pool }
     ensures layout { core.new.filer.swapper.layout ≡ core.old.filer.swapper.layout }

@@ -21,13 +21,13 @@ ghost use Rattle.space_tables.specs.Shows.{window_of};
 ghost use Rattle.session_words.specs.FrameLaws.{HasFrames};
 ghost use Rattle.session_words.specs.Parts.{DirtyAreLoose};
 ghost use Rattle.fault_core.specs.Range.{AreClean, AreGone};
-ghost use Rattle.table_calls.specs.Answers.{IsDone, TablesBreak, Tells};
+ghost use Rattle.table_calls.specs.Answers.{IsDone, Tells};
 ghost use Rattle.space_calls.specs.Unmapping.{IsWindowIn};
 ghost use Rattle.filer_kernel.specs.Evidence.{ShowsSo};
-ghost use Rattle.space_tables.specs.Form.{Breaks, BreaksSlot};
 ghost use Rattle.fault_core.specs.Core.{state};
 ghost use Rattle.fault_core.specs.Kill.{BreaksWithin};
 ghost use Rattle.fault_core.specs.Reach.{Reaches, ReachHalts};
+ghost use Rattle.space_calls.specs.Halts.{ChangeHalts, LookHalts, SlotHalts};
 
 use crate::framing::frame_count;
 use fault_core::CoreOver;
@@ -48,7 +48,7 @@ pub(crate) fn find_window<D: Disk, A: Allocator>(
     ensures runs { (volume : Volume) (m : Machine) → Runs core.old volume m → Runs core.new volume m }
     ensures sound { (volume : Volume) (m : Machine) → Runs core.old volume m → IfErr result (λ e. e ≡ halt.Disk) }
     ensures counted { result ≡ Err halt.Disk → Rose (D.state core.old.filer.swapper.under).faults (D.state core.new.filer.swapper.under).faults }
-    ensures cause { IfErr result (ReachHalts (TablesBreak (state core.old) (λ b page. BreaksSlot b page space)) (state core.old) (state core.new)) }
+    ensures cause { IfErr result (SlotHalts space (state core.old) (state core.new)) }
     ensures so { IfErr result (ShowsSo (D.state core.new.filer.swapper.under)) }
     ensures reaches { Reaches (state core.old) (state core.new) }
     ensures intervals { core.new.intervals ≡ core.old.intervals }
@@ -126,7 +126,7 @@ pub(crate) fn change_window<D: Disk, A: Allocator>(
         → IfOk result (IsDone (Runs core.new volume (record m { spaces = with_window space (option_map window_of shown) m.spaces; unforced = unforced }))) }
     ensures sound { (volume : Volume) (m : Machine) (x : Space) → Runs core.old volume m → MayHaveWindow m.spaces x → x.handle ≡ space → IfSome shown (λ w. WindowFits x.pages (window_of w)) → IfErr result (λ e. e ≡ halt.Disk) }
     ensures counted { result ≡ Err halt.Disk → Rose (D.state core.old.filer.swapper.under).faults (D.state core.new.filer.swapper.under).faults }
-    ensures cause { IfErr result (ReachHalts (TablesBreak (state core.old) (Breaks core.old.intervals)) (state core.old) (state core.new)) }
+    ensures cause { IfErr result (ChangeHalts core.old.intervals (state core.old) (state core.new)) }
     ensures so { IfErr result (ShowsSo (D.state core.new.filer.swapper.under)) }
     ensures makes { Makes volume_page [] (D.state core.old.filer.swapper.under) core.old.filer.swapper.pool (D.state core.new.filer.swapper.under) core.new.filer.swapper.pool }
     ensures layout { core.new.filer.swapper.layout ≡ core.old.filer.swapper.layout }
@@ -150,9 +150,11 @@ pub(crate) fn shows_immutable<D: Disk, A: Allocator>(
     ensures runs { (volume : Volume) (m : Machine) → Runs core.old volume m → Runs core.new volume m }
     ensures sound { (volume : Volume) (m : Machine) → Runs core.old volume m → IfErr result (λ e. e ≡ halt.Disk) }
     ensures counted { result ≡ Err halt.Disk → Rose (D.state core.old.filer.swapper.under).faults (D.state core.new.filer.swapper.under).faults }
+    ensures cause { IfErr result (LookHalts id (state core.old) (state core.new)) }
     ensures so { IfErr result (ShowsSo (D.state core.new.filer.swapper.under)) }
     ensures makes { Makes volume_page [] (D.state core.old.filer.swapper.under) core.old.filer.swapper.pool (D.state core.new.filer.swapper.under) core.new.filer.swapper.pool }
     ensures layout { core.new.filer.swapper.layout ≡ core.old.filer.swapper.layout }
+    ensures intervals { core.new.intervals ≡ core.old.intervals }
     ensures cost { (D.state core.new.filer.swapper.under).transfers ≤ (D.state core.old.filer.swapper.under).transfers + 29 }
 {
     match attributes_of(&mut core.filer, id) {

@@ -3,6 +3,7 @@ use Rattle.space_calls.proofs.BareLemmas.{bare_core}
 use Rattle.space_calls.proofs.RunLemmas.{knows, reached_runs}
 use Rattle.fault_core.specs.Core.{state}
 use Rattle.fault_core.proofs.EvidenceLemmas.{shows_so}
+use Rattle.fault_core.proofs.ReachLemmas.{reaches_itself}
 use Rattle.space_calls.proofs.bare.shows_nothing.Goals as goal
 
 pub returns-in-Ok-Some-clause-answer : goal.returns-in-Ok-Some-clause-answer
@@ -32,3 +33,8 @@ returns-in-Err-clause-sound g c = λ volume m r. c.in-Err.ensures.sound _ _ m.sp
 
 pub returns-in-Err-clause-so : goal.returns-in-Err-clause-so
 returns-in-Err-clause-so g c = shows_so _ (state c.args.core.now) (state c.describe.new.self) c.describe.ensures.reaches.goes.makes c.in-Err.halt c.in-Err.ensures.cause
+
+-- ---- Pages were found and brought in.
+
+pub returns-then-interval_count-ne1-clause-reaches : goal.returns-then-interval_count-ne1-clause-reaches
+returns-then-interval_count-ne1-clause-reaches g c = reaches_itself (state c.args.core.now)

@@ -1,10 +1,13 @@
 use Rattle.flat_machine.specs.declared.call.Call.TheVariants as call
 use Rattle.swapper_kernel.specs.GoesLaws.{makes_then}
-use Rattle.filer_kernel.proofs.Outcomes.{ok_wider}
+use Rattle.filer_kernel.proofs.Outcomes.{err_wider, ok_wider}
 use Rattle.space_calls.proofs.CarryLemmas.{refused_carried}
 use Rattle.space_calls.proofs.MapLemmas.{map_passed, map_stopped, may_be_given}
 use Rattle.space_calls.proofs.RunLemmas.{nothing_labelled, quiet_passes}
 use Rattle.space_calls.proofs.WindowLemmas.{window_carried}
+use Rattle.fault_core.specs.Core.{state}
+use Rattle.space_calls.specs.Halts.{ChangeHalts, MapFileHalts}
+use Rattle.space_calls.proofs.HaltLemmas.{given_map}
 use Rattle.space_calls.proofs.mapping.map.Goals as goal
 
 pub returns-in-Ok-Err-clause-carried : goal.returns-in-Ok-Err-clause-carried
@@ -37,3 +40,14 @@ returns-clause-sound g c = λ volume m r.
     let told = map_passed m c.args.space c.args.id c.args.page c.args.writable c.in-Ok-Ok.field-0 c.in-Ok-Ok.field-0-0 c.in-Ok-Ok.field-0-is (c.in-Ok-Ok.ensures.answer volume m r) in
     let may = may_be_given m c.args.space c.args.id c.args.page c.args.writable r.session.stands.is.by.machine told.0 told.1 in
     c.give_window.ensures.sound volume m may.x (c.may_map.ensures.runs volume m r) may.may may.named_so may.bare may.fits
+
+-- ---- Why it failed.
+
+pub returns-clause-cause : goal.returns-clause-cause
+returns-clause-cause g c =
+    let v = state c.args.core.now in
+    let x = c.may_map.new.core in
+    let w = state c.give_window.new.core in
+    let count = c.args.core.now.intervals in
+    err_wider c.give_window.result (ChangeHalts x.intervals (state x) w) (MapFileHalts c.args.space c.args.id count v w)
+    (given_map v (state x) w c.args.space c.args.id count (record { makes = c.may_map.ensures.makes; layout = c.may_map.ensures.layout }) x.intervals c.may_map.ensures.intervals) c.give_window.ensures.cause

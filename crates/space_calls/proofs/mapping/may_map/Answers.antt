@@ -1,4 +1,4 @@
-use Rattle.std.proofs.Common.{◌≡◌, inl, inr, ◌+◌, ◌≤◌, ◌&&◌, ℕ, Option, false, ap, subst, arith}
+use Rattle.std.proofs.Common.{◌≡◌, inl, inr, ◌+◌, ◌≤◌, ◌&&◌, ℕ, Option, false, refl, ap, subst, arith}
 use Rattle.file_manager.specs.declared.attributes.Attributes.{Attributes}
 use Rattle.flat_machine.specs.declared.space.Space.{Space}
 use Rattle.flat_machine.specs.Machine.{nameable}
@@ -9,6 +9,7 @@ use Rattle.space_calls.proofs.RunLemmas.{asked_makes, asked_runs, knows, size_ke
 use Rattle.space_calls.proofs.TableAnswers.{bounds_refused, bounds_told, map_refused, map_told}
 use Rattle.fault_core.specs.Core.{state}
 use Rattle.fault_core.proofs.EvidenceLemmas.{shows_so}
+use Rattle.space_calls.proofs.HaltLemmas.{given_map, looked_reached, looked_then, named_map, path_change}
 use Rattle.space_calls.proofs.mapping.may_map.Goals as goal
 use Rattle.space_calls.proofs.mapping.may_map.Goals.{else-writable-via-then-writable+else-found, else-writable-via-else-writable}
 
@@ -248,3 +249,22 @@ returns-in-Err-clause-so g c = shows_so _ (state c.args.core.now) (state c.bound
 
 pub returns-in-Err-can_map-clause-so : goal.returns-in-Err-can_map-clause-so
 returns-in-Err-can_map-clause-so g c = shows_so _ (state c.named_file.new.core) (state c.can_map.new.core) c.can_map.ensures.asked.reaches.goes.makes c.in-Err-can_map.halt c.in-Err-can_map.ensures.cause
+
+-- ---- Why it failed.
+
+pub returns-in-Err-clause-cause : goal.returns-in-Err-clause-cause
+returns-in-Err-clause-cause g c = inl c.in-Err.ensures.cause
+
+pub returns-in-Err-named_file-clause-cause : goal.returns-in-Err-named_file-clause-cause
+returns-in-Err-named_file-clause-cause g c =
+    let asked = c.bounds.ensures.asked in
+    named_map (state c.args.core.now) (state c.bounds.new.core) (state c.named_file.new.core) c.args.space c.args.id c.args.core.now.intervals asked.reaches c.bounds.new.core.intervals asked.intervals c.in-Err-named_file.halt c.in-Err-named_file.ensures.cause
+
+pub returns-in-Err-can_map-clause-cause : goal.returns-in-Err-can_map-clause-cause
+returns-in-Err-can_map-clause-cause g c =
+    let v = state c.args.core.now in
+    let x = c.named_file.new.core in
+    let w = state c.can_map.new.core in
+    let count = c.args.core.now.intervals in
+    let looked = looked_then (looked_reached c.bounds.ensures.asked.reaches) (record { makes = c.named_file.ensures.makes; layout = c.named_file.ensures.layout }) in
+    given_map v (state x) w c.args.space c.args.id count looked count refl c.in-Err-can_map.halt (path_change (state x) x.filer.swapper.accepted count w c.in-Err-can_map.halt c.in-Err-can_map.ensures.cause)

@@ -1,7 +1,11 @@
+use Rattle.std.proofs.Common.{inl, inr}
 use Rattle.session_words.specs.Parts.{shapes_of}
 use Rattle.swapper_kernel.specs.GoesLaws.{makes_then}
 use Rattle.space_calls.proofs.NameLemmas.{seen_not, seen_told}
 use Rattle.space_calls.proofs.RunLemmas.{books_of, if_failed, if_told, looked_runs}
+use Rattle.fault_core.specs.Core.{state}
+use Rattle.space_calls.specs.Halts.{LookHalts, NamedHalts}
+use Rattle.filer_kernel.proofs.Outcomes.{err_wider}
 use Rattle.space_calls.proofs.naming.named_file.Goals as goal
 
 pub returns-in-Ok-false-clause-answer : goal.returns-in-Ok-false-clause-answer
@@ -23,3 +27,15 @@ returns-clause-sound g c = λ volume m r. if_failed c.attributes_of.result _ _ (
 
 pub returns-clause-makes : goal.returns-clause-makes
 returns-clause-makes g c = makes_then c.may_be_named.ensures.makes c.attributes_of.ensures.makes
+
+-- ---- Why it failed.
+
+pub returns-in-Err-clause-cause : goal.returns-in-Err-clause-cause
+returns-in-Err-clause-cause g c = inl c.in-Err.ensures.cause
+
+pub returns-clause-cause : goal.returns-clause-cause
+returns-clause-cause g c =
+    let old = c.args.core.now in
+    let u = c.may_be_named.new.core in
+    let w = state (record u { filer = c.attributes_of.new.filer }) in
+    err_wider c.attributes_of.result (LookHalts c.args.id (state u) w) (NamedHalts c.args.id old.intervals (state old) w) (λ e halts. inr (state u, c.may_be_named.ensures.reaches, halts)) c.attributes_of.ensures.cause

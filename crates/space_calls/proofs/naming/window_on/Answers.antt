@@ -1,9 +1,13 @@
-use Rattle.std.proofs.Common.{◌≡◌, rules}
+use Rattle.std.proofs.Common.{◌≡◌, refl, rules}
 use Rattle.swapper_kernel.specs.GoesLaws.{makes_then}
 use Rattle.space_calls.proofs.BareLemmas.{none_windowed}
 use Rattle.space_calls.proofs.RunLemmas.{knows, asked_runs, asked_makes}
 use Rattle.fault_core.specs.Core.{state}
 use Rattle.fault_core.proofs.EvidenceLemmas.{if_so}
+use Rattle.fault_core.proofs.ReachLemmas.{reaches_itself, reaches_then}
+use Rattle.space_calls.specs.Halts.{PathHalts, SightHalts}
+use Rattle.filer_kernel.proofs.Outcomes.{err_wider}
+use Rattle.space_calls.proofs.HaltLemmas.{first_sight, search_sight}
 use Rattle.space_calls.proofs.naming.window_on.Goals as goal
 
 pub returns-in-Ok-true-clause-answer : goal.returns-in-Ok-true-clause-answer
@@ -31,3 +35,22 @@ returns-clause-makes g c = makes_then c.shows_nothing.ensures.makes (asked_makes
 
 pub returns-clause-so : goal.returns-clause-so
 returns-clause-so g c = if_so c.shows_file.result _ (state c.shows_nothing.new.core) (state c.shows_file.new.core) c.shows_file.ensures.asked.reaches.goes.makes c.shows_file.ensures.cause
+
+-- ---- Why it failed.
+
+pub returns-in-Err-clause-cause : goal.returns-in-Err-clause-cause
+returns-in-Err-clause-cause g c =
+    let v = state c.args.core.now in
+    let count = c.args.core.now.intervals in
+    first_sight v v c.args.core.now.filer.swapper.accepted (reaches_itself v) count count refl (state c.shows_nothing.new.core) c.in-Err.halt c.in-Err.ensures.cause
+
+pub returns-clause-cause : goal.returns-clause-cause
+returns-clause-cause g c =
+    let old = c.args.core.now in
+    let u = c.shows_nothing.new.core in
+    let w = state c.shows_file.new.core in
+    err_wider c.shows_file.result (PathHalts (state u) w) (SightHalts old.intervals (state old) w)
+    (search_sight (state old) (state u) old.filer.swapper.accepted c.shows_nothing.ensures.reaches old.intervals u.intervals c.shows_nothing.ensures.intervals w) c.shows_file.ensures.cause
+
+pub returns-clause-reaches : goal.returns-clause-reaches
+returns-clause-reaches g c = reaches_then (state c.args.core.now) (state c.shows_nothing.new.core) c.args.core.now.filer.swapper.accepted c.shows_nothing.ensures.reaches (state c.shows_file.new.core) c.shows_file.ensures.asked.reaches

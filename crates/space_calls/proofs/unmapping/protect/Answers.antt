@@ -1,5 +1,5 @@
-use Rattle.std.proofs.Common.{Bool, sym, ◌∙◌, subst, refl, Err, Result}
-use Rattle.std.specs.Prelude.{IfOk, IfErr}
+use Rattle.std.proofs.Common.{Bool, true, sym, ◌∙◌, subst}
+use Rattle.std.specs.Prelude.{IfOk}
 use Rattle.std.proofs.lemmas.Bool.{true≢false}
 use Rattle.std.proofs.lemmas.Option.{none-some}
 use Rattle.flat_machine.specs.declared.call.Call.TheVariants as call
@@ -10,8 +10,10 @@ use Rattle.space_calls.proofs.FileLemmas.{found_refused, found_told}
 use Rattle.space_calls.proofs.RunLemmas.{nothing_labelled, quiet_passes}
 use Rattle.space_calls.proofs.TakeLemmas.{row_refused}
 use Rattle.fault_core.specs.Core.{state}
-use Rattle.fault_core.proofs.ReachLemmas.{reaches_itself}
-use Rattle.space_calls.proofs.WindowHalts.{slot_window, if_window_halt}
+use Rattle.space_calls.proofs.WindowHalts.{if_window_halt}
+use Rattle.space_calls.specs.Halts.{ProtectHalts, WritableHalts}
+use Rattle.filer_kernel.proofs.Outcomes.{err_wider}
+use Rattle.space_calls.proofs.HaltLemmas.{slot_protect, writable_protect}
 use Rattle.space_calls.proofs.unmapping.protect.Goals as goal
 
 pub returns-in-Ok-Err-clause-carried : goal.returns-in-Ok-Err-clause-carried
@@ -79,18 +81,25 @@ returns-clause-synced g c = λ volume m r read_only none.
 
 -- ---- Why it failed.
 
-pub returns-in-Err-clause-cause : goal.returns-in-Err-clause-cause
-returns-in-Err-clause-cause g c = λ read_only.
-    let v = state c.args.core.now in
-    slot_window v v c.args.core.now.filer.swapper.accepted c.args.space (reaches_itself v) c.args.core.now.intervals c.args.core.now.intervals refl (state c.find_window.new.core) c.in-Err.halt c.in-Err.ensures.cause
-
-pub returns-then-writable-clause-cause : goal.returns-then-writable-clause-cause
-returns-then-writable-clause-cause g c = λ read_only. absurd (true≢false (sym c.if-writable.true ∙ read_only))
-
-pub returns-clause-cause : goal.returns-clause-cause
-returns-clause-cause g c = λ read_only.
-    let w = c.find_window.new.core in
-    if_window_halt (state c.args.core.now) (state w) c.args.core.now.filer.swapper.accepted c.args.space c.find_window.ensures.reaches c.args.core.now.intervals w.intervals c.find_window.ensures.intervals (state c.protect_read_only.new.core) c.protect_read_only.result c.protect_read_only.ensures.cause
-
 pub returns-then-writable-clause-settled : goal.returns-then-writable-clause-settled
 returns-then-writable-clause-settled g c = λ read_only. absurd (true≢false (sym c.if-writable.true ∙ read_only))
+
+pub returns-in-Err-clause-cause : goal.returns-in-Err-clause-cause
+returns-in-Err-clause-cause g c =
+    let old = c.args.core.now in
+    slot_protect (state old) old.filer.swapper.accepted c.args.space c.args.writable old.intervals (state c.find_window.new.core) c.in-Err.halt c.in-Err.ensures.cause
+
+pub returns-then-writable-clause-cause : goal.returns-then-writable-clause-cause
+returns-then-writable-clause-cause g c =
+    let old = c.args.core.now in
+    let u = c.find_window.new.core in
+    let w = state c.protect_writable.new.core in
+    rw c.if-writable.true
+    (err_wider c.protect_writable.result (WritableHalts u.intervals (state u) w) (ProtectHalts c.args.space true old.intervals (state old) w)
+    (writable_protect (state old) (state u) w c.args.space old.intervals u.intervals c.find_window.ensures.reaches c.find_window.ensures.intervals) c.protect_writable.ensures.cause)
+
+pub returns-clause-cause : goal.returns-clause-cause
+returns-clause-cause g c =
+    let w = c.find_window.new.core in
+    rw c.if-writable.false
+    (if_window_halt (state c.args.core.now) (state w) c.args.core.now.filer.swapper.accepted c.args.space c.find_window.ensures.reaches c.args.core.now.intervals w.intervals c.find_window.ensures.intervals (state c.protect_read_only.new.core) c.protect_read_only.result c.protect_read_only.ensures.cause)

@@ -1,4 +1,4 @@
-use Rattle.std.proofs.Common.{◌≡◌, Bool, true, false, subst}
+use Rattle.std.proofs.Common.{◌≡◌, inl, inr, Bool, true, false, subst}
 use Rattle.std.specs.Bool.{then_some}
 use Rattle.flat_machine.specs.declared.call.Call.TheVariants as call
 use Rattle.flat_machine.specs.declared.call.Refusal.TheVariants as why
@@ -7,6 +7,8 @@ use Rattle.swapper_kernel.specs.GoesLaws.{makes_then}
 use Rattle.space_calls.proofs.CarryLemmas.{refused_carried}
 use Rattle.space_calls.proofs.TableAnswers.{not_refused, was_done}
 use Rattle.space_calls.proofs.TakeLemmas.{handle_is, may, mode_carried, mode_fits, mode_frames, mode_machine, mode_refused}
+use Rattle.fault_core.specs.Core.{state}
+use Rattle.space_calls.proofs.HaltLemmas.{counted_change}
 use Rattle.space_calls.proofs.unmapping.protect_writable.Goals as goal
 
 pub returns-in-Ok-true-clause-carried : goal.returns-in-Ok-true-clause-carried
@@ -54,3 +56,19 @@ returns-in-Err-change_window-clause-sound g c = λ volume m s r at has.
 
 pub returns-in-Err-change_window-clause-makes : goal.returns-in-Err-change_window-clause-makes
 returns-in-Err-change_window-clause-makes g c = makes_then c.shows_immutable.ensures.makes c.change_window.ensures.makes
+
+-- ---- Why it failed.
+
+pub returns-in-Err-clause-cause : goal.returns-in-Err-clause-cause
+returns-in-Err-clause-cause g c = (c.args.shown.id, inl c.in-Err.ensures.cause)
+
+pub returns-in-Err-change_window-clause-cause : goal.returns-in-Err-change_window-clause-cause
+returns-in-Err-change_window-clause-cause g c =
+    let x = c.shows_immutable.new.core in (
+      c.args.shown.id,
+      inr (
+        state x,
+        record { makes = c.shows_immutable.ensures.makes; layout = c.shows_immutable.ensures.layout },
+        counted_change (state x) (state c.change_window.new.core) c.args.core.now.intervals x.intervals c.shows_immutable.ensures.intervals c.in-Err-change_window.halt c.in-Err-change_window.ensures.cause,
+      ),
+    )

@@ -5,7 +5,7 @@ use Rattle.pilot_engine.specs.Stepping.{relabels, waits, IsResident}
 use Rattle.fault_core.specs.Core.{kept}
 use Rattle.pilot_engine.proofs.BoundLemmas.{asked_inside, spent_inside}
 use Rattle.pilot_engine.proofs.LiftLemmas.{carried_out}
-use Rattle.pilot_engine.proofs.StepLemmas.{none_said, nothing_told, on_spaces}
+use Rattle.pilot_engine.proofs.StepLemmas.{nothing_told, on_spaces}
 use Rattle.flat_machine.specs.declared.call.Call.{Call}
 use Rattle.flat_machine.specs.declared.call.Call.TheVariants as call
 use Rattle.pilot_engine.proofs.OwnLemmas.{own_of, own_none, none_relabelled}
@@ -244,25 +244,25 @@ pub returns-in-Volume-clause-idle : goal.returns-in-Volume-clause-idle
 returns-in-Volume-clause-idle g c = λ m r resident. absurd (subst (λ (x : Call). IsResident x (kept c.args.self.now.core) c.args.self.now.core.filer.swapper.pool) c.in-Volume.is resident)
 
 pub returns-in-Create-clause-cause : goal.returns-in-Create-clause-cause
-returns-in-Create-clause-cause g c = rw c.in-Create.is (none_said c.create.result)
+returns-in-Create-clause-cause g c = rw c.in-Create.is c.create.ensures.cause
 
 pub returns-in-Delete-clause-cause : goal.returns-in-Delete-clause-cause
-returns-in-Delete-clause-cause g c = rw c.in-Delete.is (none_said c.delete.result)
+returns-in-Delete-clause-cause g c = rw c.in-Delete.is c.delete.ensures.cause
 
 pub returns-in-Attributes-clause-cause : goal.returns-in-Attributes-clause-cause
-returns-in-Attributes-clause-cause g c = rw c.in-Attributes.is (none_said c.attributes.result)
+returns-in-Attributes-clause-cause g c = rw c.in-Attributes.is c.attributes.ensures.cause
 
 pub returns-in-SetSize-clause-cause : goal.returns-in-SetSize-clause-cause
-returns-in-SetSize-clause-cause g c = rw c.in-SetSize.is (none_said c.set_size.result)
+returns-in-SetSize-clause-cause g c = rw c.in-SetSize.is c.set_size.ensures.cause
 
 pub returns-in-MakePermanent-clause-cause : goal.returns-in-MakePermanent-clause-cause
-returns-in-MakePermanent-clause-cause g c = rw c.in-MakePermanent.is (none_said c.make_permanent.result)
+returns-in-MakePermanent-clause-cause g c = rw c.in-MakePermanent.is c.make_permanent.ensures.cause
 
 pub returns-in-MakeImmutable-clause-cause : goal.returns-in-MakeImmutable-clause-cause
-returns-in-MakeImmutable-clause-cause g c = rw c.in-MakeImmutable.is (none_said c.make_immutable.result)
+returns-in-MakeImmutable-clause-cause g c = rw c.in-MakeImmutable.is c.make_immutable.ensures.cause
 
 pub returns-in-Next-clause-cause : goal.returns-in-Next-clause-cause
-returns-in-Next-clause-cause g c = rw c.in-Next.is (none_said c.next.result)
+returns-in-Next-clause-cause g c = rw c.in-Next.is c.next.ensures.cause
 
 pub returns-in-Volume-clause-cause : goal.returns-in-Volume-clause-cause
-returns-in-Volume-clause-cause g c = rw c.in-Volume.is (none_said c.volume.result)
+returns-in-Volume-clause-cause g c = rw c.in-Volume.is c.volume.ensures.cause

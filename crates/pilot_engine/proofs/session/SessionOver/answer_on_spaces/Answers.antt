@@ -4,7 +4,7 @@ use Rattle.flat_machine.specs.References.{is_reference}
 use Rattle.pilot_engine.specs.Stepping.{IsResident, StepHalts, waits}
 use Rattle.pilot_engine.proofs.BoundLemmas.{asked_inside}
 use Rattle.pilot_engine.proofs.LiftLemmas.{still_open}
-use Rattle.pilot_engine.proofs.StepLemmas.{none_on_spaces, none_said, nothing_told, of_pages}
+use Rattle.pilot_engine.proofs.StepLemmas.{none_on_spaces, nothing_told, of_pages}
 use Rattle.pilot_engine.proofs.AnonymousLemmas.{done_then, unset}
 use Rattle.fault_core.specs.Access.{last_page}
 use Rattle.fault_core.specs.Activate.{IsActive}
@@ -453,28 +453,28 @@ returns-in-Store-clause-idle g c = λ m r resident.
     (done.0, done.1)
 
 pub returns-in-MakeSpace-clause-cause : goal.returns-in-MakeSpace-clause-cause
-returns-in-MakeSpace-clause-cause g c = rw c.in-MakeSpace.is (none_said c.make_space.result)
+returns-in-MakeSpace-clause-cause g c = rw c.in-MakeSpace.is c.make_space.ensures.cause
 
 pub returns-in-RemoveSpace-clause-cause : goal.returns-in-RemoveSpace-clause-cause
-returns-in-RemoveSpace-clause-cause g c = rw c.in-RemoveSpace.is (none_said c.remove_space.result)
+returns-in-RemoveSpace-clause-cause g c = rw c.in-RemoveSpace.is c.remove_space.ensures.cause
 
 pub returns-in-Place-clause-cause : goal.returns-in-Place-clause-cause
-returns-in-Place-clause-cause g c = rw c.in-Place.is (none_said c.place.result)
+returns-in-Place-clause-cause g c = rw c.in-Place.is c.place.ensures.cause
 
 pub returns-in-Units-clause-cause : goal.returns-in-Units-clause-cause
-returns-in-Units-clause-cause g c = rw c.in-Units.is (none_said c.set_units.result)
+returns-in-Units-clause-cause g c = rw c.in-Units.is c.set_units.ensures.cause
 
 pub returns-in-Map-clause-cause : goal.returns-in-Map-clause-cause
-returns-in-Map-clause-cause g c = rw c.in-Map.is (none_said c.map.result)
+returns-in-Map-clause-cause g c = rw c.in-Map.is c.map.ensures.cause
 
 pub returns-in-MapAnonymous-clause-cause : goal.returns-in-MapAnonymous-clause-cause
-returns-in-MapAnonymous-clause-cause g c = rw c.in-MapAnonymous.is (none_said c.map_anonymous.result)
+returns-in-MapAnonymous-clause-cause g c = rw c.in-MapAnonymous.is c.map_anonymous.ensures.cause
 
 pub returns-in-Unmap-clause-cause : goal.returns-in-Unmap-clause-cause
-returns-in-Unmap-clause-cause g c = rw c.in-Unmap.is (none_said c.unmap.result)
+returns-in-Unmap-clause-cause g c = rw c.in-Unmap.is c.unmap.ensures.cause
 
 pub returns-in-Protect-clause-cause : goal.returns-in-Protect-clause-cause
-returns-in-Protect-clause-cause g c = rw c.in-Protect.is (none_said c.protect.result)
+returns-in-Protect-clause-cause g c = rw c.in-Protect.is c.protect.ensures.cause
 
 pub returns-in-Load-clause-cause : goal.returns-in-Load-clause-cause
 returns-in-Load-clause-cause g c = rw c.in-Load.is c.load.ensures.cause

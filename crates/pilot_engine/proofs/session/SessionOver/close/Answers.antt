@@ -1,4 +1,4 @@
-use Rattle.std.proofs.Common.{subst, sym, arith}
+use Rattle.std.proofs.Common.{subst, sym, arith, inl, inr}
 use Rattle.file_manager.specs.declared.volume.Volume.{Volume}
 use Rattle.file_manager.proofs.Faults.{counted_then}
 use Rattle.space_calls.proofs.RunLemmas.{reached_makes}
@@ -13,6 +13,11 @@ use Rattle.pilot_engine.proofs.TableStops.{stops_closed, stops_forcing}
 use Rattle.pilot_engine.proofs.ShutLemmas.{any_of, shut_still, shut_then}
 use Rattle.pilot_engine.proofs.UnsetLemmas.{leaves_open, unset_then}
 use Rattle.pilot_engine.proofs.WroteLemmas.{rose_behind, wrote_by, wrote_swapping, wrote_then}
+use Rattle.fault_core.specs.Core.{state}
+use Rattle.flat_machine.specs.Space.{root_pages}
+use Rattle.fault_core.specs.Kill.{BreaksWithin}
+use Rattle.space_calls.proofs.RangeLemmas.{fault_halt}
+use Rattle.pilot_engine.proofs.CauseLemmas.{made_then}
 use Rattle.pilot_engine.proofs.session.SessionOver.close.Goals as goal
 
 pub returns-in-Err-empty-clause-sound : goal.returns-in-Err-empty-clause-sound
@@ -190,3 +195,35 @@ returns-in-Err-write_clean-clause-so g c = rw c.in-Err-write_clean.ensures.fault
 
 pub returns-in-Err-wait-clause-so : goal.returns-in-Err-wait-clause-so
 returns-in-Err-wait-clause-so g c = rw c.in-Err-wait.ensures.fault tt
+
+-- ---- Why it failed.
+
+pub returns-in-Err-clause-cause : goal.returns-in-Err-clause-cause
+returns-in-Err-clause-cause g c = inl c.in-Err.ensures.cause
+
+pub returns-in-Err-empty-clause-cause : goal.returns-in-Err-empty-clause-cause
+returns-in-Err-empty-clause-cause g c =
+    let later = c.in-Err-empty.ensures.cause in
+    inr (later.0, made_then (state c.args.self.now.core) (state c.let_all_go.new.self.core) later.0 (c.let_all_go.ensures.wrote, c.let_all_go.ensures.layout) later.1, elim later.2 [ inl cleared ↦ inl cleared | inr freed ↦ inr (inl freed) ])
+
+pub returns-in-Err-write_maps-clause-cause : goal.returns-in-Err-write_maps-clause-cause
+returns-in-Err-write_maps-clause-cause g c =
+    let later = c.in-Err-write_maps.ensures.cause in
+    let v = state c.args.self.now.core in
+    let x = state c.empty.new.self.core in
+    let emptied = made_then v (state c.let_all_go.new.self.core) x (c.let_all_go.ensures.wrote, c.let_all_go.ensures.layout) (c.empty.ensures.wrote, c.empty.ensures.layout) in
+    inr (later.0, made_then v x later.0 emptied later.1, inr (inr later.2))
+
+pub returns-in-Err-write_clean-clause-cause : goal.returns-in-Err-write_clean-clause-cause
+returns-in-Err-write_clean-clause-cause g c =
+    let v = state c.args.self.now.core in
+    let x = state c.write_maps.new.self.core in
+    let w = state c.write_clean.new.self.core in
+    inl (fault_halt (BreaksWithin v c.args.self.now.core.intervals 0 root_pages) v x w c.in-Err-write_clean.halt (wrote_then (wrote_then c.let_all_go.ensures.wrote c.empty.ensures.wrote) (wrote_swapping c.write_maps.ensures.swaps)).makes.went.faults c.in-Err-write_clean.ensures.fault c.in-Err-write_clean.ensures.counted)
+
+pub returns-in-Err-wait-clause-cause : goal.returns-in-Err-wait-clause-cause
+returns-in-Err-wait-clause-cause g c =
+    let v = state c.args.self.now.core in
+    let x = state c.write_clean.new.self.core in
+    let w = state c.wait.new.core in
+    inl (fault_halt (BreaksWithin v c.args.self.now.core.intervals 0 root_pages) v x w c.in-Err-wait.halt (shut_then (wrote_then (wrote_then c.let_all_go.ensures.wrote c.empty.ensures.wrote) (wrote_swapping c.write_maps.ensures.swaps)) c.write_clean.ensures.wrote).makes.went.faults c.in-Err-wait.ensures.fault c.in-Err-wait.ensures.counted)

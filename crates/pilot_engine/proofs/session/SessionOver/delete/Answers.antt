@@ -1,4 +1,4 @@
-use Rattle.std.proofs.Common.{refl, sym, ap, subst, ◌∙◌, arith}
+use Rattle.std.proofs.Common.{refl, sym, ap, subst, ◌∙◌, arith, inl}
 use Rattle.labelled_disk.specs.declared.layout.Layout.{Layout}
 use Rattle.flat_machine.specs.declared.call.Call.TheVariants as call
 use Rattle.flat_machine.specs.declared.call.Refusal.TheVariants as why
@@ -14,6 +14,9 @@ use Rattle.pilot_engine.proofs.RefusalLemmas.{delete_gone, no_file_hidden}
 use Rattle.pilot_engine.proofs.SeenLemmas.{delete_seen}
 use Rattle.label_calls.specs.OwnLaws.{relabels_own, quiet_own, wrote_own}
 use Rattle.file_manager.proofs.OwnSteps.{own_after}
+use Rattle.fault_core.specs.Core.{state}
+use Rattle.pilot_engine.proofs.CauseLemmas.{named_halt}
+use Rattle.pilot_engine.specs.Halting.{RemoveHalts}
 use Rattle.pilot_engine.proofs.session.SessionOver.delete.Goals as goal
 
 pub returns-in-Ok-Hidden-clause-carried : goal.returns-in-Ok-Hidden-clause-carried
@@ -95,3 +98,11 @@ returns-in-Some-clause-own g c = relabels_own (quiet_own c.args.id c.sight.ensur
 
 pub returns-clause-own : goal.returns-clause-own
 returns-clause-own g c = own_after (quiet_own c.args.id c.sight.ensures.makes) (wrote_own c.delete_unseen.ensures.wrote.makes c.delete_unseen.ensures.own)
+
+-- ---- Why it failed.
+
+pub returns-in-Err-clause-cause : goal.returns-in-Err-clause-cause
+returns-in-Err-clause-cause g c = inl c.in-Err.ensures.cause
+
+pub returns-clause-cause : goal.returns-clause-cause
+returns-clause-cause g c = named_halt (state c.args.self.now.core) (state c.sight.new.self.core) (state c.delete_unseen.new.self.core) c.args.id c.args.self.now.core.intervals (RemoveHalts c.args.id) c.delete_unseen.result c.sight.ensures.reaches c.delete_unseen.ensures.cause

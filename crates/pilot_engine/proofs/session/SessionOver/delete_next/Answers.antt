@@ -1,4 +1,4 @@
-use Rattle.std.proofs.Common.{ℕ, ◌<◌, ◌≤◌, Option, subst, arith}
+use Rattle.std.proofs.Common.{ℕ, ◌<◌, ◌≤◌, Option, subst, arith, inl, inr}
 use Rattle.std.specs.Prelude.{IfSome}
 use Rattle.session_words.specs.Parts.{shapes_of}
 use Rattle.file_manager.specs.Answer.{IsNextFile}
@@ -10,6 +10,7 @@ use Rattle.pilot_engine.proofs.WroteLemmas.{wrote_by, wrote_then}
 use Rattle.pilot_engine.specs.Closing.{IsOpenStop}
 use Rattle.pilot_engine.proofs.StopLemmas.{stops_quiet, throughout_then}
 use Rattle.file_manager.proofs.Faults.{counted_then}
+use Rattle.fault_core.specs.Core.{state}
 use Rattle.pilot_engine.proofs.session.SessionOver.delete_next.Goals as goal
 
 pub returns-in-Ok-None-clause-shed : goal.returns-in-Ok-None-clause-shed
@@ -111,3 +112,11 @@ returns-in-Err-clause-cost g c = λ spaces_of m s. let searched = c.next.ensures
 
 pub returns-in-Ok-clause-above : goal.returns-in-Ok-clause-above
 returns-in-Ok-clause-above g c = (subst (λ (o : Option ℕ). IfSome o (λ id. (c.args.cursor < id) × (16 ≤ id))) c.in-Ok-Some.field-0-is c.in-Ok-Some.ensures.above).0
+
+-- ---- Why it failed.
+
+pub returns-in-Err-clause-cause : goal.returns-in-Err-clause-cause
+returns-in-Err-clause-cause g c = inl c.in-Err.ensures.cause
+
+pub returns-in-Err-delete_unless_permanent-clause-cause : goal.returns-in-Err-delete_unless_permanent-clause-cause
+returns-in-Err-delete_unless_permanent-clause-cause g c = inr (state (record c.args.self.now.core { filer = c.next.new.filer }), record { makes = c.next.ensures.makes; layout = c.next.ensures.layout }, (c.in-Ok-Some.id, c.in-Err-delete_unless_permanent.ensures.cause))

@@ -3,6 +3,7 @@ use Rattle.std.specs.Prelude.{IfSome}
 use Rattle.pilot_engine.proofs.ClearedUpTo.{cleared_all, cleared_more, cleared_none, cleared_paid, cleared_sound, cleared_stops}
 use Rattle.pilot_engine.proofs.WroteLemmas.{wrote_then}
 use Rattle.file_manager.proofs.Faults.{counted_then}
+use Rattle.fault_core.specs.Core.{state}
 use Rattle.pilot_engine.proofs.session.SessionOver.delete_temporary.Goals as goal
 
 pub files-init : goal.files-init
@@ -58,3 +59,8 @@ returns-in-Ok-None-clause-cost g c = cleared_paid _ _ _ _ _ _ _ _ _ _ _ c.files.
 
 pub returns-in-Err-clause-cost : goal.returns-in-Err-clause-cost
 returns-in-Err-clause-cost g c = cleared_paid _ _ _ _ _ _ _ _ _ _ _ c.files.invariant (g.D.Disk.state c.delete_next.new.self.core.filer.swapper.under).transfers c.delete_next.ensures.cost
+
+-- ---- Why it failed.
+
+pub returns-in-Err-clause-cause : goal.returns-in-Err-clause-cause
+returns-in-Err-clause-cause g c = (state c.files.self.core, (c.files.invariant.wrote, c.files.invariant.same_layout), c.in-Err.ensures.cause)

@@ -1,4 +1,4 @@
-use Rattle.std.proofs.Common.{inr, subst}
+use Rattle.std.proofs.Common.{inr, subst, inl}
 use Rattle.session_words.specs.Parts.{shapes_of}
 use Rattle.file_manager.specs.Attributes.{IsAttributesOf}
 use Rattle.pilot_engine.proofs.EndLemmas.{none_shown}
@@ -9,6 +9,7 @@ use Rattle.pilot_engine.proofs.ShedLemmas.{shed_missing, shed_permanent, shed_de
 use Rattle.pilot_engine.proofs.WroteLemmas.{wrote_by, wrote_then}
 use Rattle.pilot_engine.proofs.StopLemmas.{stops_deleted, stops_quiet}
 use Rattle.file_manager.proofs.Faults.{counted_then}
+use Rattle.fault_core.specs.Core.{state}
 use Rattle.pilot_engine.proofs.session.SessionOver.delete_unless_permanent.Goals as goal
 
 pub returns-in-Ok-None-clause-shed : goal.returns-in-Ok-None-clause-shed
@@ -116,3 +117,11 @@ returns-in-Err-delete-clause-cost g c = λ spaces_of m f s found.
     let hidden = none_shown m.spaces s.alone c.args.id in
     deleted_cost c.args.self.now.core.filer.swapper.layout c.attributes_of.new.filer.swapper.layout c.args.self.now.core.filer.swapper.accepted look.layout (g.D.Disk.state c.args.self.now.core.filer.swapper.under).transfers (g.D.Disk.state c.attributes_of.new.filer.swapper.under).transfers (g.D.Disk.state c.delete.new.filer.swapper.under).transfers
     c.in-Ok-Some.found.pages f (pages_told m c.args.id f c.in-Ok-Some.found found told) look.cost (c.delete.ensures.cost_sized x (shapes_of m.files) m.spaces _ now told hidden)
+
+-- ---- Why it failed.
+
+pub returns-in-Err-clause-cause : goal.returns-in-Err-clause-cause
+returns-in-Err-clause-cause g c = inl c.in-Err.ensures.cause
+
+pub returns-in-Err-delete-clause-cause : goal.returns-in-Err-delete-clause-cause
+returns-in-Err-delete-clause-cause g c = inr (state (record c.args.self.now.core { filer = c.attributes_of.new.filer }), record { makes = c.attributes_of.ensures.makes; layout = c.attributes_of.ensures.layout }, c.in-Err-delete.ensures.cause)

@@ -1,4 +1,4 @@
-use Rattle.std.proofs.Common.{refl, arith}
+use Rattle.std.proofs.Common.{refl, arith, inl, inr}
 use Rattle.flat_machine.specs.Machine.{used}
 use Rattle.session_words.specs.Parts.{shapes_of}
 use Rattle.pilot_engine.proofs.EndCosts.{emptied_cost, files_cost}
@@ -10,6 +10,7 @@ use Rattle.pilot_engine.specs.Closing.{IsOpenStop}
 use Rattle.pilot_engine.proofs.StopLemmas.{stop_less, throughout_less, throughout_then}
 use Rattle.pilot_engine.proofs.TableStops.{stops_freeing}
 use Rattle.file_manager.proofs.Faults.{counted_then}
+use Rattle.fault_core.specs.Core.{state}
 use Rattle.pilot_engine.proofs.session.SessionOver.empty.Goals as goal
 
 pub returns-in-Ok-free_tables-clause-emptied : goal.returns-in-Ok-free_tables-clause-emptied
@@ -67,3 +68,13 @@ returns-in-Err-free_tables-clause-cost g c = λ spaces_of m s.
     let same = s.session.same_used in
     emptied_cost c.args.self.now.core.filer.swapper.layout c.args.self.now.core.filer.swapper.accepted c.delete_temporary.new.self.core.filer.swapper.layout c.delete_temporary.ensures.layout (g.D.Disk.state c.args.self.now.core.filer.swapper.under).transfers (g.D.Disk.state c.delete_temporary.new.self.core.filer.swapper.under).transfers (g.D.Disk.state c.free_tables.new.filer.swapper.under).transfers (used m)
     (omega (arith, room, same)) (c.delete_temporary.ensures.cost spaces_of m s) c.free_tables.ensures.cost
+
+-- ---- Why it failed.
+
+pub returns-in-Err-clause-cause : goal.returns-in-Err-clause-cause
+returns-in-Err-clause-cause g c =
+    let cleared = c.in-Err.ensures.cause in
+    (cleared.0, cleared.1, inl cleared.2)
+
+pub returns-in-Err-free_tables-clause-cause : goal.returns-in-Err-free_tables-clause-cause
+returns-in-Err-free_tables-clause-cause g c = (state c.delete_temporary.new.self.core, (c.delete_temporary.ensures.wrote, c.delete_temporary.ensures.layout), inr c.in-Err-free_tables.ensures.cause)

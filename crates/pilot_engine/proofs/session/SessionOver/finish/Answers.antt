@@ -15,3 +15,6 @@ returns-clause-left_open g c = λ unset. rw c.into_disk.ensures (c.close-closed.
 
 pub returns-clause-wrote : goal.returns-clause-wrote
 returns-clause-wrote g c = rw c.into_disk.ensures (on_of c.close-closed.ensures.wrote)
+
+pub returns-clause-cause : goal.returns-clause-cause
+returns-clause-cause g c = rw c.into_disk.ensures c.close-closed.ensures.cause

@@ -24,3 +24,8 @@ returns-in-Ok-clause-cost g c = few_gone _ _ _ c.look_at_frames.ensures.few (rw 
 
 pub returns-in-Err-clause-cost : goal.returns-in-Err-clause-cost
 returns-in-Err-clause-cost g c = few_gone _ _ _ c.look_at_frames.ensures.few (rw c.look_at_frames.ensures.same at c.let_root_go.ensures.cost)
+
+-- ---- Why it failed.
+
+pub returns-in-Err-clause-cause : goal.returns-in-Err-clause-cause
+returns-in-Err-clause-cause g c = rw c.look_at_frames.ensures.same at c.in-Err.ensures.cause

@@ -1,4 +1,4 @@
-use Rattle.std.proofs.Common.{refl, sym, ap, subst, ◌∙◌, arith}
+use Rattle.std.proofs.Common.{refl, sym, ap, subst, ◌∙◌, arith, inl}
 use Rattle.labelled_disk.specs.declared.layout.Layout.{Layout}
 use Rattle.flat_machine.specs.declared.call.Call.TheVariants as call
 use Rattle.flat_machine.specs.declared.call.Refusal.TheVariants as why
@@ -16,6 +16,11 @@ use Rattle.pilot_engine.proofs.RefusalLemmas.{no_file_hidden, immutable_gone}
 use Rattle.pilot_engine.proofs.SeenLemmas.{immutable_seen, written_by_none}
 use Rattle.label_calls.specs.OwnLaws.{relabels_own, quiet_own, wrote_own, own_then}
 use Rattle.file_manager.proofs.OwnSteps.{own_after}
+use Rattle.fault_core.specs.Core.{state}
+use Rattle.pilot_engine.proofs.CauseLemmas.{named_halt}
+use Rattle.pilot_engine.specs.Halting.{MarkHalts}
+use Rattle.space_calls.proofs.HaltLemmas.{later_sight}
+use Rattle.fault_core.proofs.ReachLemmas.{reaches_then}
 use Rattle.pilot_engine.proofs.session.SessionOver.make_immutable.Goals as goal
 
 pub returns-in-Ok-Hidden-clause-carried : goal.returns-in-Ok-Hidden-clause-carried
@@ -115,3 +120,22 @@ returns-in-Err-window_on-clause-own g c = own_after (quiet_own c.args.id c.sight
 
 pub returns-clause-own : goal.returns-clause-own
 returns-clause-own g c = own_after (quiet_own c.args.id c.sight.ensures.makes) (own_then (quiet_own c.args.id c.window_on.ensures.makes) (wrote_own c.mark_immutable.ensures.wrote.makes c.mark_immutable.ensures.own))
+
+-- ---- Why it failed.
+
+pub returns-in-Err-clause-cause : goal.returns-in-Err-clause-cause
+returns-in-Err-clause-cause g c = inl c.in-Err.ensures.cause
+
+pub returns-in-Err-window_on-clause-cause : goal.returns-in-Err-window_on-clause-cause
+returns-in-Err-window_on-clause-cause g c =
+    let old = c.args.self.now.core in
+    let u = c.sight.new.self.core in
+    inl (later_sight (state old) (state u) old.filer.swapper.accepted c.sight.ensures.reaches old.intervals u.intervals c.sight.ensures.intervals (state c.window_on.new.core) c.in-Err-window_on.halt c.in-Err-window_on.ensures.cause)
+
+pub returns-clause-cause : goal.returns-clause-cause
+returns-clause-cause g c =
+    let v = state c.args.self.now.core in
+    let u = state c.sight.new.self.core in
+    let x = state c.window_on.new.core in
+    named_halt v x (state c.mark_immutable.new.self.core) c.args.id c.args.self.now.core.intervals (MarkHalts c.args.id) c.mark_immutable.result
+    (reaches_then v u c.args.self.now.core.filer.swapper.accepted c.sight.ensures.reaches x c.window_on.ensures.reaches) c.mark_immutable.ensures.cause

@@ -1,16 +1,19 @@
-use Rattle.std.proofs.Common.{refl, sym, ap, subst, ◌∙◌, arith}
+use Rattle.std.proofs.Common.{refl, sym, ap, subst, ◌∙◌, arith, inl}
 use Rattle.labelled_disk.specs.declared.layout.Layout.{Layout}
 use Rattle.flat_machine.specs.declared.call.Call.TheVariants as call
 use Rattle.flat_machine.specs.declared.call.Refusal.TheVariants as why
 use Rattle.pilot_engine.specs.declared.sight.Sight.{Sight}
 use Rattle.pilot_engine.specs.Seen.{IsSight}
-use Rattle.pilot_engine.proofs.BoundLemmas.{asked_inside, spent_besides}
+use Rattle.pilot_engine.proofs.BoundLemmas.{asked_inside}
 use Rattle.pilot_engine.proofs.LiftLemmas.{asked_passes, carried_out, refused_running, still_open}
 use Rattle.pilot_engine.proofs.PassThen.{asked_then}
 use Rattle.pilot_engine.proofs.WroteLemmas.{rose_behind, wrote_by, wrote_then}
 use Rattle.pilot_engine.proofs.RefusalLemmas.{no_file_hidden, permanent_gone}
 use Rattle.label_calls.specs.OwnLaws.{relabels_own, quiet_own, wrote_own}
 use Rattle.file_manager.proofs.OwnSteps.{own_after}
+use Rattle.fault_core.specs.Core.{state}
+use Rattle.pilot_engine.proofs.CauseLemmas.{named_halt}
+use Rattle.pilot_engine.specs.Halting.{MarkHalts}
 use Rattle.pilot_engine.proofs.session.SessionOver.make_permanent.Goals as goal
 
 pub returns-in-Ok-Hidden-clause-carried : goal.returns-in-Ok-Hidden-clause-carried
@@ -74,3 +77,11 @@ returns-in-Err-clause-own g c = relabels_own (quiet_own c.args.id c.sight.ensure
 
 pub returns-in-Ok-By-clause-own : goal.returns-in-Ok-By-clause-own
 returns-in-Ok-By-clause-own g c = own_after (quiet_own c.args.id c.sight.ensures.makes) (wrote_own c.mark_permanent.ensures.wrote.makes c.mark_permanent.ensures.own)
+
+-- ---- Why it failed.
+
+pub returns-in-Err-clause-cause : goal.returns-in-Err-clause-cause
+returns-in-Err-clause-cause g c = inl c.in-Err.ensures.cause
+
+pub returns-in-Ok-By-clause-cause : goal.returns-in-Ok-By-clause-cause
+returns-in-Ok-By-clause-cause g c = named_halt (state c.args.self.now.core) (state c.sight.new.self.core) (state c.mark_permanent.new.self.core) c.args.id c.args.self.now.core.intervals (MarkHalts c.args.id) c.mark_permanent.result c.sight.ensures.reaches c.mark_permanent.ensures.cause

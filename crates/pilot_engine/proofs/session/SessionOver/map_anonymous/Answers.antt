@@ -1,4 +1,4 @@
-use Rattle.std.proofs.Common.{rules, ℕ, ◌≡◌, ◌^◌, ◌≤◌, Result, Ok, Some, refl, sym, ap, subst, ◌∙◌, arith}
+use Rattle.std.proofs.Common.{rules, ℕ, ◌≡◌, ◌^◌, ◌≤◌, Result, Ok, Some, refl, sym, ap, subst, ◌∙◌, arith, inl, inr}
 use Rattle.labelled_disk.specs.declared.layout.Layout.{Layout}
 use Rattle.flat_machine.specs.declared.call.Call.TheVariants as call
 use Rattle.flat_machine.specs.declared.call.Reply.{Reply}
@@ -17,6 +17,10 @@ use Rattle.pilot_engine.proofs.PassThen.{asked_then, quiet_then, then_quiet}
 use Rattle.pilot_engine.proofs.WroteLemmas.{rose_behind, wrote_by, wrote_then}
 use Rattle.fault_core.proofs.EvidenceLemmas.{shows_so}
 use Rattle.fault_core.specs.Core.{state}
+use Rattle.filer_kernel.proofs.Outcomes.{err_wider}
+use Rattle.space_calls.specs.Halts.{ChangeHalts}
+use Rattle.space_calls.proofs.HaltLemmas.{counted_change}
+use Rattle.pilot_engine.specs.Halting.{MapNewHalts}
 use Rattle.pilot_engine.proofs.session.SessionOver.map_anonymous.Goals as goal
 
 pub returns-in-Ok-Err-clause-passes : goal.returns-in-Ok-Err-clause-passes
@@ -143,3 +147,21 @@ returns-clause-cost g c = λ m r. spent_around (g.D.Disk.state c.args.self.now.c
 
 pub returns-in-Err-clause-so : goal.returns-in-Err-clause-so
 returns-in-Err-clause-so g c = shows_so _ (state c.args.self.now.core) (state c.can_map.new.core) c.can_map.ensures.asked.reaches.goes.makes c.in-Err.halt c.in-Err.ensures.cause
+
+-- ---- Why it failed.
+
+pub returns-in-Err-clause-cause : goal.returns-in-Err-clause-cause
+returns-in-Err-clause-cause g c = inl c.in-Err.ensures.cause
+
+pub returns-in-Err-create-clause-cause : goal.returns-in-Err-create-clause-cause
+returns-in-Err-create-clause-cause g c = inr (state c.can_map.new.core, c.can_map.ensures.asked.reaches, inl c.in-Err-create.ensures.cause)
+
+pub returns-clause-cause : goal.returns-clause-cause
+returns-clause-cause g c =
+    let old = c.args.self.now.core in
+    let u = c.can_map.new.core in
+    let x = c.create.new.self.core in
+    let w = state c.give_window.new.core in
+    let asked = c.can_map.ensures.asked in
+    err_wider c.give_window.result (ChangeHalts x.intervals (state x) w) (MapNewHalts old.intervals (state old) w)
+    (λ e halts. inr (state u, asked.reaches, inr (state x, (c.create.ensures.wrote, c.create.ensures.layout), counted_change (state x) w old.intervals x.intervals (c.create.ensures.intervals ∙ asked.intervals) e halts))) c.give_window.ensures.cause

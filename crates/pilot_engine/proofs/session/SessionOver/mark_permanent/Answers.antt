@@ -1,4 +1,4 @@
-use Rattle.std.proofs.Common.{Option, refl, subst}
+use Rattle.std.proofs.Common.{Option, refl, subst, inl, inr}
 use Rattle.flat_machine.specs.declared.call.Call.TheVariants as call
 use Rattle.file_manager.specs.declared.attributes.Attributes.{Attributes}
 use Rattle.file_manager.specs.Attributes.{IsAttributesOf}
@@ -10,6 +10,7 @@ use Rattle.running_words.proofs.SessionLemmas.{session_books}
 use Rattle.running_words.proofs.StageLemmas.{no_step}
 use Rattle.label_calls.specs.OwnLaws.{relabels_own, quiet_own}
 use Rattle.file_manager.proofs.OwnSteps.{marked_own, own_after}
+use Rattle.fault_core.specs.Core.{state}
 use Rattle.pilot_engine.proofs.session.SessionOver.mark_permanent.Goals as goal
 
 pub returns-in-Ok-None-clause-carried : goal.returns-in-Ok-None-clause-carried
@@ -79,3 +80,11 @@ returns-in-Ok-clause-own g c = own_after (quiet_own c.args.id c.attributes_of.en
 
 pub returns-in-Err-make_permanent-clause-own : goal.returns-in-Err-make_permanent-clause-own
 returns-in-Err-make_permanent-clause-own g c = own_after (quiet_own c.args.id c.attributes_of.ensures.makes) (marked_own Permanent c.make_permanent.ensures.makes c.make_permanent.ensures.own)
+
+-- ---- Why it failed.
+
+pub returns-in-Err-clause-cause : goal.returns-in-Err-clause-cause
+returns-in-Err-clause-cause g c = inl c.in-Err.ensures.cause
+
+pub returns-in-Err-make_permanent-clause-cause : goal.returns-in-Err-make_permanent-clause-cause
+returns-in-Err-make_permanent-clause-cause g c = inr (state (record c.args.self.now.core { filer = c.attributes_of.new.filer }), record { makes = c.attributes_of.ensures.makes; layout = c.attributes_of.ensures.layout }, c.in-Err-make_permanent.ensures.cause)

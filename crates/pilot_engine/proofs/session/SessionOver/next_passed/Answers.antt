@@ -1,6 +1,5 @@
-use Rattle.std.proofs.Common.{ℕ, ◌<◌, ◌≤◌, Option, Some, None, refl, sym, ap, subst, ◌∙◌, arith}
+use Rattle.std.proofs.Common.{ℕ, ◌<◌, ◌≤◌, Option, refl, subst, ◌∙◌, arith, inl, inr}
 use Rattle.std.specs.Prelude.{IfSome}
-use Rattle.labelled_disk.specs.declared.layout.Layout.{Layout}
 use Rattle.session_words.specs.Parts.{shapes_of}
 use Rattle.swapper_kernel.specs.GoesLaws.{makes_then}
 use Rattle.file_manager.specs.Answer.{IsNextFile}
@@ -9,6 +8,7 @@ use Rattle.running_words.proofs.SessionLemmas.{session_books}
 use Rattle.pilot_engine.specs.declared.sight.Sight.{Sight}
 use Rattle.pilot_engine.specs.Seen.{IsSight}
 use Rattle.pilot_engine.proofs.LiftLemmas.{searched_running}
+use Rattle.fault_core.specs.Core.{state}
 use Rattle.pilot_engine.proofs.session.SessionOver.next_passed.Goals as goal
 
 pub returns-in-Ok-None-clause-runs : goal.returns-in-Ok-None-clause-runs
@@ -80,3 +80,11 @@ returns-in-Err-sight-clause-sound g c = λ m r. c.in-Err-sight.ensures.sound m (
 
 pub returns-in-Err-sight-clause-counted : goal.returns-in-Err-sight-clause-counted
 returns-in-Err-sight-clause-counted g c = counted_then _ _ _ c.next.ensures.makes.went.faults c.in-Err-sight.ensures.counted
+
+-- ---- Why it failed.
+
+pub returns-in-Err-clause-cause : goal.returns-in-Err-clause-cause
+returns-in-Err-clause-cause g c = inl c.in-Err.ensures.cause
+
+pub returns-in-Err-sight-clause-cause : goal.returns-in-Err-sight-clause-cause
+returns-in-Err-sight-clause-cause g c = inr (state (record c.args.self.now.core { filer = c.next.new.filer }), record { makes = c.next.ensures.makes; layout = c.next.ensures.layout }, c.in-Err-sight.ensures.cause)

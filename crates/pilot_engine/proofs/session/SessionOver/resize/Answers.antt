@@ -1,4 +1,4 @@
-use Rattle.std.proofs.Common.{Option, refl, sym, ◌∙◌, subst, arith}
+use Rattle.std.proofs.Common.{Option, refl, sym, ◌∙◌, subst, arith, inl, inr}
 use Rattle.flat_machine.specs.declared.call.Call.TheVariants as call
 use Rattle.flat_machine.specs.declared.call.Refusal.TheVariants as why
 use Rattle.swapper_kernel.specs.GoesLaws.{makes_nothing}
@@ -16,6 +16,7 @@ use Rattle.running_words.proofs.StageLemmas.{no_step}
 use Rattle.pilot_engine.proofs.WroteLemmas.{wrote_nothing}
 use Rattle.label_calls.specs.OwnLaws.{relabels_own, quiet_own, same_own}
 use Rattle.file_manager.proofs.OwnSteps.{resized_own, resizing_own, own_after}
+use Rattle.fault_core.specs.Core.{state}
 use Rattle.pilot_engine.proofs.session.SessionOver.resize.Goals as goal
 
 pub returns-then-not-may_be_file-clause-carried : goal.returns-then-not-may_be_file-clause-carried
@@ -176,3 +177,11 @@ returns-in-Ok-clause-own g c = own_after (quiet_own c.args.id c.attributes_of.en
 
 pub returns-in-Err-set_size-clause-own : goal.returns-in-Err-set_size-clause-own
 returns-in-Err-set_size-clause-own g c = own_after (quiet_own c.args.id c.attributes_of.ensures.makes) (resizing_own c.args.pages c.in-Err-set_size.ensures.stopped c.in-Err-set_size.ensures.own)
+
+-- ---- Why it failed.
+
+pub returns-in-Err-clause-cause : goal.returns-in-Err-clause-cause
+returns-in-Err-clause-cause g c = inl c.in-Err.ensures.cause
+
+pub returns-in-Err-set_size-clause-cause : goal.returns-in-Err-set_size-clause-cause
+returns-in-Err-set_size-clause-cause g c = inr (state (record c.args.self.now.core { filer = c.attributes_of.new.filer }), record { makes = c.attributes_of.ensures.makes; layout = c.attributes_of.ensures.layout }, c.in-Err-set_size.ensures.cause)

@@ -1,4 +1,4 @@
-use Rattle.std.proofs.Common.{refl, sym, ap, subst, ◌∙◌, arith}
+use Rattle.std.proofs.Common.{refl, sym, ap, subst, ◌∙◌, arith, inl}
 use Rattle.labelled_disk.specs.declared.layout.Layout.{Layout}
 use Rattle.flat_machine.specs.declared.call.Call.TheVariants as call
 use Rattle.flat_machine.specs.declared.call.Refusal.TheVariants as why
@@ -11,6 +11,9 @@ use Rattle.pilot_engine.proofs.WroteLemmas.{rose_behind, wrote_by, wrote_then}
 use Rattle.pilot_engine.proofs.RefusalLemmas.{no_file_hidden, size_gone}
 use Rattle.label_calls.specs.OwnLaws.{relabels_own, quiet_own, wrote_own}
 use Rattle.file_manager.proofs.OwnSteps.{own_after}
+use Rattle.fault_core.specs.Core.{state}
+use Rattle.pilot_engine.proofs.CauseLemmas.{named_halt}
+use Rattle.pilot_engine.specs.Halting.{SizeHalts}
 use Rattle.pilot_engine.proofs.session.SessionOver.set_size.Goals as goal
 
 pub returns-in-Ok-Hidden-clause-carried : goal.returns-in-Ok-Hidden-clause-carried
@@ -76,3 +79,11 @@ returns-in-Err-clause-own g c = relabels_own (quiet_own c.args.id c.sight.ensure
 
 pub returns-in-Ok-By-clause-own : goal.returns-in-Ok-By-clause-own
 returns-in-Ok-By-clause-own g c = own_after (quiet_own c.args.id c.sight.ensures.makes) (wrote_own c.resize.ensures.wrote.makes c.resize.ensures.own)
+
+-- ---- Why it failed.
+
+pub returns-in-Err-clause-cause : goal.returns-in-Err-clause-cause
+returns-in-Err-clause-cause g c = inl c.in-Err.ensures.cause
+
+pub returns-in-Ok-By-clause-cause : goal.returns-in-Ok-By-clause-cause
+returns-in-Ok-By-clause-cause g c = named_halt (state c.args.self.now.core) (state c.sight.new.self.core) (state c.resize.new.self.core) c.args.id c.args.self.now.core.intervals (SizeHalts c.args.id c.args.pages) c.resize.result c.sight.ensures.reaches c.resize.ensures.cause

@@ -1,4 +1,4 @@
-use Rattle.std.proofs.Common.{◌≡◌, Result, Ok, true, ◌^◌, refl, sym, ap, subst, ◌∙◌, arith}
+use Rattle.std.proofs.Common.{◌≡◌, Result, Ok, true, ◌^◌, refl, sym, ap, subst, ◌∙◌, arith, inl, inr}
 use Rattle.labelled_disk.specs.declared.layout.Layout.{Layout}
 use Rattle.flat_machine.specs.declared.call.Call.TheVariants as call
 use Rattle.flat_machine.specs.declared.call.Refusal.{Refusal}
@@ -14,6 +14,9 @@ use Rattle.pilot_engine.proofs.BoundLemmas.{asked_inside, spent_around, spent_be
 use Rattle.pilot_engine.proofs.LiftLemmas.{asked_passes, carried_out, refused_running, still_open}
 use Rattle.pilot_engine.proofs.PassThen.{quiet_then}
 use Rattle.pilot_engine.proofs.WroteLemmas.{rose_behind, wrote_by, wrote_then}
+use Rattle.fault_core.specs.Core.{state}
+use Rattle.space_calls.proofs.RangeLemmas.{fault_halt}
+use Rattle.space_calls.specs.Ranges.{BreaksWindow}
 use Rattle.pilot_engine.proofs.session.SessionOver.unmap.Goals as goal
 
 pub returns-in-Ok-Err-clause-passes : goal.returns-in-Ok-Err-clause-passes
@@ -162,3 +165,21 @@ returns-in-Ok-Err-clause-synced g c = λ is. absurd (refused_undone _ is)
 
 pub returns-then-not-shown-clause-synced : goal.returns-then-not-shown-clause-synced
 returns-then-not-shown-clause-synced g c = λ is. subst (λ (x : Result Shown Refusal). IsGivenUp ((g.D.Disk.state c.take_window.new.core.filer.swapper.under).synced ≡ true) x) c.in-Ok-Ok.field-0-is c.in-Ok-Ok.ensures.synced
+
+-- ---- Why it failed.
+
+pub returns-in-Err-clause-cause : goal.returns-in-Err-clause-cause
+returns-in-Err-clause-cause g c = inl c.in-Err.ensures.cause
+
+pub returns-in-Err-delete_unseen-clause-cause : goal.returns-in-Err-delete_unseen-clause-cause
+returns-in-Err-delete_unseen-clause-cause g c = inr (state c.take_window.new.core, record { makes = c.take_window.ensures.makes; layout = c.take_window.ensures.layout }, (c.in-Ok-Ok.shown.id, c.in-Err-delete_unseen.ensures.cause))
+
+pub returns-in-Err-wait-clause-cause : goal.returns-in-Err-wait-clause-cause
+returns-in-Err-wait-clause-cause g c =
+    let v = state c.args.self.now.core in
+    let u = state c.take_window.new.core in
+    let x = state c.delete_unseen.new.self.core in
+    let w = state c.settle.new.core in
+    let first = c.take_window.ensures.makes.went.faults in
+    let later = c.delete_unseen.ensures.wrote.makes.went.faults in
+    inl (fault_halt (BreaksWindow v c.args.self.now.core.intervals c.args.space) v x w c.in-Err-wait.halt (omega (arith, first, later)) c.in-Err-wait.ensures.fault c.in-Err-wait.ensures.counted)

@@ -27,3 +27,8 @@ returns-in-Err-clause-cost g c =
 
 pub returns-in-Err-clause-so : goal.returns-in-Err-clause-so
 returns-in-Err-clause-so g c = so_of_halts (rw c.swapper_over-swapper.ensures.value at c.force.ensures.swaps).makes c.in-Err.halt no_home (rw c.swapper_over-swapper.ensures.value at c.in-Err.ensures.cause)
+
+-- ---- Why it failed.
+
+pub returns-in-Err-clause-cause : goal.returns-in-Err-clause-cause
+returns-in-Err-clause-cause g c = rw c.swapper_over-swapper.ensures.value at c.in-Err.ensures.cause

@@ -1,5 +1,8 @@
 use Rattle.swapper_kernel.specs.GoesLaws.{swaps_then, swaps_stands}
 use Rattle.pilot_engine.proofs.EndLemmas.{both_clean}
+use Rattle.std.proofs.Common.{refl}
+use Rattle.fault_core.specs.Core.{state}
+use Rattle.pilot_engine.proofs.WroteLemmas.{wrote_nothing, wrote_swapping}
 use Rattle.pilot_engine.proofs.session.SessionOver.write_maps.Goals as goal
 
 pub returns-in-Ok-write_map-clause-clean : goal.returns-in-Ok-write_map-clause-clean
@@ -13,3 +16,13 @@ returns-in-Err-write_map-clause-sound g c = λ x stands. c.in-Err-write_map.ensu
 
 pub returns-in-Err-write_map-clause-swaps : goal.returns-in-Err-write_map-clause-swaps
 returns-in-Err-write_map-clause-swaps g c = swaps_then c.write_map.ensures.swaps c.write_map-2.ensures.swaps
+
+-- ---- Why it failed.
+
+pub returns-in-Err-clause-cause : goal.returns-in-Err-clause-cause
+returns-in-Err-clause-cause g c =
+    let old = c.args.self.now.core in
+    (state old, (wrote_nothing (g.D.Disk.state old.filer.swapper.under) old.filer.swapper.pool, refl), c.in-Err.ensures.cause)
+
+pub returns-in-Err-write_map-clause-cause : goal.returns-in-Err-write_map-clause-cause
+returns-in-Err-write_map-clause-cause g c = (state c.write_map.new.self.core, (wrote_swapping c.write_map.ensures.swaps, c.write_map.ensures.layout), c.in-Err-write_map.ensures.cause)

@@ -1,0 +1,83 @@
+-- Why a call stops the session that asks the tables and looks at a file, one after the other.
+use Rattle.std.proofs.Common.{◌≡◌, inl, inr, ℕ, Bool, true, false, refl, ◌∙◌, subst, arith}
+use Rattle.labelled_disk.specs.declared.evidence.Halt.{Halt}
+use Rattle.space_tables.specs.Form.{Breaks, BreaksHierarchy, BreaksLookUp, BreaksSlot}
+use Rattle.session_words.specs.Volume.{volume_page}
+use Rattle.swapper_kernel.specs.GoesLaws.{makes_nothing, makes_then}
+use Rattle.swapper_kernel.specs.Homes.{IsLayout}
+use Rattle.fault_core.specs.Reach.{Reaches, ReachHalts}
+use Rattle.fault_core.specs.Told.{BreaksTables}
+use Rattle.fault_core.specs.View.{View}
+use Rattle.fault_core.proofs.ReachLemmas.{halts_before, reaches_itself}
+use Rattle.table_calls.specs.Answers.{TablesBreak}
+use Rattle.space_calls.specs.Ranges.{BreaksWindow}
+use Rattle.space_calls.specs.Halts.{BreaksSight, ChangeHalts, Looked, MapFileHalts, NamedHalts, PathHalts, ProtectHalts, SightHalts, SlotHalts, WritableHalts}
+use Rattle.space_calls.proofs.RunLemmas.{reached_makes}
+
+-- ---- What a look leaves.
+
+pub looked_itself : (v : View) → Looked v v
+looked_itself v = record { makes = makes_nothing volume_page v.disk v.slots; layout = refl }
+
+pub looked_then : {v w x : View} → Looked v w → Looked w x → Looked v x
+looked_then h k = record { makes = makes_then h.makes k.makes; layout = k.layout ∙ h.layout }
+
+-- pages that are found and brought in
+pub looked_reached : {v w : View} → Reaches v w → Looked v w
+looked_reached reaches = record { makes = reached_makes reaches; layout = reaches.layout }
+
+-- ---- The tables, asked after pages were brought in.
+
+module _ (v w : View) (is : IsLayout v.layout) (reaches : Reaches v w) (count now : ℕ) (same : now ≡ count) (z : View) where
+  look_up_before : (asked page : ℕ) → BreaksTables w now asked page → BreaksTables v count asked page
+  look_up_before asked page breaks = record {
+    in_root = breaks.in_root;
+    breaks = λ b told. subst (λ (j : ℕ). BreaksLookUp asked j b page) same (breaks.breaks b (reaches.told b told));
+  }
+
+  -- page 0 could not be looked up
+  pub first_sight : (e : Halt) → ReachHalts (BreaksTables w now 0) w z e → SightHalts count v z e
+  first_sight e halts = halts_before v w is reaches (BreaksTables w now 0) (BreaksSight v count) (λ page breaks. inl (look_up_before 0 page breaks)) z z (omega arith) e halts
+
+  -- the search of a window failed
+  pub search_sight : (e : Halt) → PathHalts w z e → SightHalts count v z e
+  search_sight e halts = halts_before v w is reaches (TablesBreak w BreaksHierarchy) (BreaksSight v count) (λ page breaks. inr (λ b told. breaks b (reaches.told b told))) z z (omega arith) e halts
+
+  -- either
+  pub later_sight : (e : Halt) → SightHalts now w z e → SightHalts count v z e
+  later_sight e halts = halts_before v w is reaches (BreaksSight w now) (BreaksSight v count) (λ page breaks. elim breaks [
+    | inl first ↦ inl (look_up_before 0 page first)
+    | inr any ↦ inr (λ b told. any b (reaches.told b told))
+  ]) z z (omega arith) e halts
+
+-- the tables could not be asked before they changed
+pub path_change : (v : View) (is : IsLayout v.layout) (count : ℕ) (w : View) (e : Halt) → PathHalts v w e → ChangeHalts count v w e
+path_change v is count w e halts = halts_before v v is (reaches_itself v) (TablesBreak v BreaksHierarchy) (TablesBreak v (Breaks count)) (λ page breaks b told. inl (breaks b told)) w w (omega arith) e halts
+
+-- where there are as many intervals
+pub counted_change : (v w : View) (count now : ℕ) → now ≡ count → (e : Halt) → ChangeHalts now v w e → ChangeHalts count v w e
+counted_change v w count now same e halts = subst (λ (j : ℕ). ChangeHalts j v w e) same halts
+
+-- ---- A space shows a file.
+
+module _ (v u w : View) (space id count : ℕ) (reaches : Reaches v u) where
+  -- the file could not be looked up
+  pub named_map : (now : ℕ) → now ≡ count → (e : Halt) → NamedHalts id now u w e → MapFileHalts space id count v w e
+  named_map now same e halts = elim (subst (λ (j : ℕ). NamedHalts id j u w e) same halts) [
+    | inl sight ↦ inr (u, reaches, inl sight)
+    | inr (x, found, look) ↦ inr (u, reaches, inr (x, found, inl look))
+  ]
+
+-- the tables could not be changed after that
+pub given_map : (v x w : View) (space id count : ℕ) → Looked v x → (now : ℕ) → now ≡ count → (e : Halt) → ChangeHalts now x w e → MapFileHalts space id count v w e
+given_map v x w space id count looked now same e halts = inr (v, reaches_itself v, inr (v, reaches_itself v, inr (x, looked, counted_change x w count now same e halts)))
+
+-- ---- A window gets another mode.
+
+pub slot_protect : (v : View) (is : IsLayout v.layout) (space : ℕ) (writable : Bool) (count : ℕ) (w : View) (e : Halt) → SlotHalts space v w e → ProtectHalts space writable count v w e
+slot_protect v is space true count w e halts = inl halts
+slot_protect v is space false count w e halts =
+    halts_before v v is (reaches_itself v) (TablesBreak v (λ b page. BreaksSlot b page space)) (BreaksWindow v count space) (λ page breaks. inl (inl breaks)) w w (omega arith) e halts
+
+pub writable_protect : (v u w : View) (space count now : ℕ) → Reaches v u → now ≡ count → (e : Halt) → WritableHalts now u w e → ProtectHalts space true count v w e
+writable_protect v u w space count now reaches same e halts = inr (u, reaches, subst (λ (j : ℕ). WritableHalts j u w e) same halts)
