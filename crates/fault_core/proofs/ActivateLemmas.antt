@@ -1,16 +1,17 @@
 -- Swap units of a range, brought in one after the other.
 use Rattle.std.proofs.Common.{◌≡◌, ◌≢◌, inl, inr, ℕ, zero, suc, ◌+◌, ◌-◌, ◌*◌, ◌<◌, ◌≤◌, List, Some, Option, refl, sym, ◌∙◌, ap, subst, arith}
 use Rattle.std.specs.Prelude.{None, IfSome, slice_get}
-use Rattle.std.proofs.lemmas.Bool.{cases_lt}
-use Rattle.std.proofs.lemmas.Option.{none-some}
+use Rattle.std.proofs.lemmas.Bool.{cases_eq, cases_lt}
+use Rattle.std.proofs.lemmas.Option.{none-some, same_Some}
 use Rattle.labelled_disk.specs.Sectors.{Sector}
 use Rattle.labelled_disk.specs.declared.evidence.Halt.{Halt}
 use Rattle.file_map.specs.FileMap.{Triples}
-use Rattle.frame_pool.specs.Frames.{Slots}
+use Rattle.frame_pool.specs.Frames.{Slots, IsEmpty}
 use Rattle.flat_machine.specs.declared.space.Space.{Space}
 use Rattle.flat_machine.specs.Space.{root_pages}
 use Rattle.flat_machine.specs.At.{shown_at}
 use Rattle.swap_units.specs.declared.interval.Interval.{Interval}
+use Rattle.swap_units.specs.Unit.{Holds, block_of}
 use Rattle.swapper_kernel.specs.Homes.{IsLayout}
 use Rattle.swapper_kernel.specs.HaltLaws.{brings_itself, brings_then}
 use Rattle.session_words.specs.FrameLaws.{BringsKnown, IsKnown}
@@ -20,11 +21,11 @@ use Rattle.projection_laws.proofs.OneLemmas.{intervals_are_one}
 use Rattle.space_tables.specs.SpaceTables.{IsIntervalAt}
 use Rattle.space_tables.specs.Stored.{TellSpaces}
 use Rattle.fault_core.specs.declared.activate.Progress.{Progress}
-use Rattle.fault_core.specs.Activate.{AreBare, AreUnits, HasWholeUnit, IsActive, IsFurther, IsNextUnit, IsShownAt, IsTooLong, IsTurn, IsUnitAt, IsWholeAt, start_at}
+use Rattle.fault_core.specs.Activate.{AreBare, AreUnits, AreWhole, HasWholeUnit, IsActive, IsFurther, IsNextUnit, IsShownAt, IsTooLong, IsTurn, IsUnitAt, IsWholeAt, start_at}
 use Rattle.fault_core.specs.Kill.{BreaksWithin}
 use Rattle.fault_core.specs.Reach.{Reaches, ReachHalts}
 use Rattle.fault_core.specs.Told.{BreaksTables, Told}
-use Rattle.fault_core.specs.Unit.{IsReady, IsTouched, file_page}
+use Rattle.fault_core.specs.Unit.{IsReady, IsResident, IsTouched, IsWhole, KeepsWhileEmpty, file_page}
 use Rattle.fault_core.specs.View.{View}
 use Rattle.fault_core.proofs.AccessLemmas.{breaks_before}
 use Rattle.fault_core.proofs.RangeLemmas.{IsAhead, ahead_next, tables_are}
@@ -56,6 +57,63 @@ bare_past : {tells : List ℕ → Type 0} {count : ℕ} {ss : List Space} → Te
 bare_past t page stop to all past p above below = elim (cases_lt p root_pages) [
   | inl inside ↦ let before = all p below inside in absurd (omega (arith, before, past, above))
   | inr outside ↦ none_past t p outside
+]
+
+-- ---- What is resident of it.
+
+-- two intervals of the same spaces that have a page are one
+one_at : (ss : List Space) (page : ℕ) (x y : Interval) → IsIntervalAt ss page x → IsIntervalAt ss page y → x ≡ y
+one_at ss page x y at_x at_y =
+    let one : at_x.xs ≡ at_y.xs = intervals_are_one ss at_x.xs at_y.xs at_x.projection at_y.projection in
+    let there : slice_get at_y.xs at_x.index ≡ Some x = ap (λ (l : List Interval). slice_get l at_x.index) (sym one) ∙ at_x.there in
+    let rise = firsts_are_rising ss at_y.xs at_y.projection in
+    let from_x = at_x.holds.0 in
+    let below_x = at_x.holds.1 in
+    let from_y = at_y.holds.0 in
+    let below_y = at_y.holds.1 in
+    elim (cases_eq at_x.index at_y.index) [
+      | inl same ↦ same_Some x y (sym there ∙ ap (slice_get at_y.xs) same ∙ at_y.there)
+      | inr other ↦ elim (cases_lt at_x.index at_y.index) [
+        | inl before ↦ let ends = rise.rises at_x.index at_y.index x y before there at_y.there in absurd (omega (arith, ends, below_x, from_y))
+        | inr not_before ↦
+            let behind : at_y.index < at_x.index = omega (arith, other, not_before) in
+            let ends = rise.rises at_y.index at_x.index y x behind at_y.there there in
+            absurd (omega (arith, ends, below_y, from_x))
+      ]
+    ]
+
+-- no window shows a page there
+pub none_whole : {tells : List ℕ → Type 0} {count : ℕ} {ss : List Space} (t : TellSpaces tells count ss) (slots : Slots) (from to : ℕ) → AreBare ss from to → AreWhole ss slots from to
+none_whole {ss = ss} t slots from to bare page x above below at mapped =
+    let shown = shown_here t x page at mapped in
+    absurd (none-some shown.0 (sym (bare page above below) ∙ shown.1))
+
+-- up to its end, a unit that is resident
+pub unit_whole : {v : View} {kept : List Interval} {count : ℕ} {m : List Sector} {named : Triples} {ss : List Space} → Told v kept count m named ss → (slots : Slots) (page behind pages : ℕ) → IsUnitAt ss page behind pages → IsReady kept slots page
+    → AreWhole ss slots page behind
+unit_whole {ss = ss} told slots page behind pages unit ready p x above below at mapped other own =
+    let y = unit.interval in
+    let z = ready.interval in
+    let same : z ≡ y = one_at ss page z y (interval_at ss page z (told.cached z ready.is_kept) ready.holds) unit.projected in
+    let front = (unit.unit.same_block page).1 (unit.projected.holds, refl) in
+    let low = front.0 in
+    let ends = unit.ends in
+    let in_unit = (unit.unit.same_block p).0 (omega (arith, low, above), omega (arith, below, ends)) in
+    let also : x ≡ y = one_at ss p x y at (interval_at ss p y (interval_of ss page y unit.projected) in_unit.0) in
+    let held : Holds y other = subst (λ (i : Interval). Holds i other) also own.0 in
+    let block : block_of y other ≡ block_of y p = subst (λ (i : Interval). block_of i other ≡ block_of i p) also own.1 in
+    let whole : IsWhole slots y page = subst (λ (i : Interval). IsWhole slots i page) same ready.whole in
+    subst (λ (i : Interval). IsResident slots i.id (file_page i other)) (sym also) (whole other (held, block ∙ in_unit.1))
+
+-- while a slot is empty they stay
+pub whole_stays : (ss : List Space) (s t : Slots) (from to slot : ℕ) → KeepsWhileEmpty s t → IsEmpty t slot → AreWhole ss s from to → AreWhole ss t from to
+whole_stays ss s t from to slot room empty whole page x above below at mapped other own = room.resident slot empty x.id (file_page x other) (whole page x above below at mapped other own)
+
+-- and then others are
+whole_then : (ss : List Space) (s t : Slots) (from mid to slot : ℕ) → KeepsWhileEmpty s t → IsEmpty t slot → AreWhole ss s from mid → AreWhole ss t mid to → AreWhole ss t from to
+whole_then ss s t from mid to slot room empty first next page x above below at mapped = elim (cases_lt page mid) [
+  | inl front ↦ whole_stays ss s t from mid slot room empty first page x above front at mapped
+  | inr behind ↦ next page x behind below at mapped
 ]
 
 -- ---- The units that are left.
@@ -126,6 +184,7 @@ pub record IsTracked (ss : List Space) (xs : List Interval) (count first to stop
 pub record IsActivating (v : View) (kept : List Interval) (count first to stop half : ℕ) (w : View) (now : List Interval) (still : ℕ) (so_far : Progress) (k : ℕ) : Type 0 where
   pub from : first ≤ so_far.page
   pub last : so_far.units ≢ 0 → (first ≤ so_far.last) × (so_far.last < to)
+  pub behind : so_far.units ≢ 0 → so_far.last < so_far.page
   pub some : 1 ≤ so_far.units + so_far.left
   pub few : so_far.units + so_far.left ≤ half
   pub units : so_far.units ≤ k
@@ -134,11 +193,13 @@ pub record IsActivating (v : View) (kept : List Interval) (count first to stop h
   pub same_count : still ≡ count
   pub cost : w.disk.transfers ≤ v.disk.transfers + k * 840
   pub told : (m : List Sector) (named : Triples) (ss : List Space) (h : Told v kept count m named ss) → Told w now still m named ss × BringsKnown ss v.slots w.slots × IsTracked ss h.tables.xs count first to stop half so_far k
+      × ((slot : ℕ) → IsEmpty w.slots slot → AreWhole ss w.slots first so_far.page)
 
 pub activating_none : (v : View) (kept : List Interval) (count first to stop half : ℕ) → v.disk.sectors ≡ v.layout.sectors → 1 ≤ half → IsActivating v kept count first to stop half v kept count (start_at first half) 0
 activating_none v kept count first to stop half size some = record {
   from = omega arith;
   last = λ none. absurd (none refl);
+  behind = λ none. absurd (none refl);
   some = omega (arith, some);
   few = omega arith;
   units = omega arith;
@@ -154,6 +215,7 @@ activating_none v kept count first to stop half size some = record {
       shown = λ none. absurd (none refl);
       rest = λ n last are. subst (λ (j : ℕ). AreUnits ss to (start_at first half) j last) (none_more n) are;
     },
+    λ slot empty page x from below at mapped. absurd (omega (arith, from, below)),
   );
 }
   where
@@ -197,8 +259,9 @@ module _ {v : View} {kept : List Interval} {count first to stop half : ℕ} {w :
       → ((m : List Sector) (named : Triples) (ss : List Space) → Told w now still m named ss → IsFurther ss stop so_far further)
       → ((m : List Sector) (named : Triples) (ss : List Space) → Told w now still m named ss → Told x later left m named ss)
       → ((m : List Sector) (named : Triples) (ss : List Space) → Told w now still m named ss → BringsKnown ss w.slots x.slots)
+      → ((m : List Sector) (named : Triples) (ss : List Space) → Told w now still m named ss → AreWhole ss x.slots so_far.page further.page) → KeepsWhileEmpty w.slots x.slots
       → Reaches w x → left ≡ still → x.disk.transfers ≤ w.disk.transfers + 840 → IsActivating v kept count first to stop half x later left further (k + 1)
-  activating_more x later left further upto below turn step same came next_reaches same_left cost = record {
+  activating_more x later left further upto below turn step same came whole room next_reaches same_left cost = record {
     from = let front = h.from in let more = turn.further in omega (arith, front, more);
     last = λ some. elim turn.last [
       | inl (same_units, same_last) ↦
@@ -207,6 +270,10 @@ module _ {v : View} {kept : List Interval} {count first to stop half : ℕ} {w :
           let back = was.1 in
           (omega (arith, front, same_last), omega (arith, back, same_last))
       | inr brought ↦ let front = h.from in (omega (arith, front, brought), omega (arith, below, upto, brought))
+    ];
+    behind = λ some. let more = turn.further in elim turn.last [
+      | inl (same_units, same_last) ↦ let was = h.behind (λ none. some (same_units ∙ none)) in omega (arith, was, more, same_last)
+      | inr brought ↦ omega (arith, more, brought)
     ];
     some = turn.some;
     few = let fewer = turn.fewer in let few = h.few in omega (arith, fewer, few);
@@ -217,7 +284,12 @@ module _ {v : View} {kept : List Interval} {count first to stop half : ℕ} {w :
     cost = let was = h.cost in omega (arith, was, cost);
     told = λ m named ss told.
         let was = h.told m named ss told in
-        (same m named ss was.0, brings_then was.1 (came m named ss was.0), tracked_further m named ss told further upto below turn.further (step m named ss was.0));
+        (
+          same m named ss was.0,
+          brings_then was.1 (came m named ss was.0),
+          tracked_further m named ss told further upto below turn.further (step m named ss was.0),
+          λ slot empty. whole_then ss w.slots x.slots first so_far.page further.page slot room empty (was.3 slot (room.empty slot empty)) (whole m named ss was.0),
+        );
   }
 
   pub activating_halt : (x : View) → so_far.page < to → (e : Halt) → ReachHalts (BreaksTables w still so_far.page) w x e → ReachHalts (BreaksWithin v count first to) v x e
@@ -240,6 +312,12 @@ module _ {v : View} {kept : List Interval} {count first to stop half : ℕ} {w :
 
   pub activating_shown : (m : List Sector) (named : Triples) (ss : List Space) → Told v kept count m named ss → so_far.units ≢ 0 → IsShownAt ss so_far.last
   activating_shown m named ss told = (h.told m named ss told).2.shown
+
+  -- up to the page that was brought in last
+  pub activating_whole : (s : Slots) → KeepsWhileEmpty w.slots s → (m : List Sector) (named : Triples) (ss : List Space) → Told v kept count m named ss → (slot : ℕ) → IsEmpty s slot → so_far.units ≢ 0 → AreWhole ss s first (so_far.last + 1)
+  activating_whole s room m named ss told slot empty some page x from upto at mapped =
+      let behind = h.behind some in
+      whole_stays ss w.slots s first so_far.page slot room empty ((h.told m named ss told).3 slot (room.empty slot empty)) page x from (omega (arith, behind, upto)) at mapped
 
   -- ---- The range was brought in.
 
@@ -267,7 +345,7 @@ module _ {v : View} {kept : List Interval} {count first to stop half : ℕ} {w :
 -- ---- The page that was brought in last is touched.
 
 -- a page that is shown was touched
-touched_ready : (ss : List Space) (kept : List Interval) (slots : Slots) (page : ℕ) (o : Option ℕ) → IsShownAt ss page → (o ≡ None → shown_at ss page ≡ None) → IfSome o (IsTouched kept slots page) → IsReady kept slots page
+pub touched_ready : (ss : List Space) (kept : List Interval) (slots : Slots) (page : ℕ) (o : Option ℕ) → IsShownAt ss page → (o ≡ None → shown_at ss page ≡ None) → IfSome o (IsTouched kept slots page) → IsReady kept slots page
 touched_ready ss kept slots page None (shown, is) none touched = absurd (none-some shown (sym (none refl) ∙ is))
 touched_ready ss kept slots page (Some slot) shown none touched = touched.ready
 

@@ -26,3 +26,6 @@ mod ForgetLemmas
 mod KilledLemmas
 mod KillLemmas
 mod ActivateLemmas
+mod RoomLemmas
+mod AttemptLemmas
+mod MovedLemmas

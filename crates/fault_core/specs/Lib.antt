@@ -14,3 +14,4 @@ pub mod ReferenceLaws
 pub mod Range
 pub mod Kill
 pub mod Activate
+pub mod Attempt

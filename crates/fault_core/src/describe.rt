@@ -17,6 +17,7 @@ ghost use Rattle.fault_core.specs.Kept.{IsFormed, IsKept};
 ghost use Rattle.fault_core.specs.View.{view_of, TablesAre};
 ghost use Rattle.fault_core.specs.Reach.{Reaches, ReachHalts, BringsOwn, StayOrYield};
 ghost use Rattle.fault_core.specs.Told.{Known, BreaksTables};
+ghost use Rattle.fault_core.specs.Unit.{KeepsWhileEmpty};
 
 use crate::CoreOver;
 use crate::walk::ROOT_PAGES;
@@ -69,6 +70,7 @@ fn look_up<D: Disk, A: Allocator>(
     ensures sound { (m : List Sector) (named : Triples) (b : List ℕ) (ss : List Space) → Known (view_of filer.old) m named b → TellSpaces (λ c. c ≡ b) intervals ss → IfErr result (λ e. e ≡ halt.Disk) }
     ensures reaches { Reaches (view_of filer.old) (view_of filer.new) }
     ensures came { BringsOwn filer.old.swapper.pool filer.new.swapper.pool }
+    ensures room { KeepsWhileEmpty filer.old.swapper.pool filer.new.swapper.pool }
     ensures stay { StayOrYield filer.old.swapper.pool filer.new.swapper.pool }
     ensures cost { (D.state filer.new.swapper.under).transfers ≤ (D.state filer.old.swapper.under).transfers + 196 }
 {
@@ -102,6 +104,7 @@ impl<D: Disk, A: Allocator> CoreOver<D, A> {
         ensures same { (m : List Sector) (named : Triples) (ss : List Space) → Knows self.old m named ss → Knows self.new m named ss }
         ensures reaches { Reaches (state self.old) (state self.new) }
         ensures came { BringsOwn self.old.filer.swapper.pool self.new.filer.swapper.pool }
+        ensures room { KeepsWhileEmpty self.old.filer.swapper.pool self.new.filer.swapper.pool }
         ensures stay { StayOrYield self.old.filer.swapper.pool self.new.filer.swapper.pool }
         ensures intervals { self.new.intervals ≡ self.old.intervals }
         ensures idle { (x : Interval) → find (has_page page) (kept self.old) ≡ Some x → (result ≡ Ok (Some x)) × (self.new.filer ≡ self.old.filer) × (kept self.new ≡ kept self.old) }

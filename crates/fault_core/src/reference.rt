@@ -35,8 +35,8 @@ pub(crate) enum Reference {
     ReadOnly(u32),
 }
 
-// The last page of so many bytes from an address on.
-fn last_page(address: u32, count: u32) -> u32
+/// The last page of so many bytes from an address on.
+pub(crate) fn last_page(address: u32, count: u32) -> u32
     requires some { 1 ≤ count }
     requires few { count ≤ 512 }
     ensures { result ≡ last_page address count }

@@ -14,6 +14,7 @@ ghost use Rattle.fault_core.specs.View.{view_of, kept_by};
 ghost use Rattle.fault_core.specs.Reach.{IsReachedHome, Reaches, ReachHalts, BringsOwn, no_break};
 ghost use Rattle.fault_core.specs.Told.{Known};
 ghost use Rattle.fault_core.specs.Homes.{homes_in, AreHomesOf, HaveSectors};
+ghost use Rattle.fault_core.specs.Unit.{KeepsWhileEmpty};
 
 use crate::homes::{Homes, MOST};
 use file_map::Run;
@@ -46,6 +47,7 @@ fn run_of<D: Disk, A: Allocator>(
     ensures sound { (m : List Sector) (named : Triples) (b : List ℕ) → Known (view_of filer.old) m named b → IfErr result (λ e. e ≡ halt.Disk) }
     ensures reaches { Reaches (view_of filer.old) (view_of filer.new) }
     ensures came { BringsOwn filer.old.swapper.pool filer.new.swapper.pool }
+    ensures room { KeepsWhileEmpty filer.old.swapper.pool filer.new.swapper.pool }
     ensures cost { (D.state filer.new.swapper.under).transfers ≤ (D.state filer.old.swapper.under).transfers + 14 }
 {
     count_frames(filer);
@@ -67,6 +69,7 @@ fn home_of<D: Disk, A: Allocator>(
     ensures sound { (m : List Sector) (named : Triples) (b : List ℕ) (sector : ℕ) → Known (view_of filer.old) m named b → named id page sector ≡ true → IfErr result (λ e. e ≡ halt.Disk) }
     ensures reaches { Reaches (view_of filer.old) (view_of filer.new) }
     ensures came { BringsOwn filer.old.swapper.pool filer.new.swapper.pool }
+    ensures room { KeepsWhileEmpty filer.old.swapper.pool filer.new.swapper.pool }
     ensures cost { (D.state filer.new.swapper.under).transfers ≤ (D.state filer.old.swapper.under).transfers + 14 }
 {
     match run_of(filer, id, page) {
@@ -99,6 +102,7 @@ pub(crate) fn homes_of<D: Disk, A: Allocator>(
     ensures sound { (m : List Sector) (named : Triples) (b : List ℕ) → Known (view_of filer.old) m named b → HaveSectors named id first pages → IfErr result (λ e. e ≡ halt.Disk) }
     ensures reaches { Reaches (view_of filer.old) (view_of filer.new) }
     ensures came { BringsOwn filer.old.swapper.pool filer.new.swapper.pool }
+    ensures room { KeepsWhileEmpty filer.old.swapper.pool filer.new.swapper.pool }
     ensures cost { (D.state filer.new.swapper.under).transfers ≤ (D.state filer.old.swapper.under).transfers + 14 * pages }
 {
     let mut homes = [Home {

@@ -10,7 +10,7 @@ ghost use Rattle.space_tables.specs.SpaceTables.{IsIntervalAt};
 ghost use Rattle.fault_core.specs.Kept.{IsFormed, IsKept, AreApart};
 ghost use Rattle.fault_core.specs.Reach.{Reaches, ReachHalts, BringsOwn};
 ghost use Rattle.fault_core.specs.Told.{BreaksTables};
-ghost use Rattle.fault_core.specs.Unit.{IsReady, IsWhole};
+ghost use Rattle.fault_core.specs.Unit.{IsReady, IsWhole, KeepsWhileEmpty};
 
 use crate::CoreOver;
 use labelled_disk::{Disk, Halt};
@@ -32,6 +32,7 @@ impl<D: Disk, A: Allocator> CoreOver<D, A> {
         ensures same { (m : List Sector) (named : Triples) (ss : List Space) → Knows self.old m named ss → Knows self.new m named ss }
         ensures reaches { Reaches (state self.old) (state self.new) }
         ensures came { BringsOwn self.old.filer.swapper.pool self.new.filer.swapper.pool }
+        ensures room { KeepsWhileEmpty self.old.filer.swapper.pool self.new.filer.swapper.pool }
         ensures intervals { self.new.intervals ≡ self.old.intervals }
         ensures idle { IsReady (kept self.old) self.old.filer.swapper.pool page → AreApart (kept self.old)
             → IfOk result (λ o. IfSome o (λ x. IsWhole self.old.filer.swapper.pool x page) × (o ≢ None)) × IsOk result × (self.new.filer ≡ self.old.filer) × (kept self.new ≡ kept self.old) }

@@ -14,6 +14,7 @@ ghost use Rattle.fault_core.specs.Kept.{IsFormed};
 ghost use Rattle.fault_core.specs.Range.{IsNextPart};
 ghost use Rattle.fault_core.specs.Reach.{Reaches, ReachHalts, BringsOwn};
 ghost use Rattle.fault_core.specs.Told.{BreaksTables};
+ghost use Rattle.fault_core.specs.Unit.{KeepsWhileEmpty};
 
 use crate::CoreOver;
 use labelled_disk::{Disk, Halt};
@@ -49,6 +50,7 @@ impl<D: Disk, A: Allocator> CoreOver<D, A> {
         ensures same { (m : List Sector) (named : Triples) (ss : List Space) → Knows self.old m named ss → Knows self.new m named ss }
         ensures reaches { Reaches (state self.old) (state self.new) }
         ensures came { BringsOwn self.old.filer.swapper.pool self.new.filer.swapper.pool }
+        ensures room { KeepsWhileEmpty self.old.filer.swapper.pool self.new.filer.swapper.pool }
         ensures intervals { self.new.intervals ≡ self.old.intervals }
         ensures idle { (x : IntervalIs) → find (has_page page) (kept self.old) ≡ Some x → IsOk result × (self.new.filer ≡ self.old.filer) × (kept self.new ≡ kept self.old) }
         ensures cost { (D.state self.new.filer.swapper.under).transfers ≤ (D.state self.old.filer.swapper.under).transfers + 196 }

@@ -4,6 +4,7 @@ use Rattle.space_tables.specs.Form.{BreaksLookUp}
 use Rattle.filer_kernel.specs.Tables.{IsTableAccounted}
 use Rattle.fault_core.specs.View.{view_of, TablesAre}
 use Rattle.fault_core.proofs.ReachLemmas.{tables_of}
+use Rattle.fault_core.proofs.RoomLemmas.{room_itself, steps_room}
 use Rattle.fault_core.proofs.ToldLemmas.{spaces_in}
 use Rattle.fault_core.proofs.TurnLemmas.{reaches_tables, own_tables, tables_halt}
 use Rattle.fault_core.proofs.YieldLemmas.{yield_itself, tables_yield}
@@ -69,3 +70,17 @@ returns-in-Err-Malformed-clause-stay g c = tables_yield (view_of c.args.filer.no
 
 pub returns-in-Err-Mem-clause-stay : goal.returns-in-Err-Mem-clause-stay
 returns-in-Err-Mem-clause-stay g c = tables_yield (view_of c.args.filer.now) (view_of c.ask.new.filer) c.ask.ensures.kept
+
+-- ---- While a slot is empty no page leaves.
+
+pub returns-then-page-ge-ROOT_PAGES-clause-room : goal.returns-then-page-ge-ROOT_PAGES-clause-room
+returns-then-page-ge-ROOT_PAGES-clause-room g c = room_itself c.args.filer.now.swapper.pool
+
+pub returns-in-Ok-clause-room : goal.returns-in-Ok-clause-room
+returns-in-Ok-clause-room g c = steps_room c.ask.ensures.kept.steps
+
+pub returns-in-Err-Malformed-clause-room : goal.returns-in-Err-Malformed-clause-room
+returns-in-Err-Malformed-clause-room g c = steps_room c.ask.ensures.kept.steps
+
+pub returns-in-Err-Mem-clause-room : goal.returns-in-Err-Mem-clause-room
+returns-in-Err-Mem-clause-room g c = steps_room c.ask.ensures.kept.steps

@@ -3,6 +3,7 @@ use Rattle.filer_kernel.proofs.Outcomes.{err_wider}
 use Rattle.fault_core.specs.View.{view_of}
 use Rattle.fault_core.specs.Reach.{ReachHalts, no_break}
 use Rattle.fault_core.specs.Told.{Known}
+use Rattle.fault_core.proofs.RoomLemmas.{steps_room}
 use Rattle.fault_core.proofs.TurnLemmas.{reaches_map, own_map, map_halt}
 use Rattle.fault_core.proofs.search.run_of.Goals as goal
 
@@ -33,3 +34,6 @@ returns-clause-reaches g c =
 
 pub returns-clause-came : goal.returns-clause-came
 returns-clause-came g c = rw (← c.count_frames.ensures.same) (own_map (view_of c.count_frames.new.filer) (view_of c.find.new.self) c.find.ensures.beside)
+
+pub returns-clause-room : goal.returns-clause-room
+returns-clause-room g c = rw (← c.count_frames.ensures.same) (steps_room c.find.ensures.beside.steps)

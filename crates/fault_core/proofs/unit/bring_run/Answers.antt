@@ -8,6 +8,7 @@ use Rattle.fault_core.specs.Homes.{homes_in}
 use Rattle.fault_core.specs.View.{view_of}
 use Rattle.fault_core.specs.Reach.{ReachHalts, no_break}
 use Rattle.fault_core.proofs.ReachLemmas.{known_after}
+use Rattle.fault_core.proofs.RoomLemmas.{room_then, steps_room}
 use Rattle.fault_core.proofs.RunLemmas.{homes_row, homes_resident, run_came, homes_are_named, have_sectors, homes_placed}
 use Rattle.fault_core.proofs.TurnLemmas.{reaches_brought, brought_halt}
 use Rattle.fault_core.proofs.unit.bring_run.Goals as goal
@@ -47,3 +48,6 @@ returns-clause-reaches g c =
 
 pub returns-clause-came : goal.returns-clause-came
 returns-clause-came g c = run_came c.in-Ok.ensures.are c.args.filer.now.swapper.pool c.homes_of.new.filer.swapper.pool c.bring.new.filer.swapper.pool c.homes_of.ensures.came c.bring.ensures.brings
+
+pub returns-clause-room : goal.returns-clause-room
+returns-clause-room g c = room_then c.homes_of.ensures.room (steps_room c.bring.ensures.steps)

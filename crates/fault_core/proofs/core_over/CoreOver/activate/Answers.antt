@@ -5,7 +5,7 @@ use Rattle.fault_core.specs.Core.{kept, state}
 use Rattle.fault_core.specs.Kill.{BreaksWithin}
 use Rattle.fault_core.specs.Told.{BreaksTables}
 use Rattle.fault_core.proofs.AccessLemmas.{breaks_before}
-use Rattle.fault_core.proofs.ActivateLemmas.{none_active, touched_whole}
+use Rattle.fault_core.proofs.ActivateLemmas.{none_active, touched_whole, whole_stays}
 use Rattle.fault_core.proofs.ReachLemmas.{reaches_then, halts_before}
 use Rattle.fault_core.proofs.core_over.CoreOver.activate.Goals as goal
 
@@ -21,6 +21,7 @@ returns-then-units-eq0-clause-units g c = λ m named ss knows. record {
   last = c.in-Ok.brought.1;
   are = subst (λ (n : ℕ). AreUnits ss (c.args.first + c.args.pages) (start_at c.args.first (length c.args.self.now.filer.swapper.pool / 2)) n c.in-Ok.brought.1) c.if-units-eq0.true (c.in-Ok.ensures.units m named ss knows);
   whole = λ some. absurd (some refl);
+  all = λ slot empty some. absurd (some refl);
 }
 
 -- ---- The page that was brought in last is touched.
@@ -45,6 +46,9 @@ returns-in-Ok-touch2-clause-units g c = λ m named ss knows.
       are = c.in-Ok.ensures.units m named ss knows;
       whole = λ some. touched_whole (c.touch2.ensures.same m named ss after) c.touch2.new.self.filer.swapper.pool c.in-Ok.brought.1 c.in-Ok-touch2._slot (c.in-Ok.ensures.shown m named ss knows some)
           (c.in-Ok-touch2.ensures.none m named ss after).0 c.in-Ok-touch2.ensures.ready;
+      all = λ slot empty some.
+          let room = c.touch2.ensures.room in
+          whole_stays ss c.bring_units.new.self.filer.swapper.pool c.touch2.new.self.filer.swapper.pool c.args.first (c.in-Ok.brought.1 + 1) slot room empty (c.in-Ok.ensures.all m named ss knows slot (room.empty slot empty) some);
     }
 
 pub returns-in-Ok-touch2-clause-same : goal.returns-in-Ok-touch2-clause-same

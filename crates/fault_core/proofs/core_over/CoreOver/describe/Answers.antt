@@ -10,6 +10,7 @@ use Rattle.fault_core.specs.Told.{IsIntervalOf}
 use Rattle.fault_core.specs.View.{view_of}
 use Rattle.fault_core.proofs.KeptLemmas.{kept_new, kept_before, formed_more, Looked, looked}
 use Rattle.fault_core.proofs.ReachLemmas.{reaches_itself}
+use Rattle.fault_core.proofs.RoomLemmas.{room_itself}
 use Rattle.fault_core.proofs.ToldLemmas.{told_after, tables_told, interval_of, interval_at}
 use Rattle.fault_core.proofs.YieldLemmas.{yield_itself}
 use Rattle.fault_core.proofs.core_over.CoreOver.describe.Given as given
@@ -42,6 +43,9 @@ returns-in-Some-clause-same g c = λ m named ss knows.
 
 pub returns-in-Some-clause-reaches : goal.returns-in-Some-clause-reaches
 returns-in-Some-clause-reaches g c = reaches_itself (view_of c.args.self.now.filer)
+
+pub returns-in-Some-clause-room : goal.returns-in-Some-clause-room
+returns-in-Some-clause-room g c = room_itself c.args.self.now.filer.swapper.pool
 
 pub returns-in-Some-clause-stay : goal.returns-in-Some-clause-stay
 returns-in-Some-clause-stay g c = yield_itself c.args.self.now.filer.swapper.pool

@@ -11,6 +11,7 @@ use Rattle.fault_core.specs.Unit.{IsWhole, file_page}
 use Rattle.fault_core.specs.View.{view_of}
 use Rattle.fault_core.proofs.AccessLemmas.{shows_of, at_of}
 use Rattle.fault_core.proofs.ReachLemmas.{reaches_then, halts_before}
+use Rattle.fault_core.proofs.RoomLemmas.{room_then}
 use Rattle.fault_core.proofs.ShowLemmas.{shown_is, all_stored, known_came, own_came}
 use Rattle.fault_core.proofs.ToldLemmas.{interval_of, told_after}
 use Rattle.fault_core.proofs.core_over.CoreOver.touch2.Goals as goal
@@ -119,3 +120,11 @@ returns-in-Err-touch-clause-idle g c = λ ready apart.
     let whole : IsWhole c.shown.new.self.filer.swapper.pool x c.args.page = rw one.2 was in
     let two = c.in-Err-touch.ensures.idle whole in
     (two.0, two.1 ∙ one.2, one.3)
+
+-- ---- While a slot is empty no page leaves.
+
+pub returns-in-Ok-clause-room : goal.returns-in-Ok-clause-room
+returns-in-Ok-clause-room g c = room_then c.shown.ensures.room c.touch.ensures.room
+
+pub returns-in-Err-touch-clause-room : goal.returns-in-Err-touch-clause-room
+returns-in-Err-touch-clause-room g c = room_then c.shown.ensures.room c.touch.ensures.room
