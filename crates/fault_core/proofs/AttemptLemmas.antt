@@ -1,6 +1,7 @@
 -- A reference that brings in no page of a client: what is in frames, and what is moved there.
-use Rattle.std.proofs.Common.{◌≡◌, ◌⊎◌, inl, inr, ℕ, zero, suc, ◌/◌, ◌<◌, Bool, true, false, List, [], ◌∷◌, Some, refl, sym, ◌∙◌, ap, subst, arith}
+use Rattle.std.proofs.Common.{◌≡◌, ◌≢◌, ◌⊎◌, inl, inr, ℕ, zero, suc, ◌/◌, ◌<◌, Bool, true, false, List, [], ◌∷◌, Some, refl, sym, ◌∙◌, ap, subst, arith}
 use Rattle.std.specs.Prelude.{slice_get, ◌==◌}
+use Rattle.std.proofs.lemmas.Bool.{true≢false}
 use Rattle.std.proofs.lemmas.Bool.Decides.{nat_tests}
 use Rattle.std.proofs.lemmas.Option.{same_Some, none-some}
 use Rattle.labelled_disk.specs.Sectors.{Sector}
@@ -9,14 +10,18 @@ use Rattle.frame_pool.specs.Frames.{Slots, HasPage}
 use Rattle.flat_machine.specs.declared.space.Space.{Space}
 use Rattle.flat_machine.specs.At.{one_or_two}
 use Rattle.swap_units.specs.declared.interval.Interval.{Interval}
+use Rattle.fault_core.specs.declared.reference.Access.{Access}
+use Rattle.fault_core.specs.declared.reference.Access.TheVariants as access
+use Rattle.fault_core.specs.declared.attempt.Attempt.{Attempt}
 use Rattle.fault_core.specs.declared.attempt.Attempt.TheVariants as attempt
 use Rattle.fault_core.specs.declared.attempt.Prospect.{Prospect}
 use Rattle.fault_core.specs.declared.attempt.Prospect.TheVariants as prospect
 use Rattle.fault_core.specs.Access.{Shows, last_page}
-use Rattle.fault_core.specs.Attempt.{ArePresent, HasClient, IfAbsent, IfReady, IfSettled, IsAway, IsFirstAway, IsPresent, IsReferred, IsUnfound}
+use Rattle.fault_core.specs.Attempt.{ArePresent, HasClient, IfAbsent, IfAccess, IfReady, IfSettled, IsAway, IsFirstAway, IsHere, IsPresent, IsReferred, IsUnfound, StoresTried, moved}
 use Rattle.fault_core.specs.Kill.{is_absent}
 use Rattle.fault_core.specs.Moves.{AreSeen}
 use Rattle.fault_core.specs.Unit.{IsSlotOf, IsWhole, file_page}
+use Rattle.fault_core.specs.Room.{KeepsSlots}
 use Rattle.fault_core.proofs.AccessLemmas.{first_touched, last_touched}
 
 -- ---- The pages of a reference.
@@ -129,3 +134,61 @@ pub absent_wider : (P Q : ℕ → Type 0) (r : Prospect) → ((page : ℕ) → P
 absent_wider P Q (prospect.Ready i j) wider p = tt
 absent_wider P Q (prospect.Settled (attempt.Access a)) wider p = tt
 absent_wider P Q (prospect.Settled (attempt.Absent page)) wider p = wider page p
+
+pub access_wider : (P Q : Access → Type 0) (r : Prospect) → ((a : Access) → P a → Q a) → IfSettled (IfAccess P) r → IfSettled (IfAccess Q) r
+access_wider P Q (prospect.Ready i j) wider p = tt
+access_wider P Q (prospect.Settled (attempt.Access a)) wider p = wider a p
+access_wider P Q (prospect.Settled (attempt.Absent page)) wider p = tt
+
+pub ready_always : (P : Type 0) (r : Prospect) → P → IfReady (λ i j. P) r
+ready_always P (prospect.Ready i j) p = p
+ready_always P (prospect.Settled t) p = tt
+
+pub at_ready : (P : ℕ → ℕ → Type 0) (r : Prospect) (i j : ℕ) → r ≡ prospect.Ready i j → IfReady P r → P i j
+at_ready P r i j is p = subst (IfReady P) is p
+
+pub at_settled : (P : Attempt → Type 0) (r : Prospect) (t : Attempt) → r ≡ prospect.Settled t → IfSettled P r → P t
+at_settled P r t is p = subst (IfSettled P) is p
+
+-- ---- No byte was moved.
+
+abbrev is_moved : Attempt → Bool
+is_moved (attempt.Access access.Done) = true
+is_moved (attempt.Access (access.NoMap page)) = false
+is_moved (attempt.Access (access.ReadOnly page)) = false
+is_moved (attempt.Absent page) = false
+
+pub no_map_unmoved : (page : ℕ) → attempt.Access (access.NoMap page) ≢ moved
+no_map_unmoved page e = true≢false (sym (ap is_moved e))
+
+pub read_only_unmoved : (page : ℕ) → attempt.Access (access.ReadOnly page) ≢ moved
+read_only_unmoved page e = true≢false (sym (ap is_moved e))
+
+absent_unmoved : (page : ℕ) → attempt.Absent page ≢ moved
+absent_unmoved page e = true≢false (sym (ap is_moved e))
+
+pub settled_unmoved : (r : Prospect) → IfSettled (IfAccess (λ a. ⊥)) r → IfSettled (λ t. t ≢ moved) r
+settled_unmoved (prospect.Ready i j) none = tt
+settled_unmoved (prospect.Settled (attempt.Access a)) none = absurd none
+settled_unmoved (prospect.Settled (attempt.Absent page)) none = absent_unmoved page
+
+-- the memory is the same then
+pub tried_stays : (t : Attempt) (ss : List Space) (address : ℕ) (bytes : List ℕ) (m : List Sector) → t ≢ moved → StoresTried t ss address bytes m m
+tried_stays (attempt.Access access.Done) ss address bytes m other = absurd (other refl)
+tried_stays (attempt.Access (access.NoMap page)) ss address bytes m other = refl
+tried_stays (attempt.Access (access.ReadOnly page)) ss address bytes m other = refl
+tried_stays (attempt.Absent page) ss address bytes m other = refl
+
+-- ---- Pages that stay in their slots.
+
+pub slot_stays : {ss : List Space} {s t : Slots} {page slot : ℕ} → KeepsSlots s t → IsSlotOf ss s page slot → IsSlotOf ss t page slot
+slot_stays {slot = slot} stays own = record { shown = own.shown; is_shown = own.is_shown; has = stays slot own.shown.file own.shown.page own.has }
+
+pub here_stays : {kept : List Interval} {s t : Slots} {page : ℕ} → KeepsSlots s t → IsHere kept s page → IsHere kept t page
+here_stays {page = page} stays here = record {
+  interval = here.interval;
+  is_kept = here.is_kept;
+  holds = here.holds;
+  mapped = here.mapped;
+  resident = (here.resident.0, stays here.resident.0 here.interval.id (file_page here.interval page) here.resident.1);
+}

@@ -22,7 +22,7 @@ use Rattle.fault_core.specs.View.{View, kept_by}
 use Rattle.fault_core.specs.Reach.{IsReachedHome, Reaches, ReachHalts, BringsOwn, no_break}
 use Rattle.fault_core.specs.Told.{Known}
 use Rattle.fault_core.specs.Homes.{AreHomesOf, HaveSectors}
-use Rattle.fault_core.specs.Unit.{KeepsWhileEmpty}
+use Rattle.fault_core.specs.Room.{KeepsWhileEmpty}
 use Rattle.fault_core.proofs.ReachLemmas.{reaches_itself, reaches_then, reached_home_before, halts_before, known_after}
 use Rattle.fault_core.proofs.RoomLemmas.{room_itself, room_then}
 

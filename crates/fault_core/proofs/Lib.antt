@@ -25,6 +25,7 @@ pub mod ForcedLemmas
 mod ForgetLemmas
 mod KilledLemmas
 mod KillLemmas
+mod WholeLemmas
 mod ActivateLemmas
 mod RoomLemmas
 mod AttemptLemmas

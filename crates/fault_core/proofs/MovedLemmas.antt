@@ -12,10 +12,12 @@ use Rattle.swapper_kernel.specs.Homes.{ArePlaced, IsLayout}
 use Rattle.session_words.specs.CellLaws.{IsTouchedOrOwn, Stores, StoresAt, StoresIn}
 use Rattle.session_words.proofs.FoundLemmas.{above_reserved}
 use Rattle.fault_core.specs.Access.{last_page}
-use Rattle.fault_core.specs.Moves.{HasBytes, Leaves, Loads, LoadsIn, client_page, either}
+use Rattle.fault_core.specs.Attempt.{HasClient, either}
+use Rattle.fault_core.specs.Moves.{HasBytes, Leaves, Loads, LoadsIn, client_page}
 use Rattle.fault_core.specs.Told.{AreStored, Known}
 use Rattle.fault_core.specs.Touch.{and_own}
 use Rattle.fault_core.specs.Unit.{IsSlotOf}
+use Rattle.fault_core.specs.Room.{KeepsSlots}
 use Rattle.fault_core.specs.View.{View}
 use Rattle.fault_core.proofs.AccessLemmas.{first_touched, last_touched}
 use Rattle.fault_core.proofs.FrameLemmas.{frame_bytes}
@@ -50,6 +52,10 @@ module _ {v : View} {m : List Sector} {named : Triples} {b : List ℕ} {ss : Lis
   }
 
 -- ---- Written over.
+
+-- a client's page stays in its slot
+pub client_stays : {s t : Slots} {slot : ℕ} → KeepsSlots s t → HasClient s slot → HasClient t slot
+client_stays {slot = slot} stays own = record { id = own.id; page = own.page; has = stays slot own.id own.page own.has; client = own.client }
 
 -- a store on one page
 pub written_one : {ss : List Space} {slots : Slots} {named : Triples} {m : List Sector} {b : List ℕ} {w : View} (address : ℕ) (bytes : List ℕ) {slot : ℕ} (s : IsSlotOf ss slots (address / 512) slot) → address % 512 + length bytes ≤ 512

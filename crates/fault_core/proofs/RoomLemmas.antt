@@ -10,7 +10,8 @@ use Rattle.frame_pool.specs.FrameLaws.{has_below}
 use Rattle.frame_pool.specs.ListLaws.{get_same, get_other}
 use Rattle.swapper_kernel.specs.Homes.{Homes}
 use Rattle.swapper_kernel.specs.Steps.{Step, Steps, IsStep, IsCourse, fills, writes_out, alters}
-use Rattle.fault_core.specs.Unit.{IsResident, KeepsResident, KeepsWhileEmpty}
+use Rattle.fault_core.specs.Unit.{IsResident, KeepsResident}
+use Rattle.fault_core.specs.Room.{KeepsWhileEmpty}
 
 pub room_itself : (s : Slots) → KeepsWhileEmpty s s
 room_itself s = record { empty = λ slot empty. empty; resident = λ slot empty id page there. there }
@@ -56,7 +57,7 @@ put_room s t i x below is here = record { empty = was_empty; resident = stays }
 one_there : (s : Slots) (i : ℕ) (f g : Frame) → Has s i f → Has s i g → f ≡ g
 one_there s i f g first last = same_Some f g (same_Some (Some f) (Some g) (sym first.is ∙ last.is))
 
-module _ {come change : Homes} where
+module _ (come change : Homes) where
   step_room : (k : Step) (a : DiskState) (s : Slots) (b : DiskState) (t : Slots) → IsStep come change k a s b t → KeepsWhileEmpty s t
   step_room (fills i f) a s b t h = put_room s t i f h.below h.is (λ g has. inr (h.leaves g has).1)
   step_room (writes_out i f g) a s b t h = put_room s t i g (has_below s i f h.has) h.is (λ x has. inl (h.home ∙ ap (λ (y : Frame). y.home) (one_there s i f x h.has has)))
@@ -66,6 +67,6 @@ module _ {come change : Homes} where
   course_room [] a s b t h = room_same s t h.1
   course_room (k ∷ ks) a s b t (m, u, first, rest) = room_then (step_room k a s m u first) (course_room ks m u b t rest)
 
-  -- whatever steps a call takes
-  pub steps_room : {a b : DiskState} {s t : Slots} → Steps come change a s b t → KeepsWhileEmpty s t
-  steps_room {a = a} {b = b} {s = s} {t = t} h = course_room h.steps a s b t h.course
+-- whatever steps a call takes
+pub steps_room : {come change : Homes} {a b : DiskState} {s t : Slots} → Steps come change a s b t → KeepsWhileEmpty s t
+steps_room {come = come} {change = change} {a = a} {b = b} {s = s} {t = t} h = course_room come change h.steps a s b t h.course

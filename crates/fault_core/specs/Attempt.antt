@@ -6,7 +6,7 @@ use Rattle.flat_machine.specs.declared.space.FilePage.{FilePage}
 use Rattle.flat_machine.specs.At.{shown_at, pages_of}
 use Rattle.swap_units.specs.declared.interval.Interval.{Interval}
 use Rattle.swap_units.specs.Unit.{Holds}
-use Rattle.swapper_kernel.specs.Goes.{Change}
+use Rattle.swapper_kernel.specs.Goes.{Change, Pages}
 use Rattle.fault_core.specs.declared.reference.Access.{Access}
 use Rattle.fault_core.specs.declared.reference.Access.TheVariants as access
 use Rattle.fault_core.specs.declared.attempt.Attempt.{Attempt}
@@ -91,6 +91,10 @@ IfReady P (prospect.Settled answer) = Unit {0}
 abbrev pub IfSettled : (Attempt → Type 0) → Prospect → Type 0
 IfSettled P (prospect.Ready first last) = Unit {0}
 IfSettled P (prospect.Settled answer) = P answer
+
+-- one of these two pages of files
+abbrev pub either : ℕ → ℕ → ℕ → ℕ → Pages
+either i p j q id page = ((id ≡ i) × (page ≡ p)) ⊎ ((id ≡ j) × (page ≡ q))
 
 -- the slot has a page of a client's file
 pub record HasClient (slots : Slots) (slot : ℕ) : Type 0 where

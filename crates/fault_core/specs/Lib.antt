@@ -15,3 +15,4 @@ pub mod Range
 pub mod Kill
 pub mod Activate
 pub mod Attempt
+pub mod Room

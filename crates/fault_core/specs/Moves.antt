@@ -65,10 +65,6 @@ abbrev pub of_reference : Interval → Interval → ℕ → ℕ → Pages
 of_reference first last address count id page =
     ((id ≡ first.id) × (page ≡ file_page first (address / 512))) ⊎ ((id ≡ last.id) × (page ≡ file_page last (last_page address count)))
 
--- one of these two pages of files
-abbrev pub either : ℕ → ℕ → ℕ → ℕ → Pages
-either i p j q id page = ((id ≡ i) × (page ≡ p)) ⊎ ((id ≡ j) × (page ≡ q))
-
 -- a page of a client's file
 abbrev pub client_page : Pages
 client_page id page = 16 ≤ id

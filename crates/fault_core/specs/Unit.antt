@@ -2,7 +2,7 @@
 use Rattle.std.specs.Prelude.{◌≡◌, ◌⊎◌, ◌≢◌, ℕ, ◌+◌, ◌-◌, ◌<◌, ◌≤◌, ◌^◌, List, Some}
 use Rattle.labelled_disk.specs.Sectors.{Sector}
 use Rattle.frame_pool.specs.declared.home.Home.{Home}
-use Rattle.frame_pool.specs.Frames.{Slots, HasPage, IsEmpty, IsWithin}
+use Rattle.frame_pool.specs.Frames.{Slots, HasPage, IsWithin}
 use Rattle.file_map.specs.FileMap.{Triples}
 use Rattle.flat_machine.specs.declared.space.Space.{Space}
 use Rattle.flat_machine.specs.declared.space.FilePage.{FilePage}
@@ -29,16 +29,6 @@ IsResident slots id page = (i : ℕ) × HasPage slots i id page
 -- each page that is resident stays so
 abbrev pub KeepsResident : Slots → Slots → Type 0
 KeepsResident before after = (id page : ℕ) → IsResident before id page → IsResident after id page
-
--- each stays in its slot
-abbrev pub KeepsSlots : Slots → Slots → Type 0
-KeepsSlots before after = (i id page : ℕ) → HasPage before i id page → HasPage after i id page
-
--- While a slot is empty no page leaves: each slot that is empty afterwards was so before, and where there is one, each page
--- that was resident is so still.
-pub record KeepsWhileEmpty (before after : Slots) : Type 0 where
-  pub empty : (slot : ℕ) → IsEmpty after slot → IsEmpty before slot
-  pub resident : (slot : ℕ) → IsEmpty after slot → KeepsResident before after
 
 -- so many pages of the file, from the first one on, are resident
 abbrev pub AreResident : Slots → ℕ → ℕ → ℕ → Type 0

@@ -12,7 +12,7 @@ ghost use Rattle.fault_core.specs.Kill.{BreaksWithin};
 ghost use Rattle.fault_core.specs.Range.{IsNextPart};
 ghost use Rattle.fault_core.specs.Reach.{Reaches, ReachHalts, BringsOwn};
 ghost use Rattle.fault_core.specs.Told.{BreaksTables};
-ghost use Rattle.fault_core.specs.Unit.{KeepsWhileEmpty};
+ghost use Rattle.fault_core.specs.Room.{KeepsWhileEmpty};
 
 use crate::CoreOver;
 use crate::walk::end_of;

@@ -73,11 +73,13 @@ fn look_for<D: Disk, A: Allocator>(
 {
     let low = address / 512;
     let high = last_page(address, count);
-    let Some(i) = slot_at(filer, first, low) else {
-        return Prospect::Settled(Attempt::Absent(low));
+    let i = match slot_at(filer, first, low) {
+        Some(slot) => slot,
+        None => return Prospect::Settled(Attempt::Absent(low)),
     };
-    let Some(j) = slot_at(filer, last, high) else {
-        return Prospect::Settled(Attempt::Absent(high));
+    let j = match slot_at(filer, last, high) {
+        Some(slot) => slot,
+        None => return Prospect::Settled(Attempt::Absent(high)),
     };
     Prospect::Ready { first: i, last: j }
 }

@@ -17,7 +17,7 @@ ghost use Rattle.fault_core.specs.Kept.{IsFormed, IsKept};
 ghost use Rattle.fault_core.specs.View.{view_of, TablesAre};
 ghost use Rattle.fault_core.specs.Reach.{Reaches, ReachHalts, BringsOwn, StayOrYield};
 ghost use Rattle.fault_core.specs.Told.{Known, BreaksTables};
-ghost use Rattle.fault_core.specs.Unit.{KeepsWhileEmpty};
+ghost use Rattle.fault_core.specs.Room.{KeepsWhileEmpty};
 
 use crate::CoreOver;
 use crate::walk::ROOT_PAGES;

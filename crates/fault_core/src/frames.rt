@@ -9,12 +9,13 @@ ghost use Rattle.flat_machine.specs.declared.space.Space.{Space};
 ghost use Rattle.swapper_kernel.specs.Goes.{IsDirty, this_page};
 ghost use Rattle.session_words.specs.CellLaws.{Stores, StoresAt};
 ghost use Rattle.fault_core.specs.Access.{last_page};
-ghost use Rattle.fault_core.specs.Attempt.{HasClient};
-ghost use Rattle.fault_core.specs.Moves.{Leaves, Loads, either};
+ghost use Rattle.fault_core.specs.Attempt.{HasClient, either};
+ghost use Rattle.fault_core.specs.Moves.{Leaves, Loads};
 ghost use Rattle.fault_core.specs.Reach.{BringsOwn};
 ghost use Rattle.fault_core.specs.Told.{AreStored, Known};
 ghost use Rattle.fault_core.specs.Touch.{Touches};
-ghost use Rattle.fault_core.specs.Unit.{IsShownDirty, IsSlotOf, KeepsSlots};
+ghost use Rattle.fault_core.specs.Unit.{IsShownDirty, IsSlotOf};
+ghost use Rattle.fault_core.specs.Room.{KeepsSlots};
 ghost use Rattle.fault_core.specs.View.{view_of};
 
 use filer_kernel::FilerOver;

@@ -14,7 +14,7 @@ ghost use Rattle.fault_core.specs.View.{view_of, kept_by};
 ghost use Rattle.fault_core.specs.Reach.{IsReachedHome, Reaches, ReachHalts, BringsOwn, no_break};
 ghost use Rattle.fault_core.specs.Told.{Known};
 ghost use Rattle.fault_core.specs.Homes.{homes_in, AreHomesOf, HaveSectors};
-ghost use Rattle.fault_core.specs.Unit.{KeepsWhileEmpty};
+ghost use Rattle.fault_core.specs.Room.{KeepsWhileEmpty};
 
 use crate::homes::{Homes, MOST};
 use file_map::Run;

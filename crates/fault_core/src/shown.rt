@@ -10,7 +10,8 @@ ghost use Rattle.space_tables.specs.SpaceTables.{IsIntervalAt};
 ghost use Rattle.fault_core.specs.Kept.{IsFormed, IsKept, AreApart};
 ghost use Rattle.fault_core.specs.Reach.{Reaches, ReachHalts, BringsOwn};
 ghost use Rattle.fault_core.specs.Told.{BreaksTables};
-ghost use Rattle.fault_core.specs.Unit.{IsReady, IsWhole, KeepsWhileEmpty};
+ghost use Rattle.fault_core.specs.Unit.{IsReady, IsWhole};
+ghost use Rattle.fault_core.specs.Room.{KeepsWhileEmpty};
 
 use crate::CoreOver;
 use labelled_disk::{Disk, Halt};

@@ -12,7 +12,8 @@ ghost use Rattle.fault_core.specs.Kept.{AreApart};
 ghost use Rattle.fault_core.specs.View.{view_of};
 ghost use Rattle.fault_core.specs.Reach.{Reaches, ReachHalts, no_break};
 ghost use Rattle.fault_core.specs.Told.{BreaksTables, Known};
-ghost use Rattle.fault_core.specs.Unit.{AreShownStored, BringsShown, IsReady, IsSlotOf, IsTouched, IsWhole, file_page, KeepsWhileEmpty};
+ghost use Rattle.fault_core.specs.Unit.{AreShownStored, BringsShown, IsReady, IsSlotOf, IsTouched, IsWhole, file_page};
+ghost use Rattle.fault_core.specs.Room.{KeepsWhileEmpty};
 
 use crate::CoreOver;
 use crate::unit::{bring_run, is_there, slot_of, unit_run};

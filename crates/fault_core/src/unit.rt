@@ -15,7 +15,8 @@ ghost use Rattle.fault_core.specs.View.{view_of};
 ghost use Rattle.fault_core.specs.Reach.{Reaches, ReachHalts, no_break};
 ghost use Rattle.fault_core.specs.Told.{Known};
 ghost use Rattle.fault_core.specs.Homes.{homes_in, AreHomesOf, HaveSectors};
-ghost use Rattle.fault_core.specs.Unit.{AreResident, AreRunStored, BringsRun, IsResident, IsUnitRun, KeepsWhileEmpty};
+ghost use Rattle.fault_core.specs.Unit.{AreResident, AreRunStored, BringsRun, IsResident, IsUnitRun};
+ghost use Rattle.fault_core.specs.Room.{KeepsWhileEmpty};
 ghost use Rattle.swapper_kernel.specs.Steps.{Steps};
 
 use crate::homes::Homes;

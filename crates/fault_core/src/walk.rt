@@ -14,7 +14,7 @@ ghost use Rattle.fault_core.specs.Kept.{IsFormed};
 ghost use Rattle.fault_core.specs.Range.{IsNextPart};
 ghost use Rattle.fault_core.specs.Reach.{Reaches, ReachHalts, BringsOwn};
 ghost use Rattle.fault_core.specs.Told.{BreaksTables};
-ghost use Rattle.fault_core.specs.Unit.{KeepsWhileEmpty};
+ghost use Rattle.fault_core.specs.Room.{KeepsWhileEmpty};
 
 use crate::CoreOver;
 use labelled_disk::{Disk, Halt};

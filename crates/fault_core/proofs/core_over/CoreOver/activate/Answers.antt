@@ -5,8 +5,9 @@ use Rattle.fault_core.specs.Core.{kept, state}
 use Rattle.fault_core.specs.Kill.{BreaksWithin}
 use Rattle.fault_core.specs.Told.{BreaksTables}
 use Rattle.fault_core.proofs.AccessLemmas.{breaks_before}
-use Rattle.fault_core.proofs.ActivateLemmas.{none_active, touched_whole, whole_stays}
+use Rattle.fault_core.proofs.ActivateLemmas.{none_active, touched_whole}
 use Rattle.fault_core.proofs.ReachLemmas.{reaches_then, halts_before}
+use Rattle.fault_core.proofs.WholeLemmas.{whole_stays}
 use Rattle.fault_core.proofs.core_over.CoreOver.activate.Goals as goal
 
 -- ---- No window shows a page of the range.

@@ -3,10 +3,11 @@ use Rattle.swapper_kernel.specs.HaltLaws.{brings_then}
 use Rattle.fault_core.specs.Core.{state}
 use Rattle.fault_core.specs.Told.{BreaksTables}
 use Rattle.fault_core.proofs.AccessLemmas.{breaks_before}
-use Rattle.fault_core.proofs.ActivateLemmas.{none_whole, shown_here, touched_ready, unit_brought, unit_whole}
+use Rattle.fault_core.proofs.ActivateLemmas.{touched_ready, unit_brought}
 use Rattle.fault_core.proofs.ReachLemmas.{reaches_then, halts_before}
 use Rattle.fault_core.proofs.RoomLemmas.{room_then}
 use Rattle.fault_core.proofs.ShowLemmas.{own_came}
+use Rattle.fault_core.proofs.WholeLemmas.{none_whole, shown_here, unit_whole}
 use Rattle.fault_core.proofs.core_over.CoreOver.bring_next.Goals as goal
 
 -- ---- No window shows the page.
