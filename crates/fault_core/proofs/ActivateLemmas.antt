@@ -203,8 +203,7 @@ module _ {v : View} {kept : List Interval} {count first to stop half : ℕ} {w :
     same_count = same_left ∙ h.same_count;
     cost = let was = h.cost in omega (arith, was, cost);
     told = λ m named ss told.
-        let was = h.told m named ss told in
-        (
+        let was = h.told m named ss told in (
           same m named ss was.0,
           brings_then was.1 (came m named ss was.0),
           tracked_further m named ss told further upto below turn.further (step m named ss was.0),

@@ -98,7 +98,7 @@ pub whole_stays : (ss : List Space) (s t : Slots) (from to slot : ℕ) → Keeps
 whole_stays ss s t from to slot room empty whole page x above below at mapped other own = room.resident slot empty x.id (file_page x other) (whole page x above below at mapped other own)
 
 -- and then others are
-whole_then : (ss : List Space) (s t : Slots) (from mid to slot : ℕ) → KeepsWhileEmpty s t → IsEmpty t slot → AreWhole ss s from mid → AreWhole ss t mid to → AreWhole ss t from to
+pub whole_then : (ss : List Space) (s t : Slots) (from mid to slot : ℕ) → KeepsWhileEmpty s t → IsEmpty t slot → AreWhole ss s from mid → AreWhole ss t mid to → AreWhole ss t from to
 whole_then ss s t from mid to slot room empty first next page x above below at mapped = elim (cases_lt page mid) [
   | inl front ↦ whole_stays ss s t from mid slot room empty first page x above front at mapped
   | inr behind ↦ next page x behind below at mapped

@@ -44,7 +44,10 @@ fn an_absent_page_is_named_and_not_brought_in(rt: HostRuntime) -> Result<(), Fai
     );
     assert_eq!(rt; bytes, [9; 4]);
     let before = transfers(&mut core);
-    assert_eq!(rt; try_store(&mut core, 512 * page, b"four"), Ok(Attempt::Absent(page)));
+    assert_eq!(rt;
+        try_store(&mut core, 512 * page, b"four"),
+        Ok(Attempt::Absent(page))
+    );
     assert_eq!(rt;
         try_load(&mut core, 512 * page, &mut bytes),
         Ok(Attempt::Absent(page))

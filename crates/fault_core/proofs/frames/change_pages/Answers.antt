@@ -40,7 +40,7 @@ returns-clause-stored g c = λ m named b ss known stored first last.
     let next : IsSlotOf ss c.args.filer.now.swapper.pool (c.args.address / 512 + 1) c.args.last = rw page last in
     let low = c.change_in-2.ensures.stored m named b first.shown.file first.shown.page known first.has (of_a_file stored first) in
     let l : Leaves (StoresAt first.shown.file first.shown.page (c.args.address % 512) (take (512 - c.args.address % 512) c.args.bytes.now)) m named b (view_of c.change_in-2.new.filer) =
-        subst (λ (bs : List ℕ). Leaves (StoresAt first.shown.file first.shown.page (c.args.address % 512) bs) m named b (view_of c.change_in-2.new.filer)) c.split_at.ensures.front low in
+    subst (λ (bs : List ℕ). Leaves (StoresAt first.shown.file first.shown.page (c.args.address % 512) bs) m named b (view_of c.change_in-2.new.filer)) c.split_at.ensures.front low in
     let high = c.change_in-3.ensures.stored l.memory named b next.shown.file next.shown.page l.known (c.change_in-2.ensures.slots c.args.last next.shown.file next.shown.page next.has) (of_a_file stored next) in
     written_both c.args.address c.args.bytes.now first next (omega (arith, past)) l
     (subst (λ (bs : List ℕ). Leaves (StoresAt next.shown.file next.shown.page 0 bs) l.memory named b (view_of c.change_in-3.new.filer)) c.split_at.ensures.back high)

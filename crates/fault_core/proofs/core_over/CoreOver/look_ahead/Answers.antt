@@ -59,7 +59,7 @@ returns-clause-here g c =
     let form = at_shown (λ x y. Shows x p × Shows y q) c.in-Ok-Shown.field-0 x y c.in-Ok-Shown.field-0-is c.in-Ok-Shown.ensures.form in
     let is_kept = at_shown (λ x y. IsKept (kept c.refer.new.self) y) c.in-Ok-Shown.field-0 x y c.in-Ok-Shown.field-0-is c.in-Ok-Shown.ensures.is_kept in
     rw c.look_for.ensures.same (ready_wider (λ i j. HasPage pool j y.id (file_page y q)) (λ i j. IsHere (kept c.refer.new.self) pool q) c.look_for.result
-        (λ i j has. record { interval = y; is_kept = is_kept; holds = form.1.holds; mapped = form.1.mapped; resident = (j, has) }) c.look_for.ensures.last)
+    (λ i j has. record { interval = y; is_kept = is_kept; holds = form.1.holds; mapped = form.1.mapped; resident = (j, has) }) c.look_for.ensures.last)
 
 pub returns-clause-slots : goal.returns-clause-slots
 returns-clause-slots g c = λ m named ss knows.
@@ -95,7 +95,7 @@ returns-clause-absent g c = λ m named ss knows.
     let seen = both_seen knows c.in-Ok-Shown.field-0 x y p q c.in-Ok-Shown.field-0-is c.in-Ok-Shown.ensures.form (c.in-Ok-Shown.ensures.intervals_at m named ss knows) in
     let granted = came_to (access_of ss c.args.writes c.args.address c.args.count) c.in-Ok-Shown.field-0 _ c.in-Ok-Shown.field-0-is (c.in-Ok-Shown.ensures.access m named ss knows) in
     rw c.look_for.ensures.same (absent_wider (IsUnfound pool x y c.args.address c.args.count) (IsAbsent ss pool c.args.writes c.args.address c.args.count) c.look_for.result
-        (λ page unfound. (sym granted, first_away pool x y c.args.address c.args.count page seen.0 seen.1 form.0 form.1 unfound)) c.look_for.ensures.absent)
+    (λ page unfound. (sym granted, first_away pool x y c.args.address c.args.count page seen.0 seen.1 form.0 form.1 unfound)) c.look_for.ensures.absent)
 
 pub returns-clause-referred : goal.returns-clause-referred
 returns-clause-referred g c =
