@@ -18,7 +18,6 @@ use Rattle.projection_laws.specs.Sight.{AreIntervals}
 use Rattle.projection_laws.proofs.Finds.{firsts_are_rising}
 use Rattle.projection_laws.proofs.OneLemmas.{intervals_are_one}
 use Rattle.space_tables.specs.SpaceTables.{IsIntervalAt}
-use Rattle.space_tables.specs.Stored.{TellSpaces}
 use Rattle.fault_core.specs.declared.activate.Progress.{Progress}
 use Rattle.fault_core.specs.Activate.{AreBare, AreUnits, AreWhole, HasWholeUnit, IsActive, IsFurther, IsNextUnit, IsShownAt, IsTooLong, IsTurn, IsUnitAt, IsWholeAt, start_at}
 use Rattle.fault_core.specs.Kill.{BreaksWithin}

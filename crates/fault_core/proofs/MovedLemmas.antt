@@ -1,19 +1,17 @@
 -- Bytes that are read from frames, and written over those in frames.
-use Rattle.std.proofs.Common.{◌≡◌, ◌⊎◌, inl, inr, ℕ, ◌+◌, ◌-◌, ◌/◌, ◌%◌, ◌<◌, ◌≤◌, true, List, ◌++◌, length, take, drop, Some, refl, sym, ◌∙◌, ap, subst, arith}
+use Rattle.std.proofs.Common.{◌≡◌, inl, inr, ℕ, ◌+◌, ◌-◌, ◌/◌, ◌%◌, ◌<◌, ◌≤◌, true, List, length, take, drop, arith}
 use Rattle.labelled_disk.specs.Label.{is_file_id}
 use Rattle.labelled_disk.specs.Sectors.{Sector}
 use Rattle.flat_mem.specs.Memory.{part}
 use Rattle.file_map.specs.FileMap.{Triples}
 use Rattle.frame_pool.specs.Frames.{Frame, Slots, Has}
 use Rattle.flat_machine.specs.declared.space.Space.{Space}
-use Rattle.flat_machine.specs.declared.space.FilePage.{FilePage}
-use Rattle.flat_machine.specs.At.{shown_at}
 use Rattle.swapper_kernel.specs.Homes.{ArePlaced, IsLayout}
-use Rattle.session_words.specs.CellLaws.{IsTouchedOrOwn, Stores, StoresAt, StoresIn}
+use Rattle.session_words.specs.CellLaws.{IsTouchedOrOwn, Stores, StoresAt}
 use Rattle.session_words.proofs.FoundLemmas.{above_reserved}
 use Rattle.fault_core.specs.Access.{last_page}
 use Rattle.fault_core.specs.Attempt.{HasClient, either}
-use Rattle.fault_core.specs.Moves.{HasBytes, Leaves, Loads, LoadsIn, client_page}
+use Rattle.fault_core.specs.Moves.{HasBytes, Leaves, LoadsIn, client_page}
 use Rattle.fault_core.specs.Told.{AreStored, Known}
 use Rattle.fault_core.specs.Touch.{and_own}
 use Rattle.fault_core.specs.Unit.{IsSlotOf}
@@ -22,7 +20,7 @@ use Rattle.fault_core.specs.View.{View}
 use Rattle.fault_core.proofs.AccessLemmas.{first_touched, last_touched}
 use Rattle.fault_core.proofs.FrameLemmas.{frame_bytes}
 use Rattle.fault_core.proofs.LeaveLemmas.{leaves_then, leaves_wider, one_stored, two_stored}
-use Rattle.fault_core.proofs.PieceLemmas.{next_address, next_offset, one_loaded, two_loaded}
+use Rattle.fault_core.proofs.PieceLemmas.{next_address, next_offset}
 
 -- the page that is shown is one of a file
 pub of_a_file : {ss : List Space} {named : Triples} {m : List Sector} {slots : Slots} {page slot : ℕ} → AreStored named m ss → (s : IsSlotOf ss slots page slot) → is_file_id s.shown.file ≡ true

@@ -1,5 +1,5 @@
 -- While a slot is empty no page leaves the frames.
-use Rattle.std.proofs.Common.{◌≡◌, ◌≢◌, ◌⊎◌, inl, inr, ℕ, ◌<◌, List, [], ◌∷◌, length, Some, Option, refl, sym, ◌∙◌, ap, subst}
+use Rattle.std.proofs.Common.{◌≡◌, ◌≢◌, ◌⊎◌, inl, inr, ℕ, ◌<◌, List, [], ◌∷◌, length, Some, sym, ◌∙◌, ap, subst}
 use Rattle.std.specs.Prelude.{slice_get, slice_set, None}
 use Rattle.std.proofs.lemmas.Bool.{cases_eq}
 use Rattle.std.proofs.lemmas.Option.{same_Some, none-some}
@@ -10,7 +10,7 @@ use Rattle.frame_pool.specs.FrameLaws.{has_below}
 use Rattle.frame_pool.specs.ListLaws.{get_same, get_other}
 use Rattle.swapper_kernel.specs.Homes.{Homes}
 use Rattle.swapper_kernel.specs.Steps.{Step, Steps, IsStep, IsCourse, fills, writes_out, alters}
-use Rattle.fault_core.specs.Unit.{IsResident, KeepsResident}
+use Rattle.fault_core.specs.Unit.{KeepsResident}
 use Rattle.fault_core.specs.Room.{KeepsWhileEmpty}
 
 pub room_itself : (s : Slots) → KeepsWhileEmpty s s

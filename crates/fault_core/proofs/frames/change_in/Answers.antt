@@ -1,7 +1,7 @@
-use Rattle.std.proofs.Common.{◌≡◌, ◌<◌, ◌≤◌, ℕ, [], Some, arith, refl, subst}
+use Rattle.std.proofs.Common.{◌≡◌, ◌<◌, ℕ, [], Some, arith, refl, subst}
 use Rattle.std.specs.Prelude.{All, get_or, slice_set}
 use Rattle.std.proofs.lemmas.List.{get_or_default}
-use Rattle.frame_pool.specs.Frames.{Frame, Has, HasPage, changed}
+use Rattle.frame_pool.specs.Frames.{Frame, Has, changed}
 use Rattle.frame_pool.specs.FrameLaws.{filled_of, has_below}
 use Rattle.session_words.proofs.FoundLemmas.{above_reserved}
 use Rattle.swapper_kernel.specs.Differs.{ChangesAt}

@@ -1,4 +1,4 @@
-use Rattle.std.proofs.Common.{rules, ◌≡◌, ◌∙◌, ◌/◌, ◌%◌, ◌+◌, ◌-◌, ◌≤◌, inl, inr, ℕ, List, length, take, drop, sym, ap, subst, arith}
+use Rattle.std.proofs.Common.{◌∙◌, ◌/◌, ◌%◌, ◌+◌, ◌-◌, inl, inr, ℕ, List, length, take, subst, arith}
 use Rattle.swapper_kernel.specs.Goes.{this_page}
 use Rattle.swapper_kernel.specs.HaltLaws.{brings_then}
 use Rattle.session_words.specs.CellLaws.{StoresAt}

@@ -1,6 +1,5 @@
-use Rattle.std.proofs.Common.{rules, ◌≡◌, ◌∙◌, ◌/◌, ◌%◌, ◌+◌, ◌-◌, ◌≤◌, ℕ, length, sym, ap, subst, arith}
+use Rattle.std.proofs.Common.{rules, ◌≡◌, ◌∙◌, ◌/◌, ◌%◌, ◌+◌, ◌-◌, ◌≤◌, length, sym, ap, arith}
 use Rattle.flat_mem.specs.Memory.{part}
-use Rattle.frame_pool.specs.FrameLaws.{filled_of, has_below}
 use Rattle.fault_core.specs.Unit.{IsSlotOf}
 use Rattle.fault_core.proofs.MovedLemmas.{read_first, read_next}
 use Rattle.fault_core.proofs.PieceLemmas.{next_page, one_loaded, two_loaded}

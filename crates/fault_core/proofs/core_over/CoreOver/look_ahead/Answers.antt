@@ -1,4 +1,4 @@
-use Rattle.std.proofs.Common.{◌≡◌, ◌≢◌, ◌∙◌, ◌/◌, ℕ, refl, sym}
+use Rattle.std.proofs.Common.{◌≡◌, ◌∙◌, ◌/◌, refl, sym}
 use Rattle.frame_pool.specs.Frames.{HasPage}
 use Rattle.fault_core.specs.declared.reference.Access.TheVariants as access
 use Rattle.fault_core.specs.Access.{Shows, access_of, last_page}
