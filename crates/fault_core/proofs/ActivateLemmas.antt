@@ -31,6 +31,7 @@ use Rattle.fault_core.proofs.RangeLemmas.{IsAhead, ahead_next, tables_are}
 use Rattle.fault_core.proofs.ReachLemmas.{reaches_itself, reaches_then, halts_before}
 use Rattle.fault_core.proofs.ToldLemmas.{interval_at}
 use Rattle.fault_core.proofs.WholeLemmas.{bare_nowhere, bare_past, bare_then, shown_here, whole_stays, whole_then}
+use Rattle.fault_core.specs.Lack.{Sees}
 
 pub some_is : {X : Type 0} (P : X → Type 0) (o : Option X) (x : X) → o ≡ Some x → IfSome o P → P x
 some_is {X = X} P o x is holds = subst (λ (o : Option X). IfSome o P) is holds
@@ -109,6 +110,7 @@ pub record IsActivating (v : View) (kept : List Interval) (count first to stop h
   pub units : so_far.units ≤ k
   pub size : w.disk.sectors ≡ w.layout.sectors
   pub reaches : Reaches v w
+  pub sees : (ss : List Space) → Sees v kept count ss → Sees w now still ss
   pub same_count : still ≡ count
   pub cost : w.disk.transfers ≤ v.disk.transfers + k * 840
   pub told : (m : List Sector) (named : Triples) (ss : List Space) (h : Told v kept count m named ss) → Told w now still m named ss × BringsKnown ss v.slots w.slots × IsTracked ss h.tables.xs count first to stop half so_far k
@@ -124,6 +126,7 @@ activating_none v kept count first to stop half size some = record {
   units = omega arith;
   size = size;
   reaches = reaches_itself v;
+  sees = λ ss s. s;
   same_count = refl;
   cost = omega arith;
   told = λ m named ss h. (
@@ -178,9 +181,9 @@ module _ {v : View} {kept : List Interval} {count first to stop half : ℕ} {w :
       → ((m : List Sector) (named : Triples) (ss : List Space) → Told w now still m named ss → IsFurther ss stop so_far further)
       → ((m : List Sector) (named : Triples) (ss : List Space) → Told w now still m named ss → Told x later left m named ss)
       → ((m : List Sector) (named : Triples) (ss : List Space) → Told w now still m named ss → BringsKnown ss w.slots x.slots)
-      → ((m : List Sector) (named : Triples) (ss : List Space) → Told w now still m named ss → AreWhole ss x.slots so_far.page further.page) → KeepsWhileEmpty w.slots x.slots
+      → ((m : List Sector) (named : Triples) (ss : List Space) → Told w now still m named ss → AreWhole ss x.slots so_far.page further.page) → KeepsWhileEmpty w.slots x.slots → ((ss : List Space) → Sees w now still ss → Sees x later left ss)
       → Reaches w x → left ≡ still → x.disk.transfers ≤ w.disk.transfers + 840 → IsActivating v kept count first to stop half x later left further (k + 1)
-  activating_more x later left further upto below turn step same came whole room next_reaches same_left cost = record {
+  activating_more x later left further upto below turn step same came whole room next_sees next_reaches same_left cost = record {
     from = let front = h.from in let more = turn.further in omega (arith, front, more);
     last = λ some. elim turn.last [
       | inl (same_units, same_last) ↦
@@ -199,6 +202,7 @@ module _ {v : View} {kept : List Interval} {count first to stop half : ℕ} {w :
     units = let units = h.units in let one = turn.one in omega (arith, units, one);
     size = next_reaches.goes.makes.went.sectors ∙ h.size ∙ ap (λ l. l.sectors) (sym next_reaches.layout);
     reaches = reaches_then v w is h.reaches x next_reaches;
+    sees = λ ss s. next_sees ss (h.sees ss s);
     same_count = same_left ∙ h.same_count;
     cost = let was = h.cost in omega (arith, was, cost);
     told = λ m named ss told.

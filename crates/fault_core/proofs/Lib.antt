@@ -30,3 +30,4 @@ mod ActivateLemmas
 mod RoomLemmas
 mod AttemptLemmas
 mod MovedLemmas
+mod LackLemmas

@@ -16,3 +16,4 @@ pub mod Kill
 pub mod Activate
 pub mod Attempt
 pub mod Room
+pub mod Lack

@@ -4,7 +4,7 @@ ghost use Rattle.labelled_disk.specs.declared.evidence.Halt.TheVariants as halt;
 ghost use Rattle.labelled_disk.specs.Sectors.{Sector};
 ghost use Rattle.file_map.specs.FileMap.{Triples};
 ghost use Rattle.flat_machine.specs.declared.space.Space.{Space};
-ghost use Rattle.swapper_kernel.specs.Goes.{Goes, IsDirty, Same, this_page};
+ghost use Rattle.swapper_kernel.specs.Goes.{Goes, IsDirty, Same, this_page, no_page};
 ghost use Rattle.swapper_kernel.specs.Stands.{Stands};
 ghost use Rattle.session_words.specs.CellLaws.{IsTouchedOrOwn, Stores, StoresAt};
 ghost use Rattle.fault_core.specs.declared.reference.Access.TheVariants as access;
@@ -18,6 +18,7 @@ ghost use Rattle.fault_core.specs.Reach.{BringsOwn, Reaches, ReachHalts, no_brea
 ghost use Rattle.fault_core.specs.Told.{Known};
 ghost use Rattle.fault_core.specs.Touch.{Touches};
 ghost use Rattle.fault_core.specs.Unit.{AreShownStored, BringsBoth, BringsShown, IsReady, IsShownDirty, IsWhole, KeepsResident, file_page};
+ghost use Rattle.fault_core.specs.Lack.{Lacks, Sees, both_units, shown_units, unit_pages};
 
 use crate::CoreOver;
 use crate::attempt::{Attempt, Prospect};
@@ -45,6 +46,7 @@ fn store_in<D: Disk, A: Allocator>(
     ensures whole { OnOk result (IsWhole filer.new.swapper.pool x.now page) }
     ensures dirty { OnOk result (IsDirty filer.new.swapper.pool x.now.id (file_page x.now page)) }
     ensures cause { IfErr result (ReachHalts no_break (view_of filer.old) (view_of filer.new)) }
+    ensures lacks { IfErr result (Lacks (unit_pages x.now page)) }
     ensures sound { (m : List Sector) (named : Triples) (b : List ℕ) → Known (view_of filer.old) m named b → AreShownStored named m x.now → IfErr result (λ e. e ≡ halt.Disk) }
     ensures touches { Touches (this_page x.now.id (file_page x.now page)) (view_of filer.old) (view_of filer.new) }
     ensures came { BringsShown x.now filer.old.swapper.pool filer.new.swapper.pool }
@@ -78,6 +80,7 @@ fn store_shown<D: Disk, A: Allocator>(
     ensures whole { OnOk result (IsWhole filer.new.swapper.pool last.now (last_page address (length bytes.now))) }
     ensures dirty { OnOk result (IsDirty filer.new.swapper.pool last.now.id (file_page last.now (last_page address (length bytes.now)))) }
     ensures cause { IfErr result (ReachHalts no_break (view_of filer.old) (view_of filer.new)) }
+    ensures lacks { IfErr result (Lacks (both_units first.now last.now address (length bytes.now))) }
     ensures sound { (m : List Sector) (named : Triples) (b : List ℕ) → Known (view_of filer.old) m named b → AreShownStored named m first.now → AreShownStored named m last.now → IfErr result (λ e. e ≡ halt.Disk) }
     ensures touches { Touches (of_reference first.now last.now address (length bytes.now)) (view_of filer.old) (view_of filer.new) }
     ensures came { BringsBoth first.now last.now filer.old.swapper.pool filer.new.swapper.pool }
@@ -117,6 +120,7 @@ impl<D: Disk, A: Allocator> CoreOver<D, A> {
         ensures ready { IfOk result (λ a. a ≡ access.Done → IsReady (kept self.new) self.new.filer.swapper.pool (last_page address (length bytes.now))) }
         ensures dirty { (m : List Sector) (named : Triples) (ss : List Space) → Knows self.old m named ss → IfOk result (λ a. a ≡ access.Done → IsShownDirty ss self.new.filer.swapper.pool (last_page address (length bytes.now))) }
         ensures cause { IfErr result (ReachHalts (BreaksFor (state self.old) self.old.intervals address (length bytes.now)) (state self.old) (state self.new)) }
+        ensures missing { (ss : List Space) → Sees (state self.old) (kept self.old) self.old.intervals ss → IfErr result (Lacks (shown_units ss address (length bytes.now))) }
         ensures sound { (m : List Sector) (named : Triples) (ss : List Space) → Knows self.old m named ss → IfErr result (λ e. e ≡ halt.Disk) }
         ensures touches { Touches client_page (state self.old) (state self.new) }
         ensures came { (m : List Sector) (named : Triples) (ss : List Space) → Knows self.old m named ss → BringsKnown ss self.old.filer.swapper.pool self.new.filer.swapper.pool }
@@ -154,6 +158,7 @@ impl<D: Disk, A: Allocator> CoreOver<D, A> {
         ensures here { IfOk result (λ t. t ≡ moved → IsHere (kept self.new) self.new.filer.swapper.pool (last_page address (length bytes.now))) }
         ensures dirty { (m : List Sector) (named : Triples) (ss : List Space) → Knows self.old m named ss → IfOk result (λ t. t ≡ moved → IsShownDirty ss self.new.filer.swapper.pool (last_page address (length bytes.now))) }
         ensures cause { IfErr result (ReachHalts (BreaksFor (state self.old) self.old.intervals address (length bytes.now)) (state self.old) (state self.new)) }
+        ensures lacks { IfErr result (Lacks no_page) }
         ensures sound { (m : List Sector) (named : Triples) (ss : List Space) → Knows self.old m named ss → IfErr result (λ e. e ≡ halt.Disk) }
         ensures touches { Touches client_page (state self.old) (state self.new) }
         ensures came { BringsOwn self.old.filer.swapper.pool self.new.filer.swapper.pool }

@@ -8,6 +8,8 @@ use Rattle.fault_core.proofs.AccessLemmas.{breaks_before}
 use Rattle.fault_core.proofs.ActivateLemmas.{none_active, touched_whole}
 use Rattle.fault_core.proofs.ReachLemmas.{reaches_then, halts_before}
 use Rattle.fault_core.proofs.WholeLemmas.{whole_stays}
+use Rattle.fault_core.specs.Lack.{range_units, shown_unit}
+use Rattle.fault_core.proofs.LackLemmas.{lacks_wider}
 use Rattle.fault_core.proofs.core_over.CoreOver.activate.Goals as goal
 
 -- ---- No window shows a page of the range.
@@ -92,3 +94,11 @@ returns-in-Err-touch2-clause-reaches g c =
 
 pub returns-in-Err-touch2-clause-came : goal.returns-in-Err-touch2-clause-came
 returns-in-Err-touch2-clause-came g c = λ m named ss knows. brings_then (c.bring_units.ensures.came m named ss knows) (c.touch2.ensures.came m named ss (c.bring_units.ensures.same m named ss knows))
+
+-- ---- A page has no sector.
+
+pub returns-in-Err-touch2-clause-missing : goal.returns-in-Err-touch2-clause-missing
+returns-in-Err-touch2-clause-missing g c = λ ss s.
+    let page = c.in-Ok.brought.1 in
+    let within = c.in-Ok.ensures.within c.if-units-eq0.false in
+    lacks_wider (shown_unit ss page) (range_units ss c.args.first (c.args.first + c.args.pages)) (λ id number own. (page, within.0, within.1, own)) c.in-Err-touch2.halt (c.in-Err-touch2.ensures.missing ss (c.bring_units.ensures.sees ss s))

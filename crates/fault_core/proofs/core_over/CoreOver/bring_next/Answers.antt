@@ -8,6 +8,8 @@ use Rattle.fault_core.proofs.ReachLemmas.{reaches_then, halts_before}
 use Rattle.fault_core.proofs.RoomLemmas.{room_then}
 use Rattle.fault_core.proofs.ShowLemmas.{own_came}
 use Rattle.fault_core.proofs.WholeLemmas.{none_whole, shown_here, unit_whole}
+use Rattle.fault_core.specs.Lack.{shown_unit}
+use Rattle.fault_core.proofs.LackLemmas.{none_lacks}
 use Rattle.fault_core.proofs.core_over.CoreOver.bring_next.Goals as goal
 
 -- ---- No window shows the page.
@@ -84,3 +86,17 @@ returns-in-Err-touch2-clause-reaches g c =
 pub returns-in-Err-touch2-clause-came : goal.returns-in-Err-touch2-clause-came
 returns-in-Err-touch2-clause-came g c = λ m named ss knows.
     brings_then (own_came ss c.args.self.now.filer.swapper.pool c.unit_at.new.self.filer.swapper.pool c.unit_at.ensures.came) (c.touch2.ensures.came m named ss (c.unit_at.ensures.same m named ss knows))
+
+-- ---- A page has no sector.
+
+pub returns-in-Err-clause-missing : goal.returns-in-Err-clause-missing
+returns-in-Err-clause-missing g c = λ ss s. none_lacks (shown_unit ss c.args.so_far.page) c.in-Err.halt c.in-Err.ensures.lacks
+
+pub returns-in-Err-touch2-clause-missing : goal.returns-in-Err-touch2-clause-missing
+returns-in-Err-touch2-clause-missing g c = λ ss s. c.in-Err-touch2.ensures.missing ss (c.unit_at.ensures.sees ss s)
+
+pub returns-in-Ok-touch2-clause-sees : goal.returns-in-Ok-touch2-clause-sees
+returns-in-Ok-touch2-clause-sees g c = λ ss s. c.touch2.ensures.sees ss (c.unit_at.ensures.sees ss s)
+
+pub returns-in-Err-touch2-clause-sees : goal.returns-in-Err-touch2-clause-sees
+returns-in-Err-touch2-clause-sees g c = λ ss s. c.touch2.ensures.sees ss (c.unit_at.ensures.sees ss s)
