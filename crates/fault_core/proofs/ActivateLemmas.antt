@@ -6,7 +6,7 @@ use Rattle.std.proofs.lemmas.Option.{none-some}
 use Rattle.labelled_disk.specs.Sectors.{Sector}
 use Rattle.labelled_disk.specs.declared.evidence.Halt.{Halt}
 use Rattle.file_map.specs.FileMap.{Triples}
-use Rattle.frame_pool.specs.Frames.{Slots}
+use Rattle.frame_pool.specs.Frames.{Slots, IsEmpty}
 use Rattle.flat_machine.specs.declared.space.Space.{Space}
 use Rattle.flat_machine.specs.Space.{root_pages}
 use Rattle.flat_machine.specs.At.{shown_at}
@@ -18,45 +18,23 @@ use Rattle.projection_laws.specs.Sight.{AreIntervals}
 use Rattle.projection_laws.proofs.Finds.{firsts_are_rising}
 use Rattle.projection_laws.proofs.OneLemmas.{intervals_are_one}
 use Rattle.space_tables.specs.SpaceTables.{IsIntervalAt}
-use Rattle.space_tables.specs.Stored.{TellSpaces}
 use Rattle.fault_core.specs.declared.activate.Progress.{Progress}
-use Rattle.fault_core.specs.Activate.{AreBare, AreUnits, HasWholeUnit, IsActive, IsFurther, IsNextUnit, IsShownAt, IsTooLong, IsTurn, IsUnitAt, IsWholeAt, start_at}
+use Rattle.fault_core.specs.Activate.{AreBare, AreUnits, AreWhole, HasWholeUnit, IsActive, IsFurther, IsNextUnit, IsShownAt, IsTooLong, IsTurn, IsUnitAt, IsWholeAt, start_at}
 use Rattle.fault_core.specs.Kill.{BreaksWithin}
 use Rattle.fault_core.specs.Reach.{Reaches, ReachHalts}
 use Rattle.fault_core.specs.Told.{BreaksTables, Told}
-use Rattle.fault_core.specs.Unit.{IsReady, IsTouched, file_page}
+use Rattle.fault_core.specs.Unit.{IsReady, IsTouched}
+use Rattle.fault_core.specs.Room.{KeepsWhileEmpty}
 use Rattle.fault_core.specs.View.{View}
 use Rattle.fault_core.proofs.AccessLemmas.{breaks_before}
 use Rattle.fault_core.proofs.RangeLemmas.{IsAhead, ahead_next, tables_are}
 use Rattle.fault_core.proofs.ReachLemmas.{reaches_itself, reaches_then, halts_before}
-use Rattle.fault_core.proofs.ShowLemmas.{none_past, shown_is, shown_none}
-use Rattle.fault_core.proofs.ToldLemmas.{interval_at, interval_of}
+use Rattle.fault_core.proofs.ToldLemmas.{interval_at}
+use Rattle.fault_core.proofs.WholeLemmas.{bare_nowhere, bare_past, bare_then, shown_here, whole_stays, whole_then}
+use Rattle.fault_core.specs.Lack.{Sees}
 
 pub some_is : {X : Type 0} (P : X → Type 0) (o : Option X) (x : X) → o ≡ Some x → IfSome o P → P x
 some_is {X = X} P o x is holds = subst (λ (o : Option X). IfSome o P) is holds
-
--- ---- What one interval shows.
-
-pub shown_here : {tells : List ℕ → Type 0} {count : ℕ} {ss : List Space} (t : TellSpaces tells count ss) (x : Interval) (page : ℕ) → IsIntervalAt ss page x → x.mode ≢ 0 → IsShownAt ss page
-shown_here {ss = ss} t x page at mapped = (record { file = x.id; page = file_page x page }, shown_is t x (interval_of ss page x at) page at.holds mapped)
-
-pub bare_here : {tells : List ℕ → Type 0} {count : ℕ} {ss : List Space} (t : TellSpaces tells count ss) (x : Interval) (page next : ℕ) → IsIntervalAt ss page x → next ≤ x.first + x.pages → x.mode ≡ 0 → AreBare ss page next
-bare_here {ss = ss} t x page next at inside bare p from below =
-    let low = at.holds.0 in
-    shown_none t x (interval_of ss page x at) p (omega (arith, low, from), omega (arith, below, inside)) bare
-
-bare_then : (ss : List Space) (a b c : ℕ) → AreBare ss a b → AreBare ss b c → AreBare ss a c
-bare_then ss a b c first next p from below = elim (cases_lt p b) [ inl front ↦ first p from front | inr behind ↦ next p behind below ]
-
-bare_nowhere : (ss : List Space) (a : ℕ) → AreBare ss a a
-bare_nowhere ss a p from below = absurd (omega (arith, from, below))
-
--- behind the root no window shows a page
-bare_past : {tells : List ℕ → Type 0} {count : ℕ} {ss : List Space} → TellSpaces tells count ss → (page stop to : ℕ) → ((p : ℕ) → p < to → p < root_pages → p < stop) → stop ≤ page → AreBare ss page to
-bare_past t page stop to all past p above below = elim (cases_lt p root_pages) [
-  | inl inside ↦ let before = all p below inside in absurd (omega (arith, before, past, above))
-  | inr outside ↦ none_past t p outside
-]
 
 -- ---- The units that are left.
 
@@ -126,24 +104,29 @@ pub record IsTracked (ss : List Space) (xs : List Interval) (count first to stop
 pub record IsActivating (v : View) (kept : List Interval) (count first to stop half : ℕ) (w : View) (now : List Interval) (still : ℕ) (so_far : Progress) (k : ℕ) : Type 0 where
   pub from : first ≤ so_far.page
   pub last : so_far.units ≢ 0 → (first ≤ so_far.last) × (so_far.last < to)
+  pub behind : so_far.units ≢ 0 → so_far.last < so_far.page
   pub some : 1 ≤ so_far.units + so_far.left
   pub few : so_far.units + so_far.left ≤ half
   pub units : so_far.units ≤ k
   pub size : w.disk.sectors ≡ w.layout.sectors
   pub reaches : Reaches v w
+  pub sees : (ss : List Space) → Sees v kept count ss → Sees w now still ss
   pub same_count : still ≡ count
   pub cost : w.disk.transfers ≤ v.disk.transfers + k * 840
   pub told : (m : List Sector) (named : Triples) (ss : List Space) (h : Told v kept count m named ss) → Told w now still m named ss × BringsKnown ss v.slots w.slots × IsTracked ss h.tables.xs count first to stop half so_far k
+      × ((slot : ℕ) → IsEmpty w.slots slot → AreWhole ss w.slots first so_far.page)
 
 pub activating_none : (v : View) (kept : List Interval) (count first to stop half : ℕ) → v.disk.sectors ≡ v.layout.sectors → 1 ≤ half → IsActivating v kept count first to stop half v kept count (start_at first half) 0
 activating_none v kept count first to stop half size some = record {
   from = omega arith;
   last = λ none. absurd (none refl);
+  behind = λ none. absurd (none refl);
   some = omega (arith, some);
   few = omega arith;
   units = omega arith;
   size = size;
   reaches = reaches_itself v;
+  sees = λ ss s. s;
   same_count = refl;
   cost = omega arith;
   told = λ m named ss h. (
@@ -154,6 +137,7 @@ activating_none v kept count first to stop half size some = record {
       shown = λ none. absurd (none refl);
       rest = λ n last are. subst (λ (j : ℕ). AreUnits ss to (start_at first half) j last) (none_more n) are;
     },
+    λ slot empty page x from below at mapped. absurd (omega (arith, from, below)),
   );
 }
   where
@@ -197,8 +181,9 @@ module _ {v : View} {kept : List Interval} {count first to stop half : ℕ} {w :
       → ((m : List Sector) (named : Triples) (ss : List Space) → Told w now still m named ss → IsFurther ss stop so_far further)
       → ((m : List Sector) (named : Triples) (ss : List Space) → Told w now still m named ss → Told x later left m named ss)
       → ((m : List Sector) (named : Triples) (ss : List Space) → Told w now still m named ss → BringsKnown ss w.slots x.slots)
+      → ((m : List Sector) (named : Triples) (ss : List Space) → Told w now still m named ss → AreWhole ss x.slots so_far.page further.page) → KeepsWhileEmpty w.slots x.slots → ((ss : List Space) → Sees w now still ss → Sees x later left ss)
       → Reaches w x → left ≡ still → x.disk.transfers ≤ w.disk.transfers + 840 → IsActivating v kept count first to stop half x later left further (k + 1)
-  activating_more x later left further upto below turn step same came next_reaches same_left cost = record {
+  activating_more x later left further upto below turn step same came whole room next_sees next_reaches same_left cost = record {
     from = let front = h.from in let more = turn.further in omega (arith, front, more);
     last = λ some. elim turn.last [
       | inl (same_units, same_last) ↦
@@ -208,16 +193,25 @@ module _ {v : View} {kept : List Interval} {count first to stop half : ℕ} {w :
           (omega (arith, front, same_last), omega (arith, back, same_last))
       | inr brought ↦ let front = h.from in (omega (arith, front, brought), omega (arith, below, upto, brought))
     ];
+    behind = λ some. let more = turn.further in elim turn.last [
+      | inl (same_units, same_last) ↦ let was = h.behind (λ none. some (same_units ∙ none)) in omega (arith, was, more, same_last)
+      | inr brought ↦ omega (arith, more, brought)
+    ];
     some = turn.some;
     few = let fewer = turn.fewer in let few = h.few in omega (arith, fewer, few);
     units = let units = h.units in let one = turn.one in omega (arith, units, one);
     size = next_reaches.goes.makes.went.sectors ∙ h.size ∙ ap (λ l. l.sectors) (sym next_reaches.layout);
     reaches = reaches_then v w is h.reaches x next_reaches;
+    sees = λ ss s. next_sees ss (h.sees ss s);
     same_count = same_left ∙ h.same_count;
     cost = let was = h.cost in omega (arith, was, cost);
     told = λ m named ss told.
-        let was = h.told m named ss told in
-        (same m named ss was.0, brings_then was.1 (came m named ss was.0), tracked_further m named ss told further upto below turn.further (step m named ss was.0));
+        let was = h.told m named ss told in (
+          same m named ss was.0,
+          brings_then was.1 (came m named ss was.0),
+          tracked_further m named ss told further upto below turn.further (step m named ss was.0),
+          λ slot empty. whole_then ss w.slots x.slots first so_far.page further.page slot room empty (was.3 slot (room.empty slot empty)) (whole m named ss was.0),
+        );
   }
 
   pub activating_halt : (x : View) → so_far.page < to → (e : Halt) → ReachHalts (BreaksTables w still so_far.page) w x e → ReachHalts (BreaksWithin v count first to) v x e
@@ -240,6 +234,12 @@ module _ {v : View} {kept : List Interval} {count first to stop half : ℕ} {w :
 
   pub activating_shown : (m : List Sector) (named : Triples) (ss : List Space) → Told v kept count m named ss → so_far.units ≢ 0 → IsShownAt ss so_far.last
   activating_shown m named ss told = (h.told m named ss told).2.shown
+
+  -- up to the page that was brought in last
+  pub activating_whole : (s : Slots) → KeepsWhileEmpty w.slots s → (m : List Sector) (named : Triples) (ss : List Space) → Told v kept count m named ss → (slot : ℕ) → IsEmpty s slot → so_far.units ≢ 0 → AreWhole ss s first (so_far.last + 1)
+  activating_whole s room m named ss told slot empty some page x from upto at mapped =
+      let behind = h.behind some in
+      whole_stays ss w.slots s first so_far.page slot room empty ((h.told m named ss told).3 slot (room.empty slot empty)) page x from (omega (arith, behind, upto)) at mapped
 
   -- ---- The range was brought in.
 
@@ -267,7 +267,7 @@ module _ {v : View} {kept : List Interval} {count first to stop half : ℕ} {w :
 -- ---- The page that was brought in last is touched.
 
 -- a page that is shown was touched
-touched_ready : (ss : List Space) (kept : List Interval) (slots : Slots) (page : ℕ) (o : Option ℕ) → IsShownAt ss page → (o ≡ None → shown_at ss page ≡ None) → IfSome o (IsTouched kept slots page) → IsReady kept slots page
+pub touched_ready : (ss : List Space) (kept : List Interval) (slots : Slots) (page : ℕ) (o : Option ℕ) → IsShownAt ss page → (o ≡ None → shown_at ss page ≡ None) → IfSome o (IsTouched kept slots page) → IsReady kept slots page
 touched_ready ss kept slots page None (shown, is) none touched = absurd (none-some shown (sym (none refl) ∙ is))
 touched_ready ss kept slots page (Some slot) shown none touched = touched.ready
 

@@ -22,7 +22,9 @@ use Rattle.fault_core.specs.View.{View, kept_by}
 use Rattle.fault_core.specs.Reach.{IsReachedHome, Reaches, ReachHalts, BringsOwn, no_break}
 use Rattle.fault_core.specs.Told.{Known}
 use Rattle.fault_core.specs.Homes.{AreHomesOf, HaveSectors}
+use Rattle.fault_core.specs.Room.{KeepsWhileEmpty}
 use Rattle.fault_core.proofs.ReachLemmas.{reaches_itself, reaches_then, reached_home_before, halts_before, known_after}
+use Rattle.fault_core.proofs.RoomLemmas.{room_itself, room_then}
 
 -- a home that was found for the page
 pub record IsHomeFor (v : View) (id page : ℕ) (h : Home) : Type 0 where
@@ -36,6 +38,7 @@ pub record IsFinding (v : View) (id first pages : ℕ) (w : View) (homes : List 
   pub size : w.disk.sectors ≡ w.layout.sectors
   pub reaches : Reaches v w
   pub came : BringsOwn v.slots w.slots
+  pub room : KeepsWhileEmpty v.slots w.slots
   pub long : length homes ≡ 16
   pub found : (j : ℕ) (h : Home) → j < k → slice_get homes j ≡ Some h → IsHomeFor v id (first + j) h
   pub are_named : (m : List Sector) (named : Triples) (b : List ℕ) → Known v m named b → (j : ℕ) (h : Home) → j < k → slice_get homes j ≡ Some h → named h.id h.page h.sector ≡ true
@@ -47,6 +50,7 @@ finding_none v id first pages homes size long = record {
   size = size;
   reaches = reaches_itself v;
   came = brings_itself (λ home. (1 ≤ home.id) × (home.id ≤ 3)) v.slots;
+  room = room_itself v.slots;
   long = long;
   found = λ j h below here. absurd (omega (arith, below));
   are_named = λ m named b known j h below here. absurd (omega (arith, below));
@@ -63,8 +67,8 @@ set_cases homes k j home h long below here = elim (cases_eq j k) [
 module _ {v : View} {id first pages : ℕ} {w : View} {homes : List Home} {k : ℕ} (is : IsLayout v.layout) (h : IsFinding v id first pages w homes k) where
   pub finding_more : (x : View) (home : Home) → pages ≤ 16 → k < pages → IsReachedHome w home → home.id ≡ id → home.page ≡ first + k
       → ((m : List Sector) (named : Triples) (b : List ℕ) → Known w m named b → named id (first + k) home.sector ≡ true)
-      → Reaches w x → BringsOwn w.slots x.slots → x.disk.transfers ≤ w.disk.transfers + 14 → IsFinding v id first pages x (slice_set homes k home) (k + 1)
-  finding_more x home few below reached same_id same_page told next came cost =
+      → Reaches w x → BringsOwn w.slots x.slots → KeepsWhileEmpty w.slots x.slots → x.disk.transfers ≤ w.disk.transfers + 14 → IsFinding v id first pages x (slice_set homes k home) (k + 1)
+  finding_more x home few below reached same_id same_page told next came room cost =
       let long = h.long in
       let inside : k < length homes = omega (arith, long, below, few) in
       let same_long : length (slice_set homes k home) ≡ length homes = simp length-set in
@@ -73,6 +77,7 @@ module _ {v : View} {id first pages : ℕ} {w : View} {homes : List Home} {k : �
         size = next.goes.makes.went.sectors ∙ h.size ∙ ap (λ l. l.sectors) (sym next.layout);
         reaches = reaches_then v w is h.reaches x next;
         came = brings_then h.came came;
+        room = room_then h.room room;
         long = same_long ∙ long;
         found = λ j g under here. elim (set_cases homes k j home g inside under here) [
           | inl (at, same) ↦ subst (IsHomeFor v id (first + j)) same (record { is_id = same_id; is_page = same_page ∙ ap (λ n. first + n) (sym at); reached = reached_home_before v w is h.reaches home reached })
@@ -96,6 +101,9 @@ module _ {v : View} {id first pages : ℕ} {w : View} {homes : List Home} {k : �
 
   pub finding_came : (t : Slots) → BringsOwn w.slots t → BringsOwn v.slots t
   finding_came t came = brings_then h.came came
+
+  pub finding_room : (t : Slots) → KeepsWhileEmpty w.slots t → KeepsWhileEmpty v.slots t
+  finding_room t room = room_then h.room room
 
   pub finding_stopped : (x : View) → Reaches w x → Reaches v x
   finding_stopped x next = reaches_then v w is h.reaches x next

@@ -25,4 +25,9 @@ pub mod ForcedLemmas
 mod ForgetLemmas
 mod KilledLemmas
 mod KillLemmas
+mod WholeLemmas
 mod ActivateLemmas
+mod RoomLemmas
+mod AttemptLemmas
+mod MovedLemmas
+mod LackLemmas

@@ -11,7 +11,7 @@ use Rattle.labelled_disk.specs.Label.{names, is_file_id}
 use Rattle.labelled_disk.specs.Sectors.{Sector, IsSector}
 use Rattle.flat_mem.specs.Memory.{part, overwritten}
 use Rattle.frame_pool.specs.declared.home.Home.{Home}
-use Rattle.frame_pool.specs.Frames.{Frame, Has, IsOf, changed}
+use Rattle.frame_pool.specs.Frames.{Frame, Slots, Has, IsOf, changed}
 use Rattle.frame_pool.specs.FrameLaws.{has_set, has_below}
 use Rattle.frame_pool.specs.ListLaws.{get_same, get_other}
 use Rattle.file_map.specs.FileMap.{Triples}
@@ -28,7 +28,7 @@ use Rattle.filer_kernel.specs.Tables.{IsTablePage}
 use Rattle.fault_core.specs.Moves.{Leaves}
 use Rattle.fault_core.specs.Told.{IsStored, Known}
 use Rattle.fault_core.specs.Touch.{and_own, on_data, Touches}
-use Rattle.fault_core.specs.Unit.{KeepsResident}
+use Rattle.fault_core.specs.Room.{KeepsSlots}
 use Rattle.fault_core.specs.View.{View}
 use Rattle.fault_core.proofs.BeforeLemmas.{map_still}
 use Rattle.fault_core.proofs.FrameLemmas.{client_on_data, frame_kind}
@@ -115,6 +115,17 @@ module _ (v : View) (is : IsLayout v.layout) (home : Home) (client : 16 ≤ home
 
 -- ---- A frame of the page was changed.
 
+-- it is dirty
+pub dirty_set : (s t : Slots) (i : ℕ) (f : Frame) → Has s i f → (from : ℕ) (bytes : List ℕ) → t ≡ slice_set s i (Some (changed f from bytes)) → (id page : ℕ) → IsOf f id page → IsDirty t id page
+dirty_set s t i f has from bytes slots id page of = record {
+  slot = i;
+  frame = changed f from bytes;
+  has = record { is = ap (λ (l : Slots). slice_get l i) slots ∙ get_same s i (Some (changed f from bytes)) (has_below s i f has) };
+  dirty = refl;
+  same_id = of.0;
+  same_page = of.1;
+}
+
 module _ (w x : View) (is : IsLayout w.layout) (placed : ArePlaced w.slots w.layout) (i : ℕ) (f : Frame) (has : Has w.slots i f) (id page : ℕ) (of : IsOf f id page) (client : 16 ≤ id) (from : ℕ) (bytes : List ℕ)
     (layout : x.layout ≡ w.layout) (runs : x.runs ≡ w.runs) (goes : Goes (ChangesAt f.home from bytes) (this_page f.home.id f.home.page) [] w.disk w.slots x.disk x.slots)
     (slots : x.slots ≡ slice_set w.slots i (Some (changed f from bytes))) where
@@ -141,15 +152,12 @@ module _ (w x : View) (is : IsLayout w.layout) (placed : ArePlaced w.slots w.lay
     ];
   }
 
-  pub changed_dirty : IsDirty x.slots id page
-  changed_dirty = record { slot = i; frame = changed f from bytes; has = changed_there; dirty = refl; same_id = of.0; same_page = of.1 }
-
-  pub changed_resident : KeepsResident w.slots x.slots
-  changed_resident other number (j, (g, there, own)) = elim (cases_eq j i) [
+  pub changed_slots : KeepsSlots w.slots x.slots
+  changed_slots j other number (g, there, own) = elim (cases_eq j i) [
     | inl same ↦
         let one : g ≡ f = same_Some g f (same_Some (Some g) (Some f) (sym there.is ∙ ap (slice_get w.slots) same ∙ has.is)) in
-        (i, (changed f from bytes, changed_there, subst (λ (h : Frame). IsOf h other number) one own))
-    | inr apart ↦ (j, (g, record { is = ap (λ s. slice_get s j) slots ∙ get_other w.slots i j (Some (changed f from bytes)) apart ∙ there.is }, own))
+        (changed f from bytes, subst (λ (k : ℕ). Has x.slots k (changed f from bytes)) (sym same) changed_there, subst (λ (h : Frame). IsOf h other number) one own)
+    | inr apart ↦ (g, record { is = ap (λ s. slice_get s j) slots ∙ get_other w.slots i j (Some (changed f from bytes)) apart ∙ there.is }, own)
   ]
 
   pub changed_touches : Touches (this_page id page) w x

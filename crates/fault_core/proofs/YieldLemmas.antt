@@ -1,5 +1,5 @@
 -- Frames that stay, and frames whose slots pages of the maps and of the space tables take.
-use Rattle.std.proofs.Common.{◌≡◌, ◌⊎◌, inl, inr, ℕ, ◌<◌, ◌≤◌, List, [], ◌∷◌, length, Some, refl, sym, ◌∙◌, ap, subst, arith}
+use Rattle.std.proofs.Common.{◌≡◌, ◌⊎◌, inl, inr, ℕ, ◌<◌, List, [], ◌∷◌, length, Some, refl, sym, ◌∙◌, ap, subst, arith}
 use Rattle.std.specs.Prelude.{slice_get, slice_set}
 use Rattle.std.proofs.lemmas.Bool.{cases_eq}
 use Rattle.std.proofs.lemmas.Option.{same_Some}
@@ -10,12 +10,13 @@ use Rattle.frame_pool.specs.Frames.{Frame, Slots, Has}
 use Rattle.frame_pool.specs.FrameLaws.{has_below}
 use Rattle.frame_pool.specs.ListLaws.{get_same, get_other}
 use Rattle.force_calls.specs.Run.{Stay}
+use Rattle.swapper_kernel.specs.declared.manager.Manager.TheVariants.{FileMap}
+use Rattle.swapper_kernel.specs.Maps.{IsMapHome}
 use Rattle.swapper_kernel.specs.Homes.{Homes}
 use Rattle.swapper_kernel.specs.Steps.{Step, IsStep, IsCourse, fills, writes_out, alters}
 use Rattle.filer_kernel.specs.Tables.{BesideTables, IsComing, IsChanging}
 use Rattle.fault_core.specs.Reach.{IsManagersPage, StayOrYield}
 use Rattle.fault_core.specs.View.{View, kept_by}
-use Rattle.fault_core.proofs.TurnLemmas.{map_id}
 
 pub yield_itself : (s : Slots) → StayOrYield s s
 yield_itself s i f has = (f, has, inl (refl, refl))
@@ -67,12 +68,12 @@ module _ (come change : Homes) (comes : (home : Home) → come home → IsManage
 
 -- ---- The tables were asked, or changed.
 
-three_own : (home : Home) → home.id ≡ 3 → IsManagersPage home
-three_own home three = (omega (arith, three), omega (arith, three))
+map_own : (layout : Layout) (home : Home) → IsMapHome FileMap layout home → IsManagersPage home
+map_own layout home map = inl (ap (λ (h : Home). h.id) map.2)
 
 pub tables_yield : (v w : View) → BesideTables v.disk v.slots v.layout v.runs w.disk w.slots w.layout w.runs → StayOrYield v.slots w.slots
 tables_yield v w beside =
     course_yields (IsComing v.layout v.disk v.slots (kept_by v)) (IsChanging v.layout)
-    (λ home coming. elim coming [ inl map ↦ map_id v.layout home map | inr found ↦ three_own home found.table.of_tables ])
-    (λ home changing. elim changing [ inl map ↦ map_id v.layout home map | inr table ↦ three_own home table.of_tables ])
+    (λ home coming. elim coming [ inl map ↦ map_own v.layout home map | inr found ↦ inr found.table.of_tables ])
+    (λ home changing. elim changing [ inl map ↦ map_own v.layout home map | inr table ↦ inr table.of_tables ])
     beside.steps.steps v.disk v.slots w.disk w.slots beside.steps.course

@@ -1,6 +1,6 @@
 -- What of a range is brought in before it is asked for.
 use Rattle.std.specs.Prelude.{◌≡◌, ◌≢◌, ◌⊎◌, ℕ, zero, suc, ◌+◌, ◌-◌, ◌<◌, ◌≤◌, List, Some, None}
-use Rattle.frame_pool.specs.Frames.{Slots}
+use Rattle.frame_pool.specs.Frames.{Slots, IsEmpty}
 use Rattle.flat_machine.specs.declared.space.Space.{Space}
 use Rattle.flat_machine.specs.declared.space.FilePage.{FilePage}
 use Rattle.flat_machine.specs.At.{shown_at}
@@ -9,7 +9,7 @@ use Rattle.swap_units.specs.Unit.{IsUnit}
 use Rattle.space_tables.specs.SpaceTables.{IsIntervalAt}
 use Rattle.fault_core.specs.declared.activate.Progress.{Progress}
 use Rattle.fault_core.specs.Range.{IsNextPart}
-use Rattle.fault_core.specs.Unit.{IsReady}
+use Rattle.fault_core.specs.Unit.{IsReady, IsWhole}
 
 -- ---- The units of a range.
 
@@ -61,6 +61,10 @@ pub record IsWholeAt (spaces : List Space) (kept : List Interval) (slots : Slots
   pub ready : IsReady kept slots page
   pub projected : IsIntervalAt spaces page ready.interval
 
+-- each page from the one up to the other that a window shows is resident, with its whole swap unit
+abbrev pub AreWhole : List Space → Slots → ℕ → ℕ → Type 0
+AreWhole spaces slots from to = (page : ℕ) (x : Interval) → from ≤ page → page < to → IsIntervalAt spaces page x → x.mode ≢ 0 → IsWhole slots x page
+
 -- so it is of some page from the one up to the other
 pub record HasWholeUnit (spaces : List Space) (kept : List Interval) (slots : Slots) (from to : ℕ) : Type 0 where
   pub page : ℕ
@@ -72,11 +76,13 @@ pub record HasWholeUnit (spaces : List Space) (kept : List Interval) (slots : Sl
 abbrev pub IsActive : List Space → List Interval → Slots → ℕ → ℕ → Type 0
 IsActive spaces kept slots from to = (page : ℕ) → from ≤ page → page < to → IsShownAt spaces page → HasWholeUnit spaces kept slots from to
 
--- so many units were brought in, where so many pages may be, and the last one is resident, all of it
+-- So many units were brought in, where so many pages may be, and the last one is resident, all of it. While a slot is empty each
+-- of them is: no page that was brought in left.
 pub record AreBrought (spaces : List Space) (kept : List Interval) (slots : Slots) (from to most units : ℕ) : Type 0 where
   pub last : ℕ
   pub are : AreUnits spaces to (start_at from most) units last
   pub whole : units ≢ 0 → IsWholeAt spaces kept slots last
+  pub all : (slot : ℕ) → IsEmpty slots slot → units ≢ 0 → AreWhole spaces slots from (last + 1)
 
 -- ---- One turn.
 

@@ -14,3 +14,6 @@ pub mod ReferenceLaws
 pub mod Range
 pub mod Kill
 pub mod Activate
+pub mod Attempt
+pub mod Room
+pub mod Lack

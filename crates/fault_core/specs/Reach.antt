@@ -60,10 +60,10 @@ no_break page = ⊥
 abbrev pub BringsOwn : Slots → Slots → Type 0
 BringsOwn before after = Brings (λ home. (1 ≤ home.id) × (home.id ≤ 3)) before after
 
--- a page of the maps, or of the space tables
+-- a page of the file map, or of the space tables
 abbrev pub IsManagersPage : Home → Type 0
-IsManagersPage home = (1 ≤ home.id) × (home.id ≤ 3)
+IsManagersPage home = (home.id ≡ 2) ⊎ (home.id ≡ 3)
 
--- each frame stays where it is, with its bytes, or its slot has a page of the maps or of the space tables afterwards
+-- each frame stays where it is, with its bytes, or its slot has a page of the file map or of the space tables afterwards
 abbrev pub StayOrYield : Slots → Slots → Type 0
 StayOrYield before after = (i : ℕ) (f : Frame) → Has before i f → (g : Frame) × Has after i g × (((g.home ≡ f.home) × (g.bytes ≡ f.bytes)) ⊎ IsManagersPage g.home)

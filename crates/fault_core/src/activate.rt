@@ -1,16 +1,20 @@
 //! The swap units of a range are brought in before they are asked for.
-ghost use Rattle.std.specs.Prelude.{◌≡◌, ◌≢◌, ◌≤◌, ◌<◌, ◌+◌, ◌*◌, ◌/◌, List, length, None, IfOk, IfErr, IfSome, OnOk};
+ghost use Rattle.std.specs.Prelude.{◌≡◌, ◌≢◌, ◌≤◌, ◌<◌, ◌+◌, ◌*◌, ◌/◌, ℕ, List, length, None, IfOk, IfErr, IfSome, OnOk};
 ghost use Rattle.labelled_disk.specs.declared.evidence.Halt.TheVariants as halt;
 ghost use Rattle.labelled_disk.specs.Sectors.{Sector};
 ghost use Rattle.file_map.specs.FileMap.{Triples};
+ghost use Rattle.frame_pool.specs.Frames.{IsEmpty};
 ghost use Rattle.flat_machine.specs.declared.space.Space.{Space};
 ghost use Rattle.flat_machine.specs.Space.{root_pages};
 ghost use Rattle.session_words.specs.FrameLaws.{BringsKnown};
-ghost use Rattle.fault_core.specs.Activate.{AreBare, AreBrought, AreUnits, IsActive, IsFurther, IsShownAt, IsTooLong, IsTurn, IsUnitAt, start_at};
+ghost use Rattle.fault_core.specs.Activate.{AreBare, AreBrought, AreUnits, AreWhole, IsActive, IsFurther, IsShownAt, IsTooLong, IsTurn, IsUnitAt, start_at};
 ghost use Rattle.fault_core.specs.Kill.{BreaksWithin};
 ghost use Rattle.fault_core.specs.Range.{IsNextPart};
 ghost use Rattle.fault_core.specs.Reach.{Reaches, ReachHalts, BringsOwn};
 ghost use Rattle.fault_core.specs.Told.{BreaksTables};
+ghost use Rattle.fault_core.specs.Room.{KeepsWhileEmpty};
+ghost use Rattle.fault_core.specs.Lack.{Lacks, Sees, range_units, shown_unit};
+ghost use Rattle.swapper_kernel.specs.Goes.{no_page};
 
 use crate::CoreOver;
 use crate::walk::end_of;
@@ -52,10 +56,13 @@ impl<D: Disk, A: Allocator> CoreOver<D, A> {
         ensures shown { (m : List Sector) (named : Triples) (ss : List Space) → Knows self.old m named ss → IfOk result (λ r. r.1 ≢ 0 → IsUnitAt ss page r.0 r.1) }
         ensures bare { (m : List Sector) (named : Triples) (ss : List Space) → Knows self.old m named ss → IfOk result (λ r. r.1 ≡ 0 → AreBare ss page r.0 × IsNextPart ss page end r.0) }
         ensures cause { IfErr result (ReachHalts (BreaksTables (state self.old) self.old.intervals page) (state self.old) (state self.new)) }
+        ensures lacks { IfErr result (Lacks no_page) }
+        ensures sees { (ss : List Space) → Sees (state self.old) (kept self.old) self.old.intervals ss → Sees (state self.new) (kept self.new) self.new.intervals ss }
         ensures sound { (m : List Sector) (named : Triples) (ss : List Space) → Knows self.old m named ss → IfErr result (λ e. e ≡ halt.Disk) }
         ensures same { (m : List Sector) (named : Triples) (ss : List Space) → Knows self.old m named ss → Knows self.new m named ss }
         ensures reaches { Reaches (state self.old) (state self.new) }
         ensures came { BringsOwn self.old.filer.swapper.pool self.new.filer.swapper.pool }
+        ensures room { KeepsWhileEmpty self.old.filer.swapper.pool self.new.filer.swapper.pool }
         ensures intervals { self.new.intervals ≡ self.old.intervals }
         ensures cost { (D.state self.new.filer.swapper.under).transfers ≤ (D.state self.old.filer.swapper.under).transfers + 196 }
     {
@@ -80,12 +87,16 @@ impl<D: Disk, A: Allocator> CoreOver<D, A> {
         requires few { so_far.units + so_far.left ≤ 2048 }
         ensures turn { IfOk result (λ o. IfSome o (IsTurn so_far)) }
         ensures further { (m : List Sector) (named : Triples) (ss : List Space) → Knows self.old m named ss → IfOk result (λ o. IfSome o (IsFurther ss end so_far)) }
+        ensures whole { (m : List Sector) (named : Triples) (ss : List Space) → Knows self.old m named ss → IfOk result (λ o. IfSome o (λ now. AreWhole ss self.new.filer.swapper.pool so_far.page now.page)) }
         ensures too_long { (m : List Sector) (named : Triples) (ss : List Space) → Knows self.old m named ss → IfOk result (λ o. o ≡ None → IsTooLong ss so_far) }
         ensures cause { IfErr result (ReachHalts (BreaksTables (state self.old) self.old.intervals so_far.page) (state self.old) (state self.new)) }
+        ensures missing { (ss : List Space) → Sees (state self.old) (kept self.old) self.old.intervals ss → IfErr result (Lacks (shown_unit ss so_far.page)) }
+        ensures sees { (ss : List Space) → Sees (state self.old) (kept self.old) self.old.intervals ss → Sees (state self.new) (kept self.new) self.new.intervals ss }
         ensures sound { (m : List Sector) (named : Triples) (ss : List Space) → Knows self.old m named ss → IfErr result (λ e. e ≡ halt.Disk) }
         ensures same { (m : List Sector) (named : Triples) (ss : List Space) → Knows self.old m named ss → Knows self.new m named ss }
         ensures reaches { Reaches (state self.old) (state self.new) }
         ensures came { (m : List Sector) (named : Triples) (ss : List Space) → Knows self.old m named ss → BringsKnown ss self.old.filer.swapper.pool self.new.filer.swapper.pool }
+        ensures room { KeepsWhileEmpty self.old.filer.swapper.pool self.new.filer.swapper.pool }
         ensures intervals { self.new.intervals ≡ self.old.intervals }
         ensures cost { (D.state self.new.filer.swapper.under).transfers ≤ (D.state self.old.filer.swapper.under).transfers + 840 }
     {
@@ -120,7 +131,10 @@ impl<D: Disk, A: Allocator> CoreOver<D, A> {
         ensures within { IfOk result (λ r. r.0 ≢ 0 → (first ≤ r.1) × (r.1 < first + pages)) }
         ensures units { (m : List Sector) (named : Triples) (ss : List Space) → Knows self.old m named ss → IfOk result (λ r. AreUnits ss (first + pages) (start_at first (length self.old.filer.swapper.pool / 2)) r.0 r.1) }
         ensures shown { (m : List Sector) (named : Triples) (ss : List Space) → Knows self.old m named ss → IfOk result (λ r. r.0 ≢ 0 → IsShownAt ss r.1) }
+        ensures all { (m : List Sector) (named : Triples) (ss : List Space) → Knows self.old m named ss → IfOk result (λ r. (slot : ℕ) → IsEmpty self.new.filer.swapper.pool slot → r.0 ≢ 0 → AreWhole ss self.new.filer.swapper.pool first (r.1 + 1)) }
         ensures cause { IfErr result (ReachHalts (BreaksWithin (state self.old) self.old.intervals first (first + pages)) (state self.old) (state self.new)) }
+        ensures missing { (ss : List Space) → Sees (state self.old) (kept self.old) self.old.intervals ss → IfErr result (Lacks (range_units ss first (first + pages))) }
+        ensures sees { (ss : List Space) → Sees (state self.old) (kept self.old) self.old.intervals ss → Sees (state self.new) (kept self.new) self.new.intervals ss }
         ensures sound { (m : List Sector) (named : Triples) (ss : List Space) → Knows self.old m named ss → IfErr result (λ e. e ≡ halt.Disk) }
         ensures same { (m : List Sector) (named : Triples) (ss : List Space) → Knows self.old m named ss → Knows self.new m named ss }
         ensures reaches { Reaches (state self.old) (state self.new) }
@@ -153,11 +167,13 @@ impl<D: Disk, A: Allocator> CoreOver<D, A> {
     /// Brings in the swap units of the pages that windows show in a range of pages of the root, in rising order: the first one
     /// in any case, and each next one while their pages are at most half of the frames. Gives how many units there were. The one
     /// that was brought in last is resident, all of it: it is touched once more, after the tables were asked for what is next.
+    /// While a slot of the frames is empty, so is each of them.
     pub fn activate(&mut self, first: u32, pages: u32) -> Result<u32, Halt>
         requires size { (D.state self.old.filer.swapper.under).sectors ≡ self.old.filer.swapper.layout.sectors }
         ensures whole { (m : List Sector) (named : Triples) (ss : List Space) → Knows self.old m named ss → OnOk result (IsActive ss (kept self.new) self.new.filer.swapper.pool first (first + pages)) }
         ensures units { (m : List Sector) (named : Triples) (ss : List Space) → Knows self.old m named ss → IfOk result (AreBrought ss (kept self.new) self.new.filer.swapper.pool first (first + pages) (length self.old.filer.swapper.pool / 2)) }
         ensures cause { IfErr result (ReachHalts (BreaksWithin (state self.old) self.old.intervals first (first + pages)) (state self.old) (state self.new)) }
+        ensures missing { (ss : List Space) → Sees (state self.old) (kept self.old) self.old.intervals ss → IfErr result (Lacks (range_units ss first (first + pages))) }
         ensures sound { (m : List Sector) (named : Triples) (ss : List Space) → Knows self.old m named ss → IfErr result (λ e. e ≡ halt.Disk) }
         ensures same { (m : List Sector) (named : Triples) (ss : List Space) → Knows self.old m named ss → Knows self.new m named ss }
         ensures reaches { Reaches (state self.old) (state self.new) }

@@ -4,8 +4,9 @@ ghost use Rattle.descriptor_cache.specs.Cache.{kept_in};
 ghost use Rattle.fault_core.specs.Kept.{AreFormed, are_formed_once};
 
 use descriptor_cache::DescriptorCache;
-use filer_kernel::{Filer, FilerOver};
+use filer_kernel::{Filer, FilerOver, Window1Over};
 use labelled_disk::Disk;
+use space_tables::SpaceTables;
 use std::alloc::Allocator;
 
 /// A filer that is held by value, at most 16 intervals of the projection in its space tables, and how many the projection
@@ -84,7 +85,20 @@ impl<D: Disk, A: Allocator> CoreOver<D, A> {
 
 impl<D: Disk, A: Allocator> CoreOver<D, A> {
     ghost use Rattle.std.specs.Borrow.{sem};
+    ghost use Rattle.space_tables.specs.SpaceTables.{interval_count, tables_memory};
     ghost use Rattle.fault_core.specs.Lending.{LendsFiler};
+
+    /// The space tables, with as many intervals as the core counts. Where they are changed, the intervals that are kept are to
+    /// be forgotten, and how many there are is to be told.
+    pub fn tables<'s>(&'s mut self) -> SpaceTables<Window1Over<'s, D, A>>
+        requires size { (D.state self.old.filer.swapper.under).sectors ≡ self.old.filer.swapper.layout.sectors }
+        ensures value { (tables_memory result).filer.now ≡ self.old.filer }
+        ensures intervals { interval_count result ≡ self.old.intervals }
+        ensures* lends { sem 𝓛 (LendsFiler D.row A.row D.Disk A.Allocator self.entry (tables_memory result).filer) }
+    {
+        let intervals = self.intervals;
+        SpaceTables::<Window1Over<D, A>>::over(self.filer.window1(), intervals)
+    }
 
     /// The filer.
     pub fn filer_over(&mut self) -> &mut FilerOver<D, A>

@@ -2,8 +2,10 @@
 #![tactic(auto)]
 
 mod activate;
+mod attempt;
 mod core_over;
 mod describe;
+mod frames;
 mod homes;
 mod kill;
 mod laws;
@@ -18,6 +20,7 @@ mod touch;
 mod unit;
 mod walk;
 
+pub use attempt::Attempt;
 pub use core_over::{Core, CoreOver};
 pub use homes::Homes;
 pub use laws::{

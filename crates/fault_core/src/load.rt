@@ -1,46 +1,31 @@
 //! Bytes are loaded from the pages that windows show.
-ghost use Rattle.std.specs.Prelude.{◌≡◌, ◌≢◌, ◌≤◌, ◌<◌, ◌+◌, ◌/◌, ℕ, false, List, length, IfOk, IfErr, IsOk, IsSome, OnOk};
+ghost use Rattle.std.specs.Prelude.{◌≡◌, ◌≢◌, ◌≤◌, ◌+◌, ◌/◌, ℕ, false, List, length, Ok, IfOk, IfErr, IsOk, OnOk};
 ghost use Rattle.labelled_disk.specs.declared.evidence.Halt.TheVariants as halt;
 ghost use Rattle.labelled_disk.specs.Sectors.{Sector};
 ghost use Rattle.file_map.specs.FileMap.{Triples};
-ghost use Rattle.flat_mem.specs.Memory.{part};
-ghost use Rattle.frame_pool.specs.Frames.{Frame, Has, frame_at};
 ghost use Rattle.flat_machine.specs.declared.space.Space.{Space};
 ghost use Rattle.fault_core.specs.declared.reference.Access.TheVariants as access;
 ghost use Rattle.session_words.specs.FrameLaws.{BringsKnown};
 ghost use Rattle.fault_core.specs.Access.{BreaksFor, Shows, access_of, last_page};
+ghost use Rattle.fault_core.specs.Attempt.{ArePresent, IfAbsent, IfAccess, IsAbsent, IsHere, IsReferred, moved};
 ghost use Rattle.fault_core.specs.Kept.{AreApart};
 ghost use Rattle.fault_core.specs.Moves.{AreSeen, HasBytes, Loads};
 ghost use Rattle.fault_core.specs.View.{view_of};
-ghost use Rattle.fault_core.specs.Reach.{Reaches, ReachHalts, no_break};
+ghost use Rattle.fault_core.specs.Reach.{BringsOwn, Reaches, ReachHalts, no_break};
 ghost use Rattle.fault_core.specs.Told.{Known};
 ghost use Rattle.fault_core.specs.Unit.{AreShownStored, BringsBoth, BringsShown, IsReady, IsWhole, file_page};
+ghost use Rattle.fault_core.specs.Lack.{Lacks, Sees, both_units, shown_units, unit_pages};
+ghost use Rattle.swapper_kernel.specs.Goes.{no_page};
 
 use crate::CoreOver;
+use crate::attempt::{Attempt, Prospect};
+use crate::frames::{copy_out, copy_pages};
 use crate::reference::{Access, Reference};
 use crate::touch::touch;
 use filer_kernel::FilerOver;
 use labelled_disk::{Disk, Halt};
 use std::alloc::Allocator;
 use swap_units::Interval;
-
-// Reads from a page in a frame.
-fn copy_out<D: Disk, A: Allocator>(
-    filer: &mut FilerOver<D, A>,
-    slot: u32,
-    from: usize,
-    into: &mut [u8],
-)
-    requires below { slot < length filer.old.swapper.pool }
-    requires filled { IsSome (frame_at filer.old.swapper.pool slot) }
-    requires inside { from + length into.old ≤ 512 }
-    ensures bytes { (f : Frame) → Has filer.old.swapper.pool slot f → into.new ≡ part f.bytes from (length into.old) }
-    ensures width { length into.new ≡ length into.old }
-    ensures same { filer.new ≡ filer.old }
-{
-    let page = filer.swapper_over().frames().bytes(slot);
-    into.copy_from_slice(&page[from..from + into.len()]);
-}
 
 // Loads from one page that an interval shows.
 fn load_in<D: Disk, A: Allocator>(
@@ -57,6 +42,7 @@ fn load_in<D: Disk, A: Allocator>(
     ensures width { length into.new ≡ length into.old }
     ensures whole { OnOk result (IsWhole filer.new.swapper.pool x.now page) }
     ensures cause { IfErr result (ReachHalts no_break (view_of filer.old) (view_of filer.new)) }
+    ensures lacks { IfErr result (Lacks (unit_pages x.now page)) }
     ensures sound { (m : List Sector) (named : Triples) (b : List ℕ) → Known (view_of filer.old) m named b → AreShownStored named m x.now → IfErr result (λ e. e ≡ halt.Disk) }
     ensures reaches { Reaches (view_of filer.old) (view_of filer.new) }
     ensures came { BringsShown x.now filer.old.swapper.pool filer.new.swapper.pool }
@@ -89,6 +75,7 @@ fn load_shown<D: Disk, A: Allocator>(
     ensures width { length into.new ≡ length into.old }
     ensures whole { OnOk result (IsWhole filer.new.swapper.pool last.now (last_page address (length into.old))) }
     ensures cause { IfErr result (ReachHalts no_break (view_of filer.old) (view_of filer.new)) }
+    ensures lacks { IfErr result (Lacks (both_units first.now last.now address (length into.old))) }
     ensures sound { (m : List Sector) (named : Triples) (b : List ℕ) → Known (view_of filer.old) m named b → AreShownStored named m first.now → AreShownStored named m last.now → IfErr result (λ e. e ≡ halt.Disk) }
     ensures reaches { Reaches (view_of filer.old) (view_of filer.new) }
     ensures came { BringsBoth first.now last.now filer.old.swapper.pool filer.new.swapper.pool }
@@ -123,6 +110,7 @@ impl<D: Disk, A: Allocator> CoreOver<D, A> {
         ensures refused { IfOk result (λ a. a ≢ access.Done → into.new ≡ into.old) }
         ensures ready { IfOk result (λ a. a ≡ access.Done → IsReady (kept self.new) self.new.filer.swapper.pool (last_page address (length into.old))) }
         ensures cause { IfErr result (ReachHalts (BreaksFor (state self.old) self.old.intervals address (length into.old)) (state self.old) (state self.new)) }
+        ensures missing { (ss : List Space) → Sees (state self.old) (kept self.old) self.old.intervals ss → IfErr result (Lacks (shown_units ss address (length into.old))) }
         ensures sound { (m : List Sector) (named : Triples) (ss : List Space) → Knows self.old m named ss → IfErr result (λ e. e ≡ halt.Disk) }
         ensures same { (m : List Sector) (named : Triples) (ss : List Space) → Knows self.old m named ss → Knows self.new m named ss }
         ensures reaches { Reaches (state self.old) (state self.new) }
@@ -142,5 +130,41 @@ impl<D: Disk, A: Allocator> CoreOver<D, A> {
             Ok(()) => Ok(Access::Done),
             Err(halt) => Err(halt),
         }
+    }
+
+    /// Loads 1 to 512 bytes from an address on where all pages of the reference are resident, and brings in no page of a
+    /// client: it gives the first of them that is not, where the reference is not refused.
+    pub fn try_load(&mut self, address: u32, into: &mut [u8]) -> Result<Attempt, Halt>
+        requires size { (D.state self.old.filer.swapper.under).sectors ≡ self.old.filer.swapper.layout.sectors }
+        requires some { 1 ≤ length into.old }
+        requires few { length into.old ≤ 512 }
+        ensures access { (m : List Sector) (named : Triples) (ss : List Space) → Knows self.old m named ss → IfOk result (IfAccess (λ a. a ≡ access_of ss false address (length into.old))) }
+        ensures absent { (m : List Sector) (named : Triples) (ss : List Space) → Knows self.old m named ss → IfOk result (IfAbsent (IsAbsent ss self.new.filer.swapper.pool false address (length into.old))) }
+        ensures present { (m : List Sector) (named : Triples) (ss : List Space) → Knows self.old m named ss → IfOk result (λ t. t ≡ moved → ArePresent ss self.new.filer.swapper.pool address (length into.old)) }
+        ensures bytes { (m : List Sector) (named : Triples) (ss : List Space) → Knows self.old m named ss → IfOk result (λ t. t ≡ moved → Loads ss address into.new m) }
+        ensures width { length into.new ≡ length into.old }
+        ensures unmoved { result ≢ Ok moved → into.new ≡ into.old }
+        ensures referred { IfOk result (IfAbsent (IsReferred address (length into.old))) }
+        ensures here { IfOk result (λ t. t ≡ moved → IsHere (kept self.new) self.new.filer.swapper.pool (last_page address (length into.old))) }
+        ensures cause { IfErr result (ReachHalts (BreaksFor (state self.old) self.old.intervals address (length into.old)) (state self.old) (state self.new)) }
+        ensures lacks { IfErr result (Lacks no_page) }
+        ensures sound { (m : List Sector) (named : Triples) (ss : List Space) → Knows self.old m named ss → IfErr result (λ e. e ≡ halt.Disk) }
+        ensures same { (m : List Sector) (named : Triples) (ss : List Space) → Knows self.old m named ss → Knows self.new m named ss }
+        ensures reaches { Reaches (state self.old) (state self.new) }
+        ensures came { BringsOwn self.old.filer.swapper.pool self.new.filer.swapper.pool }
+        ensures intervals { self.new.intervals ≡ self.old.intervals }
+        ensures ready { IsReady (kept self.old) self.old.filer.swapper.pool (address / 512) → IsReady (kept self.old) self.old.filer.swapper.pool (last_page address (length into.old)) → AreApart (kept self.old)
+            → IfOk result (IfAbsent (λ page. ⊥)) }
+        ensures idle { IsReady (kept self.old) self.old.filer.swapper.pool (address / 512) → IsReady (kept self.old) self.old.filer.swapper.pool (last_page address (length into.old)) → AreApart (kept self.old)
+            → IsOk result × (self.new.filer ≡ self.old.filer) × (kept self.new ≡ kept self.old) }
+        ensures cost { (D.state self.new.filer.swapper.under).transfers ≤ (D.state self.old.filer.swapper.under).transfers + 392 }
+    {
+        let (first, last) = match self.look_ahead(address, into.len() as u32, false) {
+            Ok(Prospect::Ready { first, last }) => (first, last),
+            Ok(Prospect::Settled(attempt)) => return Ok(attempt),
+            Err(halt) => return Err(halt),
+        };
+        copy_pages(&mut self.filer, first, last, address, into);
+        Ok(Attempt::Access(Access::Done))
     }
 }

@@ -11,6 +11,8 @@ ghost use Rattle.fault_core.specs.Kept.{IsKept, AreApart};
 ghost use Rattle.fault_core.specs.Reach.{Reaches, ReachHalts, BringsOwn};
 ghost use Rattle.fault_core.specs.Told.{BreaksTables};
 ghost use Rattle.fault_core.specs.Unit.{IsReady, IsWhole};
+ghost use Rattle.fault_core.specs.Lack.{Lacks, Sees};
+ghost use Rattle.swapper_kernel.specs.Goes.{no_page};
 
 use crate::CoreOver;
 use labelled_disk::{Disk, Halt};
@@ -35,8 +37,8 @@ pub(crate) enum Reference {
     ReadOnly(u32),
 }
 
-// The last page of so many bytes from an address on.
-fn last_page(address: u32, count: u32) -> u32
+/// The last page of so many bytes from an address on.
+pub(crate) fn last_page(address: u32, count: u32) -> u32
     requires some { 1 ≤ count }
     requires few { count ≤ 512 }
     ensures { result ≡ last_page address count }
@@ -82,6 +84,8 @@ impl<D: Disk, A: Allocator> CoreOver<D, A> {
         ensures one { first ≡ last → result ≡ Ok (Some x) }
         ensures is_kept { IfOk result (λ o. IfSome o (IsKept (kept self.new))) }
         ensures cause { IfErr result (ReachHalts (BreaksTables (state self.old) self.old.intervals last) (state self.old) (state self.new)) }
+        ensures lacks { IfErr result (Lacks no_page) }
+        ensures sees { (ss : List Space) → Sees (state self.old) (kept self.old) self.old.intervals ss → Sees (state self.new) (kept self.new) self.new.intervals ss }
         ensures interval { (m : List Sector) (named : Triples) (ss : List Space) → Knows self.old m named ss → IfOk result (λ o. IfSome o (IsIntervalAt ss last)) }
         ensures none { (m : List Sector) (named : Triples) (ss : List Space) → Knows self.old m named ss → IfOk result (λ o. (o ≡ None) ↔ (shown_at ss last ≡ None)) }
         ensures sound { (m : List Sector) (named : Triples) (ss : List Space) → Knows self.old m named ss → IfErr result (λ e. e ≡ halt.Disk) }
@@ -114,8 +118,11 @@ impl<D: Disk, A: Allocator> CoreOver<D, A> {
         ensures one { IfOk result (IfShown (λ x y. address / 512 ≡ last_page address count → y ≡ x)) }
         ensures is_kept { IfOk result (IfShown (λ x y. IsKept (kept self.new) y)) }
         ensures cause { IfErr result (ReachHalts (BreaksFor (state self.old) self.old.intervals address count) (state self.old) (state self.new)) }
+        ensures lacks { IfErr result (Lacks no_page) }
+        ensures sees { (ss : List Space) → Sees (state self.old) (kept self.old) self.old.intervals ss → Sees (state self.new) (kept self.new) self.new.intervals ss }
         ensures access { (m : List Sector) (named : Triples) (ss : List Space) → Knows self.old m named ss → IfOk result (λ r. outcome r ≡ access_of ss writes address count) }
         ensures intervals_at { (m : List Sector) (named : Triples) (ss : List Space) → Knows self.old m named ss → IfOk result (IfShown (λ x y. IsIntervalAt ss (address / 512) x × IsIntervalAt ss (last_page address count) y)) }
+        ensures seen { (ss : List Space) → Sees (state self.old) (kept self.old) self.old.intervals ss → IfOk result (IfShown (λ x y. IsIntervalAt ss (address / 512) x × IsIntervalAt ss (last_page address count) y)) }
         ensures sound { (m : List Sector) (named : Triples) (ss : List Space) → Knows self.old m named ss → IfErr result (λ e. e ≡ halt.Disk) }
         ensures same { (m : List Sector) (named : Triples) (ss : List Space) → Knows self.old m named ss → Knows self.new m named ss }
         ensures reaches { Reaches (state self.old) (state self.new) }

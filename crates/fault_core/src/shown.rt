@@ -11,6 +11,9 @@ ghost use Rattle.fault_core.specs.Kept.{IsFormed, IsKept, AreApart};
 ghost use Rattle.fault_core.specs.Reach.{Reaches, ReachHalts, BringsOwn};
 ghost use Rattle.fault_core.specs.Told.{BreaksTables};
 ghost use Rattle.fault_core.specs.Unit.{IsReady, IsWhole};
+ghost use Rattle.fault_core.specs.Room.{KeepsWhileEmpty};
+ghost use Rattle.fault_core.specs.Lack.{Lacks, Sees};
+ghost use Rattle.swapper_kernel.specs.Goes.{no_page};
 
 use crate::CoreOver;
 use labelled_disk::{Disk, Halt};
@@ -26,12 +29,15 @@ impl<D: Disk, A: Allocator> CoreOver<D, A> {
         ensures form { IfOk result (λ o. IfSome o (λ x. IsFormed x × Holds x page × (x.mode ≢ 0))) }
         ensures is_kept { IfOk result (λ o. IfSome o (IsKept (kept self.new))) }
         ensures cause { IfErr result (ReachHalts (BreaksTables (state self.old) self.old.intervals page) (state self.old) (state self.new)) }
+        ensures lacks { IfErr result (Lacks no_page) }
+        ensures sees { (ss : List Space) → Sees (state self.old) (kept self.old) self.old.intervals ss → Sees (state self.new) (kept self.new) self.new.intervals ss }
         ensures interval { (m : List Sector) (named : Triples) (ss : List Space) → Knows self.old m named ss → IfOk result (λ o. IfSome o (IsIntervalAt ss page)) }
         ensures none { (m : List Sector) (named : Triples) (ss : List Space) → Knows self.old m named ss → IfOk result (λ o. (o ≡ None) ↔ (shown_at ss page ≡ None)) }
         ensures sound { (m : List Sector) (named : Triples) (ss : List Space) → Knows self.old m named ss → IfErr result (λ e. e ≡ halt.Disk) }
         ensures same { (m : List Sector) (named : Triples) (ss : List Space) → Knows self.old m named ss → Knows self.new m named ss }
         ensures reaches { Reaches (state self.old) (state self.new) }
         ensures came { BringsOwn self.old.filer.swapper.pool self.new.filer.swapper.pool }
+        ensures room { KeepsWhileEmpty self.old.filer.swapper.pool self.new.filer.swapper.pool }
         ensures intervals { self.new.intervals ≡ self.old.intervals }
         ensures idle { IsReady (kept self.old) self.old.filer.swapper.pool page → AreApart (kept self.old)
             → IfOk result (λ o. IfSome o (λ x. IsWhole self.old.filer.swapper.pool x page) × (o ≢ None)) × IsOk result × (self.new.filer ≡ self.old.filer) × (kept self.new ≡ kept self.old) }

@@ -1,24 +1,28 @@
 //! Bytes are stored to the pages that windows show.
-ghost use Rattle.std.specs.Prelude.{◌≡◌, ◌≢◌, ◌≤◌, ◌+◌, ◌/◌, ℕ, true, List, [], length, IfOk, IfErr, IsOk, OnOk, OnErr};
+ghost use Rattle.std.specs.Prelude.{◌≡◌, ◌≢◌, ◌≤◌, ◌+◌, ◌/◌, ℕ, true, List, [], length, Ok, IfOk, IfErr, IsOk, OnOk, OnErr};
 ghost use Rattle.labelled_disk.specs.declared.evidence.Halt.TheVariants as halt;
 ghost use Rattle.labelled_disk.specs.Sectors.{Sector};
 ghost use Rattle.file_map.specs.FileMap.{Triples};
 ghost use Rattle.flat_machine.specs.declared.space.Space.{Space};
-ghost use Rattle.swapper_kernel.specs.Goes.{Goes, IsDirty, Same, this_page};
+ghost use Rattle.swapper_kernel.specs.Goes.{Goes, IsDirty, Same, this_page, no_page};
 ghost use Rattle.swapper_kernel.specs.Stands.{Stands};
 ghost use Rattle.session_words.specs.CellLaws.{IsTouchedOrOwn, Stores, StoresAt};
 ghost use Rattle.fault_core.specs.declared.reference.Access.TheVariants as access;
 ghost use Rattle.session_words.specs.FrameLaws.{BringsKnown};
 ghost use Rattle.fault_core.specs.Access.{BreaksFor, Shows, access_of, last_page};
+ghost use Rattle.fault_core.specs.Attempt.{ArePresent, IfAbsent, IfAccess, IsAbsent, IsHere, IsReferred, StoresTried, moved};
 ghost use Rattle.fault_core.specs.Kept.{AreApart};
 ghost use Rattle.fault_core.specs.Moves.{AreSeen, Leaves, StoresAs, StoresSome, client_page, of_reference};
 ghost use Rattle.fault_core.specs.View.{view_of};
-ghost use Rattle.fault_core.specs.Reach.{Reaches, ReachHalts, no_break};
+ghost use Rattle.fault_core.specs.Reach.{BringsOwn, Reaches, ReachHalts, no_break};
 ghost use Rattle.fault_core.specs.Told.{Known};
 ghost use Rattle.fault_core.specs.Touch.{Touches};
 ghost use Rattle.fault_core.specs.Unit.{AreShownStored, BringsBoth, BringsShown, IsReady, IsShownDirty, IsWhole, KeepsResident, file_page};
+ghost use Rattle.fault_core.specs.Lack.{Lacks, Sees, both_units, shown_units, unit_pages};
 
 use crate::CoreOver;
+use crate::attempt::{Attempt, Prospect};
+use crate::frames::{change_in, change_pages};
 use crate::reference::{Access, Reference};
 use crate::touch::touch;
 use filer_kernel::FilerOver;
@@ -42,6 +46,7 @@ fn store_in<D: Disk, A: Allocator>(
     ensures whole { OnOk result (IsWhole filer.new.swapper.pool x.now page) }
     ensures dirty { OnOk result (IsDirty filer.new.swapper.pool x.now.id (file_page x.now page)) }
     ensures cause { IfErr result (ReachHalts no_break (view_of filer.old) (view_of filer.new)) }
+    ensures lacks { IfErr result (Lacks (unit_pages x.now page)) }
     ensures sound { (m : List Sector) (named : Triples) (b : List ℕ) → Known (view_of filer.old) m named b → AreShownStored named m x.now → IfErr result (λ e. e ≡ halt.Disk) }
     ensures touches { Touches (this_page x.now.id (file_page x.now page)) (view_of filer.old) (view_of filer.new) }
     ensures came { BringsShown x.now filer.old.swapper.pool filer.new.swapper.pool }
@@ -52,7 +57,7 @@ fn store_in<D: Disk, A: Allocator>(
         Ok(slot) => slot,
         Err(halt) => return Err(halt),
     };
-    filer.swapper_over().change(slot, from, bytes);
+    change_in(filer, slot, from, bytes);
     Ok(())
 }
 
@@ -75,6 +80,7 @@ fn store_shown<D: Disk, A: Allocator>(
     ensures whole { OnOk result (IsWhole filer.new.swapper.pool last.now (last_page address (length bytes.now))) }
     ensures dirty { OnOk result (IsDirty filer.new.swapper.pool last.now.id (file_page last.now (last_page address (length bytes.now)))) }
     ensures cause { IfErr result (ReachHalts no_break (view_of filer.old) (view_of filer.new)) }
+    ensures lacks { IfErr result (Lacks (both_units first.now last.now address (length bytes.now))) }
     ensures sound { (m : List Sector) (named : Triples) (b : List ℕ) → Known (view_of filer.old) m named b → AreShownStored named m first.now → AreShownStored named m last.now → IfErr result (λ e. e ≡ halt.Disk) }
     ensures touches { Touches (of_reference first.now last.now address (length bytes.now)) (view_of filer.old) (view_of filer.new) }
     ensures came { BringsBoth first.now last.now filer.old.swapper.pool filer.new.swapper.pool }
@@ -114,6 +120,7 @@ impl<D: Disk, A: Allocator> CoreOver<D, A> {
         ensures ready { IfOk result (λ a. a ≡ access.Done → IsReady (kept self.new) self.new.filer.swapper.pool (last_page address (length bytes.now))) }
         ensures dirty { (m : List Sector) (named : Triples) (ss : List Space) → Knows self.old m named ss → IfOk result (λ a. a ≡ access.Done → IsShownDirty ss self.new.filer.swapper.pool (last_page address (length bytes.now))) }
         ensures cause { IfErr result (ReachHalts (BreaksFor (state self.old) self.old.intervals address (length bytes.now)) (state self.old) (state self.new)) }
+        ensures missing { (ss : List Space) → Sees (state self.old) (kept self.old) self.old.intervals ss → IfErr result (Lacks (shown_units ss address (length bytes.now))) }
         ensures sound { (m : List Sector) (named : Triples) (ss : List Space) → Knows self.old m named ss → IfErr result (λ e. e ≡ halt.Disk) }
         ensures touches { Touches client_page (state self.old) (state self.new) }
         ensures came { (m : List Sector) (named : Triples) (ss : List Space) → Knows self.old m named ss → BringsKnown ss self.old.filer.swapper.pool self.new.filer.swapper.pool }
@@ -132,5 +139,42 @@ impl<D: Disk, A: Allocator> CoreOver<D, A> {
             Ok(()) => Ok(Access::Done),
             Err(halt) => Err(halt),
         }
+    }
+
+    /// Stores 1 to 512 bytes from an address on where all pages of the reference are resident, and brings in no page of a
+    /// client: it gives the first of them that is not, where the reference is not refused.
+    pub fn try_store(&mut self, address: u32, bytes: &[u8]) -> Result<Attempt, Halt>
+        requires size { (D.state self.old.filer.swapper.under).sectors ≡ self.old.filer.swapper.layout.sectors }
+        requires some { 1 ≤ length bytes.now }
+        requires few { length bytes.now ≤ 512 }
+        ensures access { (m : List Sector) (named : Triples) (ss : List Space) → Knows self.old m named ss → IfOk result (IfAccess (λ a. a ≡ access_of ss true address (length bytes.now))) }
+        ensures absent { (m : List Sector) (named : Triples) (ss : List Space) → Knows self.old m named ss → IfOk result (IfAbsent (IsAbsent ss self.new.filer.swapper.pool true address (length bytes.now))) }
+        ensures present { (m : List Sector) (named : Triples) (ss : List Space) → Knows self.old m named ss → IfOk result (λ t. t ≡ moved → ArePresent ss self.new.filer.swapper.pool address (length bytes.now)) }
+        ensures stored { (m : List Sector) (named : Triples) (ss : List Space) → Knows self.old m named ss
+            → IfOk result (λ t. Goes (StoresTried t ss address bytes.now) (IsTouchedOrOwn ss address (length bytes.now)) [] (D.state self.old.filer.swapper.under) self.old.filer.swapper.pool (D.state self.new.filer.swapper.under) self.new.filer.swapper.pool) }
+        ensures known { (m n : List Sector) (named : Triples) (ss : List Space) → Knows self.old m named ss → Stands (D.state self.new.filer.swapper.under) self.new.filer.swapper.pool n → Knows self.new n named ss }
+        ensures unmoved { result ≢ Ok moved → Reaches (state self.old) (state self.new) }
+        ensures referred { IfOk result (IfAbsent (IsReferred address (length bytes.now))) }
+        ensures here { IfOk result (λ t. t ≡ moved → IsHere (kept self.new) self.new.filer.swapper.pool (last_page address (length bytes.now))) }
+        ensures dirty { (m : List Sector) (named : Triples) (ss : List Space) → Knows self.old m named ss → IfOk result (λ t. t ≡ moved → IsShownDirty ss self.new.filer.swapper.pool (last_page address (length bytes.now))) }
+        ensures cause { IfErr result (ReachHalts (BreaksFor (state self.old) self.old.intervals address (length bytes.now)) (state self.old) (state self.new)) }
+        ensures lacks { IfErr result (Lacks no_page) }
+        ensures sound { (m : List Sector) (named : Triples) (ss : List Space) → Knows self.old m named ss → IfErr result (λ e. e ≡ halt.Disk) }
+        ensures touches { Touches client_page (state self.old) (state self.new) }
+        ensures came { BringsOwn self.old.filer.swapper.pool self.new.filer.swapper.pool }
+        ensures intervals { self.new.intervals ≡ self.old.intervals }
+        ensures ready { IsReady (kept self.old) self.old.filer.swapper.pool (address / 512) → IsReady (kept self.old) self.old.filer.swapper.pool (last_page address (length bytes.now)) → AreApart (kept self.old)
+            → IfOk result (IfAbsent (λ page. ⊥)) }
+        ensures idle { IsReady (kept self.old) self.old.filer.swapper.pool (address / 512) → IsReady (kept self.old) self.old.filer.swapper.pool (last_page address (length bytes.now)) → AreApart (kept self.old)
+            → IsOk result × (D.state self.new.filer.swapper.under ≡ D.state self.old.filer.swapper.under) × (kept self.new ≡ kept self.old) }
+        ensures cost { (D.state self.new.filer.swapper.under).transfers ≤ (D.state self.old.filer.swapper.under).transfers + 392 }
+    {
+        let (first, last) = match self.look_ahead(address, bytes.len() as u32, true) {
+            Ok(Prospect::Ready { first, last }) => (first, last),
+            Ok(Prospect::Settled(attempt)) => return Ok(attempt),
+            Err(halt) => return Err(halt),
+        };
+        change_pages(&mut self.filer, first, last, address, bytes);
+        Ok(Attempt::Access(Access::Done))
     }
 }

@@ -8,7 +8,7 @@ ghost use Rattle.swap_units.specs.Unit.{Holds};
 ghost use Rattle.swapper_kernel.specs.Bring.{AreThere};
 ghost use Rattle.swapper_kernel.specs.Goes.{Swaps};
 ghost use Rattle.swapper_kernel.specs.Halts.{Halts};
-ghost use Rattle.swapper_kernel.specs.Homes.{AreFileHomes, AreNamed, Brings, IsAmong, IsRow};
+ghost use Rattle.swapper_kernel.specs.Homes.{AreFileHomes, AreNamed, Brings, IsAmong, IsRow, no_home};
 ghost use Rattle.swapper_kernel.specs.Stands.{Stands};
 ghost use Rattle.fault_core.specs.Kept.{IsFormed};
 ghost use Rattle.fault_core.specs.View.{view_of};
@@ -16,6 +16,9 @@ ghost use Rattle.fault_core.specs.Reach.{Reaches, ReachHalts, no_break};
 ghost use Rattle.fault_core.specs.Told.{Known};
 ghost use Rattle.fault_core.specs.Homes.{homes_in, AreHomesOf, HaveSectors};
 ghost use Rattle.fault_core.specs.Unit.{AreResident, AreRunStored, BringsRun, IsResident, IsUnitRun};
+ghost use Rattle.fault_core.specs.Room.{KeepsWhileEmpty};
+ghost use Rattle.swapper_kernel.specs.Steps.{Steps};
+ghost use Rattle.fault_core.specs.Lack.{Lacks, run_pages};
 
 use crate::homes::Homes;
 use crate::search::homes_of;
@@ -91,6 +94,7 @@ fn bring<D: Disk, A: Allocator>(filer: &mut FilerOver<D, A>, homes: &Homes) -> R
     ensures cause { IfErr result (Halts (IsAmong (homes_in homes.now)) (D.state filer.old.swapper.under) filer.old.swapper.pool (D.state filer.new.swapper.under)) }
     ensures swaps { Swaps (D.state filer.old.swapper.under) filer.old.swapper.pool (D.state filer.new.swapper.under) filer.new.swapper.pool }
     ensures brings { Brings (IsAmong (homes_in homes.now)) filer.old.swapper.pool filer.new.swapper.pool }
+    ensures steps { Steps (IsAmong (homes_in homes.now)) no_home (D.state filer.old.swapper.under) filer.old.swapper.pool (D.state filer.new.swapper.under) filer.new.swapper.pool }
     ensures layout { filer.new.swapper.layout ≡ filer.old.swapper.layout }
     ensures runs { filer.new.runs ≡ filer.old.runs }
     ensures cost { (D.state filer.new.swapper.under).transfers ≤ (D.state filer.old.swapper.under).transfers + 32 }
@@ -112,9 +116,11 @@ pub(crate) fn bring_run<D: Disk, A: Allocator>(
     requires fits { first + pages ≤ 2 ^ 32 }
     ensures there { OnOk result (AreResident filer.new.swapper.pool id first pages) }
     ensures cause { IfErr result (ReachHalts no_break (view_of filer.old) (view_of filer.new)) }
+    ensures lacks { IfErr result (Lacks (run_pages id first pages)) }
     ensures sound { (m : List Sector) (named : Triples) (b : List ℕ) → Known (view_of filer.old) m named b → AreRunStored named m id first pages → IfErr result (λ e. e ≡ halt.Disk) }
     ensures reaches { Reaches (view_of filer.old) (view_of filer.new) }
     ensures came { BringsRun id first pages filer.old.swapper.pool filer.new.swapper.pool }
+    ensures room { KeepsWhileEmpty filer.old.swapper.pool filer.new.swapper.pool }
     ensures cost { (D.state filer.new.swapper.under).transfers ≤ (D.state filer.old.swapper.under).transfers + 256 }
 {
     let homes = match homes_of(filer, id, first, pages) {

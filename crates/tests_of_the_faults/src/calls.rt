@@ -34,7 +34,7 @@ pub const BEHIND: u32 = 212;
 pub type TestCore<A> = CoreOver<MemoryDisk<A>, A>;
 
 /// Whether the disk has the size of the layout.
-fn fits<D: Disk, A: Allocator>(core: &mut CoreOver<D, A>) -> bool
+pub fn fits<D: Disk, A: Allocator>(core: &mut CoreOver<D, A>) -> bool
     ensures { result ≡ true → (D.state core.new.filer.swapper.under).sectors ≡ core.new.filer.swapper.layout.sectors }
 {
     core.filer_over().swapper_over().fits()

@@ -4,6 +4,8 @@
 #[cfg(test)]
 mod activated;
 #[cfg(test)]
+mod attempts;
+#[cfg(test)]
 mod calls;
 #[cfg(test)]
 mod faults;

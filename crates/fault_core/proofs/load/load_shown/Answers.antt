@@ -1,4 +1,4 @@
-use Rattle.std.proofs.Common.{rules, ◌≡◌, ◌∙◌, ◌/◌, ◌%◌, ◌+◌, ◌-◌, ◌≤◌, length, sym, subst, arith}
+use Rattle.std.proofs.Common.{rules, ◌≡◌, ◌∙◌, ◌/◌, ◌%◌, ◌+◌, ◌-◌, ◌≤◌, length, sym, subst, arith, inl, inr, ℕ}
 use Rattle.swap_units.specs.declared.interval.Interval.{Interval}
 use Rattle.swap_units.specs.Unit.{Holds}
 use Rattle.swapper_kernel.specs.HaltLaws.{brings_then}
@@ -9,6 +9,8 @@ use Rattle.fault_core.specs.View.{view_of}
 use Rattle.fault_core.proofs.PieceLemmas.{one_page, last_is_next, loads_first, loads_next, one_loaded, two_loaded}
 use Rattle.fault_core.proofs.ReachLemmas.{known_after, halts_before, reaches_then}
 use Rattle.fault_core.proofs.ShowLemmas.{came_first, came_last}
+use Rattle.fault_core.specs.Lack.{Lacks, both_units, unit_pages}
+use Rattle.fault_core.proofs.LackLemmas.{lacks_wider}
 use Rattle.fault_core.proofs.load.load_shown.Goals as goal
 
 -- ---- On one page.
@@ -90,3 +92,31 @@ returns-clause-idle g c = λ first last.
     let whole : IsWhole c.load_in-2.new.filer.swapper.pool c.args.last.now (c.args.address / 512 + 1) = rw (one.1, page) last in
     let two = c.load_in-3.ensures.idle whole in
     (two.0, two.1 ∙ one.1)
+
+-- ---- A page has no sector.
+
+pub returns-then-into-room-clause-lacks : goal.returns-then-into-room-clause-lacks
+returns-then-into-room-clause-lacks g c =
+    let x = c.args.first.now in
+    let y = c.args.last.now in
+    let a = c.args.address in
+    let n = length c.args.into.now in
+    err_wider c.load_in.result (Lacks (unit_pages x (a / 512))) (Lacks (both_units x y a n)) (lacks_wider (unit_pages x (a / 512)) (both_units x y a n) (λ id number own. inl own)) c.load_in.ensures.lacks
+
+pub returns-in-Err-clause-lacks : goal.returns-in-Err-clause-lacks
+returns-in-Err-clause-lacks g c =
+    let x = c.args.first.now in
+    let y = c.args.last.now in
+    let a = c.args.address in
+    let n = length c.args.into.now in
+    lacks_wider (unit_pages x (a / 512)) (both_units x y a n) (λ id number own. inl own) c.in-Err.halt c.in-Err.ensures.lacks
+
+pub returns-clause-lacks : goal.returns-clause-lacks
+returns-clause-lacks g c =
+    let x = c.args.first.now in
+    let y = c.args.last.now in
+    let a = c.args.address in
+    let n = length c.args.into.now in
+    let past = c.if-into-room.false in
+    let page = next_page a n c.requires.few (omega (arith, past)) in
+    err_wider c.load_in-3.result (Lacks (unit_pages y (a / 512 + 1))) (Lacks (both_units x y a n)) (lacks_wider (unit_pages y (a / 512 + 1)) (both_units x y a n) (λ id number own. inr (subst (λ (q : ℕ). unit_pages y q id number) page own))) c.load_in-3.ensures.lacks

@@ -1,4 +1,4 @@
-use Rattle.std.proofs.Common.{◌≡◌, Option, true, subst, sym, ◌∙◌, inr, Ok, ap}
+use Rattle.std.proofs.Common.{◌≡◌, Option, true, subst, sym, ◌∙◌, inr, Ok, ap, refl}
 use Rattle.std.specs.Prelude.{IfSome}
 use Rattle.std.proofs.lemmas.Bool.{true≢false}
 use Rattle.file_map.specs.declared.run.Run.{Run}
@@ -7,6 +7,8 @@ use Rattle.file_map.specs.FileMap.{IsFound}
 use Rattle.filer_kernel.specs.Causes.{IsGiven}
 use Rattle.fault_core.specs.View.{view_of, kept_by}
 use Rattle.fault_core.proofs.FindLemmas.{home_found}
+use Rattle.fault_core.proofs.LackLemmas.{none_lacks}
+use Rattle.swapper_kernel.specs.Goes.{this_page}
 use Rattle.fault_core.proofs.search.home_of.Goals as goal
 
 pub returns-in-Ok-Some-clause-found : goal.returns-in-Ok-Some-clause-found
@@ -32,3 +34,9 @@ returns-in-Ok-None-clause-sound g c = λ m named b sector known found.
 
 pub returns-in-Err-clause-sound : goal.returns-in-Err-clause-sound
 returns-in-Err-clause-sound g c = λ m named b sector known found. c.in-Err.ensures.sound m named b known
+
+pub returns-in-Ok-None-clause-lacks : goal.returns-in-Ok-None-clause-lacks
+returns-in-Ok-None-clause-lacks g c = inr (refl, refl)
+
+pub returns-in-Err-clause-lacks : goal.returns-in-Err-clause-lacks
+returns-in-Err-clause-lacks g c = none_lacks (this_page c.args.id c.args.page) c.in-Err.halt c.in-Err.ensures.lacks

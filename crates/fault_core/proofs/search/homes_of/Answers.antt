@@ -1,8 +1,11 @@
-use Rattle.std.proofs.Common.{◌≡◌, subst, arith}
+use Rattle.std.proofs.Common.{◌≡◌, subst, arith, ◌+◌}
 use Rattle.std.proofs.lemmas.List.{length-replicate}
 use Rattle.fault_core.specs.View.{view_of}
-use Rattle.fault_core.proofs.FindLemmas.{IsFinding, finding_none, finding_more, finding_halt, finding_sound, finding_came, finding_stopped, finding_cost, found_are, found_each, found_named}
+use Rattle.fault_core.proofs.FindLemmas.{IsFinding, finding_none, finding_more, finding_halt, finding_sound, finding_came, finding_room, finding_stopped, finding_cost, found_are, found_each, found_named}
 use Rattle.fault_core.proofs.search.homes_of.Given as given
+use Rattle.fault_core.specs.Lack.{run_pages}
+use Rattle.fault_core.proofs.LackLemmas.{lacks_wider}
+use Rattle.swapper_kernel.specs.Goes.{this_page}
 use Rattle.fault_core.proofs.search.homes_of.Goals as goal
 use Rattle.fault_core.proofs.search.homes_of.Goals.{After-loop-k}
 
@@ -24,13 +27,16 @@ returns-in-Err-clause-reaches g c = finding_stopped c.args.filer.now.swapper.acc
 pub returns-in-Err-clause-came : goal.returns-in-Err-clause-came
 returns-in-Err-clause-came g c = finding_came c.args.filer.now.swapper.accepted c.loop-k.invariant c.home_of.new.filer.swapper.pool c.home_of.ensures.came
 
+pub returns-in-Err-clause-room : goal.returns-in-Err-clause-room
+returns-in-Err-clause-room g c = finding_room c.args.filer.now.swapper.accepted c.loop-k.invariant c.home_of.new.filer.swapper.pool c.home_of.ensures.room
+
 pub returns-in-Err-clause-cost : goal.returns-in-Err-clause-cost
 returns-in-Err-clause-cost g c = finding_cost c.args.filer.now.swapper.accepted c.loop-k.invariant (view_of c.home_of.new.filer) c.loop-k-test.true c.home_of.ensures.cost
 
 pub loop-k-preserved : goal.loop-k-preserved
 loop-k-preserved g c =
     finding_more c.args.filer.now.swapper.accepted c.loop-k.invariant (view_of c.home_of.new.filer) c.in-Ok.home c.requires.few c.loop-k-test.true c.in-Ok.ensures.found c.in-Ok.ensures.is.0 c.in-Ok.ensures.is.1 c.in-Ok.ensures.named
-    c.home_of.ensures.reaches c.home_of.ensures.came c.home_of.ensures.cost
+    c.home_of.ensures.reaches c.home_of.ensures.came c.home_of.ensures.room c.home_of.ensures.cost
 
 -- ---- All were found.
 
@@ -56,5 +62,13 @@ returns-clause-reaches g c = (all g (goal.at.returns-clause-reaches g c).After-l
 pub returns-clause-came : goal.returns-clause-came
 returns-clause-came g c = (all g (goal.at.returns-clause-came g c).After-loop-k).came
 
+pub returns-clause-room : goal.returns-clause-room
+returns-clause-room g c = (all g (goal.at.returns-clause-room g c).After-loop-k).room
+
 pub returns-clause-cost : goal.returns-clause-cost
 returns-clause-cost g c = (all g (goal.at.returns-clause-cost g c).After-loop-k).cost
+
+pub returns-in-Err-clause-lacks : goal.returns-in-Err-clause-lacks
+returns-in-Err-clause-lacks g c =
+    let below = c.loop-k-test.true in
+    lacks_wider (this_page c.args.id (c.args.first + c.loop-k.k)) (run_pages c.args.id c.args.first c.args.pages) (λ i p own. let at = own.1 in (own.0, omega (arith, at), omega (arith, at, below))) c.in-Err.halt c.in-Err.ensures.lacks

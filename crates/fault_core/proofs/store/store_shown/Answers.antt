@@ -18,6 +18,8 @@ use Rattle.fault_core.proofs.LeaveLemmas.{still_stored, stored_on_one, stored_no
 use Rattle.fault_core.proofs.PieceLemmas.{one_page, last_is_next}
 use Rattle.fault_core.proofs.ShowLemmas.{came_first, came_last}
 use Rattle.fault_core.proofs.store.store_shown.Given as given
+use Rattle.fault_core.specs.Lack.{Lacks, both_units, unit_pages}
+use Rattle.fault_core.proofs.LackLemmas.{lacks_wider}
 use Rattle.fault_core.proofs.store.store_shown.Goals as goal
 
 -- ---- On one page.
@@ -120,3 +122,31 @@ returns-clause-idle g c = λ first last.
     let was : IsWhole c.args.filer.now.swapper.pool c.args.last.now (c.args.address / 512 + 1) = rw page last in
     let two = c.store_in-3.ensures.idle (λ other own. one.2 c.args.last.now.id (file_page c.args.last.now other) (was other own)) in
     (two.0, two.1 ∙ one.1)
+
+-- ---- A page has no sector.
+
+pub returns-then-bytes-room-clause-lacks : goal.returns-then-bytes-room-clause-lacks
+returns-then-bytes-room-clause-lacks g c =
+    let x = c.args.first.now in
+    let y = c.args.last.now in
+    let a = c.args.address in
+    let n = length c.args.bytes.now in
+    err_wider c.store_in.result (Lacks (unit_pages x (a / 512))) (Lacks (both_units x y a n)) (lacks_wider (unit_pages x (a / 512)) (both_units x y a n) (λ id number own. inl own)) c.store_in.ensures.lacks
+
+pub returns-in-Err-clause-lacks : goal.returns-in-Err-clause-lacks
+returns-in-Err-clause-lacks g c =
+    let x = c.args.first.now in
+    let y = c.args.last.now in
+    let a = c.args.address in
+    let n = length c.args.bytes.now in
+    lacks_wider (unit_pages x (a / 512)) (both_units x y a n) (λ id number own. inl own) c.in-Err.halt c.in-Err.ensures.lacks
+
+pub returns-clause-lacks : goal.returns-clause-lacks
+returns-clause-lacks g c =
+    let x = c.args.first.now in
+    let y = c.args.last.now in
+    let a = c.args.address in
+    let n = length c.args.bytes.now in
+    let past = c.if-bytes-room.false in
+    let page = next_page a n c.requires.few (omega (arith, past)) in
+    err_wider c.store_in-3.result (Lacks (unit_pages y (a / 512 + 1))) (Lacks (both_units x y a n)) (lacks_wider (unit_pages y (a / 512 + 1)) (both_units x y a n) (λ id number own. inr (subst (λ (q : ℕ). unit_pages y q id number) page own))) c.store_in-3.ensures.lacks

@@ -1,9 +1,12 @@
-use Rattle.std.proofs.Common.{◌∙◌, sym}
+use Rattle.std.proofs.Common.{◌∙◌, sym, ap}
 use Rattle.std.proofs.lemmas.Bool.{true≢false}
-use Rattle.filer_kernel.proofs.Outcomes.{on_ok_wider}
+use Rattle.filer_kernel.proofs.Outcomes.{on_ok_wider, err_wider}
 use Rattle.fault_core.specs.Told.{Known}
 use Rattle.fault_core.specs.View.{view_of}
+use Rattle.fault_core.proofs.RoomLemmas.{room_same}
 use Rattle.fault_core.proofs.UnitLemmas.{whole_of_run, run_of_whole, run_stored, run_shown}
+use Rattle.fault_core.specs.Lack.{Lacks, run_pages, unit_pages}
+use Rattle.fault_core.proofs.LackLemmas.{lacks_wider, run_unit}
 use Rattle.fault_core.proofs.touch.bring_unit.Goals as goal
 
 pub returns-then-is_there-clause-whole : goal.returns-then-is_there-clause-whole
@@ -22,3 +25,16 @@ returns-clause-came g c = rw (← c.is_there.ensures.same) (run_shown c.unit_run
 
 pub returns-clause-idle : goal.returns-clause-idle
 returns-clause-idle g c = λ whole. absurd (true≢false (sym (c.is_there.ensures.there.1 (run_of_whole c.unit_run-first.ensures c.args.filer.now.swapper.pool whole)) ∙ c.if-is_there.false))
+
+pub returns-then-is_there-clause-room : goal.returns-then-is_there-clause-room
+returns-then-is_there-clause-room g c = room_same c.args.filer.now.swapper.pool c.is_there.new.filer.swapper.pool (ap (λ f. f.swapper.pool) c.is_there.ensures.same)
+
+pub returns-clause-room : goal.returns-clause-room
+returns-clause-room g c = rw (← c.is_there.ensures.same) c.bring_run.ensures.room
+
+pub returns-clause-lacks : goal.returns-clause-lacks
+returns-clause-lacks g c =
+    let x = c.args.x.now in
+    let run = c.unit_run-first.result in
+    err_wider c.bring_run.result (Lacks (run_pages x.id run.0 run.1)) (Lacks (unit_pages x c.args.page))
+    (lacks_wider (run_pages x.id run.0 run.1) (unit_pages x c.args.page) (run_unit x c.args.page run c.unit_run-first.ensures)) c.bring_run.ensures.lacks

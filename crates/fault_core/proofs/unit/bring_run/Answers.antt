@@ -8,8 +8,11 @@ use Rattle.fault_core.specs.Homes.{homes_in}
 use Rattle.fault_core.specs.View.{view_of}
 use Rattle.fault_core.specs.Reach.{ReachHalts, no_break}
 use Rattle.fault_core.proofs.ReachLemmas.{known_after}
+use Rattle.fault_core.proofs.RoomLemmas.{room_then, steps_room}
 use Rattle.fault_core.proofs.RunLemmas.{homes_row, homes_resident, run_came, homes_are_named, have_sectors, homes_placed}
 use Rattle.fault_core.proofs.TurnLemmas.{reaches_brought, brought_halt}
+use Rattle.fault_core.specs.Lack.{Lacks, run_pages}
+use Rattle.fault_core.proofs.LackLemmas.{brought_lacks}
 use Rattle.fault_core.proofs.unit.bring_run.Goals as goal
 
 pub returns-in-Err-clause-sound : goal.returns-in-Err-clause-sound
@@ -47,3 +50,13 @@ returns-clause-reaches g c =
 
 pub returns-clause-came : goal.returns-clause-came
 returns-clause-came g c = run_came c.in-Ok.ensures.are c.args.filer.now.swapper.pool c.homes_of.new.filer.swapper.pool c.bring.new.filer.swapper.pool c.homes_of.ensures.came c.bring.ensures.brings
+
+pub returns-clause-room : goal.returns-clause-room
+returns-clause-room g c = room_then c.homes_of.ensures.room (steps_room c.bring.ensures.steps)
+
+pub returns-clause-lacks : goal.returns-clause-lacks
+returns-clause-lacks g c =
+    let w = view_of c.homes_of.new.filer in
+    let x = view_of c.bring.new.filer in
+    err_wider c.bring.result (Halts (IsAmong (homes_in c.in-Ok.homes)) w.disk w.slots x.disk) (Lacks (run_pages c.args.id c.args.first c.args.pages))
+    (brought_lacks (IsAmong (homes_in c.in-Ok.homes)) w.disk w.slots x.disk (run_pages c.args.id c.args.first c.args.pages)) c.bring.ensures.cause

@@ -7,6 +7,9 @@ use Rattle.fault_core.specs.Told.{BreaksTables}
 use Rattle.fault_core.proofs.AccessLemmas.{breaks_before}
 use Rattle.fault_core.proofs.ActivateLemmas.{none_active, touched_whole}
 use Rattle.fault_core.proofs.ReachLemmas.{reaches_then, halts_before}
+use Rattle.fault_core.proofs.WholeLemmas.{whole_stays}
+use Rattle.fault_core.specs.Lack.{range_units, shown_unit}
+use Rattle.fault_core.proofs.LackLemmas.{lacks_wider}
 use Rattle.fault_core.proofs.core_over.CoreOver.activate.Goals as goal
 
 -- ---- No window shows a page of the range.
@@ -21,6 +24,7 @@ returns-then-units-eq0-clause-units g c = λ m named ss knows. record {
   last = c.in-Ok.brought.1;
   are = subst (λ (n : ℕ). AreUnits ss (c.args.first + c.args.pages) (start_at c.args.first (length c.args.self.now.filer.swapper.pool / 2)) n c.in-Ok.brought.1) c.if-units-eq0.true (c.in-Ok.ensures.units m named ss knows);
   whole = λ some. absurd (some refl);
+  all = λ slot empty some. absurd (some refl);
 }
 
 -- ---- The page that was brought in last is touched.
@@ -45,6 +49,9 @@ returns-in-Ok-touch2-clause-units g c = λ m named ss knows.
       are = c.in-Ok.ensures.units m named ss knows;
       whole = λ some. touched_whole (c.touch2.ensures.same m named ss after) c.touch2.new.self.filer.swapper.pool c.in-Ok.brought.1 c.in-Ok-touch2._slot (c.in-Ok.ensures.shown m named ss knows some)
           (c.in-Ok-touch2.ensures.none m named ss after).0 c.in-Ok-touch2.ensures.ready;
+      all = λ slot empty some.
+          let room = c.touch2.ensures.room in
+          whole_stays ss c.bring_units.new.self.filer.swapper.pool c.touch2.new.self.filer.swapper.pool c.args.first (c.in-Ok.brought.1 + 1) slot room empty (c.in-Ok.ensures.all m named ss knows slot (room.empty slot empty) some);
     }
 
 pub returns-in-Ok-touch2-clause-same : goal.returns-in-Ok-touch2-clause-same
@@ -87,3 +94,11 @@ returns-in-Err-touch2-clause-reaches g c =
 
 pub returns-in-Err-touch2-clause-came : goal.returns-in-Err-touch2-clause-came
 returns-in-Err-touch2-clause-came g c = λ m named ss knows. brings_then (c.bring_units.ensures.came m named ss knows) (c.touch2.ensures.came m named ss (c.bring_units.ensures.same m named ss knows))
+
+-- ---- A page has no sector.
+
+pub returns-in-Err-touch2-clause-missing : goal.returns-in-Err-touch2-clause-missing
+returns-in-Err-touch2-clause-missing g c = λ ss s.
+    let page = c.in-Ok.brought.1 in
+    let within = c.in-Ok.ensures.within c.if-units-eq0.false in
+    lacks_wider (shown_unit ss page) (range_units ss c.args.first (c.args.first + c.args.pages)) (λ id number own. (page, within.0, within.1, own)) c.in-Err-touch2.halt (c.in-Err-touch2.ensures.missing ss (c.bring_units.ensures.sees ss s))

@@ -3,9 +3,13 @@ use Rattle.swapper_kernel.specs.HaltLaws.{brings_then}
 use Rattle.fault_core.specs.Core.{state}
 use Rattle.fault_core.specs.Told.{BreaksTables}
 use Rattle.fault_core.proofs.AccessLemmas.{breaks_before}
-use Rattle.fault_core.proofs.ActivateLemmas.{unit_brought}
+use Rattle.fault_core.proofs.ActivateLemmas.{touched_ready, unit_brought}
 use Rattle.fault_core.proofs.ReachLemmas.{reaches_then, halts_before}
+use Rattle.fault_core.proofs.RoomLemmas.{room_then}
 use Rattle.fault_core.proofs.ShowLemmas.{own_came}
+use Rattle.fault_core.proofs.WholeLemmas.{none_whole, shown_here, unit_whole}
+use Rattle.fault_core.specs.Lack.{shown_unit}
+use Rattle.fault_core.proofs.LackLemmas.{none_lacks}
 use Rattle.fault_core.proofs.core_over.CoreOver.bring_next.Goals as goal
 
 -- ---- No window shows the page.
@@ -14,6 +18,10 @@ pub returns-then-pages-eq0-clause-further : goal.returns-then-pages-eq0-clause-f
 returns-then-pages-eq0-clause-further g c = λ m named ss knows.
     let passed = c.in-Ok.ensures.bare m named ss knows c.if-pages-eq0.true in
     inr (refl, passed.0, passed.1)
+
+pub returns-then-pages-eq0-clause-whole : goal.returns-then-pages-eq0-clause-whole
+returns-then-pages-eq0-clause-whole g c = λ m named ss knows.
+    none_whole knows.tables c.unit_at.new.self.filer.swapper.pool c.args.so_far.page c.in-Ok.unit.0 (c.in-Ok.ensures.bare m named ss knows c.if-pages-eq0.true).0
 
 -- ---- Its unit has too many pages.
 
@@ -27,6 +35,20 @@ pub returns-in-Ok-touch2-clause-further : goal.returns-in-Ok-touch2-clause-furth
 returns-in-Ok-touch2-clause-further g c = λ m named ss knows.
     unit_brought ss c.args.end c.args.so_far c.in-Ok.unit.0 c.in-Ok.unit.1 c.saturating_sub.result c.saturating_sub.ensures (c.in-Ok.ensures.shown m named ss knows c.if-pages-eq0.false)
     (λ some. elim c.else-so_far-ne0.either [ inl both ↦ both.1 | inr none ↦ absurd (some none) ])
+
+pub returns-in-Ok-touch2-clause-whole : goal.returns-in-Ok-touch2-clause-whole
+returns-in-Ok-touch2-clause-whole g c = λ m named ss knows.
+    let unit = c.in-Ok.ensures.shown m named ss knows c.if-pages-eq0.false in
+    let mid = c.unit_at.ensures.same m named ss knows in
+    let shown = shown_here knows.tables unit.interval c.args.so_far.page unit.projected unit.mapped in
+    unit_whole (c.touch2.ensures.same m named ss mid) c.touch2.new.self.filer.swapper.pool c.args.so_far.page c.in-Ok.unit.0 c.in-Ok.unit.1 unit
+    (touched_ready ss _ c.touch2.new.self.filer.swapper.pool c.args.so_far.page c.in-Ok-touch2._slot shown (c.in-Ok-touch2.ensures.none m named ss mid).0 c.in-Ok-touch2.ensures.ready)
+
+pub returns-in-Ok-touch2-clause-room : goal.returns-in-Ok-touch2-clause-room
+returns-in-Ok-touch2-clause-room g c = room_then c.unit_at.ensures.room c.touch2.ensures.room
+
+pub returns-in-Err-touch2-clause-room : goal.returns-in-Err-touch2-clause-room
+returns-in-Err-touch2-clause-room g c = room_then c.unit_at.ensures.room c.touch2.ensures.room
 
 pub returns-in-Ok-touch2-clause-same : goal.returns-in-Ok-touch2-clause-same
 returns-in-Ok-touch2-clause-same g c = λ m named ss knows. c.touch2.ensures.same m named ss (c.unit_at.ensures.same m named ss knows)
@@ -64,3 +86,17 @@ returns-in-Err-touch2-clause-reaches g c =
 pub returns-in-Err-touch2-clause-came : goal.returns-in-Err-touch2-clause-came
 returns-in-Err-touch2-clause-came g c = λ m named ss knows.
     brings_then (own_came ss c.args.self.now.filer.swapper.pool c.unit_at.new.self.filer.swapper.pool c.unit_at.ensures.came) (c.touch2.ensures.came m named ss (c.unit_at.ensures.same m named ss knows))
+
+-- ---- A page has no sector.
+
+pub returns-in-Err-clause-missing : goal.returns-in-Err-clause-missing
+returns-in-Err-clause-missing g c = λ ss s. none_lacks (shown_unit ss c.args.so_far.page) c.in-Err.halt c.in-Err.ensures.lacks
+
+pub returns-in-Err-touch2-clause-missing : goal.returns-in-Err-touch2-clause-missing
+returns-in-Err-touch2-clause-missing g c = λ ss s. c.in-Err-touch2.ensures.missing ss (c.unit_at.ensures.sees ss s)
+
+pub returns-in-Ok-touch2-clause-sees : goal.returns-in-Ok-touch2-clause-sees
+returns-in-Ok-touch2-clause-sees g c = λ ss s. c.touch2.ensures.sees ss (c.unit_at.ensures.sees ss s)
+
+pub returns-in-Err-touch2-clause-sees : goal.returns-in-Err-touch2-clause-sees
+returns-in-Err-touch2-clause-sees g c = λ ss s. c.touch2.ensures.sees ss (c.unit_at.ensures.sees ss s)

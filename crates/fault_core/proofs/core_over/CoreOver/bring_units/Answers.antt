@@ -2,7 +2,10 @@ use Rattle.std.proofs.Common.{ℕ, ◌<◌, ◌+◌, subst, arith}
 use Rattle.swapper_kernel.specs.HaltLaws.{brings_then}
 use Rattle.fault_core.specs.Activate.{AreUnits, start_at}
 use Rattle.fault_core.specs.Core.{kept, state}
-use Rattle.fault_core.proofs.ActivateLemmas.{activating_none, activating_more, activating_halt, activating_reaches, activating_known, activating_came, activating_shown, activated_all, activated_most, activated_some, some_is}
+use Rattle.fault_core.proofs.ActivateLemmas.{activating_none, activating_more, activating_halt, activating_reaches, activating_known, activating_came, activating_shown, activating_whole, activated_all, activated_most, activated_some, some_is}
+use Rattle.fault_core.proofs.RoomLemmas.{room_itself}
+use Rattle.fault_core.specs.Lack.{range_units, shown_unit}
+use Rattle.fault_core.proofs.LackLemmas.{lacks_wider}
 use Rattle.fault_core.proofs.core_over.CoreOver.bring_units.Goals as goal
 
 pub loop-turn-init : goal.loop-turn-init
@@ -15,7 +18,8 @@ loop-turn-preserved g c =
     let e = c.in-Ok-Some.ensures in
     activating_more c.args.self.now.filer.swapper.accepted c.loop-turn.invariant (state new) (kept new) new.intervals c.in-Ok-Some.further c.end_of-end.ensures.within c.if-so_far-end.false
     (some_is _ c.in-Ok-Some.field-0 c.in-Ok-Some.further c.in-Ok-Some.field-0-is e.turn)
-    (λ m named ss knows. some_is _ c.in-Ok-Some.field-0 c.in-Ok-Some.further c.in-Ok-Some.field-0-is (e.further m named ss knows)) e.same e.came e.reaches e.intervals e.cost
+    (λ m named ss knows. some_is _ c.in-Ok-Some.field-0 c.in-Ok-Some.further c.in-Ok-Some.field-0-is (e.further m named ss knows)) e.same e.came
+    (λ m named ss knows. some_is _ c.in-Ok-Some.field-0 c.in-Ok-Some.further c.in-Ok-Some.field-0-is (e.whole m named ss knows)) e.room e.sees e.reaches e.intervals e.cost
 
 -- ---- The end of the range is reached.
 
@@ -26,6 +30,9 @@ returns-then-so_far-end-clause-units g c = λ m named ss knows.
 
 pub returns-then-so_far-end-clause-shown : goal.returns-then-so_far-end-clause-shown
 returns-then-so_far-end-clause-shown g c = activating_shown c.args.self.now.filer.swapper.accepted c.loop-turn.invariant
+
+pub returns-then-so_far-end-clause-all : goal.returns-then-so_far-end-clause-all
+returns-then-so_far-end-clause-all g c = activating_whole c.args.self.now.filer.swapper.accepted c.loop-turn.invariant c.loop-turn.self.filer.swapper.pool (room_itself c.loop-turn.self.filer.swapper.pool)
 
 pub returns-then-so_far-end-clause-same : goal.returns-then-so_far-end-clause-same
 returns-then-so_far-end-clause-same g c = activating_known c.args.self.now.filer.swapper.accepted c.loop-turn.invariant
@@ -45,6 +52,9 @@ returns-in-Ok-None-clause-units g c = λ m named ss knows.
 
 pub returns-in-Ok-None-clause-shown : goal.returns-in-Ok-None-clause-shown
 returns-in-Ok-None-clause-shown g c = activating_shown c.args.self.now.filer.swapper.accepted c.loop-turn.invariant
+
+pub returns-in-Ok-None-clause-all : goal.returns-in-Ok-None-clause-all
+returns-in-Ok-None-clause-all g c = activating_whole c.args.self.now.filer.swapper.accepted c.loop-turn.invariant c.bring_next.new.self.filer.swapper.pool c.bring_next.ensures.room
 
 pub returns-in-Ok-None-clause-same : goal.returns-in-Ok-None-clause-same
 returns-in-Ok-None-clause-same g c = λ m named ss knows. c.bring_next.ensures.same m named ss (activating_known c.args.self.now.filer.swapper.accepted c.loop-turn.invariant m named ss knows)
@@ -91,8 +101,34 @@ returns-clause-units g c = λ m named ss knows.
 pub returns-clause-shown : goal.returns-clause-shown
 returns-clause-shown g c = activating_shown c.args.self.now.filer.swapper.accepted c.loop-turn.invariant
 
+pub returns-clause-all : goal.returns-clause-all
+returns-clause-all g c = activating_whole c.args.self.now.filer.swapper.accepted c.loop-turn.invariant c.loop-turn.self.filer.swapper.pool (room_itself c.loop-turn.self.filer.swapper.pool)
+
 pub returns-clause-same : goal.returns-clause-same
 returns-clause-same g c = activating_known c.args.self.now.filer.swapper.accepted c.loop-turn.invariant
 
 pub returns-clause-came : goal.returns-clause-came
 returns-clause-came g c = activating_came c.args.self.now.filer.swapper.accepted c.loop-turn.invariant
+
+-- ---- The tables are told.
+
+pub returns-then-so_far-end-clause-sees : goal.returns-then-so_far-end-clause-sees
+returns-then-so_far-end-clause-sees g c = c.loop-turn.invariant.sees
+
+pub returns-in-Ok-None-clause-sees : goal.returns-in-Ok-None-clause-sees
+returns-in-Ok-None-clause-sees g c = λ ss s. c.bring_next.ensures.sees ss (c.loop-turn.invariant.sees ss s)
+
+pub returns-in-Err-clause-sees : goal.returns-in-Err-clause-sees
+returns-in-Err-clause-sees g c = λ ss s. c.bring_next.ensures.sees ss (c.loop-turn.invariant.sees ss s)
+
+pub returns-clause-sees : goal.returns-clause-sees
+returns-clause-sees g c = c.loop-turn.invariant.sees
+
+pub returns-in-Err-clause-missing : goal.returns-in-Err-clause-missing
+returns-in-Err-clause-missing g c = λ ss s.
+    let upto = c.end_of-end.ensures.within in
+    let test = c.if-so_far-end.false in
+    let from = c.loop-turn.invariant.from in
+    let page = c.loop-turn.so_far.page in
+    let below : page < c.args.first + c.args.pages = omega (arith, upto, test) in
+    lacks_wider (shown_unit ss page) (range_units ss c.args.first (c.args.first + c.args.pages)) (λ id number own. (page, from, below, own)) c.in-Err.halt (c.in-Err.ensures.missing ss (c.loop-turn.invariant.sees ss s))

@@ -10,9 +10,11 @@ use Rattle.fault_core.specs.Told.{IsIntervalOf}
 use Rattle.fault_core.specs.View.{view_of}
 use Rattle.fault_core.proofs.KeptLemmas.{kept_new, kept_before, formed_more, Looked, looked}
 use Rattle.fault_core.proofs.ReachLemmas.{reaches_itself}
+use Rattle.fault_core.proofs.RoomLemmas.{room_itself}
 use Rattle.fault_core.proofs.ToldLemmas.{told_after, tables_told, interval_of, interval_at}
 use Rattle.fault_core.proofs.YieldLemmas.{yield_itself}
 use Rattle.fault_core.proofs.core_over.CoreOver.describe.Given as given
+use Rattle.fault_core.proofs.LackLemmas.{sees_after}
 use Rattle.fault_core.proofs.core_over.CoreOver.describe.Goals as goal
 
 -- ---- A kept interval has the page.
@@ -42,6 +44,9 @@ returns-in-Some-clause-same g c = λ m named ss knows.
 
 pub returns-in-Some-clause-reaches : goal.returns-in-Some-clause-reaches
 returns-in-Some-clause-reaches g c = reaches_itself (view_of c.args.self.now.filer)
+
+pub returns-in-Some-clause-room : goal.returns-in-Some-clause-room
+returns-in-Some-clause-room g c = room_itself c.args.self.now.filer.swapper.pool
 
 pub returns-in-Some-clause-stay : goal.returns-in-Some-clause-stay
 returns-in-Some-clause-stay g c = yield_itself c.args.self.now.filer.swapper.pool
@@ -91,3 +96,23 @@ returns-in-Some-found-clause-same g c = λ m named ss knows.
 pub returns-in_default-found-clause-same : goal.returns-in_default-found-clause-same
 returns-in_default-found-clause-same g c = λ m named ss knows.
     told_after knows _ _ c.args.self.now.filer.swapper.accepted c.look_up.ensures.reaches (λ x one. inl (subst (λ (l : List Interval). IsKept l x) c.look.ensures.kept one))
+
+-- ---- The tables are told.
+
+pub returns-in-Some-clause-sees : goal.returns-in-Some-clause-sees
+returns-in-Some-clause-sees g c = λ ss s. sees_after s _ _ (reaches_itself (view_of c.args.self.now.filer)) (λ x one. inl (subst (λ (l : List Interval). IsKept l x) c.look.ensures.kept one))
+
+pub returns-in_err-found-clause-sees : goal.returns-in_err-found-clause-sees
+returns-in_err-found-clause-sees g c = λ ss s. sees_after s _ _ c.look_up.ensures.reaches (λ x one. inl (subst (λ (l : List Interval). IsKept l x) c.look.ensures.kept one))
+
+pub returns-in-Some-found-clause-sees : goal.returns-in-Some-found-clause-sees
+returns-in-Some-found-clause-sees g c = λ ss s.
+    let at = subst (λ (o : Option Interval). IfSome o (IsIntervalAt ss c.args.page)) c.in-Some-found.is (c.in_ok-found.ensures.interval s.bytes ss s.told s.tables) in
+    sees_after s _ _ c.look_up.ensures.reaches
+    (λ x one. elim (kept_before (kept_in c.look.new.self) (kept_in c.keep.new.self) c.in-Some-found.interval c.keep.ensures.room c.keep.ensures.full c.keep.ensures.few x one) [
+      | inl was ↦ inl (subst (λ (l : List Interval). IsKept l x) c.look.ensures.kept was)
+      | inr same ↦ inr (subst (λ (y : Interval). IsIntervalOf ss y) same (interval_of ss c.args.page c.in-Some-found.interval at))
+    ])
+
+pub returns-in_default-found-clause-sees : goal.returns-in_default-found-clause-sees
+returns-in_default-found-clause-sees g c = λ ss s. sees_after s _ _ c.look_up.ensures.reaches (λ x one. inl (subst (λ (l : List Interval). IsKept l x) c.look.ensures.kept one))

@@ -13,6 +13,7 @@ use Rattle.fault_core.proofs.AccessLemmas.{no_map_first, no_map_last, access_sho
 use Rattle.fault_core.proofs.ReachLemmas.{reaches_itself, reaches_then, halts_before}
 use Rattle.fault_core.proofs.ShowLemmas.{shown_is}
 use Rattle.fault_core.proofs.ToldLemmas.{interval_of}
+use Rattle.fault_core.proofs.LackLemmas.{seen_at}
 use Rattle.fault_core.proofs.core_over.CoreOver.refer.Goals as goal
 
 -- ---- The first page.
@@ -135,3 +136,29 @@ returns-clause-idle g c = λ first last apart.
       two.2 ∙ one.2,
       two.3 ∙ one.3,
     )
+
+-- ---- The tables are told.
+
+pub returns-in-Ok-None-shown_last-clause-sees : goal.returns-in-Ok-None-shown_last-clause-sees
+returns-in-Ok-None-shown_last-clause-sees g c = λ ss s. c.in-Ok-None-shown_last.ensures.sees ss (c.in-Ok-Some.ensures.sees ss s)
+
+pub returns-in-Err-shown_last-clause-sees : goal.returns-in-Err-shown_last-clause-sees
+returns-in-Err-shown_last-clause-sees g c = λ ss s. c.in-Err-shown_last.ensures.sees ss (c.in-Ok-Some.ensures.sees ss s)
+
+pub returns-clause-sees : goal.returns-clause-sees
+returns-clause-sees g c = λ ss s. c.in-Ok-Some-shown_last.ensures.sees ss (c.in-Ok-Some.ensures.sees ss s)
+
+pub returns-clause-seen : goal.returns-clause-seen
+returns-clause-seen g c = λ ss s.
+    let x = c.in-Ok-Some.x in
+    let y = c.in-Ok-Some-shown_last.y in
+    let last = c.last_page-last.result in
+    let mid = c.in-Ok-Some.ensures.sees ss s in
+    let after = c.in-Ok-Some-shown_last.ensures.sees ss mid in
+    let x_kept = subst (λ (o : Option Interval). IfSome o (IsKept (kept c.shown.new.self))) c.in-Ok-Some.field-0-is c.in-Ok-Some.ensures.is_kept in
+    let y_kept = subst (λ (o : Option Interval). IfSome o (IsKept (kept c.shown_last.new.self))) c.in-Ok-Some-shown_last.field-0-is c.in-Ok-Some-shown_last.ensures.is_kept in
+    let x_shows = shows_of c.in-Ok-Some.field-0 x (c.args.address / 512) c.in-Ok-Some.field-0-is c.in-Ok-Some.ensures.form in
+    let y_shows = some_shows c.in-Ok-Some-shown_last.field-0 y last c.in-Ok-Some-shown_last.field-0-is c.in-Ok-Some-shown_last.ensures.form in
+    let x_at = seen_at mid x (c.args.address / 512) x_kept x_shows in
+    let y_at = seen_at after y last y_kept y_shows in
+    shown_some (λ x y. IsIntervalAt ss (c.args.address / 512) x × IsIntervalAt ss (last_page c.args.address c.args.count) y) c.allowed.result x y c.allowed.ensures.shown (x_at, rw (← c.last_page-last.ensures) y_at)

@@ -1,6 +1,6 @@
-use Rattle.std.proofs.Common.{◌∙◌, sym, refl, arith, inl}
+use Rattle.std.proofs.Common.{◌∙◌, sym, refl, arith, inl, ◌+◌, ◌-◌, subst, Option}
 use Rattle.std.proofs.lemmas.Option.{none-some}
-use Rattle.fault_core.specs.Core.{state}
+use Rattle.fault_core.specs.Core.{state, kept}
 use Rattle.fault_core.specs.Homes.{homes_in}
 use Rattle.fault_core.specs.Reach.{no_break}
 use Rattle.fault_core.specs.Told.{BreaksTables}
@@ -10,6 +10,12 @@ use Rattle.fault_core.proofs.PlanLemmas.{plan_is, unit_has_sectors}
 use Rattle.fault_core.proofs.ReachLemmas.{reaches_then, halts_before}
 use Rattle.fault_core.proofs.ShowLemmas.{shown_is, all_stored}
 use Rattle.fault_core.proofs.ToldLemmas.{interval_of, told_after}
+use Rattle.fault_core.specs.Lack.{kept_unit, run_pages, shown_unit}
+use Rattle.fault_core.proofs.LackLemmas.{lacks_wider, none_lacks, run_unit, seen_at, unit_shown}
+use Rattle.fault_core.proofs.UnitLemmas.{unit_run_is}
+use Rattle.std.specs.Prelude.{IfSome}
+use Rattle.swap_units.specs.declared.interval.Interval.{Interval}
+use Rattle.fault_core.specs.Kept.{IsKept}
 use Rattle.fault_core.proofs.core_over.CoreOver.resolve.Goals as goal
 
 pub returns-in-Ok-None-clause-none : goal.returns-in-Ok-None-clause-none
@@ -69,3 +75,37 @@ returns-in-Err-homes_of-clause-same g c = λ m named ss knows.
 pub returns-in-Err-homes_of-clause-reaches : goal.returns-in-Err-homes_of-clause-reaches
 returns-in-Err-homes_of-clause-reaches g c =
     reaches_then (state c.args.self.now) (state c.shown.new.self) c.args.self.now.filer.swapper.accepted c.shown.ensures.reaches (view_of c.homes_of.new.filer) c.homes_of.ensures.reaches
+
+-- ---- A page has no sector.
+
+pub returns-in-Err-clause-lacks : goal.returns-in-Err-clause-lacks
+returns-in-Err-clause-lacks g c = none_lacks (kept_unit (kept c.shown.new.self) c.args.page) c.in-Err.halt c.in-Err.ensures.lacks
+
+pub returns-in-Err-clause-missing : goal.returns-in-Err-clause-missing
+returns-in-Err-clause-missing g c = λ ss s. none_lacks (shown_unit ss c.args.page) c.in-Err.halt c.in-Err.ensures.lacks
+
+pub returns-in-Err-homes_of-clause-lacks : goal.returns-in-Err-homes_of-clause-lacks
+returns-in-Err-homes_of-clause-lacks g c =
+    let x = c.in-Ok-Some.x in
+    let page = c.args.page in
+    let unit = c.unit_of-first.result in
+    let shows = shows_of c.in-Ok-Some.field-0 x page c.in-Ok-Some.field-0-is c.in-Ok-Some.ensures.form in
+    let is_kept = subst (λ (o : Option Interval). IfSome o (IsKept (kept c.shown.new.self))) c.in-Ok-Some.field-0-is c.in-Ok-Some.ensures.is_kept in
+    let own = c.unit_of-first.ensures in
+    let run = unit_run_is x page unit shows.formed shows.holds shows.mapped own.pages own.holds own.inside own.size in
+    lacks_wider (run_pages x.id (x.page + (unit.0 - x.first)) unit.1) (kept_unit (kept c.shown.new.self) page) (λ id number one. (x, is_kept, shows, run_unit x page (x.page + (unit.0 - x.first), unit.1) run id number one))
+    c.in-Err-homes_of.halt c.in-Err-homes_of.ensures.lacks
+
+pub returns-in-Err-homes_of-clause-missing : goal.returns-in-Err-homes_of-clause-missing
+returns-in-Err-homes_of-clause-missing g c = λ ss s.
+    let x = c.in-Ok-Some.x in
+    let page = c.args.page in
+    let unit = c.unit_of-first.result in
+    let shows = shows_of c.in-Ok-Some.field-0 x page c.in-Ok-Some.field-0-is c.in-Ok-Some.ensures.form in
+    let is_kept = subst (λ (o : Option Interval). IfSome o (IsKept (kept c.shown.new.self))) c.in-Ok-Some.field-0-is c.in-Ok-Some.ensures.is_kept in
+    let own = c.unit_of-first.ensures in
+    let run = unit_run_is x page unit shows.formed shows.holds shows.mapped own.pages own.holds own.inside own.size in
+    let mid = c.in-Ok-Some.ensures.sees ss s in
+    lacks_wider (run_pages x.id (x.page + (unit.0 - x.first)) unit.1) (shown_unit ss page)
+    (λ id number one. unit_shown mid x page (seen_at mid x page is_kept shows) shows.mapped id number (run_unit x page (x.page + (unit.0 - x.first), unit.1) run id number one))
+    c.in-Err-homes_of.halt c.in-Err-homes_of.ensures.lacks

@@ -1,4 +1,4 @@
-use Rattle.std.proofs.Common.{◌/◌, true, refl, sym, arith, length}
+use Rattle.std.proofs.Common.{◌/◌, true, refl, sym, arith, length, inl, inr}
 use Rattle.swapper_kernel.specs.HaltLaws.{brings_then}
 use Rattle.session_words.specs.CellLaws.{IsTouchedOrOwn}
 use Rattle.fault_core.specs.declared.reference.Access.TheVariants as access
@@ -14,6 +14,9 @@ use Rattle.fault_core.proofs.BeforeLemmas.{touches_of, touches_then, touches_wid
 use Rattle.fault_core.proofs.LeaveLemmas.{clients_alone, goes_refused, goes_told, none_stored, told_leaves, told_stands, touched_or_own}
 use Rattle.fault_core.proofs.ReachLemmas.{halts_before}
 use Rattle.fault_core.proofs.ShowLemmas.{own_came, both_came}
+use Rattle.fault_core.specs.Lack.{both_units, shown_units}
+use Rattle.fault_core.proofs.LackLemmas.{lacks_wider, none_lacks, unit_shown}
+use Rattle.space_tables.specs.SpaceTables.{IsIntervalAt}
 use Rattle.fault_core.proofs.core_over.CoreOver.store.Goals as goal
 
 -- ---- It is refused.
@@ -211,3 +214,22 @@ returns-in-Err-store_shown-clause-idle g c = λ first last apart.
     let y_whole : IsWhole c.refer.new.self.filer.swapper.pool y q = rw one.2 whole.1 in
     let two = c.in-Err-store_shown.ensures.idle x_whole y_whole in
     (two.0, rw (← one.2) two.1, one.3)
+
+-- ---- A page has no sector.
+
+pub returns-in-Err-clause-missing : goal.returns-in-Err-clause-missing
+returns-in-Err-clause-missing g c = λ ss s. none_lacks (shown_units ss c.args.address (length c.args.bytes.now)) c.in-Err.halt c.in-Err.ensures.lacks
+
+pub returns-in-Err-store_shown-clause-missing : goal.returns-in-Err-store_shown-clause-missing
+returns-in-Err-store_shown-clause-missing g c = λ ss s.
+    let x = c.in-Ok-Shown.first in
+    let y = c.in-Ok-Shown.last in
+    let a = c.args.address in
+    let n = length c.args.bytes.now in
+    let mid = c.in-Ok-Shown.ensures.sees ss s in
+    let form = at_shown (λ x y. Shows x (a / 512) × Shows y (last_page a n)) c.in-Ok-Shown.field-0 x y c.in-Ok-Shown.field-0-is c.in-Ok-Shown.ensures.form in
+    let at = at_shown (λ x y. IsIntervalAt ss (a / 512) x × IsIntervalAt ss (last_page a n) y) c.in-Ok-Shown.field-0 x y c.in-Ok-Shown.field-0-is (c.in-Ok-Shown.ensures.seen ss s) in
+    lacks_wider (both_units x y a n) (shown_units ss a n) (λ id number one. elim one [
+      | inl own ↦ inl (unit_shown mid x (a / 512) at.0 form.0.mapped id number own)
+      | inr own ↦ inr (unit_shown mid y (last_page a n) at.1 form.1.mapped id number own)
+    ]) c.in-Err-store_shown.halt c.in-Err-store_shown.ensures.lacks

@@ -11,8 +11,11 @@ use Rattle.fault_core.specs.Unit.{IsWhole, file_page}
 use Rattle.fault_core.specs.View.{view_of}
 use Rattle.fault_core.proofs.AccessLemmas.{shows_of, at_of}
 use Rattle.fault_core.proofs.ReachLemmas.{reaches_then, halts_before}
+use Rattle.fault_core.proofs.RoomLemmas.{room_then}
 use Rattle.fault_core.proofs.ShowLemmas.{shown_is, all_stored, known_came, own_came}
 use Rattle.fault_core.proofs.ToldLemmas.{interval_of, told_after}
+use Rattle.fault_core.specs.Lack.{kept_unit, shown_unit, unit_pages}
+use Rattle.fault_core.proofs.LackLemmas.{lacks_wider, none_lacks, seen_at, sees_after, unit_shown}
 use Rattle.fault_core.proofs.core_over.CoreOver.touch2.Goals as goal
 
 pub returns-in-Ok-None-clause-none : goal.returns-in-Ok-None-clause-none
@@ -119,3 +122,40 @@ returns-in-Err-touch-clause-idle g c = λ ready apart.
     let whole : IsWhole c.shown.new.self.filer.swapper.pool x c.args.page = rw one.2 was in
     let two = c.in-Err-touch.ensures.idle whole in
     (two.0, two.1 ∙ one.2, one.3)
+
+-- ---- While a slot is empty no page leaves.
+
+pub returns-in-Ok-clause-room : goal.returns-in-Ok-clause-room
+returns-in-Ok-clause-room g c = room_then c.shown.ensures.room c.touch.ensures.room
+
+pub returns-in-Err-touch-clause-room : goal.returns-in-Err-touch-clause-room
+returns-in-Err-touch-clause-room g c = room_then c.shown.ensures.room c.touch.ensures.room
+
+-- ---- A page has no sector.
+
+pub returns-in-Err-clause-lacks : goal.returns-in-Err-clause-lacks
+returns-in-Err-clause-lacks g c = none_lacks (kept_unit (kept c.shown.new.self) c.args.page) c.in-Err.halt c.in-Err.ensures.lacks
+
+pub returns-in-Err-clause-missing : goal.returns-in-Err-clause-missing
+returns-in-Err-clause-missing g c = λ ss s. none_lacks (shown_unit ss c.args.page) c.in-Err.halt c.in-Err.ensures.lacks
+
+pub returns-in-Err-touch-clause-lacks : goal.returns-in-Err-touch-clause-lacks
+returns-in-Err-touch-clause-lacks g c =
+    let x = c.in-Ok-Some.x in
+    let shows = shows_of c.in-Ok-Some.field-0 x c.args.page c.in-Ok-Some.field-0-is c.in-Ok-Some.ensures.form in
+    let is_kept = subst (λ (o : Option Interval). IfSome o (IsKept (kept c.shown.new.self))) c.in-Ok-Some.field-0-is c.in-Ok-Some.ensures.is_kept in
+    lacks_wider (unit_pages x c.args.page) (kept_unit (kept c.shown.new.self) c.args.page) (λ id number own. (x, is_kept, shows, own)) c.in-Err-touch.halt c.in-Err-touch.ensures.lacks
+
+pub returns-in-Err-touch-clause-missing : goal.returns-in-Err-touch-clause-missing
+returns-in-Err-touch-clause-missing g c = λ ss s.
+    let x = c.in-Ok-Some.x in
+    let shows = shows_of c.in-Ok-Some.field-0 x c.args.page c.in-Ok-Some.field-0-is c.in-Ok-Some.ensures.form in
+    let is_kept = subst (λ (o : Option Interval). IfSome o (IsKept (kept c.shown.new.self))) c.in-Ok-Some.field-0-is c.in-Ok-Some.ensures.is_kept in
+    let mid = c.in-Ok-Some.ensures.sees ss s in
+    lacks_wider (unit_pages x c.args.page) (shown_unit ss c.args.page) (unit_shown mid x c.args.page (seen_at mid x c.args.page is_kept shows) shows.mapped) c.in-Err-touch.halt c.in-Err-touch.ensures.lacks
+
+pub returns-in-Ok-clause-sees : goal.returns-in-Ok-clause-sees
+returns-in-Ok-clause-sees g c = λ ss s. sees_after (c.in-Ok-Some.ensures.sees ss s) _ _ c.touch.ensures.reaches (λ x one. inl one)
+
+pub returns-in-Err-touch-clause-sees : goal.returns-in-Err-touch-clause-sees
+returns-in-Err-touch-clause-sees g c = λ ss s. sees_after (c.in-Ok-Some.ensures.sees ss s) _ _ c.touch.ensures.reaches (λ x one. inl one)

@@ -1,5 +1,5 @@
 use Rattle.std.proofs.Common.{refl}
-use Rattle.fault_core.proofs.ActivateLemmas.{bare_here}
+use Rattle.fault_core.proofs.WholeLemmas.{bare_here}
 use Rattle.fault_core.proofs.core_over.CoreOver.unit_at.Goals as goal
 
 pub returns-then-x-eq0-clause-bare : goal.returns-then-x-eq0-clause-bare

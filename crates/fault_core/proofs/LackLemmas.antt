@@ -1,0 +1,85 @@
+-- Which page of a client's file was found to have no sector.
+use Rattle.std.proofs.Common.{◌≡◌, ◌≢◌, ◌⊎◌, inl, inr, ℕ, ◌+◌, ◌-◌, ◌/◌, ◌<◌, ◌≤◌, List, Some, refl, sym, ◌∙◌, subst, arith}
+use Rattle.labelled_disk.specs.declared.layout.Layout.{Layout}
+use Rattle.labelled_disk.specs.declared.evidence.Evidence.TheVariants.{Mismatch, Malformed, Missing}
+use Rattle.labelled_disk.specs.declared.evidence.Halt.{Halt}
+use Rattle.labelled_disk.specs.declared.evidence.Halt.TheVariants.{Disk, Damaged}
+use Rattle.labelled_disk.specs.State.{DiskState}
+use Rattle.frame_pool.specs.Frames.{Slots}
+use Rattle.file_map.specs.declared.run.Run.{Run}
+use Rattle.flat_machine.specs.declared.space.Space.{Space}
+use Rattle.flat_machine.specs.At.{shown_at}
+use Rattle.swap_units.specs.declared.interval.Interval.{Interval}
+use Rattle.swapper_kernel.specs.Goes.{Pages, no_page}
+use Rattle.swapper_kernel.specs.Halts.{Halts}
+use Rattle.swapper_kernel.specs.Homes.{Homes}
+use Rattle.filer_kernel.specs.Causes.{MapHalts}
+use Rattle.filer_kernel.specs.Tables.{FoundHalts}
+use Rattle.space_tables.specs.SpaceTables.{IsIntervalAt}
+use Rattle.fault_core.specs.Access.{Shows, last_page}
+use Rattle.fault_core.specs.Kept.{IsKept}
+use Rattle.fault_core.specs.Lack.{Lacks, Sees, run_pages, shown_unit, unit_pages}
+use Rattle.fault_core.specs.Reach.{Reaches}
+use Rattle.fault_core.specs.Told.{IsIntervalOf}
+use Rattle.fault_core.specs.Unit.{IsUnitRun, file_page}
+use Rattle.fault_core.specs.View.{View}
+use Rattle.fault_core.proofs.ShowLemmas.{shown_is}
+use Rattle.fault_core.proofs.ToldLemmas.{interval_at}
+
+pub lacks_wider : (pages more : Pages) → ((id page : ℕ) → pages id page → more id page) → (e : Halt) → Lacks pages e → Lacks more e
+lacks_wider pages more too Disk h = tt
+lacks_wider pages more too (Damaged (Mismatch sector wanted found)) h = tt
+lacks_wider pages more too (Damaged (Malformed window broken)) h = tt
+lacks_wider pages more too (Damaged (Missing id page)) h = elim h [ inl three ↦ inl three | inr one ↦ inr (too id page one) ]
+
+pub none_lacks : (more : Pages) (e : Halt) → Lacks no_page e → Lacks more e
+none_lacks more e h = lacks_wider no_page more (λ id page none. absurd none) e h
+
+-- ---- What is asked below.
+
+pub found_lacks : (layout : Layout) (old : DiskState) (before : Slots) (kept : List Run) (new : DiskState) (e : Halt) → FoundHalts layout old before kept new e → Lacks no_page e
+found_lacks layout old before kept new Disk h = tt
+found_lacks layout old before kept new (Damaged (Mismatch sector wanted found)) h = tt
+found_lacks layout old before kept new (Damaged (Malformed window broken)) h = tt
+found_lacks layout old before kept new (Damaged (Missing id page)) h = inl h.0
+
+pub map_lacks : (layout : Layout) (old : DiskState) (before : Slots) (new : DiskState) (e : Halt) → MapHalts layout old before new e → Lacks no_page e
+map_lacks layout old before new Disk h = tt
+map_lacks layout old before new (Damaged (Mismatch sector wanted found)) h = tt
+map_lacks layout old before new (Damaged (Malformed window broken)) h = tt
+map_lacks layout old before new (Damaged (Missing id page)) h = absurd h
+
+pub brought_lacks : (come : Homes) (old : DiskState) (before : Slots) (new : DiskState) (more : Pages) (e : Halt) → Halts come old before new e → Lacks more e
+brought_lacks come old before new more Disk h = tt
+brought_lacks come old before new more (Damaged (Mismatch sector wanted found)) h = tt
+brought_lacks come old before new more (Damaged (Malformed window broken)) h = absurd h
+brought_lacks come old before new more (Damaged (Missing id page)) h = absurd h
+
+-- ---- A swap unit.
+
+-- its run of pages
+pub run_unit : (x : Interval) (page : ℕ) (run : ℕ × ℕ) → IsUnitRun x page run → (id number : ℕ) → run_pages x.id run.0 run.1 id number → unit_pages x page id number
+run_unit x page run h id number (same, from, below) =
+    let j = number - run.0 in
+    let under : j < run.1 = omega (arith, from, below) in
+    let own = h.each j under in
+    let back : run.0 + j ≡ number = omega (arith, from) in
+    (own.0, own.1, same, sym back ∙ sym own.2)
+
+-- by the interval of the projection
+module _ {v : View} {kept : List Interval} {count : ℕ} {ss : List Space} (s : Sees v kept count ss) where
+  pub seen_at : (x : Interval) (page : ℕ) → IsKept kept x → Shows x page → IsIntervalAt ss page x
+  seen_at x page one shows = interval_at ss page x (s.cached x one) shows.holds
+
+  pub unit_shown : (x : Interval) (page : ℕ) → IsIntervalAt ss page x → x.mode ≢ 0 → (id number : ℕ) → unit_pages x page id number → shown_unit ss page id number
+  unit_shown x page at mapped id number (other, own, same_id, same_page) =
+      let of : IsIntervalOf ss x = record { xs = at.xs; projection = at.projection; index = at.index; there = at.there } in
+      (x, at, (other, own, rw (same_id, same_page) (shown_is s.tables x of other own.0 mapped)))
+
+  pub sees_after : (w : View) (more : List Interval) → Reaches v w → ((x : Interval) → IsKept more x → IsKept kept x ⊎ IsIntervalOf ss x) → Sees w more count ss
+  sees_after w more h before = record {
+    bytes = s.bytes;
+    told = h.told s.bytes s.told;
+    tables = s.tables;
+    cached = λ x one. elim (before x one) [ inl was ↦ s.cached x was | inr of ↦ of ];
+  }

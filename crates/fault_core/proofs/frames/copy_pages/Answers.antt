@@ -1,0 +1,37 @@
+use Rattle.std.proofs.Common.{rules, ◌≡◌, ◌∙◌, ◌/◌, ◌%◌, ◌+◌, ◌-◌, ◌≤◌, length, sym, ap, arith}
+use Rattle.flat_mem.specs.Memory.{part}
+use Rattle.fault_core.specs.Unit.{IsSlotOf}
+use Rattle.fault_core.proofs.MovedLemmas.{read_first, read_next}
+use Rattle.fault_core.proofs.PieceLemmas.{next_page, one_loaded, two_loaded}
+use Rattle.fault_core.proofs.frames.copy_pages.Goals as goal
+
+-- ---- On one page.
+
+pub returns-then-into-room-clause-bytes : goal.returns-then-into-room-clause-bytes
+returns-then-into-room-clause-bytes g c = λ m named b ss known stored first last.
+    let filer = c.args.filer.now in
+    let into = c.copy_out.new.into in
+    let width = c.copy_out.ensures.width in
+    let fits = c.if-into-room.true in
+    let inside : c.args.address % 512 + length into ≤ 512 = omega (arith, fits, width) in
+    one_loaded ss named m c.args.address into inside
+    (read_first filer.swapper.accepted filer.swapper.placed known stored c.args.address first into inside (λ f has. c.copy_out.ensures.bytes f has ∙ ap (part f.bytes (c.args.address % 512)) (sym width)))
+
+-- ---- On two pages.
+
+pub returns-clause-bytes : goal.returns-clause-bytes
+returns-clause-bytes g c = λ m named b ss known stored first last.
+    let filer = c.args.filer.now in
+    let low = c.copy_out-2.new.into in
+    let high = c.copy_out-3.new.into in
+    let past = c.if-into-room.false in
+    let page = next_page c.args.address (length c.args.into.now) c.requires.few (omega (arith, past)) in
+    let next : IsSlotOf ss filer.swapper.pool (c.args.address / 512 + 1) c.args.last = rw page last in
+    let front : length low ≡ 512 - c.args.address % 512 = search rules in
+    let back : 1 ≤ length high = search rules in
+    let inside : length high ≤ 512 = search rules in
+    let bytes_low = c.copy_out-2.ensures.bytes in
+    let bytes_high = rw c.copy_out-2.ensures.same at c.copy_out-3.ensures.bytes in
+    two_loaded ss named m c.args.address low high front back
+    (read_first filer.swapper.accepted filer.swapper.placed known stored c.args.address first low (omega (arith, front)) (λ f has. bytes_low f has ∙ ap (part f.bytes (c.args.address % 512)) (sym c.copy_out-2.ensures.width)))
+    (read_next filer.swapper.accepted filer.swapper.placed known stored c.args.address next high inside (λ f has. bytes_high f has ∙ ap (part f.bytes 0) (sym c.copy_out-3.ensures.width)))

@@ -1,0 +1,137 @@
+//! A reference that brings in no page of a client: its pages are described, and then looked for in the frames.
+ghost use Rattle.std.specs.Prelude.{◌≡◌, ◌≢◌, ◌≤◌, ◌<◌, ◌+◌, ◌/◌, List, length, None, IfOk, IfErr, IfSome, IsOk};
+ghost use Rattle.labelled_disk.specs.declared.evidence.Halt.TheVariants as halt;
+ghost use Rattle.labelled_disk.specs.Sectors.{Sector};
+ghost use Rattle.file_map.specs.FileMap.{Triples};
+ghost use Rattle.frame_pool.specs.Frames.{HasPage};
+ghost use Rattle.flat_machine.specs.declared.space.Space.{Space};
+ghost use Rattle.fault_core.specs.declared.reference.Access.TheVariants as access;
+ghost use Rattle.fault_core.specs.Access.{BreaksFor, Shows, access_of, last_page};
+ghost use Rattle.fault_core.specs.Attempt.{HasClient, IfAbsent, IfAccess, IfReady, IfSettled, IsAbsent, IsHere, IsReferred, IsUnfound, moved};
+ghost use Rattle.fault_core.specs.Kept.{AreApart};
+ghost use Rattle.fault_core.specs.Kill.{is_absent};
+ghost use Rattle.fault_core.specs.Reach.{BringsOwn, Reaches, ReachHalts};
+ghost use Rattle.fault_core.specs.Unit.{IsReady, IsSlotOf, file_page};
+ghost use Rattle.fault_core.specs.Lack.{Lacks};
+ghost use Rattle.swapper_kernel.specs.Goes.{no_page};
+
+use crate::CoreOver;
+use crate::reference::{Access, Reference, last_page};
+use filer_kernel::FilerOver;
+use labelled_disk::{Disk, Halt};
+use std::alloc::Allocator;
+use swap_units::Interval;
+
+/// What comes of a load or a store that brings in no page of a client.
+#[derive(Clone, Copy, Debug, PartialEq, Eq)]
+pub enum Attempt {
+    Access(Access),
+    /// No page is refused, and this is the first of the reference that is not resident. No byte was moved.
+    Absent(u32),
+}
+
+// A reference whose pages were described: the slots of its first and of its last page, or what the attempt comes to.
+#[derive(Clone, Copy)]
+pub(crate) enum Prospect {
+    Ready { first: u32, last: u32 },
+    Settled(Attempt),
+}
+
+// The slot of a page that an interval shows, or None where the page is not resident.
+fn slot_at<D: Disk, A: Allocator>(
+    filer: &mut FilerOver<D, A>,
+    x: &Interval,
+    page: u32,
+) -> Option<u32>
+    requires shows { Shows x.now page }
+    ensures slot { IfSome result (λ i. HasPage filer.old.swapper.pool i x.now.id (file_page x.now page)) }
+    ensures absent { result ≡ None → is_absent filer.old.swapper.pool x.now.id (file_page x.now page) }
+    ensures same { filer.new ≡ filer.old }
+{
+    filer
+        .swapper_over()
+        .frames()
+        .find(x.id, x.page + (page - x.first))
+}
+
+// The slots of the first and of the last page of a reference, by the intervals that show them, or the first of its pages
+// that is not resident.
+fn look_for<D: Disk, A: Allocator>(
+    filer: &mut FilerOver<D, A>,
+    first: &Interval,
+    last: &Interval,
+    address: u32,
+    count: u32,
+) -> Prospect
+    requires some { 1 ≤ count }
+    requires few { count ≤ 512 }
+    requires first { Shows first.now (address / 512) }
+    requires last { Shows last.now (last_page address count) }
+    ensures first { IfReady (λ i j. HasPage filer.old.swapper.pool i first.now.id (file_page first.now (address / 512))) result }
+    ensures last { IfReady (λ i j. HasPage filer.old.swapper.pool j last.now.id (file_page last.now (last_page address count))) result }
+    ensures absent { IfSettled (IfAbsent (IsUnfound filer.old.swapper.pool first.now last.now address count)) result }
+    ensures no_access { IfSettled (IfAccess (λ a. ⊥)) result }
+    ensures same { filer.new ≡ filer.old }
+{
+    let low = address / 512;
+    let high = last_page(address, count);
+    let i = match slot_at(filer, first, low) {
+        Some(slot) => slot,
+        None => return Prospect::Settled(Attempt::Absent(low)),
+    };
+    let j = match slot_at(filer, last, high) {
+        Some(slot) => slot,
+        None => return Prospect::Settled(Attempt::Absent(high)),
+    };
+    Prospect::Ready { first: i, last: j }
+}
+
+impl<D: Disk, A: Allocator> CoreOver<D, A> {
+    ghost use Rattle.fault_core.specs.Core.{kept, state, Knows};
+
+    // What comes of a reference, before a byte of it is moved. All its pages are described here, then looked for in the
+    // frames, and none of them is brought in.
+    pub(crate) fn look_ahead(
+        &mut self,
+        address: u32,
+        count: u32,
+        writes: bool,
+    ) -> Result<Prospect, Halt>
+        requires size { (D.state self.old.filer.swapper.under).sectors ≡ self.old.filer.swapper.layout.sectors }
+        requires some { 1 ≤ count }
+        requires few { count ≤ 512 }
+        ensures clients { IfOk result (IfReady (λ i j. HasClient self.new.filer.swapper.pool i × HasClient self.new.filer.swapper.pool j)) }
+        ensures here { IfOk result (IfReady (λ i j. IsHere (kept self.new) self.new.filer.swapper.pool (last_page address count))) }
+        ensures slots { (m : List Sector) (named : Triples) (ss : List Space) → Knows self.old m named ss
+            → IfOk result (IfReady (λ i j. IsSlotOf ss self.new.filer.swapper.pool (address / 512) i × IsSlotOf ss self.new.filer.swapper.pool (last_page address count) j)) }
+        ensures granted { (m : List Sector) (named : Triples) (ss : List Space) → Knows self.old m named ss → IfOk result (IfReady (λ i j. access.Done ≡ access_of ss writes address count)) }
+        ensures access { (m : List Sector) (named : Triples) (ss : List Space) → Knows self.old m named ss → IfOk result (IfSettled (IfAccess (λ a. a ≡ access_of ss writes address count))) }
+        ensures absent { (m : List Sector) (named : Triples) (ss : List Space) → Knows self.old m named ss → IfOk result (IfSettled (IfAbsent (IsAbsent ss self.new.filer.swapper.pool writes address count))) }
+        ensures referred { IfOk result (IfSettled (IfAbsent (IsReferred address count))) }
+        ensures unmoved { IfOk result (IfSettled (λ t. t ≢ moved)) }
+        ensures cause { IfErr result (ReachHalts (BreaksFor (state self.old) self.old.intervals address count) (state self.old) (state self.new)) }
+        ensures lacks { IfErr result (Lacks no_page) }
+        ensures sound { (m : List Sector) (named : Triples) (ss : List Space) → Knows self.old m named ss → IfErr result (λ e. e ≡ halt.Disk) }
+        ensures same { (m : List Sector) (named : Triples) (ss : List Space) → Knows self.old m named ss → Knows self.new m named ss }
+        ensures reaches { Reaches (state self.old) (state self.new) }
+        ensures came { BringsOwn self.old.filer.swapper.pool self.new.filer.swapper.pool }
+        ensures intervals { self.new.intervals ≡ self.old.intervals }
+        ensures present { IsReady (kept self.old) self.old.filer.swapper.pool (address / 512) → IsReady (kept self.old) self.old.filer.swapper.pool (last_page address count) → AreApart (kept self.old)
+            → IfOk result (IfSettled (IfAbsent (λ page. ⊥))) }
+        ensures idle { IsReady (kept self.old) self.old.filer.swapper.pool (address / 512) → IsReady (kept self.old) self.old.filer.swapper.pool (last_page address count) → AreApart (kept self.old)
+            → IsOk result × (self.new.filer ≡ self.old.filer) × (kept self.new ≡ kept self.old) }
+        ensures cost { (D.state self.new.filer.swapper.under).transfers ≤ (D.state self.old.filer.swapper.under).transfers + 392 }
+    {
+        let (first, last) = match self.refer(address, count, writes) {
+            Ok(Reference::Shown { first, last }) => (first, last),
+            Ok(Reference::NoMap(page)) => {
+                return Ok(Prospect::Settled(Attempt::Access(Access::NoMap(page))));
+            }
+            Ok(Reference::ReadOnly(page)) => {
+                return Ok(Prospect::Settled(Attempt::Access(Access::ReadOnly(page))));
+            }
+            Err(halt) => return Err(halt),
+        };
+        Ok(look_for(&mut self.filer, &first, &last, address, count))
+    }
+}

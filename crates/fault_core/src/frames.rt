@@ -1,0 +1,119 @@
+//! The bytes of a reference's pages, where these are in frames.
+ghost use Rattle.std.specs.Prelude.{◌≡◌, ◌≤◌, ◌<◌, ◌+◌, ◌/◌, ℕ, true, List, length, IsSome};
+ghost use Rattle.labelled_disk.specs.Label.{is_file_id};
+ghost use Rattle.labelled_disk.specs.Sectors.{Sector};
+ghost use Rattle.file_map.specs.FileMap.{Triples};
+ghost use Rattle.flat_mem.specs.Memory.{part};
+ghost use Rattle.frame_pool.specs.Frames.{Frame, Has, HasPage, frame_at};
+ghost use Rattle.flat_machine.specs.declared.space.Space.{Space};
+ghost use Rattle.swapper_kernel.specs.Goes.{IsDirty, this_page};
+ghost use Rattle.session_words.specs.CellLaws.{Stores, StoresAt};
+ghost use Rattle.fault_core.specs.Access.{last_page};
+ghost use Rattle.fault_core.specs.Attempt.{HasClient, either};
+ghost use Rattle.fault_core.specs.Moves.{Leaves, Loads};
+ghost use Rattle.fault_core.specs.Reach.{BringsOwn};
+ghost use Rattle.fault_core.specs.Told.{AreStored, Known};
+ghost use Rattle.fault_core.specs.Touch.{Touches};
+ghost use Rattle.fault_core.specs.Unit.{IsShownDirty, IsSlotOf};
+ghost use Rattle.fault_core.specs.Room.{KeepsSlots};
+ghost use Rattle.fault_core.specs.View.{view_of};
+
+use filer_kernel::FilerOver;
+use labelled_disk::Disk;
+use std::alloc::Allocator;
+
+/// Reads from a page in a frame.
+pub(crate) fn copy_out<D: Disk, A: Allocator>(
+    filer: &mut FilerOver<D, A>,
+    slot: u32,
+    from: usize,
+    into: &mut [u8],
+)
+    requires below { slot < length filer.old.swapper.pool }
+    requires filled { IsSome (frame_at filer.old.swapper.pool slot) }
+    requires inside { from + length into.old ≤ 512 }
+    ensures bytes { (f : Frame) → Has filer.old.swapper.pool slot f → into.new ≡ part f.bytes from (length into.old) }
+    ensures width { length into.new ≡ length into.old }
+    ensures same { filer.new ≡ filer.old }
+{
+    let page = filer.swapper_over().frames().bytes(slot);
+    into.copy_from_slice(&page[from..from + into.len()]);
+}
+
+/// Reads the bytes of a reference from the slots of its first and of its last page.
+pub(crate) fn copy_pages<D: Disk, A: Allocator>(
+    filer: &mut FilerOver<D, A>,
+    first: u32,
+    last: u32,
+    address: u32,
+    into: &mut [u8],
+)
+    requires some { 1 ≤ length into.old }
+    requires few { length into.old ≤ 512 }
+    requires first { HasClient filer.old.swapper.pool first }
+    requires last { HasClient filer.old.swapper.pool last }
+    ensures bytes { (m : List Sector) (named : Triples) (b : List ℕ) (ss : List Space) → Known (view_of filer.old) m named b → AreStored named m ss
+        → IsSlotOf ss filer.old.swapper.pool (address / 512) first → IsSlotOf ss filer.old.swapper.pool (last_page address (length into.old)) last → Loads ss address into.new m }
+    ensures width { length into.new ≡ length into.old }
+    ensures same { filer.new ≡ filer.old }
+{
+    let from = (address % 512) as usize;
+    let room = 512 - from;
+    if into.len() <= room {
+        return copy_out(filer, first, from, into);
+    }
+    let (low, high) = into.split_at_mut(room);
+    copy_out(filer, first, from, low);
+    copy_out(filer, last, 0, high);
+}
+
+/// Writes over the bytes of a page in a frame. The frame is dirty then.
+pub(crate) fn change_in<D: Disk, A: Allocator>(
+    filer: &mut FilerOver<D, A>,
+    slot: u32,
+    from: u32,
+    bytes: &[u8],
+)
+    requires slot { HasClient filer.old.swapper.pool slot }
+    requires inside { from + length bytes.now ≤ 512 }
+    ensures stored { (m : List Sector) (named : Triples) (b : List ℕ) (id page : ℕ) → Known (view_of filer.old) m named b → HasPage filer.old.swapper.pool slot id page → is_file_id id ≡ true
+        → Leaves (StoresAt id page from bytes.now) m named b (view_of filer.new) }
+    ensures dirty { (id page : ℕ) → HasPage filer.old.swapper.pool slot id page → IsDirty filer.new.swapper.pool id page }
+    ensures touches { (id page : ℕ) → HasPage filer.old.swapper.pool slot id page → 16 ≤ id → Touches (this_page id page) (view_of filer.old) (view_of filer.new) }
+    ensures came { BringsOwn filer.old.swapper.pool filer.new.swapper.pool }
+    ensures slots { KeepsSlots filer.old.swapper.pool filer.new.swapper.pool }
+    ensures under { filer.new.swapper.under ≡ filer.old.swapper.under }
+{
+    filer.swapper_over().change(slot, from, bytes);
+}
+
+/// Writes the bytes of a reference over those in the slots of its first and of its last page.
+pub(crate) fn change_pages<D: Disk, A: Allocator>(
+    filer: &mut FilerOver<D, A>,
+    first: u32,
+    last: u32,
+    address: u32,
+    bytes: &[u8],
+)
+    requires some { 1 ≤ length bytes.now }
+    requires few { length bytes.now ≤ 512 }
+    requires first { HasClient filer.old.swapper.pool first }
+    requires last { HasClient filer.old.swapper.pool last }
+    ensures stored { (m : List Sector) (named : Triples) (b : List ℕ) (ss : List Space) → Known (view_of filer.old) m named b → AreStored named m ss
+        → IsSlotOf ss filer.old.swapper.pool (address / 512) first → IsSlotOf ss filer.old.swapper.pool (last_page address (length bytes.now)) last → Leaves (Stores ss address bytes.now) m named b (view_of filer.new) }
+    ensures dirty { (ss : List Space) → IsSlotOf ss filer.old.swapper.pool (address / 512) first → IsSlotOf ss filer.old.swapper.pool (last_page address (length bytes.now)) last
+        → IsShownDirty ss filer.new.swapper.pool (last_page address (length bytes.now)) }
+    ensures touches { (i p j q : ℕ) → HasPage filer.old.swapper.pool first i p → HasPage filer.old.swapper.pool last j q → 16 ≤ i → 16 ≤ j → Touches (either i p j q) (view_of filer.old) (view_of filer.new) }
+    ensures came { BringsOwn filer.old.swapper.pool filer.new.swapper.pool }
+    ensures slots { KeepsSlots filer.old.swapper.pool filer.new.swapper.pool }
+    ensures under { filer.new.swapper.under ≡ filer.old.swapper.under }
+{
+    let from = address % 512;
+    let room = (512 - from) as usize;
+    if bytes.len() <= room {
+        return change_in(filer, first, from, bytes);
+    }
+    let (low, high) = bytes.split_at(room);
+    change_in(filer, first, from, low);
+    change_in(filer, last, 0, high);
+}
