@@ -28,7 +28,8 @@ use Rattle.filer_kernel.specs.Causes.{MapShows, MapHalts, CutHalts}
 use Rattle.filer_kernel.specs.Triples.{MapIs}
 use Rattle.session_words.specs.Volume.{volume_page}
 use Rattle.volume_root.specs.declared.root.Root.{Root}
-use Rattle.volume_root.specs.RootPage.{root_bytes, root_label, root_write}
+use Rattle.volume_root.specs.RootPage.{root_bytes, root_write}
+use Rattle.labelled_disk.specs.Label.{root_label}
 use Rattle.file_manager.specs.Grounds.{IsUnframed, IsFilled, StopsInForm, MakeEvidence, MakeHalts, CreateEvidence, CreateHalts}
 use Rattle.file_manager.specs.Taking.{TakesSectors, NamesNoneOf, every_page}
 use Rattle.file_manager.proofs.FreedRun.{first_is, map_makes, shows_still}

@@ -7,7 +7,8 @@ use Rattle.std.proofs.lemmas.Option.{same_Some, none-some, slice_get_within}
 use Rattle.labelled_disk.specs.declared.label.Label.{Label}
 use Rattle.labelled_disk.specs.declared.layout.Layout.{Layout}
 use Rattle.labelled_disk.specs.Calls.{TellsSame}
-use Rattle.labelled_disk.specs.Runs.{growth, page_label, zero_bytes}
+use Rattle.labelled_disk.specs.Runs.{growth, zero_bytes}
+use Rattle.labelled_disk.specs.Label.{page_label}
 use Rattle.labelled_disk.specs.Sectors.{Sector}
 use Rattle.labelled_disk.specs.State.{DiskState}
 use Rattle.labelled_disk.specs.WriteRuns.{after_writes}

@@ -11,7 +11,8 @@ use Rattle.labelled_disk.specs.declared.evidence.Evidence.TheVariants.{Mismatch,
 use Rattle.labelled_disk.specs.declared.evidence.Halt.{Halt}
 use Rattle.labelled_disk.specs.declared.evidence.Halt.TheVariants.{Disk, Damaged}
 use Rattle.labelled_disk.specs.declared.layout.Layout.{Layout}
-use Rattle.labelled_disk.specs.Runs.{growth, page_label, zero_bytes}
+use Rattle.labelled_disk.specs.Runs.{growth, zero_bytes}
+use Rattle.labelled_disk.specs.Label.{page_label}
 use Rattle.labelled_disk.specs.Sectors.{Sector}
 use Rattle.labelled_disk.specs.State.{DiskState}
 use Rattle.frame_pool.specs.declared.home.Home.{Home}

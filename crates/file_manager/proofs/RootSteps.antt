@@ -9,7 +9,7 @@ use Rattle.labelled_disk.specs.declared.label.Label.{Label}
 use Rattle.labelled_disk.specs.declared.label.Wanted.{Wanted}
 use Rattle.labelled_disk.specs.declared.disk.DiskWrite.{DiskWrite}
 use Rattle.labelled_disk.specs.declared.disk.DiskWrite.TheVariants as write
-use Rattle.labelled_disk.specs.Label.{names}
+use Rattle.labelled_disk.specs.Label.{names, root_label}
 use Rattle.labelled_disk.specs.Lawful.{Lawful}
 use Rattle.labelled_disk.specs.Layout.{first_data}
 use Rattle.labelled_disk.specs.Moment.{moment, written}
@@ -22,7 +22,7 @@ use Rattle.labelled_disk.proofs.Finds.{get_set_same, get_set_other}
 use Rattle.frame_pool.specs.Frames.{Slots}
 use Rattle.swapper_kernel.specs.Goes.{Pages, Makes, is_page_write}
 use Rattle.volume_root.specs.declared.root.Root.{Root}
-use Rattle.volume_root.specs.RootPage.{root_bytes, root_label, root_write}
+use Rattle.volume_root.specs.RootPage.{root_bytes, root_write}
 use Rattle.volume_root.proofs.WrittenLemmas.{serial_read, counter_read}
 use Rattle.file_manager.specs.Creating.{counted}
 use Rattle.file_manager.specs.Roots.{RootStays, CountsOnce, RootCounts}

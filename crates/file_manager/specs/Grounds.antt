@@ -6,8 +6,8 @@ use Rattle.labelled_disk.specs.declared.evidence.Evidence.{Evidence}
 use Rattle.labelled_disk.specs.declared.evidence.Evidence.TheVariants.{Mismatch, Malformed, Missing}
 use Rattle.labelled_disk.specs.declared.evidence.Halt.{Halt}
 use Rattle.labelled_disk.specs.declared.layout.Layout.{Layout}
-use Rattle.labelled_disk.specs.Label.{leader_page}
-use Rattle.labelled_disk.specs.Runs.{growth, page_label, zero_bytes}
+use Rattle.labelled_disk.specs.Label.{leader_page, page_label}
+use Rattle.labelled_disk.specs.Runs.{growth, zero_bytes}
 use Rattle.labelled_disk.specs.Sectors.{Sector}
 use Rattle.labelled_disk.specs.State.{DiskState}
 use Rattle.frame_pool.specs.declared.home.Home.{Home}

@@ -8,7 +8,7 @@ use Rattle.fault_core.specs.Unit.{IsSlotOf}
 use Rattle.fault_core.specs.View.{view_of}
 use Rattle.fault_core.proofs.BeforeLemmas.{touches_then, touches_wider}
 use Rattle.fault_core.proofs.MovedLemmas.{client_stays, of_a_file, written_both, written_one}
-use Rattle.fault_core.proofs.PieceLemmas.{next_page, one_page}
+use Rattle.fault_core.proofs.PieceLemmas.{last_is_next, one_page}
 use Rattle.fault_core.proofs.frames.change_pages.Goals as goal
 
 -- ---- On one page.
@@ -36,7 +36,7 @@ change_in-requires-3-clause-slot g c = client_stays c.change_in-2.ensures.slots 
 pub returns-clause-stored : goal.returns-clause-stored
 returns-clause-stored g c = λ m named b ss known stored first last.
     let past = c.if-bytes-room.false in
-    let page = next_page c.args.address (length c.args.bytes.now) c.requires.few (omega (arith, past)) in
+    let page = last_is_next c.args.address (length c.args.bytes.now) c.requires.few (omega (arith, past)) in
     let next : IsSlotOf ss c.args.filer.now.swapper.pool (c.args.address / 512 + 1) c.args.last = rw page last in
     let low = c.change_in-2.ensures.stored m named b first.shown.file first.shown.page known first.has (of_a_file stored first) in
     let l : Leaves (StoresAt first.shown.file first.shown.page (c.args.address % 512) (take (512 - c.args.address % 512) c.args.bytes.now)) m named b (view_of c.change_in-2.new.filer) =

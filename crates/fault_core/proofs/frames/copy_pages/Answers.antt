@@ -2,7 +2,7 @@ use Rattle.std.proofs.Common.{rules, ◌≡◌, ◌∙◌, ◌/◌, ◌%◌, ◌
 use Rattle.flat_mem.specs.Memory.{part}
 use Rattle.fault_core.specs.Unit.{IsSlotOf}
 use Rattle.fault_core.proofs.MovedLemmas.{read_first, read_next}
-use Rattle.fault_core.proofs.PieceLemmas.{next_page, one_loaded, two_loaded}
+use Rattle.fault_core.proofs.PieceLemmas.{last_is_next, one_loaded, two_loaded}
 use Rattle.fault_core.proofs.frames.copy_pages.Goals as goal
 
 -- ---- On one page.
@@ -25,7 +25,7 @@ returns-clause-bytes g c = λ m named b ss known stored first last.
     let low = c.copy_out-2.new.into in
     let high = c.copy_out-3.new.into in
     let past = c.if-into-room.false in
-    let page = next_page c.args.address (length c.args.into.now) c.requires.few (omega (arith, past)) in
+    let page = last_is_next c.args.address (length c.args.into.now) c.requires.few (omega (arith, past)) in
     let next : IsSlotOf ss filer.swapper.pool (c.args.address / 512 + 1) c.args.last = rw page last in
     let front : length low ≡ 512 - c.args.address % 512 = search rules in
     let back : 1 ≤ length high = search rules in
