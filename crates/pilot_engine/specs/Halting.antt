@@ -8,7 +8,7 @@ use Rattle.swapper_kernel.specs.Halts.{Halts}
 use Rattle.swapper_kernel.specs.Homes.{no_home}
 use Rattle.filer_kernel.specs.Causes.{MapHalts}
 use Rattle.file_manager.specs.Causes.{LeaderHalts}
-use Rattle.file_manager.specs.Grounds.{AreTables, CutFileHalts, DeleteHalts, MakeHalts, ResizeHalts}
+use Rattle.file_manager.specs.Grounds.{AreTables, CreateHalts, CutFileHalts, DeleteHalts, ResizeHalts}
 use Rattle.running_words.specs.Session.{WroteIn}
 use Rattle.fault_core.specs.Kill.{BreaksWithin}
 use Rattle.fault_core.specs.Reach.{Reaches, ReachHalts}
@@ -18,8 +18,8 @@ use Rattle.space_calls.specs.Halts.{After, ChangeHalts, Looked, OnFileHalts, Pat
 -- ---- What is done to a file.
 
 -- it is made
-abbrev pub CreateHalts : View → View → Halt → Type 0
-CreateHalts v w e = MakeHalts v.layout v.disk v.slots w.disk w.slots e
+abbrev pub NewFileHalts : ℕ → View → View → Halt → Type 0
+NewFileHalts id v w e = CreateHalts v.layout id v.disk v.slots w.disk w.slots e
 
 -- it is removed
 abbrev pub RemoveHalts : ℕ → View → View → Halt → Type 0
@@ -49,9 +49,9 @@ NextHalts count v w e = After Looked (TurnHalts count) v w e
 abbrev pub Made : View → View → Type 0
 Made v w = WroteIn volume_page v.disk v.slots w.disk w.slots × (w.layout ≡ v.layout)
 
--- the path of a space is looked up, a file is made, and then the tables change
-abbrev pub MapNewHalts : ℕ → View → View → Halt → Type 0
-MapNewHalts count v w e = PathHalts v w e ⊎ After Reaches (λ u x e. CreateHalts u x e ⊎ After Made (ChangeHalts count) u x e) v w e
+-- the path of a space is looked up, the file is made, and then the tables change
+abbrev pub MapNewHalts : ℕ → ℕ → View → View → Halt → Type 0
+MapNewHalts id count v w e = PathHalts v w e ⊎ After Reaches (λ u x e. NewFileHalts id u x e ⊎ After Made (ChangeHalts count) u x e) v w e
 
 -- the window of a space is taken away, and then the file that it showed is removed, if it came with it
 abbrev pub UnmapHalts : ℕ → ℕ → View → View → Halt → Type 0

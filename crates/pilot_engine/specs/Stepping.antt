@@ -11,7 +11,7 @@ use Rattle.fault_core.specs.Unit.{IsReady}
 use Rattle.fault_core.specs.View.{View}
 use Rattle.space_calls.specs.Halts.{ChangeHalts, MakeSpaceHalts, MapFileHalts, NamedHalts, OnNamedHalts, PlaceHalts, ProtectHalts, RemoveSpaceHalts}
 use Rattle.space_calls.specs.Ranges.{BreaksRange}
-use Rattle.pilot_engine.specs.Halting.{CreateHalts, MapNewHalts, MarkHalts, NextHalts, RemoveHalts, SizeHalts, UnmapHalts}
+use Rattle.pilot_engine.specs.Halting.{MapNewHalts, MarkHalts, NewFileHalts, NextHalts, RemoveHalts, SizeHalts, UnmapHalts}
 
 -- a call on spaces
 abbrev pub is_on_spaces : Call → Bool
@@ -52,29 +52,29 @@ IsResident (call.Load address count) kept slots = IsReady kept slots (address / 
 IsResident (call.Store address bytes) kept slots = IsReady kept slots (address / 512) × IsReady kept slots (last_page address (length bytes))
 IsResident other kept slots = ⊥
 
--- why a call stops the session: one from the first state to the second, with so many intervals at its start. A call that ends
--- the session is no step.
-abbrev pub StepHalts : Call → ℕ → View → View → Halt → Type 0
-StepHalts (call.Create pages kind) count v w e = CreateHalts v w e
-StepHalts (call.Delete id) count v w e = OnNamedHalts id count (RemoveHalts id) v w e
-StepHalts (call.Attributes id) count v w e = NamedHalts id count v w e
-StepHalts (call.SetSize id pages) count v w e = OnNamedHalts id count (SizeHalts id pages) v w e
-StepHalts (call.MakePermanent id) count v w e = OnNamedHalts id count (MarkHalts id) v w e
-StepHalts (call.MakeImmutable id) count v w e = OnNamedHalts id count (MarkHalts id) v w e
-StepHalts (call.Next id) count v w e = NextHalts count v w e
-StepHalts call.Volume count v w e = ⊥
-StepHalts (call.MakeSpace parent pages first) count v w e = MakeSpaceHalts parent pages first count v w e
-StepHalts (call.RemoveSpace space) count v w e = RemoveSpaceHalts space count v w e
-StepHalts (call.Place page) count v w e = PlaceHalts page count v w e
-StepHalts (call.Units space pages) count v w e = ChangeHalts count v w e
-StepHalts (call.Map space id page writable) count v w e = MapFileHalts space id count v w e
-StepHalts (call.MapAnonymous space) count v w e = MapNewHalts count v w e
-StepHalts (call.Unmap space) count v w e = UnmapHalts space count v w e
-StepHalts (call.Protect space writable) count v w e = ProtectHalts space writable count v w e
-StepHalts (call.Load address bytes) count v w e = ReachHalts (BreaksFor v count address bytes) v w e
-StepHalts (call.Store address bytes) count v w e = ReachHalts (BreaksFor v count address (length bytes)) v w e
-StepHalts (call.Activate space) count v w e = ReachHalts (BreaksRange v count space) v w e
-StepHalts (call.Deactivate space) count v w e = ReachHalts (BreaksRange v count space) v w e
-StepHalts (call.Kill space) count v w e = ReachHalts (BreaksRange v count space) v w e
-StepHalts (call.ForceOut space) count v w e = ReachHalts (BreaksRange v count space) v w e
-StepHalts other count v w e = ⊥
+-- why a call stops the session: one from the first state to the second, with so many intervals at its start, where a new file
+-- would get this identifier. A call that ends the session is no step.
+abbrev pub StepHalts : ℕ → Call → ℕ → View → View → Halt → Type 0
+StepHalts new (call.Create pages kind) count v w e = NewFileHalts new v w e
+StepHalts new (call.Delete id) count v w e = OnNamedHalts id count (RemoveHalts id) v w e
+StepHalts new (call.Attributes id) count v w e = NamedHalts id count v w e
+StepHalts new (call.SetSize id pages) count v w e = OnNamedHalts id count (SizeHalts id pages) v w e
+StepHalts new (call.MakePermanent id) count v w e = OnNamedHalts id count (MarkHalts id) v w e
+StepHalts new (call.MakeImmutable id) count v w e = OnNamedHalts id count (MarkHalts id) v w e
+StepHalts new (call.Next id) count v w e = NextHalts count v w e
+StepHalts new call.Volume count v w e = ⊥
+StepHalts new (call.MakeSpace parent pages first) count v w e = MakeSpaceHalts parent pages first count v w e
+StepHalts new (call.RemoveSpace space) count v w e = RemoveSpaceHalts space count v w e
+StepHalts new (call.Place page) count v w e = PlaceHalts page count v w e
+StepHalts new (call.Units space pages) count v w e = ChangeHalts count v w e
+StepHalts new (call.Map space id page writable) count v w e = MapFileHalts space id count v w e
+StepHalts new (call.MapAnonymous space) count v w e = MapNewHalts new count v w e
+StepHalts new (call.Unmap space) count v w e = UnmapHalts space count v w e
+StepHalts new (call.Protect space writable) count v w e = ProtectHalts space writable count v w e
+StepHalts new (call.Load address bytes) count v w e = ReachHalts (BreaksFor v count address bytes) v w e
+StepHalts new (call.Store address bytes) count v w e = ReachHalts (BreaksFor v count address (length bytes)) v w e
+StepHalts new (call.Activate space) count v w e = ReachHalts (BreaksRange v count space) v w e
+StepHalts new (call.Deactivate space) count v w e = ReachHalts (BreaksRange v count space) v w e
+StepHalts new (call.Kill space) count v w e = ReachHalts (BreaksRange v count space) v w e
+StepHalts new (call.ForceOut space) count v w e = ReachHalts (BreaksRange v count space) v w e
+StepHalts new other count v w e = ⊥

@@ -12,6 +12,7 @@ ghost use Rattle.running_words.specs.Session.{IsOpen, Wrote};
 ghost use Rattle.running_words.specs.Stages.{Passes};
 ghost use Rattle.fault_core.specs.Core.{state};
 ghost use Rattle.pilot_engine.specs.Halting.{MapNewHalts, UnmapHalts};
+ghost use Rattle.file_manager.specs.Creating.{next_id};
 
 use crate::SessionOver;
 use flat_machine::Reply;
@@ -65,7 +66,7 @@ impl<D: Disk, A: Allocator> SessionOver<D, A> {
         ensures sound { (m : Machine) → Runs self.old.core self.old.volume m → IfErr result (λ e. e ≡ halt.Disk) }
         ensures passes { (m : Machine) → Runs self.old.core self.old.volume m → Passes m (call.MapAnonymous space) (D.state self.old.core.filer.swapper.under) (D.state self.new.core.filer.swapper.under) }
         ensures counted { result ≡ Err halt.Disk → Rose (D.state self.old.core.filer.swapper.under).faults (D.state self.new.core.filer.swapper.under).faults }
-        ensures cause { IfErr result (MapNewHalts self.old.core.intervals (state self.old.core) (state self.new.core)) }
+        ensures cause { IfErr result (MapNewHalts (next_id self.old.volume.root) self.old.core.intervals (state self.old.core) (state self.new.core)) }
         ensures so { IfErr result (ShowsSo (D.state self.new.core.filer.swapper.under)) }
         ensures wrote { Wrote (D.state self.old.core.filer.swapper.under) self.old.core.filer.swapper.pool (D.state self.new.core.filer.swapper.under) self.new.core.filer.swapper.pool }
         ensures open_still { IsOpen self.new.core.filer.swapper.layout self.new.volume }

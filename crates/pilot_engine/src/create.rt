@@ -11,7 +11,8 @@ ghost use Rattle.fault_core.specs.Core.{kept, state};
 ghost use Rattle.running_words.specs.Session.{IsOpen, IsSession, Carries, Wrote};
 ghost use Rattle.running_words.specs.Stages.{Passes};
 ghost use Rattle.pilot_engine.specs.Seen.{CostsInside};
-ghost use Rattle.pilot_engine.specs.Halting.{CreateHalts};
+ghost use Rattle.pilot_engine.specs.Halting.{NewFileHalts};
+ghost use Rattle.file_manager.specs.Creating.{next_id};
 
 use crate::SessionOver;
 use flat_machine::{Refusal, Reply};
@@ -30,7 +31,7 @@ impl<D: Disk, A: Allocator> SessionOver<D, A> {
         ensures passes { (spaces_of : TablesMeaning) (m : Machine) → IsSession spaces_of (D.state self.old.core.filer.swapper.under) self.old.core.filer.swapper.pool self.old.core.filer.swapper.layout self.old.core.filer.runs self.old.volume m
             → Passes m (call.Create pages kind) (D.state self.old.core.filer.swapper.under) (D.state self.new.core.filer.swapper.under) }
         ensures counted { result ≡ Err halt.Disk → Rose (D.state self.old.core.filer.swapper.under).faults (D.state self.new.core.filer.swapper.under).faults }
-        ensures cause { IfErr result (CreateHalts (state self.old.core) (state self.new.core)) }
+        ensures cause { IfErr result (NewFileHalts (next_id self.old.volume.root) (state self.old.core) (state self.new.core)) }
         ensures so { IfErr result (ShowsSo (D.state self.new.core.filer.swapper.under)) }
         ensures wrote { Wrote (D.state self.old.core.filer.swapper.under) self.old.core.filer.swapper.pool (D.state self.new.core.filer.swapper.under) self.new.core.filer.swapper.pool }
         ensures open_still { IsOpen self.new.core.filer.swapper.layout self.new.volume }

@@ -16,6 +16,7 @@ ghost use Rattle.running_words.specs.Stages.{Passes, may_dirty};
 ghost use Rattle.fault_core.specs.Core.{kept, state};
 ghost use Rattle.pilot_engine.specs.Advised.{IsAdvised};
 ghost use Rattle.pilot_engine.specs.Stepping.{IsResident, StepHalts, relabels, waits};
+ghost use Rattle.file_manager.specs.Creating.{next_id};
 
 use crate::SessionOver;
 use flat_machine::{Call, Reply};
@@ -49,7 +50,7 @@ impl<D: Disk, A: Allocator> SessionOver<D, A> {
         ensures advised { (m : Machine) → refusal m call.now ≡ None → Runs self.old.core self.old.volume m
             → OnOk result (IsAdvised m.spaces call.now (kept self.new.core) self.new.core.filer.swapper.pool) }
         ensures counted { result ≡ Err halt.Disk → Rose (D.state self.old.core.filer.swapper.under).faults (D.state self.new.core.filer.swapper.under).faults }
-        ensures cause { IfErr result (StepHalts call.now self.old.core.intervals (state self.old.core) (state self.new.core)) }
+        ensures cause { IfErr result (StepHalts (next_id self.old.volume.root) call.now self.old.core.intervals (state self.old.core) (state self.new.core)) }
         ensures so { IfErr result (ShowsSo (D.state self.new.core.filer.swapper.under)) }
         ensures wrote { WroteIn (may_dirty call.now) (D.state self.old.core.filer.swapper.under) self.old.core.filer.swapper.pool (D.state self.new.core.filer.swapper.under) self.new.core.filer.swapper.pool }
         ensures open_still { IsOpen self.new.core.filer.swapper.layout self.new.volume }
@@ -86,7 +87,7 @@ impl<D: Disk, A: Allocator> SessionOver<D, A> {
         ensures advised { (m : Machine) → refusal m call.now ≡ None → Runs self.old.core self.old.volume m
             → OnOk result (IsAdvised m.spaces call.now (kept self.new.core) self.new.core.filer.swapper.pool) }
         ensures counted { result ≡ Err halt.Disk → Rose (D.state self.old.core.filer.swapper.under).faults (D.state self.new.core.filer.swapper.under).faults }
-        ensures cause { IfErr result (StepHalts call.now self.old.core.intervals (state self.old.core) (state self.new.core)) }
+        ensures cause { IfErr result (StepHalts (next_id self.old.volume.root) call.now self.old.core.intervals (state self.old.core) (state self.new.core)) }
         ensures so { IfErr result (ShowsSo (D.state self.new.core.filer.swapper.under)) }
         ensures wrote { WroteIn (may_dirty call.now) (D.state self.old.core.filer.swapper.under) self.old.core.filer.swapper.pool (D.state self.new.core.filer.swapper.under) self.new.core.filer.swapper.pool }
         ensures open_still { IsOpen self.new.core.filer.swapper.layout self.new.volume }

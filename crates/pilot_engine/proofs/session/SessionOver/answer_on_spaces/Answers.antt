@@ -482,7 +482,7 @@ returns-in-Load-clause-cause g c = rw c.in-Load.is c.load.ensures.cause
 pub returns-in-Store-clause-cause : goal.returns-in-Store-clause-cause
 returns-in-Store-clause-cause g c =
     rw c.in-Store.is
-    (subst (λ (bs : List ℕ). IfErr c.store.result (StepHalts (call.Store c.in-Store.address bs) c.args.self.now.core.intervals (state c.args.self.now.core) (state c.store.new.core))) c.as_slice.ensures.bytes c.store.ensures.cause)
+    (subst (λ (bs : List ℕ). IfErr c.store.result (StepHalts 0 (call.Store c.in-Store.address bs) c.args.self.now.core.intervals (state c.args.self.now.core) (state c.store.new.core))) c.as_slice.ensures.bytes c.store.ensures.cause)
 
 pub returns-in-Activate-clause-cause : goal.returns-in-Activate-clause-cause
 returns-in-Activate-clause-cause g c = rw c.in-Activate.is c.activate.ensures.cause

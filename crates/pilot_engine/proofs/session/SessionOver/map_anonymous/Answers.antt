@@ -20,6 +20,7 @@ use Rattle.fault_core.specs.Core.{state}
 use Rattle.filer_kernel.proofs.Outcomes.{err_wider}
 use Rattle.space_calls.specs.Halts.{ChangeHalts}
 use Rattle.space_calls.proofs.HaltLemmas.{counted_change}
+use Rattle.file_manager.specs.Creating.{next_id}
 use Rattle.pilot_engine.specs.Halting.{MapNewHalts}
 use Rattle.pilot_engine.proofs.session.SessionOver.map_anonymous.Goals as goal
 
@@ -163,5 +164,5 @@ returns-clause-cause g c =
     let x = c.create.new.self.core in
     let w = state c.give_window.new.core in
     let asked = c.can_map.ensures.asked in
-    err_wider c.give_window.result (ChangeHalts x.intervals (state x) w) (MapNewHalts old.intervals (state old) w)
+    err_wider c.give_window.result (ChangeHalts x.intervals (state x) w) (MapNewHalts (next_id c.args.self.now.volume.root) old.intervals (state old) w)
     (λ e halts. inr (state u, asked.reaches, inr (state x, (c.create.ensures.wrote, c.create.ensures.layout), counted_change (state x) w old.intervals x.intervals (c.create.ensures.intervals ∙ asked.intervals) e halts))) c.give_window.ensures.cause
