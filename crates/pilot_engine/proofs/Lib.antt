@@ -11,6 +11,7 @@ pub mod StartStands
 pub mod StartWrites
 pub mod StartRuns
 pub mod StartFaults
+pub mod BeginLemmas
 pub mod FreshLemmas
 pub mod StepLemmas
 pub mod CauseLemmas

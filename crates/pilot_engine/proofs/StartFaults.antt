@@ -20,6 +20,7 @@ use Rattle.volume_root.proofs.FlagLemmas.{sound_is_opened}
 use Rattle.file_manager.proofs.RunStages.{there_is}
 use Rattle.pilot_engine.specs.declared.fault.StartFault.{StartFault}
 use Rattle.pilot_engine.specs.declared.fault.StartFault.TheVariants.{Root as NoRoot, NoMemory, Halt as Halted}
+use Rattle.pilot_engine.specs.Beginning.{HasStartCause}
 use Rattle.pilot_engine.specs.Opening.{IsBare, IsEarly, IsOutside, IsRightRefusal, IsSoAtStart, LeavesOpenAtStart}
 
 -- empty slots have no frame
@@ -113,3 +114,9 @@ pub early_left : (disk : DiskState) (f : StartFault) → IsEarly f → LeavesOpe
 early_left disk (NoRoot why) early = tt
 early_left disk NoMemory early = tt
 early_left disk (Halted why) early = absurd early
+
+-- nor is there a halt
+pub early_cause : (old new : DiskState) (f : StartFault) → IsEarly f → HasStartCause old new f
+early_cause old new (NoRoot why) early = tt
+early_cause old new NoMemory early = tt
+early_cause old new (Halted why) early = absurd early

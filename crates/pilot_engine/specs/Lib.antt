@@ -7,3 +7,4 @@ pub mod Order
 pub mod Halting
 pub mod Stepping
 pub mod Advised
+pub mod Beginning

@@ -20,6 +20,7 @@ ghost use Rattle.pilot_engine.specs.declared.fault.StartFault.TheVariants as sta
 ghost use Rattle.pilot_engine.specs.Opening.{root_alone, in_use, IsBare, StartsSome, WroteFirst, KeepsFiles, CostsStart, IsDiskFault, IsOutside, IsEarly, IsRightRefusal, IsUnset, LeavesOpen, IsSoAtStart, LeavesOpenAtStart};
 ghost use Rattle.running_words.specs.Running.{IsRunning, Runs};
 ghost use Rattle.running_words.specs.Session.{IsOpen, IsSession};
+ghost use Rattle.pilot_engine.specs.Beginning.{HasStartCause, StartHalts, TablesHalts};
 
 use crate::frames::look_at_frames;
 use crate::{SessionOver, StartFault};
@@ -62,6 +63,7 @@ fn write_tables<D: Disk, A: Allocator>(filer: &mut FilerOver<D, A>) -> Result<()
         → IfErr result (λ e. e ≡ halt.Disk) }
     ensures makes { Makes volume_page [] (D.state filer.old.swapper.under) filer.old.swapper.pool (D.state filer.new.swapper.under) filer.new.swapper.pool }
     ensures counted { result ≡ Err halt.Disk → Rose (D.state filer.old.swapper.under).faults (D.state filer.new.swapper.under).faults }
+    ensures cause { IfErr result (TablesHalts (view_of filer.old) (view_of filer.new)) }
     ensures so { IfErr result (ShowsSo (D.state filer.new.swapper.under)) }
     ensures layout { filer.new.swapper.layout ≡ filer.old.swapper.layout }
     ensures cost { (D.state filer.new.swapper.under).transfers ≤ (D.state filer.old.swapper.under).transfers + 14392 }
@@ -92,6 +94,7 @@ pub(crate) fn begin<D: Disk, A: Allocator>(
     ensures opened { IfOk result (IsOpen filer.new.swapper.layout) }
     ensures starts { StartsSome root (D.state filer.old.swapper.under) filer.old.swapper.pool (D.state filer.new.swapper.under) filer.new.swapper.pool }
     ensures counted { result ≡ Err halt.Disk → Rose (D.state filer.old.swapper.under).faults (D.state filer.new.swapper.under).faults }
+    ensures cause { IfErr result (StartHalts root (view_of filer.old) (view_of filer.new)) }
     ensures so { IfErr result (ShowsSo (D.state filer.new.swapper.under)) }
     ensures left_open { MatchResult result (λ volume. IsUnset (D.state filer.new.swapper.under)) (LeavesOpen (D.state filer.new.swapper.under)) }
     ensures serial { root.serial < 2 ^ 32 }
@@ -184,6 +187,7 @@ impl<D: Disk, A: Allocator> SessionOver<D, A> {
         ensures sound { (d : List Sector) → (D.state disk).contents ≡ Some d → Sound d → IfErr result (λ e. IsOutside e.0) }
         ensures unwritten { IfErr result (λ e. IsEarly e.0 → OnlyReads (D.state disk) (D.state e.1)) }
         ensures counted { IfErr result (λ e. IsDiskFault e.0 → Rose (D.state disk).faults (D.state e.1).faults) }
+        ensures cause { IfErr result (λ e. HasStartCause (D.state disk) (D.state e.1) e.0) }
         ensures so { IfErr result (λ e. IsSoAtStart (D.state e.1) e.0) }
 
         // What was written, whether or not one starts.

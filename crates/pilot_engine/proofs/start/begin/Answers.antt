@@ -1,4 +1,4 @@
-use Rattle.std.proofs.Common.{◌≡◌, ◌-◌, min, [], ◌∷◌, refl, ◌∙◌}
+use Rattle.std.proofs.Common.{◌≡◌, ◌-◌, min, [], ◌∷◌, refl, ◌∙◌, inl, inr}
 use Rattle.labelled_disk.specs.FilesOn.{files_on}
 use Rattle.flat_machine.specs.Space.{root}
 use Rattle.session_words.specs.Parts.{shapes_of}
@@ -12,6 +12,8 @@ use Rattle.pilot_engine.proofs.UnsetLemmas.{leaves_open, unset_open, unset_root}
 use Rattle.pilot_engine.proofs.StartWrites.{first_made}
 use Rattle.running_words.proofs.FlagLemmas.{growth_open, take_open}
 use Rattle.labelled_disk.specs.Runs.{growth}
+use Rattle.fault_core.specs.View.{view_of}
+use Rattle.pilot_engine.proofs.BeginLemmas.{rooted}
 use Rattle.pilot_engine.proofs.start.begin.Goals as goal
 
 pub used_of-requires-clause-first : goal.used_of-requires-clause-first
@@ -160,3 +162,27 @@ returns-clause-left_open g c =
     let begun = unset_root c.args.root _ _ (first_made c.args.root _ _ c.requires.bare made) in
     let all = c.in-Ok-make_tables.ensures.makes in
     unset_open (unset_open (unset_open begun (map_makes c.in-Ok-free_count.ensures.kept).wrote tt) all.makes.wrote (growth_open 3 0 0 all.sectors)) c.write_tables.ensures.makes.wrote tt
+
+-- ---- Why it failed.
+
+pub returns-in-Err-clause-cause : goal.returns-in-Err-clause-cause
+returns-in-Err-clause-cause g c = inl (c.in-Err.ensures.fault, c.in-Err.ensures.counted)
+
+pub returns-in-Err-free_count-clause-cause : goal.returns-in-Err-free_count-clause-cause
+returns-in-Err-free_count-clause-cause g c =
+    let u = view_of c.write_over.new.filer in
+    let begun = rooted c.args.root c.in_use-root.result (view_of c.args.filer.now) u c.in_use-root.ensures.root c.in-Ok.ensures.made c.in-Ok.ensures.frames c.in-Ok.ensures.layout in
+    inr (u, begun, inl c.in-Err-free_count.ensures.cause)
+
+pub returns-in-Err-make_tables-clause-cause : goal.returns-in-Err-make_tables-clause-cause
+returns-in-Err-make_tables-clause-cause g c =
+    let u = view_of c.write_over.new.filer in
+    let begun = rooted c.args.root c.in_use-root.result (view_of c.args.filer.now) u c.in_use-root.ensures.root c.in-Ok.ensures.made c.in-Ok.ensures.frames c.in-Ok.ensures.layout in
+    inr (u, begun, inr (view_of c.free_count.new.self, c.in-Ok-free_count.ensures.kept, inl c.in-Err-make_tables.ensures.cause))
+
+pub returns-in-Err-write_tables-clause-cause : goal.returns-in-Err-write_tables-clause-cause
+returns-in-Err-write_tables-clause-cause g c =
+    let u = view_of c.write_over.new.filer in
+    let begun = rooted c.args.root c.in_use-root.result (view_of c.args.filer.now) u c.in_use-root.ensures.root c.in-Ok.ensures.made c.in-Ok.ensures.frames c.in-Ok.ensures.layout in
+    let made = c.in-Ok-make_tables.ensures in
+    inr (u, begun, inr (view_of c.free_count.new.self, c.in-Ok-free_count.ensures.kept, inr (view_of c.make_tables.new.filer, (made.makes, made.layout), c.in-Err-write_tables.ensures.cause)))

@@ -1,8 +1,9 @@
-use Rattle.std.proofs.Common.{sym, ◌∙◌}
+use Rattle.std.proofs.Common.{sym, ◌∙◌, refl}
 use Rattle.flat_machine.specs.Start.{start}
-use Rattle.pilot_engine.proofs.StartFaults.{early_left, early_outside, early_so}
+use Rattle.pilot_engine.proofs.StartFaults.{early_left, early_outside, early_so, early_cause}
 use Rattle.pilot_engine.proofs.StartRuns.{runs_over}
 use Rattle.pilot_engine.proofs.StartWrites.{read_wrote, read_keeps, start_wrote, start_keeps}
+use Rattle.fault_core.specs.View.{view_of}
 use Rattle.pilot_engine.proofs.session.SessionOver.over.Goals as goal
 
 pub returns-in-Err-clause-sound : goal.returns-in-Err-clause-sound
@@ -57,3 +58,21 @@ returns-in-Err-begin-clause-left_open g c = rw c.into_disk.ensures c.in-Err-begi
 
 pub returns-in-Ok-begin-clause-left_open : goal.returns-in-Ok-begin-clause-left_open
 returns-in-Ok-begin-clause-left_open g c = rw c.over.ensures.filer c.in-Ok-begin.ensures.left_open
+
+-- ---- Why it failed.
+
+pub returns-in-Err-clause-cause : goal.returns-in-Err-clause-cause
+returns-in-Err-clause-cause g c = early_cause (g.D.Disk.state c.args.disk) (g.D.Disk.state c.in-Err.fault.1) c.in-Err.fault.0 c.in-Err.ensures.early
+
+pub returns-in-Err-begin-clause-cause : goal.returns-in-Err-begin-clause-cause
+returns-in-Err-begin-clause-cause g c =
+    rw c.into_disk.ensures (record {
+      root = c.in-Ok.opened.2;
+      told = c.in-Ok.ensures.read;
+      before = view_of c.in-Ok.opened.0;
+      read = c.in-Ok.ensures.reads;
+      bare = c.in-Ok.ensures.bare;
+      after = view_of c.begin.new.filer;
+      left = refl;
+      halts = c.in-Err-begin.ensures.cause;
+    })
