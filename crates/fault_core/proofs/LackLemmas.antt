@@ -1,5 +1,5 @@
 -- Which page of a client's file was found to have no sector.
-use Rattle.std.proofs.Common.{◌≡◌, ◌≢◌, ◌⊎◌, inl, inr, ℕ, ◌+◌, ◌-◌, ◌/◌, ◌<◌, ◌≤◌, List, Some, refl, sym, ◌∙◌, subst, arith}
+use Rattle.std.proofs.Common.{◌≡◌, ◌≢◌, ◌⊎◌, inl, inr, ℕ, ◌+◌, ◌-◌, ◌<◌, List, sym, ◌∙◌, arith}
 use Rattle.labelled_disk.specs.declared.layout.Layout.{Layout}
 use Rattle.labelled_disk.specs.declared.evidence.Evidence.TheVariants.{Mismatch, Malformed, Missing}
 use Rattle.labelled_disk.specs.declared.evidence.Halt.{Halt}
@@ -8,7 +8,6 @@ use Rattle.labelled_disk.specs.State.{DiskState}
 use Rattle.frame_pool.specs.Frames.{Slots}
 use Rattle.file_map.specs.declared.run.Run.{Run}
 use Rattle.flat_machine.specs.declared.space.Space.{Space}
-use Rattle.flat_machine.specs.At.{shown_at}
 use Rattle.swap_units.specs.declared.interval.Interval.{Interval}
 use Rattle.swapper_kernel.specs.Goes.{Pages, no_page}
 use Rattle.swapper_kernel.specs.Halts.{Halts}
@@ -16,12 +15,12 @@ use Rattle.swapper_kernel.specs.Homes.{Homes}
 use Rattle.filer_kernel.specs.Causes.{MapHalts}
 use Rattle.filer_kernel.specs.Tables.{FoundHalts}
 use Rattle.space_tables.specs.SpaceTables.{IsIntervalAt}
-use Rattle.fault_core.specs.Access.{Shows, last_page}
+use Rattle.fault_core.specs.Access.{Shows}
 use Rattle.fault_core.specs.Kept.{IsKept}
 use Rattle.fault_core.specs.Lack.{Lacks, Sees, run_pages, shown_unit, unit_pages}
 use Rattle.fault_core.specs.Reach.{Reaches}
 use Rattle.fault_core.specs.Told.{IsIntervalOf}
-use Rattle.fault_core.specs.Unit.{IsUnitRun, file_page}
+use Rattle.fault_core.specs.Unit.{IsUnitRun}
 use Rattle.fault_core.specs.View.{View}
 use Rattle.fault_core.proofs.ShowLemmas.{shown_is}
 use Rattle.fault_core.proofs.ToldLemmas.{interval_at}

@@ -10,4 +10,6 @@ mod calls;
 #[cfg(test)]
 mod faults;
 #[cfg(test)]
+mod lent;
+#[cfg(test)]
 mod rested;
