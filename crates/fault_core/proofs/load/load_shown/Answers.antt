@@ -118,5 +118,5 @@ returns-clause-lacks g c =
     let a = c.args.address in
     let n = length c.args.into.now in
     let past = c.if-into-room.false in
-    let page = next_page a n c.requires.few (omega (arith, past)) in
+    let page = last_is_next a n c.requires.few (omega (arith, past)) in
     err_wider c.load_in-3.result (Lacks (unit_pages y (a / 512 + 1))) (Lacks (both_units x y a n)) (lacks_wider (unit_pages y (a / 512 + 1)) (both_units x y a n) (λ id number own. inr (subst (λ (q : ℕ). unit_pages y q id number) page own))) c.load_in-3.ensures.lacks

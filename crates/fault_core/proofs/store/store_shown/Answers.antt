@@ -148,5 +148,5 @@ returns-clause-lacks g c =
     let a = c.args.address in
     let n = length c.args.bytes.now in
     let past = c.if-bytes-room.false in
-    let page = next_page a n c.requires.few (omega (arith, past)) in
+    let page = last_is_next a n c.requires.few (omega (arith, past)) in
     err_wider c.store_in-3.result (Lacks (unit_pages y (a / 512 + 1))) (Lacks (both_units x y a n)) (lacks_wider (unit_pages y (a / 512 + 1)) (both_units x y a n) (λ id number own. inr (subst (λ (q : ℕ). unit_pages y q id number) page own))) c.store_in-3.ensures.lacks
