@@ -30,7 +30,7 @@ pub rest_stops : (m : Machine) {v : View} {kept : List Interval} {count : ℕ} {
 rest_stops m is form = record {
   writes = [];
   appended = appended_none (record { contents = refl; writes = refl });
-  each = λ d k told. subst (IsStop m) (sym (still d k)) (let at = stands_told m is form d told in record { told = at.told; honest = at.honest });
+  each = λ d k told. subst (IsStop m) (sym (still d k)) (let at = stands_told m is form d told in record { told = at.told; same_serial = at.same_serial; same_counter = elim at.counter [ inl same ↦ same | inr same ↦ same ]; honest = at.honest });
 }
   where
     still : (d : List Sector) (k : ℕ) → moment d [] k ≡ d

@@ -25,6 +25,7 @@ use Rattle.fault_core.specs.View.{View}
 use Rattle.running_words.specs.Running.{IsRunning, exactly}
 use Rattle.running_words.specs.Stages.{Passes}
 use Rattle.pilot_top.specs.Moments.{Along, IsBy, IsMoment, Moments, staged, step_of, steps_of}
+use Rattle.pilot_top.proofs.NumberLemmas.{after_serial, counter_before, counter_behind}
 use Rattle.pilot_top.proofs.AlongLemmas.{by_equal, by_most, along_less, along_none, along_shifted, along_then, along_throughout, along_wider}
 
 -- disks that tell what they hold are in form
@@ -98,6 +99,8 @@ moment_before : (m : Machine) (lines more : List TraceLine) (j i : ℕ) (d : Lis
 moment_before m lines more j i d by at = record {
   within = steps_before m lines more j i by at.within;
   told = subst (TellsSettled d) (sym (staged_before m lines more j i by)) at.told;
+  same_serial = at.same_serial;
+  counter = counter_before m lines more j i d by at.counter;
   honest = at.honest;
 }
 
@@ -105,6 +108,8 @@ moment_behind : (m : Machine) (lines more : List TraceLine) (j i : ℕ) (d : Lis
 moment_behind m lines more j i d at = record {
   within = subst (λ (n : ℕ). i ≤ n) (sym (steps_behind m lines more j)) at.within;
   told = subst (TellsSettled d) (sym (staged_behind m lines more j i)) at.told;
+  same_serial = at.same_serial ∙ after_serial m lines (length lines);
+  counter = counter_behind m lines more j d at.counter;
   honest = at.honest;
 }
 
@@ -139,6 +144,8 @@ from_start d {a} sound told keeps = along_throughout (IsMoment (start d) []) 0 0
     at k = record {
       within = omega arith;
       told = record { agrees = agree k; right = (keeps.right k).right };
+      same_serial = keeps.same_serial k;
+      counter = inl (keeps.same_counter k);
       honest = λ set. elim (keeps.opened k) [
         | inl same ↦ subst Sound (sym same) sound
         | inr unset ↦ absurd (omega (arith, set, unset))
@@ -150,6 +157,8 @@ pub from_nothing : (d : List Sector) {a : DiskState} → Sound d → a.contents 
 from_nothing d {a} sound told = along_none (IsMoment (start d) []) 0 0 (record { contents = refl; writes = refl }) (λ e there. subst (IsMoment (start d) [] 0 0) (same_Some d e (sym told ∙ there)) (record {
   within = omega arith;
   told = record { agrees = (start_agrees d).1; right = sound.labels };
+  same_serial = refl;
+  counter = inl refl;
   honest = λ set. sound;
 }))
 
@@ -166,6 +175,8 @@ from_step m call passes = record {
   each = λ d n told. record {
     within = passes.within n;
     told = passes.tells d n told;
+    same_serial = (passes.numbers d n told).same_serial;
+    counter = (passes.numbers d n told).counter;
     honest = λ set. absurd (let unset = passes.open_flag d n told in omega (arith, set, unset));
   };
 }
@@ -174,7 +185,13 @@ from_step m call passes = record {
 pub stands_told : (m : Machine) {v : View} {kept : List Interval} {count : ℕ} {volume : Volume} → IsRunning v kept count volume m → AreInForm v.disk → (d : List Sector) → v.disk.contents ≡ Some d → IsMoment m [] 0 0 d
 stands_told m {v = v} is form d told =
     let here = stands_is_settled (exactly is.pages m.spaces) v.disk v.slots m d is.session.stands told (form d told) in
-    record { within = omega arith; told = settled_is_told d m here; honest = λ set. absurd (let unset = here.root.open_flag in omega (arith, set, unset)) }
+    record {
+      within = omega arith;
+      told = settled_is_told d m here;
+      same_serial = here.root.has_serial;
+      counter = inl here.root.has_counter;
+      honest = λ set. absurd (let unset = here.root.open_flag in omega (arith, set, unset));
+    }
 
 -- and nothing is written
 pub from_rest : (m : Machine) (lines : List TraceLine) {v : View} {kept : List Interval} {count : ℕ} {volume : Volume} → IsRunning v kept count volume m → AreInForm v.disk → Moments m lines v.disk v.disk
@@ -182,4 +199,4 @@ from_rest m lines is form = moments_before m [] lines (along_none (IsMoment m []
 
 -- a session is ended
 pub from_end : (m : Machine) {a b : DiskState} → Throughout (IsStop m) a b → Moments m [] a b
-from_end m all = along_throughout (IsMoment m []) 0 0 (record { writes = all.writes; appended = all.appended; each = λ d k told. let at = all.each d k told in record { within = omega arith; told = at.told; honest = at.honest } })
+from_end m all = along_throughout (IsMoment m []) 0 0 (record { writes = all.writes; appended = all.appended; each = λ d k told. let at = all.each d k told in record { within = omega arith; told = at.told; same_serial = at.same_serial; counter = inl at.same_counter; honest = at.honest } })

@@ -1,8 +1,8 @@
 -- What stands on the disk at each moment of a run.
-use Rattle.std.specs.Prelude.{◌≡◌, ◌⊎◌, ℕ, ◌<◌, ◌≤◌, List, length, Some, Option, slice_get}
+use Rattle.std.specs.Prelude.{◌≡◌, ◌⊎◌, ℕ, suc, ◌<◌, ◌≤◌, List, length, Some, Option, slice_get}
 use Rattle.labelled_disk.specs.declared.disk.DiskWrite.{DiskWrite}
 use Rattle.labelled_disk.specs.Moment.{moment}
-use Rattle.labelled_disk.specs.Root.{root_page, short_at}
+use Rattle.labelled_disk.specs.Root.{counter_of, root_page, serial_of, short_at}
 use Rattle.labelled_disk.specs.Sectors.{Sector}
 use Rattle.labelled_disk.specs.State.{DiskState}
 use Rattle.labelled_disk.specs.WriteRuns.{Appended}
@@ -45,11 +45,13 @@ pub record Along (P : ℕ → ℕ → List Sector → Type 0) (j i k h : ℕ) (o
   pub last : (n : ℕ) → IsBy (line n) (step n) k h
   pub each : (d : List Sector) (n : ℕ) → old.contents ≡ Some d → P (line n) (step n) (moment d writes n)
 
--- the place is one of the trace; the disk tells the settled files of the machine there, its labels are right, and with a set
--- clean flag the volume is sound
+-- the place is one of the trace; the disk tells the settled files of the machine there, its labels are right, and its root has
+-- the serial of all these machines and the counter of before the line or of after it; with a set clean flag the volume is sound
 pub record IsMoment (m : Machine) (lines : List TraceLine) (j i : ℕ) (d : List Sector) : Type 0 where
   pub within : i ≤ steps_of (after m lines j) (slice_get lines j)
   pub told : TellsSettled d (staged m lines j i)
+  pub same_serial : serial_of d ≡ m.serial
+  pub counter : (counter_of d ≡ (after m lines j).counter) ⊎ (counter_of d ≡ (after m lines (suc j)).counter)
   pub honest : short_at (root_page d) 10 ≡ 1 → Sound d
 
 -- the writes of a run of these lines, from the machine m
