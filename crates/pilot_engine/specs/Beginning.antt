@@ -1,5 +1,5 @@
 -- Why no session starts on a volume that was closed: step by step, from right after its root was read.
-use Rattle.std.specs.Prelude.{◌≡◌, ◌⊎◌, ℕ, List, [], ◌∷◌, Some}
+use Rattle.std.specs.Prelude.{◌≡◌, ◌⊎◌, List, [], ◌∷◌, Some}
 use Rattle.labelled_disk.specs.declared.evidence.Halt.{Halt}
 use Rattle.labelled_disk.specs.declared.evidence.Halt.TheVariants as halt
 use Rattle.labelled_disk.specs.Calls.{ReadsAtMost, Rose}
