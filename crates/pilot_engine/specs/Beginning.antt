@@ -1,5 +1,5 @@
 -- Why no session starts on a volume that was closed: step by step, from right after its root was read.
-use Rattle.std.specs.Prelude.{◌≡◌, ◌⊎◌, List, [], ◌∷◌, Some}
+use Rattle.std.specs.Prelude.{◌≡◌, ◌⊎◌, ◌<◌, List, [], ◌∷◌, Some}
 use Rattle.labelled_disk.specs.declared.evidence.Halt.{Halt}
 use Rattle.labelled_disk.specs.declared.evidence.Halt.TheVariants as halt
 use Rattle.labelled_disk.specs.Calls.{ReadsAtMost, Rose}
@@ -14,13 +14,13 @@ use Rattle.swapper_kernel.specs.Maps.{IsMapHome}
 use Rattle.swapper_kernel.specs.Window.{Beside}
 use Rattle.volume_root.specs.declared.root.Root.{Root}
 use Rattle.volume_root.specs.RootPage.{root_in, root_write}
+use Rattle.file_manager.specs.Grounds.{MakeHalts}
 use Rattle.file_manager.specs.Making.{MakesAll}
 use Rattle.fault_core.specs.Reach.{ReachHalts, no_break}
 use Rattle.fault_core.specs.View.{View}
 use Rattle.space_calls.specs.Halts.{After}
 use Rattle.pilot_engine.specs.declared.fault.StartFault.{StartFault}
 use Rattle.pilot_engine.specs.declared.fault.StartFault.TheVariants.{Root as NoRoot, NoMemory, Halt as Halted}
-use Rattle.pilot_engine.specs.Halting.{CreateHalts}
 use Rattle.pilot_engine.specs.Opening.{in_use, IsBare}
 
 -- the root of the volume in use was written, and nothing else changed
@@ -35,7 +35,11 @@ Counted v w = Beside AllocationMap v.disk v.slots v.layout w.disk w.slots w.layo
 abbrev pub CountHalts : View → View → Halt → Type 0
 CountHalts v w e = Halts (IsMapHome AllocationMap v.layout) v.disk v.slots w.disk e
 
--- the pages of the space tables were made
+-- the pages of the space tables are made
+abbrev pub MakeTablesHalts : View → View → Halt → Type 0
+MakeTablesHalts v w e = MakeHalts v.layout 3 (λ page. page < 96) v.disk v.slots w.disk w.slots e
+
+-- they were made
 abbrev pub TablesMade : View → View → Type 0
 TablesMade v w = MakesAll 3 0 0 96 v.disk v.slots w.disk w.slots × (w.layout ≡ v.layout)
 
@@ -47,7 +51,7 @@ TablesHalts v w e = ReachHalts no_break v w e
 abbrev pub StartHalts : Root → View → View → Halt → Type 0
 StartHalts root v w e =
     ((e ≡ halt.Disk) × Rose v.disk.faults w.disk.faults)
-    ⊎ After (Rooted root) (λ u x e. CountHalts u x e ⊎ After Counted (λ y x e. CreateHalts y x e ⊎ After TablesMade TablesHalts y x e) u x e) v w e
+    ⊎ After (Rooted root) (λ u x e. CountHalts u x e ⊎ After Counted (λ y x e. MakeTablesHalts y x e ⊎ After TablesMade TablesHalts y x e) u x e) v w e
 
 -- Such a halt, from the disk as the reading of its root left it, with no frame over it, to this one.
 pub record IsStartHalt (old new : DiskState) (e : Halt) : Type 0 where
