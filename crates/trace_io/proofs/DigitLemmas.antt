@@ -1,12 +1,10 @@
 -- The bytes that some hex digits say.
-use Rattle.std.proofs.Common.{◌≡◌, ℕ, ◌+◌, ◌*◌, ◌%◌, ◌<◌, ◌≤◌, true, List, [], ◌∷◌, ◌++◌, length, drop, slice_index, Some, Result, Ok, Err, refl, ap, ◌∙◌, arith}
+use Rattle.std.proofs.Common.{◌≡◌, ℕ, ◌+◌, ◌*◌, ◌%◌, ◌<◌, ◌≤◌, true, List, length, Some, Result, Ok, Err, refl, ap, arith}
 use Rattle.std.specs.Prelude.{nat_lt, nat_le, ◌&&◌}
 use Rattle.std.specs.List.{AllPass}
 use Rattle.std.specs.Result.{result_ok}
-use Rattle.std.proofs.lemmas.List.{append-nil, drop_all}
-use Rattle.hex.specs.Hex.{decode_of, decode_pairs, pair_value, hex_digit_value, is_hex_digit, digit_or_error, value_at}
-use Rattle.hex.proofs.Pairs.{prepend, prepend-cons_byte, cons_byte, drop-pair, decode_pairs-ok_pair}
-use Rattle.hex.proofs.HexLemmas.{decode_of-ok, decode_of-even}
+use Rattle.hex.specs.Hex.{decode_of, pair_value, hex_digit_value, is_hex_digit, digit_or_error, value_at}
+use Rattle.hex.proofs.HexLemmas.{decode_of-ok}
 use Rattle.trace_io.specs.Grammar.{bytes_of}
 use Rattle.trace_io.proofs.LongLines.{cond_some}
 
@@ -28,26 +26,8 @@ value_of_pair high low i h l first second =
     let b : value_at low (i + 1) ≡ Ok l = ap (digit_or_error low (i + 1)) second in
     rw (a, b) refl
 
--- one byte more
-pub decode_more : (s front : List ℕ) (i v : ℕ) → 2 * i + 1 < length s → pair_value (slice_index s (2 * i)) (slice_index s (2 * i + 1)) (2 * i) ≡ Ok v
-    → decode_pairs 0 s ≡ prepend front (decode_pairs (2 * i) (drop (2 * i) s))
-    → decode_pairs 0 s ≡ prepend (front ++ v ∷ []) (decode_pairs (2 * (i + 1)) (drop (2 * (i + 1)) s))
-decode_more s front i v fits ok so_far =
-    let rest : List ℕ = drop (2 * (i + 1)) s in
-    let two : 2 * i + 2 ≡ 2 * (i + 1) = omega arith in
-    let pair = ap (decode_pairs (2 * i)) (drop-pair s i fits) ∙ decode_pairs-ok_pair (2 * i) _ _ v rest ok
-    ∙ ap (λ (k : ℕ). cons_byte v (decode_pairs k rest)) two in
-    so_far ∙ ap (prepend front) pair ∙ prepend-cons_byte front v _
-
-all_decoded : (s front : List ℕ) (i : ℕ) → length s ≤ 2 * i → decode_pairs 0 s ≡ prepend front (decode_pairs (2 * i) (drop (2 * i) s)) → decode_pairs 0 s ≡ Ok front
-unfolding decode_pairs
-all_decoded s front i all so_far =
-    so_far ∙ ap (prepend front) (ap (decode_pairs (2 * i)) (drop_all (2 * i) s all)) ∙ ap Ok (append-nil front)
-
-pub bytes_of-done : (s front : List ℕ) (i : ℕ) → 0 < length s → length s ≤ 128 → length s % 2 ≡ 0 → length s ≤ 2 * i
-    → decode_pairs 0 s ≡ prepend front (decode_pairs (2 * i) (drop (2 * i) s)) → Some front ≡ bytes_of s
+pub bytes_of-decoded : (s bytes : List ℕ) → 0 < length s → length s ≤ 128 → decode_of s ≡ Ok bytes → Some bytes ≡ bytes_of s
 unfolding bytes_of
-bytes_of-done s front i some short even all so_far =
-    let ok : decode_of s ≡ Ok front = decode_of-even s even ∙ all_decoded s front i all so_far in
+bytes_of-decoded s bytes some short ok =
     let fits : (nat_lt 0 (length s) && nat_le (length s) 128) ≡ true = grind arith in
     rw (fits, ok) refl

@@ -1,8 +1,8 @@
 //! Hex digits, read and written. No step of a loop here depends on what a byte is, so that a compiler
 //! can take many bytes at a time.
-ghost use Rattle.std.specs.Prelude.{◌≡◌, ◌<◌, ◌*◌, length, slice_index, Some, true};
-ghost use Rattle.std.specs.List.{list_all};
-ghost use Rattle.hex.specs.Hex.{is_hex_digit, hex_digit_value, lower_digits, encode_lower};
+ghost use Rattle.std.specs.Prelude.{◌≡◌, ◌<◌, ◌*◌, length, slice_index, Some, Ok, true};
+ghost use Rattle.std.specs.List.{list_all, AllPass};
+ghost use Rattle.hex.specs.Hex.{is_hex_digit, decode_of, hex_digit_value, lower_digits, encode_lower};
 
 // Looks at each byte, also behind one that is no digit.
 pub(crate) fn are_hex_digits(word: &[u8]) -> bool
@@ -17,12 +17,24 @@ pub(crate) fn are_hex_digits(word: &[u8]) -> bool
 
 // The value of a digit, in either case: letters have 64 in their code, and their last four bits
 // count from 1.
-pub(crate) fn value_of_digit(digit: u8) -> u8
+fn value_of_digit(digit: u8) -> u8
     requires { is_hex_digit digit ≡ true }
     ensures value { hex_digit_value digit ≡ Some result }
     ensures small { result < 16 }
 {
     digit % 16 + digit / 64 * 9
+}
+
+// Reads two digits for each byte.
+pub(crate) fn read_digits(word: &[u8], bytes: &mut [u8])
+    requires digits { AllPass is_hex_digit word.now }
+    requires long { length word.now ≡ 2 * length bytes.old }
+    ensures value { decode_of word.now ≡ Ok bytes.new }
+    ensures width { length bytes.new ≡ length bytes.old }
+{
+    for k in 0..bytes.len() {
+        bytes[k] = value_of_digit(word[2 * k]) * 16 + value_of_digit(word[2 * k + 1]);
+    }
 }
 
 fn digit_of(value: u8) -> u8

@@ -60,6 +60,24 @@ fn a_reader_that_fails_gives_all_its_bytes_afterwards(rt: HostRuntime) -> Result
 }
 
 #[test]
+fn bytes_at_hand_are_taken_in_front_of_a_line_feed(rt: HostRuntime) -> Result<(), Fail> {
+    let mut source = ReaderSource::over(b"abc\ndef".as_slice());
+    let mut room = [0u8; 2];
+    assert_eq!(rt; source.take_before(b'\n', &mut room), 0);
+    assert_eq!(rt; source.next(), Ok(Some(b'a')));
+    assert_eq!(rt; source.take_before(b'\n', &mut room), 2);
+    assert_eq!(rt; room, [b'b', b'c']);
+    assert_eq!(rt; source.take_before(b'\n', &mut room), 0);
+    assert_eq!(rt; source.next(), Ok(Some(b'\n')));
+    assert_eq!(rt; source.take_before(b'\n', &mut room), 2);
+    assert_eq!(rt; room, [b'd', b'e']);
+    assert_eq!(rt; source.next(), Ok(Some(b'f')));
+    assert_eq!(rt; source.take_before(b'\n', &mut room), 0);
+    assert_eq!(rt; source.next(), Ok(None));
+    Ok(())
+}
+
+#[test]
 fn a_writer_takes_a_piece_part_by_part(rt: HostRuntime) -> Result<(), Fail> {
     let mut bytes = Vec::new(rt.alloc());
     let mut sink = WriterSink::over(Halting {
