@@ -98,8 +98,13 @@ fn drawn_lines_on_spaces_are_answered_as_by_the_plain_machine(rt: HostRuntime) -
         let _ = command(rt.alloc(), &words, &mut disk, b"", &[], &[])?;
         let mut machine = SlowMachine::new(rt.alloc(), 7, 1, 124)?;
         for number in 0u64..3 {
-            let (out, wanted) =
-                run_beside(rt.alloc(), &mut disk, &mut machine, frames, number + 7)?;
+            let (out, wanted) = run_beside(
+                rt.alloc(),
+                &mut disk,
+                &mut machine,
+                frames,
+                number + 7,
+            )?;
             assert_eq!(rt; out.as_slice(), wanted.as_slice(), "run {number}");
         }
     }
