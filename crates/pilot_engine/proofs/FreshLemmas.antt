@@ -1,22 +1,31 @@
 -- A session on a volume that was just made.
-use Rattle.std.proofs.Common.{◌≡◌, ℕ, List, [], ◌∷◌, length, Option, Some, refl, sym, ◌∙◌, ap, subst, arith}
+use Rattle.std.proofs.Common.{◌≡◌, ℕ, List, [], ◌∷◌, length, Option, Some, Result, Err, refl, sym, ◌∙◌, ap, subst, arith}
 use Rattle.std.proofs.lemmas.List.FromFn.{length-map-range_with_len}
+use Rattle.labelled_disk.specs.declared.layout.Layout.{Layout}
+use Rattle.labelled_disk.specs.declared.layout.RootFault.{RootFault}
+use Rattle.labelled_disk.specs.declared.layout.RootFault.TheVariants as fault
+use Rattle.labelled_disk.specs.Calls.{OnlyReads}
 use Rattle.labelled_disk.specs.Layout.{IsCount, capacity, layout_of}
 use Rattle.labelled_disk.specs.Root.{page_in, root_page}
 use Rattle.labelled_disk.specs.Sectors.{Sector}
 use Rattle.labelled_disk.specs.State.{DiskState}
 use Rattle.labelled_disk.proofs.Finds.{get_set_same}
+use Rattle.labelled_disk.proofs.WriteRunLemmas.{appended_none}
+use Rattle.frame_pool.specs.Frames.{Slots}
 use Rattle.flat_machine.specs.Machine.{Machine}
 use Rattle.flat_machine.specs.Space.{root}
 use Rattle.flat_machine.specs.Start.{opened, start}
 use Rattle.volume_root.specs.declared.root.Root.{Root}
-use Rattle.volume_root.specs.Format.{formatted, new_root, new_sector, new_sectors}
+use Rattle.volume_root.specs.Format.{formatted, new_root, new_sector, new_sectors, IsFormatFault}
 use Rattle.volume_root.specs.FormatLaws.{IsEmptyVolume}
 use Rattle.volume_root.specs.RootPage.{root_bytes, root_in}
 use Rattle.labelled_disk.specs.Label.{root_label}
 use Rattle.volume_root.specs.Sound.{Sound}
 use Rattle.volume_root.proofs.NewVolume.{new_is_empty}
 use Rattle.volume_root.proofs.WrittenLemmas.{root_read}
+use Rattle.pilot_engine.specs.Fresh.{BeganVolume, MadeVolume, WroteOnNew}
+use Rattle.pilot_engine.specs.Opening.{IsBare, StartsSome}
+use Rattle.pilot_engine.proofs.StartWrites.{start_wrote}
 
 module _ (n : ℕ) (count : IsCount n) where
   made : IsEmptyVolume n 1 1 (formatted n 1 1)
@@ -49,3 +58,27 @@ fresh_volume P before now d r long count is told all =
     let n = before.sectors in
     let there : now.contents ≡ Some (formatted n 1 1) = told ∙ ap (λ (k : ℕ). Some (formatted k 1 1)) long in
     subst P (same_start n count) (all (formatted n 1 1) there (made n count).sound (is ∙ same_root n count))
+
+-- on a disk that can hold a volume, none is made only where the disk failed
+pub failed_alone : (n : ℕ) → IsCount n → (why : RootFault) → IsFormatFault why → ((k : ℕ) → ◌≡◌ {A = Result Layout RootFault} (Err why) (Err (fault.BadCount k)) → (¬ IsCount n) × (k ≡ n)) → ◌≡◌ {A = Result Layout RootFault} (Err why) (Err fault.Disk)
+failed_alone n count fault.Disk is bad = refl
+failed_alone n count (fault.BadCount k) is bad = absurd ((bad k refl).0 count)
+failed_alone n count (fault.NotVolume x) is bad = absurd is
+failed_alone n count fault.Unclean is bad = absurd is
+failed_alone n count (fault.Version x) is bad = absurd is
+
+-- where nothing was written, none of the writes of a volume was made
+pub none_made : {old new : DiskState} → OnlyReads old new → BeganVolume old new
+none_made reads = (0, omega arith, appended_none (record { contents = reads.contents; writes = reads.writes }))
+
+-- what a start wrote on the volume that was made
+pub wrote_on_new : {old made new : DiskState} {s t : Slots} → MadeVolume old made → (root : Root) → root ≡ new_root old.sectors 1 1 → IsBare s → StartsSome root made s new t → WroteOnNew old new
+wrote_on_new {made = made} volume root same bare starts = record {
+  made = made;
+  volume = volume;
+  wrote = start_wrote (itself made) root bare starts;
+  root = same;
+}
+  where
+    itself : (d : DiskState) → OnlyReads d d
+    itself d = record { sectors = refl; contents = refl; writes = refl; lent = refl; faults = omega arith; transfers = omega arith; synced = λ s. s }

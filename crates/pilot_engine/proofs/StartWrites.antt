@@ -118,7 +118,7 @@ module _ (root : Root) (a : DiskState) (s : Slots) (bare : IsBare s) where
 
 -- Behind calls that wrote nothing.
 module _ {o a : DiskState} (reads : OnlyReads o a) where
-  appended_later : {b : DiskState} (writes : List DiskWrite) → Appended writes a b → Appended writes o b
+  pub appended_later : {b : DiskState} (writes : List DiskWrite) → Appended writes a b → Appended writes o b
   appended_later writes more = record {
     contents = more.contents ∙ ap (option_map (after_writes writes)) reads.contents;
     told = more.told ∙ ap (option_map (λ earlier. earlier ++ writes)) reads.writes;
@@ -163,7 +163,7 @@ module _ {o a : DiskState} (reads : OnlyReads o a) where
 
   module _ {b : DiskState} {s t : Slots} (root : Root) (bare : IsBare s) (starts : StartsSome root a s b t) where
     -- what a start wrote
-    pub start_wrote : WroteFirst o b
+    abbrev pub start_wrote : WroteFirst o b
     start_wrote =
         let w = starts.makes.wrote in
         let went = starts.makes.went in

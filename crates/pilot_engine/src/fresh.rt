@@ -1,5 +1,5 @@
 //! A session is started on a volume that is made for it.
-ghost use Rattle.std.specs.Prelude.{◌≡◌, ℕ, ◌≤◌, ◌<◌, List, [], Some, true, length, Err, IfOk, IfErr, OnOk, OnErr, MatchResult};
+ghost use Rattle.std.specs.Prelude.{◌≡◌, ◌⊎◌, ℕ, ◌≤◌, ◌<◌, List, [], Some, true, length, Err, IfOk, IfErr, OnOk, OnErr, MatchResult};
 ghost use Rattle.labelled_disk.specs.declared.evidence.Halt.TheVariants as halt;
 ghost use Rattle.labelled_disk.specs.declared.layout.RootFault.TheVariants as fault;
 ghost use Rattle.labelled_disk.specs.Calls.{OnlyReads, Rose};
@@ -7,11 +7,11 @@ ghost use Rattle.labelled_disk.specs.Layout.{IsCount, capacity};
 ghost use Rattle.labelled_disk.specs.Sectors.{Sector};
 ghost use Rattle.filer_kernel.specs.Cached.{runs_of};
 ghost use Rattle.flat_machine.specs.Start.{opened};
-ghost use Rattle.volume_root.specs.Format.{formatted, new_root};
+ghost use Rattle.volume_root.specs.Format.{new_root};
 ghost use Rattle.volume_root.specs.Later.{IsLater};
 ghost use Rattle.pilot_engine.specs.declared.fault.StartFault.TheVariants as start_fault;
-ghost use Rattle.pilot_engine.specs.Fresh.{IsFreshFault};
-ghost use Rattle.pilot_engine.specs.Opening.{IsBare, IsDiskFault, IsEarly, IsOutside};
+ghost use Rattle.pilot_engine.specs.Fresh.{BeganVolume, HasFreshCause, IsFreshFault, MadeVolume, WroteOnNew};
+ghost use Rattle.pilot_engine.specs.Opening.{IsBare, IsDiskFault, IsEarly, IsOutside, IsSoAtStart, IsUnset, LeavesOpenAtStart};
 ghost use Rattle.running_words.specs.Running.{Runs};
 ghost use Rattle.running_words.specs.Session.{IsOpen};
 
@@ -56,8 +56,8 @@ fn frames_for<D: Disk, A: Allocator>(
 fn make_volume<D: Disk, A: Allocator>(filer: &mut FilerOver<D, A>) -> Result<Root, Halt>
     requires count { IsCount (D.state filer.old.swapper.under).sectors }
     ensures root { IfOk result (λ root. root ≡ new_root (D.state filer.old.swapper.under).sectors 1 1) }
-    ensures contents { OnOk result ((d : List Sector) → (D.state filer.old.swapper.under).contents ≡ Some d
-        → (D.state filer.new.swapper.under).contents ≡ Some (formatted (length d) 1 1)) }
+    ensures made { OnOk result (MadeVolume (D.state filer.old.swapper.under) (D.state filer.new.swapper.under)) }
+    ensures part { OnErr result (BeganVolume (D.state filer.old.swapper.under) (D.state filer.new.swapper.under)) }
     ensures fault { IfErr result (λ e. e ≡ halt.Disk) }
     ensures counted { OnErr result (Rose (D.state filer.old.swapper.under).faults (D.state filer.new.swapper.under).faults) }
     ensures later { IsLater (D.state filer.old.swapper.under) (D.state filer.new.swapper.under) }
@@ -98,6 +98,12 @@ impl<D: Disk, A: Allocator> SessionOver<D, A> {
         ensures unwritten { IfErr result (λ e. IsEarly e.0 → OnlyReads (D.state disk) (D.state e.1)) }
         ensures counted { IfErr result (λ e. IsDiskFault e.0 → Rose (D.state disk).faults (D.state e.1).faults) }
         ensures sound { (d : List Sector) → (D.state disk).contents ≡ Some d → IsCount (D.state disk).sectors → IfErr result (λ e. IsOutside e.0) }
+        ensures cause { IfErr result (λ e. HasFreshCause (D.state disk) (D.state e.1) e.0) }
+        ensures so { IfErr result (λ e. IsSoAtStart (D.state e.1) e.0) }
+
+        // What was written, whether or not one starts.
+        ensures wrote { MatchResult result (λ s. WroteOnNew (D.state disk) (D.state s.core.filer.swapper.under)) (λ e. BeganVolume (D.state disk) (D.state e.1) ⊎ WroteOnNew (D.state disk) (D.state e.1)) }
+        ensures left_open { MatchResult result (λ s. IsUnset (D.state s.core.filer.swapper.under)) (λ e. LeavesOpenAtStart (D.state e.1) e.0) }
 
         // The disk is the same, later.
         ensures later { MatchResult result (λ s. IsLater (D.state disk) (D.state s.core.filer.swapper.under)) (λ e. IsLater (D.state disk) (D.state e.1)) }
