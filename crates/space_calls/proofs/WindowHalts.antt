@@ -30,13 +30,13 @@ module _ (v w : View) (is : IsLayout v.layout) (space : ℕ) (reaches : Reaches 
     range_window run read e halts =
         halts_before v w is reaches (BreaksWithin w now run.0 (run.0 + run.1)) (BreaksWindow v count space) (λ page within. inl (inr (in_space v w is space reaches count now same z run read page within))) z z (omega arith) e halts
 
+    change_before : (page : ℕ) → TablesBreak w (Breaks now) page → TablesBreak v (Breaks count) page
+    change_before page breaks b told = subst (λ (j : ℕ). Breaks j b page) same (breaks b (reaches.told b told))
+
     -- the tables could not be changed
     pub change_halt : (e : Halt) → ReachHalts (TablesBreak w (Breaks now)) w z e → ReachHalts (BreaksWindow v count space) v z e
     change_halt e halts =
-        halts_before v w is reaches (TablesBreak w (Breaks now)) (BreaksWindow v count space) (λ page breaks. inr (λ b told. subst (λ (j : ℕ). Breaks j b page) same (breaks b (reaches.told b told)))) z z (omega arith) e halts
-
-    change_before : (page : ℕ) → TablesBreak w (Breaks now) page → TablesBreak v (Breaks count) page
-    change_before page breaks b told = subst (λ (j : ℕ). Breaks j b page) same (breaks b (reaches.told b told))
+        halts_before v w is reaches (TablesBreak w (Breaks now)) (BreaksWindow v count space) (λ page breaks. inr (change_before page breaks)) z z (omega arith) e halts
 
     -- so it is where pages of a range were looked up before
     pub part_change : (first to : ℕ) (e : Halt) → ReachHalts (TablesBreak w (Breaks now)) w z e → ReachHalts (BreaksPart v count first to) v z e
