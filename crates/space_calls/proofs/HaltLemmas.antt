@@ -2,6 +2,8 @@
 use Rattle.std.proofs.Common.{◌≡◌, inl, inr, ℕ, Bool, true, false, refl, ◌∙◌, subst, arith}
 use Rattle.labelled_disk.specs.declared.evidence.Halt.{Halt}
 use Rattle.space_tables.specs.Form.{Breaks, BreaksHierarchy, BreaksLookUp, BreaksSlot}
+use Rattle.space_tables.specs.declared.shown.Shown.{Shown}
+use Rattle.space_tables.specs.Shows.{IsShownAt}
 use Rattle.session_words.specs.Volume.{volume_page}
 use Rattle.swapper_kernel.specs.GoesLaws.{makes_nothing, makes_then}
 use Rattle.swapper_kernel.specs.Homes.{IsLayout}
@@ -9,7 +11,7 @@ use Rattle.fault_core.specs.Reach.{Reaches, ReachHalts}
 use Rattle.fault_core.specs.Told.{BreaksTables}
 use Rattle.fault_core.specs.View.{View}
 use Rattle.fault_core.proofs.ReachLemmas.{halts_before, reaches_itself}
-use Rattle.table_calls.specs.Answers.{TablesBreak}
+use Rattle.table_calls.specs.Answers.{TablesBreak, TablesSay}
 use Rattle.space_calls.specs.Ranges.{BreaksWindow}
 use Rattle.space_calls.specs.Halts.{BreaksSight, ChangeHalts, Looked, MapFileHalts, NamedHalts, PathHalts, ProtectHalts, SightHalts, SlotHalts, WritableHalts}
 use Rattle.space_calls.proofs.RunLemmas.{reached_makes}
@@ -79,5 +81,5 @@ slot_protect v is space true count w e halts = inl halts
 slot_protect v is space false count w e halts =
     halts_before v v is (reaches_itself v) (TablesBreak v (λ b page. BreaksSlot b page space)) (BreaksWindow v count space) (λ page breaks. inl (inl breaks)) w w (omega arith) e halts
 
-pub writable_protect : (v u w : View) (space count now : ℕ) → Reaches v u → now ≡ count → (e : Halt) → WritableHalts now u w e → ProtectHalts space true count v w e
-writable_protect v u w space count now reaches same e halts = inr (u, reaches, subst (λ (j : ℕ). WritableHalts j u w e) same halts)
+pub writable_protect : (v u w : View) (space count now : ℕ) (shown : Shown) → TablesSay v (λ b. IsShownAt b space) shown → Reaches v u → now ≡ count → (e : Halt) → WritableHalts shown.id now u w e → ProtectHalts space true count v w e
+writable_protect v u w space count now shown read reaches same e halts = inr (shown, read, (u, reaches, subst (λ (j : ℕ). WritableHalts shown.id j u w e) same halts))

@@ -14,19 +14,23 @@ use Rattle.labelled_disk.specs.declared.evidence.Halt.{Halt}
 use Rattle.labelled_disk.specs.declared.evidence.Halt.TheVariants.{Disk}
 use Rattle.labelled_disk.specs.Calls.{Rose}
 use Rattle.space_tables.specs.Form.{BreaksLookUp, BreaksSlot}
+use Rattle.space_tables.specs.Shows.{IsRunAt}
 use Rattle.swapper_kernel.specs.HaltLaws.{brings_itself, rose_wider}
 use Rattle.swapper_kernel.specs.Homes.{IsLayout}
 use Rattle.fault_core.specs.Kill.{BreaksWithin}
-use Rattle.fault_core.specs.Range.{BreaksSome}
 use Rattle.fault_core.specs.Reach.{BringsOwn, Reaches, ReachHalts}
 use Rattle.fault_core.specs.View.{View}
 use Rattle.fault_core.proofs.ReachLemmas.{halts_before, reaches_itself}
-use Rattle.table_calls.specs.Answers.{TablesBreak, Tells}
-use Rattle.space_calls.specs.Ranges.{BreaksRange}
+use Rattle.table_calls.specs.Answers.{IfGiven, TablesBreak, TablesSay, Tells}
+use Rattle.space_calls.specs.Ranges.{BreaksInSpace, BreaksRange}
 
 -- the run is that of the space of this handle
 abbrev pub IsSpaceRun : List Space → ℕ → (ℕ × ℕ) → Type 0
 IsSpaceRun ss space run = (s : Space) × (space_at ss space ≡ Some s) × (run ≡ (s.first, s.pages))
+
+-- what is so of an answer that was given
+pub given_so : {A : Type 0} (P : A → Type 0) (answer : A) (r : Result A Refusal) → r ≡ Ok answer → IfGiven P r → P answer
+given_so P answer r is so = subst (IfGiven P) is so
 
 module _ (ss : List Space) (space : ℕ) where
   pub found_run : (run : ℕ × ℕ) (r : Result (ℕ × ℕ) Refusal) → r ≡ Ok run → Tells (no_space ss space) (IsSpaceRun ss space) r → (no_space ss space ≡ None) × IsSpaceRun ss space run
@@ -76,19 +80,29 @@ module _ (v w : View) (is : IsLayout v.layout) (space : ℕ) where
   asked_halt count e halts = halts_before v v is (reaches_itself v) (TablesBreak v (λ b page. BreaksSlot b page space)) (BreaksRange v count space) (λ page breaks. inl breaks) w w (omega arith) e halts
 
   module _ (reaches : Reaches v w) (count now : ℕ) (same : now ≡ count) (z : View) where
-    pub some_before : (page : ℕ) → BreaksSome w now page → BreaksSome v count page
-    some_before page (asked, breaks) = (
-      asked,
-      record {
-        in_root = breaks.in_root;
-        breaks = λ b told. subst (λ (j : ℕ). BreaksLookUp asked j b page) same (breaks.breaks b (reaches.told b told));
-      },
-    )
+    pub within_before : (first to page : ℕ) → BreaksWithin w now first to page → BreaksWithin v count first to page
+    within_before first to page within = record {
+      asked = within.asked;
+      from = within.from;
+      below = within.below;
+      breaks = record {
+        in_root = within.breaks.in_root;
+        breaks = λ b told. subst (λ (j : ℕ). BreaksLookUp within.asked j b page) same (within.breaks.breaks b (reaches.told b told));
+      };
+    }
 
-    -- a page could not be looked up
-    pub within_halt : (first to : ℕ) (e : Halt) → ReachHalts (BreaksWithin w now first to) w z e → ReachHalts (BreaksRange v count space) v z e
-    within_halt first to e halts =
-        halts_before v w is reaches (BreaksWithin w now first to) (BreaksRange v count space) (λ page breaks. inr (some_before page (breaks.asked, breaks.breaks))) z z (omega arith) e halts
+    -- a page of the range that the tables gave could not be looked up
+    pub in_space : (run : ℕ × ℕ) → TablesSay v (λ b. IsRunAt b space) run → (page : ℕ) → BreaksWithin w now run.0 (run.0 + run.1) page → BreaksInSpace v count space page
+    in_space run read page within = record {
+      first = run.0;
+      pages = run.1;
+      read = read;
+      within = within_before run.0 (run.0 + run.1) page within;
+    }
+
+    pub within_halt : (run : ℕ × ℕ) → TablesSay v (λ b. IsRunAt b space) run → (e : Halt) → ReachHalts (BreaksWithin w now run.0 (run.0 + run.1)) w z e → ReachHalts (BreaksRange v count space) v z e
+    within_halt run read e halts =
+        halts_before v w is reaches (BreaksWithin w now run.0 (run.0 + run.1)) (BreaksRange v count space) (λ page within. inr (in_space run read page within)) z z (omega arith) e halts
 
 -- a fault was counted
 pub fault_halt : (breaks : ℕ → Type 0) (v w z : View) (e : Halt) → v.disk.faults ≤ w.disk.faults → e ≡ Disk → Rose w.disk.faults z.disk.faults → ReachHalts breaks v z e

@@ -1,16 +1,17 @@
 -- Why a window could not be taken away, or made read-only.
-use Rattle.std.proofs.Common.{◌≡◌, inl, inr, ℕ, Result, Ok, Err, subst, arith}
+use Rattle.std.proofs.Common.{◌≡◌, inl, inr, ℕ, ◌+◌, Result, Ok, Err, subst, arith}
 use Rattle.std.specs.Prelude.{IfErr}
 use Rattle.labelled_disk.specs.declared.evidence.Halt.{Halt}
 use Rattle.space_tables.specs.Form.{Breaks, BreaksSlot}
+use Rattle.space_tables.specs.Shows.{IsRunAt}
 use Rattle.swapper_kernel.specs.Homes.{IsLayout}
 use Rattle.fault_core.specs.Kill.{BreaksWithin}
 use Rattle.fault_core.specs.Reach.{Reaches, ReachHalts}
 use Rattle.fault_core.specs.View.{View}
-use Rattle.fault_core.proofs.ReachLemmas.{halts_before}
-use Rattle.table_calls.specs.Answers.{TablesBreak}
-use Rattle.space_calls.specs.Ranges.{BreaksWindow}
-use Rattle.space_calls.proofs.RangeLemmas.{some_before}
+use Rattle.fault_core.proofs.ReachLemmas.{halts_before, reaches_itself}
+use Rattle.table_calls.specs.Answers.{TablesBreak, TablesSay}
+use Rattle.space_calls.specs.Ranges.{BreaksPart, BreaksWindow}
+use Rattle.space_calls.proofs.RangeLemmas.{in_space}
 
 module _ (v w : View) (is : IsLayout v.layout) (space : ℕ) (reaches : Reaches v w) where
   -- the record of the space could not be read, after pages were brought in
@@ -25,23 +26,33 @@ module _ (v w : View) (is : IsLayout v.layout) (space : ℕ) (reaches : Reaches 
         halts_before v w is reaches (TablesBreak w (λ b page. BreaksSlot b page space)) (BreaksWindow v count space) (λ page breaks. inl (inl (λ b told. breaks b (reaches.told b told)))) z z (omega arith) e halts
 
     -- a page of its range could not be
-    pub range_window : (first to : ℕ) (e : Halt) → ReachHalts (BreaksWithin w now first to) w z e → ReachHalts (BreaksWindow v count space) v z e
-    range_window first to e halts =
-        halts_before v w is reaches (BreaksWithin w now first to) (BreaksWindow v count space) (λ page breaks. inl (inr (some_before v w is space reaches count now same z page (breaks.asked, breaks.breaks)))) z z (omega arith) e halts
+    pub range_window : (run : ℕ × ℕ) → TablesSay v (λ b. IsRunAt b space) run → (e : Halt) → ReachHalts (BreaksWithin w now run.0 (run.0 + run.1)) w z e → ReachHalts (BreaksWindow v count space) v z e
+    range_window run read e halts =
+        halts_before v w is reaches (BreaksWithin w now run.0 (run.0 + run.1)) (BreaksWindow v count space) (λ page within. inl (inr (in_space v w is space reaches count now same z run read page within))) z z (omega arith) e halts
+
+    change_before : (page : ℕ) → TablesBreak w (Breaks now) page → TablesBreak v (Breaks count) page
+    change_before page breaks b told = subst (λ (j : ℕ). Breaks j b page) same (breaks b (reaches.told b told))
 
     -- the tables could not be changed
     pub change_halt : (e : Halt) → ReachHalts (TablesBreak w (Breaks now)) w z e → ReachHalts (BreaksWindow v count space) v z e
     change_halt e halts =
-        halts_before v w is reaches (TablesBreak w (Breaks now)) (BreaksWindow v count space) (λ page breaks. inr (λ b told. subst (λ (j : ℕ). Breaks j b page) same (breaks b (reaches.told b told)))) z z (omega arith) e halts
+        halts_before v w is reaches (TablesBreak w (Breaks now)) (BreaksWindow v count space) (λ page breaks. inr (change_before page breaks)) z z (omega arith) e halts
 
-    -- the window of the space could not be taken away, after it was found
-    pub window_halt : (e : Halt) → ReachHalts (BreaksWindow w now space) w z e → ReachHalts (BreaksWindow v count space) v z e
-    window_halt e halts = halts_before v w is reaches (BreaksWindow w now space) (BreaksWindow v count space) (λ page breaks. elim breaks [
-      | inl (inl slot) ↦ inl (inl (λ b told. slot b (reaches.told b told)))
-      | inl (inr some) ↦ inl (inr (some_before v w is space reaches count now same z page some))
-      | inr any ↦ inr (λ b told. subst (λ (j : ℕ). Breaks j b page) same (any b (reaches.told b told)))
+    -- so it is where pages of a range were looked up before
+    pub part_change : (first to : ℕ) (e : Halt) → ReachHalts (TablesBreak w (Breaks now)) w z e → ReachHalts (BreaksPart v count first to) v z e
+    part_change first to e halts = halts_before v w is reaches (TablesBreak w (Breaks now)) (BreaksPart v count first to) (λ page breaks. inr (change_before page breaks)) z z (omega arith) e halts
+
+    -- the pages of the space could not be looked up, or its record not be changed, after it was found
+    window_halt : (run : ℕ × ℕ) → TablesSay v (λ b. IsRunAt b space) run → (e : Halt) → ReachHalts (BreaksPart w now run.0 (run.0 + run.1)) w z e → ReachHalts (BreaksWindow v count space) v z e
+    window_halt run read e halts = halts_before v w is reaches (BreaksPart w now run.0 (run.0 + run.1)) (BreaksWindow v count space) (λ page breaks. elim breaks [
+      | inl within ↦ inl (inr (in_space v w is space reaches count now same z run read page within))
+      | inr any ↦ inr (change_before page any)
     ]) z z (omega arith) e halts
 
-    pub if_window_halt : {X : Type 0} (r : Result X Halt) → IfErr r (ReachHalts (BreaksWindow w now space) w z) → IfErr r (ReachHalts (BreaksWindow v count space) v z)
-    if_window_halt (Ok answer) halts = tt
-    if_window_halt (Err e) halts = window_halt e halts
+    pub if_window_halt : {X : Type 0} (run : ℕ × ℕ) → TablesSay v (λ b. IsRunAt b space) run → (r : Result X Halt) → IfErr r (ReachHalts (BreaksPart w now run.0 (run.0 + run.1)) w z) → IfErr r (ReachHalts (BreaksWindow v count space) v z)
+    if_window_halt run read (Ok answer) halts = tt
+    if_window_halt run read (Err e) halts = window_halt run read e halts
+
+-- a page of a range could not be looked up
+pub part_halt : (v w : View) (is : IsLayout v.layout) (count first to : ℕ) (e : Halt) → ReachHalts (BreaksWithin v count first to) v w e → ReachHalts (BreaksPart v count first to) v w e
+part_halt v w is count first to e halts = halts_before v v is (reaches_itself v) (BreaksWithin v count first to) (BreaksPart v count first to) (λ page within. inl within) w w (omega arith) e halts

@@ -5,11 +5,13 @@ use Rattle.labelled_disk.specs.declared.evidence.Halt.{Halt}
 use Rattle.swapper_kernel.specs.Goes.{Makes}
 use Rattle.session_words.specs.Volume.{volume_page}
 use Rattle.space_tables.specs.Form.{first_in_slot, Breaks, BreaksAt, BreaksFor, BreaksHierarchy, BreaksSlot, MakesTooMany}
+use Rattle.space_tables.specs.declared.shown.Shown.{Shown}
+use Rattle.space_tables.specs.Shows.{IsShownAt}
 use Rattle.file_manager.specs.Finding.{FileHalts}
 use Rattle.fault_core.specs.Reach.{Reaches, ReachHalts}
 use Rattle.fault_core.specs.Told.{BreaksTables}
 use Rattle.fault_core.specs.View.{View, kept_by}
-use Rattle.table_calls.specs.Answers.{TablesBreak}
+use Rattle.table_calls.specs.Answers.{TablesBreak, TablesSay}
 use Rattle.space_calls.specs.Ranges.{BreaksWindow}
 
 -- a call went before that left a state so, and then the halt is this
@@ -81,11 +83,15 @@ OnNamedHalts id count P v w e = SightHalts count v w e ⊎ After Reaches (OnFile
 abbrev pub MapFileHalts : ℕ → ℕ → ℕ → View → View → Halt → Type 0
 MapFileHalts space id count v w e = SlotHalts space v w e ⊎ After Reaches (OnNamedHalts id count (ChangeHalts count)) v w e
 
--- some file, which a space shows, is looked up, and then the tables change
-abbrev pub WritableHalts : ℕ → View → View → Halt → Type 0
-WritableHalts count v w e = (id : ℕ) × OnFileHalts id (ChangeHalts count) v w e
+-- a file is looked up, and then the tables change
+abbrev pub WritableHalts : ℕ → ℕ → View → View → Halt → Type 0
+WritableHalts id count v w e = OnFileHalts id (ChangeHalts count) v w e
+
+-- so it is with the file that the space shows: the one that its record says, where the tables are told
+abbrev pub ShownHalts : ℕ → ℕ → View → View → Halt → Type 0
+ShownHalts space count v w e = (shown : Shown) × TablesSay v (λ b. IsShownAt b space) shown × After Reaches (WritableHalts shown.id count) v w e
 
 -- a window gets writable, or read-only
 abbrev pub ProtectHalts : ℕ → Bool → ℕ → View → View → Halt → Type 0
-ProtectHalts space true count v w e = SlotHalts space v w e ⊎ After Reaches (WritableHalts count) v w e
+ProtectHalts space true count v w e = SlotHalts space v w e ⊎ ShownHalts space count v w e
 ProtectHalts space false count v w e = TakeHalts space count v w e

@@ -1,14 +1,27 @@
 -- Why a call on the range of a space may fail for the space tables.
-use Rattle.std.specs.Prelude.{◌⊎◌, ℕ}
+use Rattle.std.specs.Prelude.{◌⊎◌, ◌+◌, ℕ}
 use Rattle.space_tables.specs.Form.{Breaks, BreaksSlot}
-use Rattle.fault_core.specs.Range.{BreaksSome}
+use Rattle.space_tables.specs.Shows.{IsRunAt}
+use Rattle.fault_core.specs.Kill.{BreaksWithin}
 use Rattle.fault_core.specs.View.{View}
-use Rattle.table_calls.specs.Answers.{TablesBreak}
+use Rattle.table_calls.specs.Answers.{TablesBreak, TablesSay}
 
--- a page of them breaks its form for the record of the space, or for the look-up of some page of the root
+-- A page of them breaks its form for the look-up of a page of the space's range. Where the tables are told, that range is the one
+-- that the record of the space says.
+pub record BreaksInSpace (v : View) (count space page : ℕ) : Type 0 where
+  pub first : ℕ
+  pub pages : ℕ
+  pub read : TablesSay v (λ b. IsRunAt b space) (first, pages)
+  pub within : BreaksWithin v count first (first + pages) page
+
+-- a page of them breaks its form for the record of the space, or for the look-up of a page of its range
 abbrev pub BreaksRange : View → ℕ → ℕ → ℕ → Type 0
-BreaksRange v count space page = TablesBreak v (λ b broken. BreaksSlot b broken space) page ⊎ BreaksSome v count page
+BreaksRange v count space page = TablesBreak v (λ b broken. BreaksSlot b broken space) page ⊎ BreaksInSpace v count space page
 
 -- so, or a page of them breaks its form for anything that the tables are asked
 abbrev pub BreaksWindow : View → ℕ → ℕ → ℕ → Type 0
 BreaksWindow v count space page = BreaksRange v count space page ⊎ TablesBreak v (Breaks count) page
+
+-- a page of them breaks its form for the look-up of a page from one on up to another, or for anything that the tables are asked
+abbrev pub BreaksPart : View → ℕ → ℕ → ℕ → ℕ → Type 0
+BreaksPart v count first to page = BreaksWithin v count first to page ⊎ TablesBreak v (Breaks count) page

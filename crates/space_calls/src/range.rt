@@ -20,11 +20,12 @@ ghost use Rattle.fault_core.specs.Kept.{AreFound};
 ghost use Rattle.fault_core.specs.Reach.{ReachHalts, StayOrYield};
 ghost use Rattle.flat_machine.specs.declared.call.Reply.TheVariants as reply;
 ghost use Rattle.space_tables.specs.Form.{BreaksSlot};
+ghost use Rattle.space_tables.specs.Shows.{IsRunAt};
 ghost use Rattle.space_calls.specs.Ranges.{BreaksRange};
 ghost use Rattle.labelled_disk.specs.Sectors.{Sector};
 ghost use Rattle.file_map.specs.FileMap.{Triples};
 ghost use Rattle.projection_laws.specs.Tests.{no_space};
-ghost use Rattle.table_calls.specs.Answers.{Asked, TablesBreak, Tells};
+ghost use Rattle.table_calls.specs.Answers.{Asked, IfGiven, TablesBreak, TablesSay, Tells};
 ghost use Rattle.filer_kernel.specs.Evidence.{ShowsSo};
 
 use crate::framing::frame_count;
@@ -42,6 +43,7 @@ fn range_of<D: Disk, A: Allocator>(
 ) -> Result<Result<(u32, u32), Refusal>, Halt>
     requires size { (D.state core.old.filer.swapper.under).sectors ≡ core.old.filer.swapper.layout.sectors }
     ensures answer { (m : List Sector) (named : Triples) (ss : List Space) → Knows core.old m named ss → IfOk result (Tells (no_space ss space) (λ run. (s : Space) × (space_at ss space ≡ Some s) × (run ≡ (s.first, s.pages)))) }
+    ensures read { IfOk result (IfGiven (TablesSay (state core.old) (λ b. IsRunAt b space))) }
     ensures counted { result ≡ Err halt.Disk → Rose (D.state core.old.filer.swapper.under).faults (D.state core.new.filer.swapper.under).faults }
     ensures sound { (m : List Sector) (named : Triples) (ss : List Space) → Knows core.old m named ss → IfErr result (λ e. e ≡ halt.Disk) }
     ensures cause { IfErr result (ReachHalts (TablesBreak (state core.old) (λ b page. BreaksSlot b page space)) (state core.old) (state core.new)) }

@@ -15,15 +15,17 @@ ghost use Rattle.running_words.specs.Stages.{Passes};
 ghost use Rattle.std.specs.Prelude.{[], false};
 ghost use Rattle.flat_machine.specs.Refusal.{first_of};
 ghost use Rattle.flat_machine.specs.Space.{space_at};
-ghost use Rattle.space_tables.specs.Shows.{window_of};
+ghost use Rattle.space_tables.specs.Shows.{window_of, IsShownAt};
 ghost use Rattle.projection_laws.specs.Tests.{window_row};
 ghost use Rattle.swapper_kernel.specs.Goes.{Makes};
-ghost use Rattle.table_calls.specs.Answers.{Tells};
+ghost use Rattle.table_calls.specs.Answers.{IfGiven, TablesSay, Tells};
 ghost use Rattle.flat_machine.specs.declared.call.Reply.TheVariants as reply;
 ghost use Rattle.space_calls.specs.Halts.{ProtectHalts, TakeHalts, WritableHalts};
 ghost use Rattle.space_calls.specs.Unmapping.{IsGivenUp, IsRefused, IsTaken};
 ghost use Rattle.filer_kernel.specs.Evidence.{ShowsSo};
 ghost use Rattle.fault_core.specs.Core.{state};
+ghost use Rattle.fault_core.specs.Reach.{ReachHalts};
+ghost use Rattle.space_calls.specs.Ranges.{BreaksPart};
 
 use crate::settle::settle;
 use crate::windows::{change_window, find_window, force_range, let_range_go, shows_immutable};
@@ -41,6 +43,7 @@ pub fn take_window<D: Disk, A: Allocator>(
     requires size { (D.state core.old.filer.swapper.under).sectors ≡ core.old.filer.swapper.layout.sectors }
     ensures taken { (volume : Volume) (m : Machine) → Runs core.old volume m → IfOk result (Tells (first_of (window_row m.spaces space)) (IsTaken m space (λ n. Runs core.new volume n))) }
     ensures refused { (volume : Volume) (m : Machine) → Runs core.old volume m → IfOk result (IsRefused (Runs core.new volume m)) }
+    ensures read { IfOk result (IfGiven (TablesSay (state core.old) (λ b. IsShownAt b space))) }
     ensures sound { (volume : Volume) (m : Machine) → Runs core.old volume m → IfErr result (λ e. e ≡ halt.Disk) }
     ensures counted { result ≡ Err halt.Disk → Rose (D.state core.old.filer.swapper.under).faults (D.state core.new.filer.swapper.under).faults }
     ensures cause { IfErr result (TakeHalts space core.old.intervals (state core.old) (state core.new)) }
@@ -80,7 +83,7 @@ fn protect_writable<D: Disk, A: Allocator>(
     ensures carried { (volume : Volume) (m : Machine) (s : Space) → Runs core.old volume m → space_at m.spaces space ≡ Some s → s.window ≡ Some (window_of shown) → IfOk result (Carried m (call.Protect space true) core.new volume) }
     ensures sound { (volume : Volume) (m : Machine) (s : Space) → Runs core.old volume m → space_at m.spaces space ≡ Some s → s.window ≡ Some (window_of shown) → IfErr result (λ e. e ≡ halt.Disk) }
     ensures counted { result ≡ Err halt.Disk → Rose (D.state core.old.filer.swapper.under).faults (D.state core.new.filer.swapper.under).faults }
-    ensures cause { IfErr result (WritableHalts core.old.intervals (state core.old) (state core.new)) }
+    ensures cause { IfErr result (WritableHalts shown.id core.old.intervals (state core.old) (state core.new)) }
     ensures so { IfErr result (ShowsSo (D.state core.new.filer.swapper.under)) }
     ensures makes { Makes volume_page [] (D.state core.old.filer.swapper.under) core.old.filer.swapper.pool (D.state core.new.filer.swapper.under) core.new.filer.swapper.pool }
     ensures layout { core.new.filer.swapper.layout ≡ core.old.filer.swapper.layout }
@@ -116,7 +119,7 @@ fn protect_read_only<D: Disk, A: Allocator>(
     ensures synced { (volume : Volume) (m : Machine) (s : Space) → Runs core.old volume m → space_at m.spaces space ≡ Some s → s.window ≡ Some (window_of shown) → first ≡ s.first → pages ≡ s.pages → OnOk result ((D.state core.new.filer.swapper.under).synced ≡ true) }
     ensures settled { IfOk result (λ answer. answer ≡ reply.Done → (D.state core.new.filer.swapper.under).synced ≡ true) }
     ensures counted { result ≡ Err halt.Disk → Rose (D.state core.old.filer.swapper.under).faults (D.state core.new.filer.swapper.under).faults }
-    ensures cause { IfErr result (TakeHalts space core.old.intervals (state core.old) (state core.new)) }
+    ensures cause { IfErr result (ReachHalts (BreaksPart (state core.old) core.old.intervals first (first + pages)) (state core.old) (state core.new)) }
     ensures so { IfErr result (ShowsSo (D.state core.new.filer.swapper.under)) }
     ensures makes { Makes volume_page [] (D.state core.old.filer.swapper.under) core.old.filer.swapper.pool (D.state core.new.filer.swapper.under) core.new.filer.swapper.pool }
     ensures layout { core.new.filer.swapper.layout ≡ core.old.filer.swapper.layout }

@@ -17,11 +17,11 @@ ghost use Rattle.flat_machine.specs.Refusal.{first_of, is_immutable};
 ghost use Rattle.projection_laws.specs.Laws.{WindowFits};
 ghost use Rattle.projection_laws.specs.Spaces.{MayHaveWindow};
 ghost use Rattle.projection_laws.specs.Tests.{window_row};
-ghost use Rattle.space_tables.specs.Shows.{window_of};
+ghost use Rattle.space_tables.specs.Shows.{window_of, IsRunAt, IsShownAt};
 ghost use Rattle.session_words.specs.FrameLaws.{HasFrames};
 ghost use Rattle.session_words.specs.Parts.{DirtyAreLoose};
 ghost use Rattle.fault_core.specs.Range.{AreClean, AreGone};
-ghost use Rattle.table_calls.specs.Answers.{IsDone, Tells};
+ghost use Rattle.table_calls.specs.Answers.{IfGiven, IsDone, TablesSay, Tells};
 ghost use Rattle.space_calls.specs.Unmapping.{IsWindowIn};
 ghost use Rattle.filer_kernel.specs.Evidence.{ShowsSo};
 ghost use Rattle.fault_core.specs.Core.{state};
@@ -45,6 +45,8 @@ pub(crate) fn find_window<D: Disk, A: Allocator>(
 ) -> Result<Result<(Shown, u32, u32), Refusal>, Halt>
     requires size { (D.state core.old.filer.swapper.under).sectors ≡ core.old.filer.swapper.layout.sectors }
     ensures answer { (volume : Volume) (m : Machine) → Runs core.old volume m → IfOk result (Tells (first_of (window_row m.spaces space)) (IsWindowIn m.spaces space)) }
+    ensures read { IfOk result (IfGiven (λ found. TablesSay (state core.old) (λ b. IsShownAt b space) found.0)) }
+    ensures range { IfOk result (IfGiven (λ found. TablesSay (state core.old) (λ b. IsRunAt b space) (found.1, found.2))) }
     ensures runs { (volume : Volume) (m : Machine) → Runs core.old volume m → Runs core.new volume m }
     ensures sound { (volume : Volume) (m : Machine) → Runs core.old volume m → IfErr result (λ e. e ≡ halt.Disk) }
     ensures counted { result ≡ Err halt.Disk → Rose (D.state core.old.filer.swapper.under).faults (D.state core.new.filer.swapper.under).faults }

@@ -18,7 +18,7 @@ use Rattle.fault_core.specs.Reach.{ReachHalts}
 use Rattle.fault_core.specs.Told.{Told}
 use Rattle.fault_core.proofs.ToldLemmas.{spaces_in, tables_told}
 use Rattle.fault_core.proofs.TurnLemmas.{tables_halt}
-use Rattle.table_calls.specs.Answers.{refused_or_halted, Changes, IfGiven, IsDone, TablesBreak}
+use Rattle.table_calls.specs.Answers.{refused_or_halted, Changes, IfGiven, IsDone, TablesBreak, TablesSay}
 
 -- an error of the memory that these states account for
 abbrev pub Accounted : View → View → Halt → Type 0
@@ -42,6 +42,13 @@ module _ {A : Type 0} where
   given (Err (Refused word)) P h = tt
   given (Err (Malformed page)) P h = tt
   given (Err (Mem halt)) P h = tt
+
+  -- what the tables say of each answer
+  pub read_from : (r : Result A (SpaceError Halt)) (v : View) (says : List ℕ → A → Type 0) → ((b : List ℕ) → TablesAre v b → IfOk r (says b)) → IfOk (refused_or_halted r) (IfGiven (TablesSay v says))
+  read_from (Ok answer) v says h = h
+  read_from (Err (Refused word)) v says h = tt
+  read_from (Err (Malformed page)) v says h = tt
+  read_from (Err (Mem halt)) v says h = tt
 
   pub halted : (r : Result A (SpaceError Halt)) (v w : View) (breaks : List ℕ → ℕ → Type 0) → ((b : List ℕ) → TablesAre v b → IfErr r (IfMalformed (breaks b))) → IfErr r (IfMem (Accounted v w))
       → IfErr (refused_or_halted r) (ReachHalts (TablesBreak v breaks) v w)

@@ -46,6 +46,10 @@ IsDone P (Err word) = ⊥
 abbrev pub TablesBreak : View → (List ℕ → ℕ → Type 0) → ℕ → Type 0
 TablesBreak v breaks page = (b : List ℕ) → TablesAre v b → breaks b page
 
+-- the bytes of the space tables say so of an answer, where they are told
+abbrev pub TablesSay : {A : Type 0} → View → (List ℕ → A → Type 0) → A → Type 0
+TablesSay v says answer = (b : List ℕ) → TablesAre v b → says b answer
+
 module _ {D A : Type 0} {G : Ghosts D} where
   -- Pages were found and brought in, and nothing that is known has changed.
   pub record Asked (old new : CoreOver D A G) : Type 0 where

@@ -8,14 +8,14 @@ ghost use Rattle.flat_machine.specs.Space.{space_at};
 ghost use Rattle.flat_machine.specs.Refusal.{first_of};
 ghost use Rattle.projection_laws.specs.Tests.{window_row};
 ghost use Rattle.space_tables.specs.Form.{BreaksSlot, BreaksHierarchy};
-ghost use Rattle.space_tables.specs.Shows.{window_of, shows, IsFirstWith};
+ghost use Rattle.space_tables.specs.Shows.{window_of, shows, IsFirstWith, IsShownAt};
 ghost use Rattle.space_tables.specs.Answer.{FromMemory, NotRefused, IfMem, IfMalformed, Replies};
 ghost use Rattle.space_tables.specs.Stored.{TellSpaces};
 ghost use Rattle.filer_kernel.specs.Tables.{BesideTables, IsTableAccounted};
 ghost use Rattle.fault_core.specs.View.{view_of, TablesAre};
 ghost use Rattle.fault_core.specs.Reach.{ReachHalts};
 ghost use Rattle.fault_core.specs.Core.{state, Knows};
-ghost use Rattle.table_calls.specs.Answers.{Asked, IfGiven, Tells, TablesBreak};
+ghost use Rattle.table_calls.specs.Answers.{Asked, IfGiven, Tells, TablesBreak, TablesSay};
 
 use crate::halting::refused_or_halted;
 use fault_core::CoreOver;
@@ -36,6 +36,7 @@ fn ask_shown<D: Disk, A: Allocator>(
     requires few { intervals ≤ 1023 }
     ensures answer { (ss : List Space) → TellSpaces (TablesAre (view_of filer.old)) intervals ss → Replies (first_of (window_row ss space)) (λ x. (s : Space) × (space_at ss space ≡ Some s) × (s.window ≡ Some (window_of x))) result }
     ensures form { IfOk result (λ x. 16 ≤ x.id) }
+    ensures read { (b : List ℕ) → TablesAre (view_of filer.old) b → IfOk result (IsShownAt b space) }
     ensures malformed { (b : List ℕ) → TablesAre (view_of filer.old) b → IfErr result (IfMalformed (λ page. BreaksSlot b page space)) }
     ensures cause { IfErr result (IfMem (IsTableAccounted (D.state filer.old.swapper.under) filer.old.swapper.pool filer.old.swapper.layout filer.old.runs (D.state filer.new.swapper.under))) }
     ensures same { (b : List ℕ) → TablesAre (view_of filer.old) b → TablesAre (view_of filer.new) b }
@@ -54,6 +55,7 @@ pub fn shown<D: Disk, A: Allocator>(
     requires size { (D.state core.old.filer.swapper.under).sectors ≡ core.old.filer.swapper.layout.sectors }
     ensures answer { (m : List Sector) (named : Triples) (ss : List Space) → Knows core.old m named ss → IfOk result (Tells (first_of (window_row ss space)) (λ x. (s : Space) × (space_at ss space ≡ Some s) × (s.window ≡ Some (window_of x)))) }
     ensures form { IfOk result (IfGiven (λ x. 16 ≤ x.id)) }
+    ensures read { IfOk result (IfGiven (TablesSay (state core.old) (λ b. IsShownAt b space))) }
     ensures cause { IfErr result (ReachHalts (TablesBreak (state core.old) (λ b page. BreaksSlot b page space)) (state core.old) (state core.new)) }
     ensures sound { (m : List Sector) (named : Triples) (ss : List Space) → Knows core.old m named ss → IfErr result (λ e. e ≡ halt.Disk) }
     ensures asked { Asked core.old core.new }

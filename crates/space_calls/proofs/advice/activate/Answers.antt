@@ -11,7 +11,9 @@ use Rattle.space_calls.proofs.CameLemmas.{came_then, knows, still_runs, still_te
 use Rattle.space_calls.proofs.CarryLemmas.{allowed_done, allowed_refused}
 use Rattle.space_calls.proofs.RunLemmas.{reached_makes}
 use Rattle.fault_core.proofs.EvidenceLemmas.{shows_so}
-use Rattle.space_calls.proofs.RangeLemmas.{asked_halt, within_halt}
+use Rattle.space_tables.specs.Shows.{IsRunAt}
+use Rattle.table_calls.specs.Answers.{TablesSay}
+use Rattle.space_calls.proofs.RangeLemmas.{asked_halt, given_so, within_halt}
 use Rattle.space_calls.proofs.advice.activate.Goals as goal
 
 -- ---- It is refused.
@@ -129,7 +131,7 @@ returns-in-Err-clause-cause g c = asked_halt (state c.args.core.now) (state c.bo
 pub returns-in-Err-activate-clause-cause : goal.returns-in-Err-activate-clause-cause
 returns-in-Err-activate-clause-cause g c =
     let asked = c.bounds.ensures.asked in
-    within_halt (state c.args.core.now) (state c.bounds.new.core) c.args.core.now.filer.swapper.accepted c.args.space asked.reaches c.args.core.now.intervals c.bounds.new.core.intervals asked.intervals (state c.activate.new.self) _ _ c.in-Err-activate.halt c.in-Err-activate.ensures.cause
+    within_halt (state c.args.core.now) (state c.bounds.new.core) c.args.core.now.filer.swapper.accepted c.args.space asked.reaches c.args.core.now.intervals c.bounds.new.core.intervals asked.intervals (state c.activate.new.self) c.in-Ok-Ok.run' (given_so (TablesSay (state c.args.core.now) (λ b. IsRunAt b c.args.space)) c.in-Ok-Ok.run' c.in-Ok-Ok.field-0 c.in-Ok-Ok.field-0-is c.in-Ok-Ok.ensures.read) c.in-Err-activate.halt c.in-Err-activate.ensures.cause
 
 pub returns-in-Err-clause-so : goal.returns-in-Err-clause-so
 returns-in-Err-clause-so g c = shows_so _ (state c.args.core.now) (state c.bounds.new.core) c.bounds.ensures.asked.reaches.goes.makes c.in-Err.halt c.in-Err.ensures.cause

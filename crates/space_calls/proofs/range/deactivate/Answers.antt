@@ -9,7 +9,9 @@ use Rattle.running_words.proofs.RunningLemmas.{running_laws}
 use Rattle.space_calls.proofs.CarryLemmas.{allowed_done, allowed_refused, next_refused}
 use Rattle.space_calls.proofs.RunLemmas.{reached_makes}
 use Rattle.space_calls.proofs.CameLemmas.{came_own, came_then, knows, still_runs, still_tells, whole_of, wrote_so}
-use Rattle.space_calls.proofs.RangeLemmas.{asked_halt, within_halt, deactivate_stays, found_run, found_word, never_refused, of_space}
+use Rattle.space_tables.specs.Shows.{IsRunAt}
+use Rattle.table_calls.specs.Answers.{TablesSay}
+use Rattle.space_calls.proofs.RangeLemmas.{asked_halt, given_so, within_halt, deactivate_stays, found_run, found_word, never_refused, of_space}
 use Rattle.space_calls.proofs.RefusedCalls.{deactivate_refused, deactivate_there}
 use Rattle.fault_core.specs.Range.{AreGone}
 use Rattle.fault_core.proofs.EvidenceLemmas.{shows_so}
@@ -118,7 +120,7 @@ returns-in-Err-clause-cause g c = asked_halt (state c.args.core.now) (state c.ra
 pub returns-in-Err-let_go-clause-cause : goal.returns-in-Err-let_go-clause-cause
 returns-in-Err-let_go-clause-cause g c =
     let asked = c.range_of.ensures.asked in
-    within_halt (state c.args.core.now) (state c.range_of.new.core) c.args.core.now.filer.swapper.accepted c.args.space asked.reaches c.args.core.now.intervals c.range_of.new.core.intervals asked.intervals (state c.let_go.new.self) _ _ c.in-Err-let_go.halt c.in-Err-let_go.ensures.cause
+    within_halt (state c.args.core.now) (state c.range_of.new.core) c.args.core.now.filer.swapper.accepted c.args.space asked.reaches c.args.core.now.intervals c.range_of.new.core.intervals asked.intervals (state c.let_go.new.self) c.in-Ok-Ok.found (given_so (TablesSay (state c.args.core.now) (λ b. IsRunAt b c.args.space)) c.in-Ok-Ok.found c.in-Ok-Ok.field-0 c.in-Ok-Ok.field-0-is c.in-Ok-Ok.ensures.read) c.in-Err-let_go.halt c.in-Err-let_go.ensures.cause
 
 pub returns-in-Err-let_go-clause-so : goal.returns-in-Err-let_go-clause-so
 returns-in-Err-let_go-clause-so g c = shows_so _ (state c.range_of.new.core) (state c.let_go.new.self) c.let_go.ensures.reaches.goes.makes c.in-Err-let_go.halt c.in-Err-let_go.ensures.cause

@@ -11,7 +11,9 @@ use Rattle.space_calls.specs.Ranges.{BreaksRange}
 use Rattle.space_calls.proofs.CarryLemmas.{allowed_done, allowed_refused, next_refused}
 use Rattle.space_calls.proofs.RunLemmas.{reached_makes}
 use Rattle.space_calls.proofs.CameLemmas.{came_own, came_then, knows, still_runs, still_tells, whole_after, whole_of, wrote_so}
-use Rattle.space_calls.proofs.RangeLemmas.{asked_halt, fault_halt, within_halt, found_run, found_word, never_refused, no_frame_came, of_space}
+use Rattle.space_tables.specs.Shows.{IsRunAt}
+use Rattle.table_calls.specs.Answers.{TablesSay}
+use Rattle.space_calls.proofs.RangeLemmas.{asked_halt, given_so, fault_halt, within_halt, found_run, found_word, never_refused, no_frame_came, of_space}
 use Rattle.space_calls.proofs.RefusedCalls.{force_refused, force_there}
 use Rattle.space_calls.proofs.MovedLemmas.{force_runs}
 use Rattle.fault_core.specs.Range.{AreClean}
@@ -146,7 +148,7 @@ returns-in-Err-clause-cause g c = asked_halt (state c.args.core.now) (state c.ra
 pub returns-in-Err-force-clause-cause : goal.returns-in-Err-force-clause-cause
 returns-in-Err-force-clause-cause g c =
     let asked = c.range_of.ensures.asked in
-    within_halt (state c.args.core.now) (state c.range_of.new.core) c.args.core.now.filer.swapper.accepted c.args.space asked.reaches c.args.core.now.intervals c.range_of.new.core.intervals asked.intervals (state c.force.new.self) _ _ c.in-Err-force.halt c.in-Err-force.ensures.cause
+    within_halt (state c.args.core.now) (state c.range_of.new.core) c.args.core.now.filer.swapper.accepted c.args.space asked.reaches c.args.core.now.intervals c.range_of.new.core.intervals asked.intervals (state c.force.new.self) c.in-Ok-Ok.found (given_so (TablesSay (state c.args.core.now) (λ b. IsRunAt b c.args.space)) c.in-Ok-Ok.found c.in-Ok-Ok.field-0 c.in-Ok-Ok.field-0-is c.in-Ok-Ok.ensures.read) c.in-Err-force.halt c.in-Err-force.ensures.cause
 
 pub returns-in-Err-settle-clause-cause : goal.returns-in-Err-settle-clause-cause
 returns-in-Err-settle-clause-cause g c =

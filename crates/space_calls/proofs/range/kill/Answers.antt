@@ -9,7 +9,9 @@ use Rattle.running_words.proofs.RunningLemmas.{running_laws}
 use Rattle.space_calls.proofs.CarryLemmas.{allowed_done, allowed_refused, next_refused}
 use Rattle.space_calls.proofs.RunLemmas.{reached_makes}
 use Rattle.space_calls.proofs.CameLemmas.{came_own, knows, give_makes, still_runs, still_tells, whole_after, whole_of, wrote_so}
-use Rattle.space_calls.proofs.RangeLemmas.{asked_halt, within_halt, found_run, found_word, never_refused, of_space, of_run}
+use Rattle.space_tables.specs.Shows.{IsRunAt}
+use Rattle.table_calls.specs.Answers.{TablesSay}
+use Rattle.space_calls.proofs.RangeLemmas.{asked_halt, given_so, within_halt, found_run, found_word, never_refused, of_space, of_run}
 use Rattle.space_calls.proofs.RefusedCalls.{kill_refused, kill_there}
 use Rattle.space_calls.proofs.MovedLemmas.{kill_runs}
 use Rattle.fault_core.specs.Kill.{AreWritableSo, is_absent}
@@ -129,7 +131,7 @@ returns-in-Err-clause-cause g c = asked_halt (state c.args.core.now) (state c.ra
 pub returns-in-Err-kill-clause-cause : goal.returns-in-Err-kill-clause-cause
 returns-in-Err-kill-clause-cause g c =
     let asked = c.range_of.ensures.asked in
-    within_halt (state c.args.core.now) (state c.range_of.new.core) c.args.core.now.filer.swapper.accepted c.args.space asked.reaches c.args.core.now.intervals c.range_of.new.core.intervals asked.intervals (state c.kill.new.self) _ _ c.in-Err-kill.halt c.in-Err-kill.ensures.cause
+    within_halt (state c.args.core.now) (state c.range_of.new.core) c.args.core.now.filer.swapper.accepted c.args.space asked.reaches c.args.core.now.intervals c.range_of.new.core.intervals asked.intervals (state c.kill.new.self) c.in-Ok-Ok.found (given_so (TablesSay (state c.args.core.now) (λ b. IsRunAt b c.args.space)) c.in-Ok-Ok.found c.in-Ok-Ok.field-0 c.in-Ok-Ok.field-0-is c.in-Ok-Ok.ensures.read) c.in-Err-kill.halt c.in-Err-kill.ensures.cause
 
 pub returns-in-Err-kill-clause-so : goal.returns-in-Err-kill-clause-so
 returns-in-Err-kill-clause-so g c = shows_so _ (state c.range_of.new.core) (state c.kill.new.self) c.kill.ensures.touches.goes.makes c.in-Err-kill.halt c.in-Err-kill.ensures.cause

@@ -5,6 +5,9 @@ use Rattle.space_calls.proofs.range.range_of.Goals as goal
 pub returns-clause-answer : goal.returns-clause-answer
 returns-clause-answer g c = rw c.frame_count-frames.ensures.same at c.bounds.ensures.answer
 
+pub returns-clause-read : goal.returns-clause-read
+returns-clause-read g c = rw c.frame_count-frames.ensures.same at c.bounds.ensures.read
+
 pub returns-clause-sound : goal.returns-clause-sound
 returns-clause-sound g c = rw c.frame_count-frames.ensures.same at c.bounds.ensures.sound
 

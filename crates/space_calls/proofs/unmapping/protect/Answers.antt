@@ -1,4 +1,4 @@
-use Rattle.std.proofs.Common.{Bool, true, sym, ◌∙◌, subst}
+use Rattle.std.proofs.Common.{Bool, true, ℕ, sym, ◌∙◌, subst}
 use Rattle.std.specs.Prelude.{IfOk}
 use Rattle.std.proofs.lemmas.Bool.{true≢false}
 use Rattle.std.proofs.lemmas.Option.{none-some}
@@ -9,6 +9,10 @@ use Rattle.space_calls.proofs.CarryLemmas.{refused_carried}
 use Rattle.space_calls.proofs.FileLemmas.{found_refused, found_told}
 use Rattle.space_calls.proofs.RunLemmas.{nothing_labelled, quiet_passes}
 use Rattle.space_calls.proofs.TakeLemmas.{row_refused}
+use Rattle.space_tables.specs.declared.shown.Shown.{Shown}
+use Rattle.space_tables.specs.Shows.{IsRunAt, IsShownAt}
+use Rattle.table_calls.specs.Answers.{TablesSay}
+use Rattle.space_calls.proofs.RangeLemmas.{given_so}
 use Rattle.fault_core.specs.Core.{state}
 use Rattle.space_calls.proofs.WindowHalts.{if_window_halt}
 use Rattle.space_calls.specs.Halts.{ProtectHalts, WritableHalts}
@@ -94,12 +98,16 @@ returns-then-writable-clause-cause g c =
     let old = c.args.core.now in
     let u = c.find_window.new.core in
     let w = state c.protect_writable.new.core in
+    let found : Shown × ℕ × ℕ = c.in-Ok-Ok.found in
     rw c.if-writable.true
-    (err_wider c.protect_writable.result (WritableHalts u.intervals (state u) w) (ProtectHalts c.args.space true old.intervals (state old) w)
-    (writable_protect (state old) (state u) w c.args.space old.intervals u.intervals c.find_window.ensures.reaches c.find_window.ensures.intervals) c.protect_writable.ensures.cause)
+    (err_wider c.protect_writable.result (WritableHalts found.0.id u.intervals (state u) w) (ProtectHalts c.args.space true old.intervals (state old) w)
+    (writable_protect (state old) (state u) w c.args.space old.intervals u.intervals found.0
+    (given_so (λ (f : Shown × ℕ × ℕ). TablesSay (state old) (λ b. IsShownAt b c.args.space) f.0) found c.in-Ok-Ok.field-0 c.in-Ok-Ok.field-0-is c.in-Ok-Ok.ensures.read) c.find_window.ensures.reaches c.find_window.ensures.intervals) c.protect_writable.ensures.cause)
 
 pub returns-clause-cause : goal.returns-clause-cause
 returns-clause-cause g c =
     let w = c.find_window.new.core in
+    let found : Shown × ℕ × ℕ = c.in-Ok-Ok.found in
     rw c.if-writable.false
-    (if_window_halt (state c.args.core.now) (state w) c.args.core.now.filer.swapper.accepted c.args.space c.find_window.ensures.reaches c.args.core.now.intervals w.intervals c.find_window.ensures.intervals (state c.protect_read_only.new.core) c.protect_read_only.result c.protect_read_only.ensures.cause)
+    (if_window_halt (state c.args.core.now) (state w) c.args.core.now.filer.swapper.accepted c.args.space c.find_window.ensures.reaches c.args.core.now.intervals w.intervals c.find_window.ensures.intervals (state c.protect_read_only.new.core) (found.1, found.2)
+    (given_so (λ (f : Shown × ℕ × ℕ). TablesSay (state c.args.core.now) (λ b. IsRunAt b c.args.space) (f.1, f.2)) found c.in-Ok-Ok.field-0 c.in-Ok-Ok.field-0-is c.in-Ok-Ok.ensures.range) c.protect_read_only.result c.protect_read_only.ensures.cause)

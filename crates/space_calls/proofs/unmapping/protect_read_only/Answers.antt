@@ -1,14 +1,13 @@
-use Rattle.std.proofs.Common.{false, ◌∙◌, refl}
+use Rattle.std.proofs.Common.{false, ◌+◌, ◌∙◌}
 use Rattle.flat_machine.specs.Next.{without_window_of}
 use Rattle.swapper_kernel.specs.GoesLaws.{makes_then}
 use Rattle.space_calls.proofs.RunLemmas.{reached_makes, settled_runs, size_kept}
 use Rattle.space_calls.proofs.TableAnswers.{not_refused, was_done}
 use Rattle.space_calls.proofs.TakeLemmas.{clean_loose, handle_is, may, mode_carried, mode_fits, mode_frames, mode_machine, read_only_allowed}
 use Rattle.fault_core.specs.Core.{state}
-use Rattle.fault_core.proofs.ReachLemmas.{reaches_itself}
-use Rattle.space_calls.specs.Ranges.{BreaksWindow}
+use Rattle.space_calls.specs.Ranges.{BreaksPart}
 use Rattle.space_calls.proofs.RangeLemmas.{fault_halt}
-use Rattle.space_calls.proofs.WindowHalts.{range_window, change_halt}
+use Rattle.space_calls.proofs.WindowHalts.{part_change, part_halt}
 use Rattle.space_calls.proofs.unmapping.protect_read_only.Goals as goal
 
 pub returns-in-Err-clause-sound : goal.returns-in-Err-clause-sound
@@ -70,15 +69,14 @@ returns-in-Err-settle-clause-makes g c = makes_then (makes_then c.force_range.en
 
 pub returns-in-Err-clause-cause : goal.returns-in-Err-clause-cause
 returns-in-Err-clause-cause g c =
-    let v = state c.args.core.now in
-    range_window v v c.args.core.now.filer.swapper.accepted c.args.space (reaches_itself v) c.args.core.now.intervals c.args.core.now.intervals refl (state c.force_range.new.core) _ _ c.in-Err.halt c.in-Err.ensures.cause
+    part_halt (state c.args.core.now) (state c.force_range.new.core) c.args.core.now.filer.swapper.accepted c.args.core.now.intervals c.args.first (c.args.first + c.args.pages) c.in-Err.halt c.in-Err.ensures.cause
 
 pub returns-in-Err-change_window-clause-cause : goal.returns-in-Err-change_window-clause-cause
 returns-in-Err-change_window-clause-cause g c =
     let w = c.force_range.new.core in
-    change_halt (state c.args.core.now) (state w) c.args.core.now.filer.swapper.accepted c.args.space c.force_range.ensures.reaches c.args.core.now.intervals w.intervals c.force_range.ensures.intervals (state c.change_window.new.core) c.in-Err-change_window.halt c.in-Err-change_window.ensures.cause
+    part_change (state c.args.core.now) (state w) c.args.core.now.filer.swapper.accepted c.args.space c.force_range.ensures.reaches c.args.core.now.intervals w.intervals c.force_range.ensures.intervals (state c.change_window.new.core) c.args.first (c.args.first + c.args.pages) c.in-Err-change_window.halt c.in-Err-change_window.ensures.cause
 
 pub returns-in-Err-settle-clause-cause : goal.returns-in-Err-settle-clause-cause
 returns-in-Err-settle-clause-cause g c =
-    fault_halt (BreaksWindow (state c.args.core.now) c.args.core.now.intervals c.args.space) (state c.args.core.now) (state c.change_window.new.core) (state c.settle.new.core) c.in-Err-settle.halt
+    fault_halt (BreaksPart (state c.args.core.now) c.args.core.now.intervals c.args.first (c.args.first + c.args.pages)) (state c.args.core.now) (state c.change_window.new.core) (state c.settle.new.core) c.in-Err-settle.halt
     (makes_then c.force_range.ensures.makes c.change_window.ensures.makes).went.faults c.in-Err-settle.ensures.fault c.in-Err-settle.ensures.counted

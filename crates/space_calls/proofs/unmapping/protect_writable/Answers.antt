@@ -60,15 +60,13 @@ returns-in-Err-change_window-clause-makes g c = makes_then c.shows_immutable.ens
 -- ---- Why it failed.
 
 pub returns-in-Err-clause-cause : goal.returns-in-Err-clause-cause
-returns-in-Err-clause-cause g c = (c.args.shown.id, inl c.in-Err.ensures.cause)
+returns-in-Err-clause-cause g c = inl c.in-Err.ensures.cause
 
 pub returns-in-Err-change_window-clause-cause : goal.returns-in-Err-change_window-clause-cause
 returns-in-Err-change_window-clause-cause g c =
-    let x = c.shows_immutable.new.core in (
-      c.args.shown.id,
-      inr (
-        state x,
-        record { makes = c.shows_immutable.ensures.makes; layout = c.shows_immutable.ensures.layout },
-        counted_change (state x) (state c.change_window.new.core) c.args.core.now.intervals x.intervals c.shows_immutable.ensures.intervals c.in-Err-change_window.halt c.in-Err-change_window.ensures.cause,
-      ),
+    let x = c.shows_immutable.new.core in
+    inr (
+      state x,
+      record { makes = c.shows_immutable.ensures.makes; layout = c.shows_immutable.ensures.layout },
+      counted_change (state x) (state c.change_window.new.core) c.args.core.now.intervals x.intervals c.shows_immutable.ensures.intervals c.in-Err-change_window.halt c.in-Err-change_window.ensures.cause,
     )

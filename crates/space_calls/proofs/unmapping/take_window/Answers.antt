@@ -1,8 +1,8 @@
-use Rattle.std.proofs.Common.{◌≡◌, Some, ◌∙◌, refl}
+use Rattle.std.proofs.Common.{◌≡◌, ℕ, Some, ◌∙◌, refl}
 use Rattle.flat_machine.specs.declared.space.Space.{Space}
 use Rattle.flat_machine.specs.Next.{without_window_of}
 use Rattle.space_tables.specs.declared.shown.Shown.{Shown}
-use Rattle.space_tables.specs.Shows.{window_of}
+use Rattle.space_tables.specs.Shows.{window_of, IsRunAt, IsShownAt}
 use Rattle.swapper_kernel.specs.GoesLaws.{makes_then}
 use Rattle.space_calls.specs.Unmapping.{without_window}
 use Rattle.space_calls.proofs.FileLemmas.{found_refused, found_told}
@@ -11,8 +11,9 @@ use Rattle.space_calls.proofs.TableAnswers.{not_refused, was_done}
 use Rattle.space_calls.proofs.TakeLemmas.{gone_frames, gone_loose, handle_is, machine_left, may}
 use Rattle.fault_core.specs.Core.{state}
 use Rattle.fault_core.proofs.ReachLemmas.{reaches_itself, reaches_then}
+use Rattle.table_calls.specs.Answers.{TablesSay}
 use Rattle.space_calls.specs.Ranges.{BreaksWindow}
-use Rattle.space_calls.proofs.RangeLemmas.{fault_halt}
+use Rattle.space_calls.proofs.RangeLemmas.{fault_halt, given_so}
 use Rattle.space_calls.proofs.WindowHalts.{slot_window, range_window, change_halt}
 use Rattle.space_calls.proofs.unmapping.take_window.Goals as goal
 
@@ -103,6 +104,12 @@ returns-in-Ok-settle-clause-makes g c = makes_then (makes_then (makes_then c.fin
 pub returns-in-Err-settle-clause-makes : goal.returns-in-Err-settle-clause-makes
 returns-in-Err-settle-clause-makes g c = makes_then (makes_then (makes_then c.find_window.ensures.makes c.let_range_go.ensures.makes) c.change_window.ensures.makes) (reached_makes c.settle.ensures.reaches)
 
+-- ---- What the tables say.
+
+pub returns-in-Ok-settle-clause-read : goal.returns-in-Ok-settle-clause-read
+returns-in-Ok-settle-clause-read g c =
+    given_so (λ (f : Shown × ℕ × ℕ). TablesSay (state c.args.core.now) (λ b. IsShownAt b c.args.space) f.0) c.in-Ok-Ok.found c.in-Ok-Ok.field-0 c.in-Ok-Ok.field-0-is c.in-Ok-Ok.ensures.read
+
 -- ---- Why it failed.
 
 pub returns-in-Err-clause-cause : goal.returns-in-Err-clause-cause
@@ -113,7 +120,9 @@ returns-in-Err-clause-cause g c =
 pub returns-in-Err-let_range_go-clause-cause : goal.returns-in-Err-let_range_go-clause-cause
 returns-in-Err-let_range_go-clause-cause g c =
     let w = c.find_window.new.core in
-    range_window (state c.args.core.now) (state w) c.args.core.now.filer.swapper.accepted c.args.space c.find_window.ensures.reaches c.args.core.now.intervals w.intervals c.find_window.ensures.intervals (state c.let_range_go.new.core) _ _ c.in-Err-let_range_go.halt c.in-Err-let_range_go.ensures.cause
+    let found : Shown × ℕ × ℕ = c.in-Ok-Ok.found in
+    range_window (state c.args.core.now) (state w) c.args.core.now.filer.swapper.accepted c.args.space c.find_window.ensures.reaches c.args.core.now.intervals w.intervals c.find_window.ensures.intervals (state c.let_range_go.new.core) (found.1, found.2)
+    (given_so (λ (f : Shown × ℕ × ℕ). TablesSay (state c.args.core.now) (λ b. IsRunAt b c.args.space) (f.1, f.2)) found c.in-Ok-Ok.field-0 c.in-Ok-Ok.field-0-is c.in-Ok-Ok.ensures.range) c.in-Err-let_range_go.halt c.in-Err-let_range_go.ensures.cause
 
 pub returns-in-Err-change_window-clause-cause : goal.returns-in-Err-change_window-clause-cause
 returns-in-Err-change_window-clause-cause g c =

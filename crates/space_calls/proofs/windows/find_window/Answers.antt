@@ -4,7 +4,10 @@ use Rattle.space_calls.proofs.RunLemmas.{asked_makes, asked_runs, knows, size_ke
 use Rattle.space_calls.proofs.TableAnswers.{shown_refused}
 use Rattle.fault_core.specs.Core.{state}
 use Rattle.fault_core.proofs.EvidenceLemmas.{shows_so}
-use Rattle.std.proofs.Common.{◌∙◌}
+use Rattle.std.proofs.Common.{ℕ, ◌∙◌}
+use Rattle.space_tables.specs.Shows.{IsRunAt, IsShownAt}
+use Rattle.table_calls.specs.Answers.{TablesSay}
+use Rattle.space_calls.proofs.RangeLemmas.{given_so}
 use Rattle.fault_core.proofs.ReachLemmas.{reaches_then}
 use Rattle.space_calls.proofs.WindowHalts.{slot_halt}
 use Rattle.space_calls.proofs.windows.find_window.Goals as goal
@@ -103,6 +106,18 @@ returns-in-Err-clause-so g c = shows_so _ (state c.args.core.now) (state c.shown
 
 pub returns-in-Err-bounds-clause-so : goal.returns-in-Err-bounds-clause-so
 returns-in-Err-bounds-clause-so g c = shows_so _ (state c.shown.new.core) (state c.bounds.new.core) c.bounds.ensures.asked.reaches.goes.makes c.in-Err-bounds.halt c.in-Err-bounds.ensures.cause
+
+-- ---- What the tables say.
+
+pub returns-in-Ok-Ok-bounds-clause-read : goal.returns-in-Ok-Ok-bounds-clause-read
+returns-in-Ok-Ok-bounds-clause-read g c = given_so (TablesSay (state c.args.core.now) (λ b. IsShownAt b c.args.space)) c.in-Ok-Ok.shows c.in-Ok-Ok.field-0 c.in-Ok-Ok.field-0-is c.in-Ok-Ok.ensures.read
+
+pub returns-in-Ok-Ok-bounds-clause-range : goal.returns-in-Ok-Ok-bounds-clause-range
+returns-in-Ok-Ok-bounds-clause-range g c =
+    let seen = state c.shown.new.core in
+    let run : ℕ × ℕ = (c.in-Ok-Ok-bounds.first, c.in-Ok-Ok-bounds.pages) in
+    let later = given_so (TablesSay seen (λ b. IsRunAt b c.args.space)) run c.in-Ok-Ok-bounds.field-0 c.in-Ok-Ok-bounds.field-0-is c.in-Ok-Ok-bounds.ensures.read in
+    λ b told. later b (c.shown.ensures.asked.reaches.told b told)
 
 -- ---- What was asked, and why it failed.
 

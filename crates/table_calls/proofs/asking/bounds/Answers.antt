@@ -1,13 +1,17 @@
 use Rattle.std.proofs.Common.{refl}
 use Rattle.space_tables.specs.Form.{BreaksSlot}
+use Rattle.space_tables.specs.Shows.{IsRunAt}
 use Rattle.fault_core.specs.Core.{state}
 use Rattle.fault_core.specs.View.{view_of}
 use Rattle.table_calls.proofs.AskedLemmas.{asked}
-use Rattle.table_calls.proofs.HaltingLemmas.{answered, halted, whole, sound, known_spaces}
+use Rattle.table_calls.proofs.HaltingLemmas.{answered, halted, read_from, whole, sound, known_spaces}
 use Rattle.table_calls.proofs.asking.bounds.Goals as goal
 
 pub returns-clause-answer : goal.returns-clause-answer
 returns-clause-answer g c = λ m named ss knows. rw c.refused_or_halted.ensures (answered c.ask_bounds.result _ _ _ (c.ask_bounds.ensures.answer ss (rw c.interval_count-intervals.ensures (known_spaces knows))))
+
+pub returns-clause-read : goal.returns-clause-read
+returns-clause-read g c = rw c.refused_or_halted.ensures (read_from c.ask_bounds.result (state c.args.core.now) (λ b. IsRunAt b c.args.space) c.ask_bounds.ensures.read)
 
 pub returns-clause-cause : goal.returns-clause-cause
 returns-clause-cause g c = rw c.refused_or_halted.ensures (halted c.ask_bounds.result (state c.args.core.now) (view_of c.ask_bounds.new.filer) (λ b page. BreaksSlot b page c.args.space) c.ask_bounds.ensures.malformed c.ask_bounds.ensures.cause)

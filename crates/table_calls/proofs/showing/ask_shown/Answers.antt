@@ -7,6 +7,9 @@ use Rattle.table_calls.proofs.showing.ask_shown.Goals as goal
 pub returns-clause-answer : goal.returns-clause-answer
 returns-clause-answer g c = λ ss tells. c.shown.ensures.answer ss (rw (c.over-tables.ensures.memory, c.over-tables.ensures.intervals, c.window1.ensures.value) tells)
 
+pub returns-clause-read : goal.returns-clause-read
+returns-clause-read g c = λ b tells. c.shown.ensures.read b (rw (c.over-tables.ensures.memory, c.window1.ensures.value) tells)
+
 pub returns-clause-malformed : goal.returns-clause-malformed
 returns-clause-malformed g c = λ b tells. c.shown.ensures.malformed b (rw (c.over-tables.ensures.memory, c.window1.ensures.value) tells)
 

@@ -1,13 +1,17 @@
 use Rattle.std.proofs.Common.{refl}
 use Rattle.space_tables.specs.Form.{BreaksSlot}
+use Rattle.space_tables.specs.Shows.{IsShownAt}
 use Rattle.fault_core.specs.Core.{state}
 use Rattle.fault_core.specs.View.{view_of}
 use Rattle.table_calls.proofs.AskedLemmas.{asked}
-use Rattle.table_calls.proofs.HaltingLemmas.{answered, halted, whole, sound, known_spaces}
+use Rattle.table_calls.proofs.HaltingLemmas.{answered, halted, read_from, whole, sound, known_spaces}
 use Rattle.table_calls.proofs.showing.shown.Goals as goal
 
 pub returns-clause-answer : goal.returns-clause-answer
 returns-clause-answer g c = λ m named ss knows. rw c.refused_or_halted.ensures (answered c.ask_shown.result _ _ _ (c.ask_shown.ensures.answer ss (rw c.interval_count-intervals.ensures (known_spaces knows))))
+
+pub returns-clause-read : goal.returns-clause-read
+returns-clause-read g c = rw c.refused_or_halted.ensures (read_from c.ask_shown.result (state c.args.core.now) (λ b. IsShownAt b c.args.space) c.ask_shown.ensures.read)
 
 pub returns-clause-cause : goal.returns-clause-cause
 returns-clause-cause g c = rw c.refused_or_halted.ensures (halted c.ask_shown.result (state c.args.core.now) (view_of c.ask_shown.new.filer) (λ b page. BreaksSlot b page c.args.space) c.ask_shown.ensures.malformed c.ask_shown.ensures.cause)
