@@ -14,7 +14,6 @@ use Rattle.space_tables.specs.SpaceTables.{IsIntervalAt}
 use Rattle.fault_core.specs.declared.range.Way.{Way}
 use Rattle.fault_core.specs.declared.range.Way.TheVariants.{Force, LetGo}
 use Rattle.fault_core.specs.Reach.{BringsOwn}
-use Rattle.fault_core.specs.Told.{BreaksTables}
 use Rattle.fault_core.specs.Unit.{IsResident}
 use Rattle.fault_core.specs.View.{View}
 
@@ -42,10 +41,6 @@ AreGone spaces slots from to = AreAtRest LetGo spaces slots from to
 -- the end of the range, or the page behind the interval of the projection that has the page
 abbrev pub IsNextPart : List Space → ℕ → ℕ → ℕ → Type 0
 IsNextPart spaces page end next = (next ≡ end) ⊎ ((x : Interval) × IsIntervalAt spaces page x × (next ≡ x.first + x.pages))
-
--- a page of the tables breaks its form for the look-up of some page of the root
-abbrev pub BreaksSome : View → ℕ → ℕ → Type 0
-BreaksSome v count page = (asked : ℕ) × BreaksTables v count asked page
 
 -- where the pages of a space's range are forced, no dirty frame has a page that is shown there
 abbrev pub ForcedRanges : Type 0
