@@ -15,7 +15,6 @@ use Rattle.fault_core.specs.declared.range.Way.{Way}
 use Rattle.fault_core.specs.declared.range.Way.TheVariants.{Force, LetGo}
 use Rattle.fault_core.specs.Reach.{BringsOwn}
 use Rattle.fault_core.specs.Unit.{IsResident}
-use Rattle.fault_core.specs.View.{View}
 
 -- no dirty frame has the page, or no frame at all
 abbrev pub IsAtRest : Way → Slots → ℕ → ℕ → Type 0
