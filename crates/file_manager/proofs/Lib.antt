@@ -30,6 +30,7 @@ pub mod GrowBroken
 pub mod CreateBroken
 pub mod CountedLemmas
 pub mod FindingLemmas
+pub mod LookLemmas
 pub mod DownLemmas
 pub mod DownRun
 pub mod DownTo

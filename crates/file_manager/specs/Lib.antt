@@ -2,6 +2,7 @@ pub mod Book
 pub mod Freeing
 pub mod Answer
 pub mod Finding
+pub mod Looking
 pub mod Attributes
 pub mod Making
 pub mod Deleting

@@ -14,8 +14,10 @@ ghost use Rattle.file_manager.specs.Attributes.{IsAttributesOf};
 ghost use Rattle.file_manager.specs.Book.{Books, BringsOwn};
 ghost use Rattle.file_manager.specs.Causes.{NamesNone};
 ghost use Rattle.file_manager.specs.Finding.{FileHalts};
+ghost use Rattle.file_manager.specs.Looking.{Looks};
 
 use crate::finding::find_file;
+use crate::growth::frames_of;
 use filer_kernel::FilerOver;
 use labelled_disk::{Disk, FileId, Halt};
 use std::alloc::Allocator;
@@ -48,6 +50,7 @@ pub fn attributes_of<D: Disk, A: Allocator>(
     ensures same { (x : List Sector) (shapes : Shapes) (spaces : List Space) → Books (D.state filer.old.swapper.under) filer.old.swapper.pool filer.old.swapper.layout filer.old.runs shapes spaces x
         → Books (D.state filer.new.swapper.under) filer.new.swapper.pool filer.old.swapper.layout filer.new.runs shapes spaces x }
     ensures makes { Makes volume_page [] (D.state filer.old.swapper.under) filer.old.swapper.pool (D.state filer.new.swapper.under) filer.new.swapper.pool }
+    ensures looks { Looks filer.old.swapper.layout (D.state filer.old.swapper.under) filer.old.swapper.pool (runs_of filer.old.swapper.layout.sectors filer.old.runs) (D.state filer.new.swapper.under) filer.new.swapper.pool (runs_of filer.old.swapper.layout.sectors filer.new.runs) }
     ensures brings { BringsOwn filer.old.swapper.pool filer.new.swapper.pool }
     ensures layout { filer.new.swapper.layout ≡ filer.old.swapper.layout }
     ensures cost { (D.state filer.new.swapper.under).transfers ≤ (D.state filer.old.swapper.under).transfers + 29 }
@@ -55,6 +58,7 @@ pub fn attributes_of<D: Disk, A: Allocator>(
     if id < FIRST_CLIENT {
         return Ok(None);
     }
+    frames_of(filer);
     match find_file(filer, id) {
         Ok(Some(file)) => Ok(Some(Attributes {
             pages: file.pages,

@@ -16,9 +16,11 @@ ghost use Rattle.filer_kernel.specs.Cached.{runs_of};
 ghost use Rattle.file_manager.specs.Grounds.{KeepsMap, MakesFor, IsUnframed};
 ghost use Rattle.file_manager.specs.Taking.{no_page_of};
 ghost use Rattle.swapper_kernel.specs.declared.manager.Manager.TheVariants.{FileMap};
-ghost use Rattle.swapper_kernel.specs.Window.{Tells};
+ghost use Rattle.swapper_kernel.specs.Window.{Tells, Beside};
 ghost use Rattle.filer_kernel.specs.Evidence.{ShowsSo};
-ghost use Rattle.filer_kernel.specs.Triples.{MapIs};
+ghost use Rattle.filer_kernel.specs.Causes.{IsGiven};
+ghost use Rattle.filer_kernel.specs.Triples.{MapIs, AreOf, IsOneOf};
+ghost use Rattle.file_map.specs.declared.run.Run.{Run as RunIs};
 ghost use Rattle.file_map.specs.FileMap.{Triples, IsSize};
 ghost use Rattle.file_manager.specs.Finding.{IsFoundFile, FileHalts};
 ghost use Rattle.file_manager.specs.Book.{Books, BringsOwn};
@@ -88,7 +90,11 @@ pub(crate) fn find_file<D: Disk, A: Allocator>(
     ensures place { IfOk result (λ found. IfSome found (λ file. (filer.old.swapper.layout.first ≤ file.sector) × (file.sector < filer.old.swapper.layout.sectors))) }
     ensures size { (m : List Sector) (named : Triples) → Stands (D.state filer.old.swapper.under) filer.old.swapper.pool m → MapIs filer.old.swapper.layout named m → IfOk result (λ found. IfSome found (λ file. IsSize named id file.pages)) }
     ensures missing { result ≡ Ok None → NamesNone filer.old.swapper.layout (D.state filer.old.swapper.under) filer.old.swapper.pool id leader_page }
-    ensures same_bytes { OnOk result ((b : List ℕ) → Tells FileMap (D.state filer.old.swapper.under) filer.old.swapper.pool filer.old.swapper.layout b → Tells FileMap (D.state filer.new.swapper.under) filer.new.swapper.pool filer.old.swapper.layout b) }
+    ensures same_bytes { (b : List ℕ) → Tells FileMap (D.state filer.old.swapper.under) filer.old.swapper.pool filer.old.swapper.layout b → Tells FileMap (D.state filer.new.swapper.under) filer.new.swapper.pool filer.old.swapper.layout b }
+    ensures beside { Beside FileMap (D.state filer.old.swapper.under) filer.old.swapper.pool filer.old.swapper.layout (D.state filer.new.swapper.under) filer.new.swapper.pool filer.new.swapper.layout }
+    ensures runs_given { (r : RunIs) → IsOneOf r (runs_of filer.old.swapper.layout.sectors filer.new.runs) → IsGiven filer.old.swapper.layout (D.state filer.old.swapper.under) filer.old.swapper.pool (runs_of filer.old.swapper.layout.sectors filer.old.runs) r }
+    ensures runs_are { (m : List Sector) (named : Triples) → Stands (D.state filer.old.swapper.under) filer.old.swapper.pool m → MapIs filer.old.swapper.layout named m → AreOf named (runs_of filer.old.swapper.layout.sectors filer.old.runs)
+        → AreOf named (runs_of filer.old.swapper.layout.sectors filer.new.runs) }
     ensures takes { OnOk result (MakesFor filer.old.swapper.layout id no_page_of (D.state filer.old.swapper.under) filer.old.swapper.pool (D.state filer.new.swapper.under) filer.new.swapper.pool) }
     ensures makes { Makes volume_page [] (D.state filer.old.swapper.under) filer.old.swapper.pool (D.state filer.new.swapper.under) filer.new.swapper.pool }
     ensures brings { BringsOwn filer.old.swapper.pool filer.new.swapper.pool }

@@ -8,12 +8,15 @@ ghost use Rattle.flat_machine.specs.declared.space.Space.{Space};
 ghost use Rattle.swapper_kernel.specs.declared.manager.Manager.TheVariants.{FileMap as FileMapPages};
 ghost use Rattle.swapper_kernel.specs.Goes.{Makes};
 ghost use Rattle.swapper_kernel.specs.Homes.{home_at};
-ghost use Rattle.swapper_kernel.specs.Stands.{labels_of};
+ghost use Rattle.swapper_kernel.specs.Stands.{Stands, labels_of};
 ghost use Rattle.swapper_kernel.specs.Window.{Tells, Beside};
 ghost use Rattle.session_words.specs.Parts.{Shapes};
 ghost use Rattle.session_words.specs.Volume.{volume_page};
 ghost use Rattle.filer_kernel.specs.Cached.{runs_of};
-ghost use Rattle.filer_kernel.specs.Causes.{MapHalts, IsRunHome};
+ghost use Rattle.filer_kernel.specs.Causes.{MapHalts, IsGiven, IsRunHome};
+ghost use Rattle.filer_kernel.specs.Triples.{MapIs, AreOf, IsOneOf};
+ghost use Rattle.file_map.specs.declared.run.Run.{Run as RunIs};
+ghost use Rattle.file_map.specs.FileMap.{Triples};
 ghost use Rattle.file_manager.specs.Grounds.{KeepsMap, IsUnframed};
 ghost use Rattle.filer_kernel.specs.Evidence.{ShowsSo};
 ghost use Rattle.file_manager.specs.Answer.{IsLeaderOf};
@@ -41,6 +44,9 @@ pub(crate) fn leader_of<D: Disk, A: Allocator>(
     ensures place { IfOk result (λ found. IfSome found (λ sector. (filer.old.swapper.layout.first ≤ sector) × (sector < filer.old.swapper.layout.sectors))) }
     ensures same_bytes { (b : List ℕ) → Tells FileMapPages (D.state filer.old.swapper.under) filer.old.swapper.pool filer.old.swapper.layout b → Tells FileMapPages (D.state filer.new.swapper.under) filer.new.swapper.pool filer.old.swapper.layout b }
     ensures beside { Beside FileMapPages (D.state filer.old.swapper.under) filer.old.swapper.pool filer.old.swapper.layout (D.state filer.new.swapper.under) filer.new.swapper.pool filer.new.swapper.layout }
+    ensures runs_given { (r : RunIs) → IsOneOf r (runs_of filer.old.swapper.layout.sectors filer.new.runs) → IsGiven filer.old.swapper.layout (D.state filer.old.swapper.under) filer.old.swapper.pool (runs_of filer.old.swapper.layout.sectors filer.old.runs) r }
+    ensures runs_are { (m : List Sector) (named : Triples) → Stands (D.state filer.old.swapper.under) filer.old.swapper.pool m → MapIs filer.old.swapper.layout named m → AreOf named (runs_of filer.old.swapper.layout.sectors filer.old.runs)
+        → AreOf named (runs_of filer.old.swapper.layout.sectors filer.new.runs) }
     ensures given { IfOk result (λ found. IfSome found (λ sector. IsRunHome filer.old.swapper.layout (D.state filer.old.swapper.under) filer.old.swapper.pool (runs_of filer.old.swapper.layout.sectors filer.old.runs) (home_at sector (record { id = id; page = leader_page })))) }
     ensures missing { result ≡ Ok None → NamesNone filer.old.swapper.layout (D.state filer.old.swapper.under) filer.old.swapper.pool id leader_page }
     ensures makes { Makes volume_page [] (D.state filer.old.swapper.under) filer.old.swapper.pool (D.state filer.new.swapper.under) filer.new.swapper.pool }

@@ -7,11 +7,14 @@ ghost use Rattle.flat_machine.specs.declared.space.Space.{Space};
 ghost use Rattle.swapper_kernel.specs.Goes.{Makes};
 ghost use Rattle.session_words.specs.Parts.{Shapes};
 ghost use Rattle.session_words.specs.Volume.{volume_page};
+ghost use Rattle.filer_kernel.specs.Cached.{runs_of};
 ghost use Rattle.filer_kernel.specs.Causes.{MapHalts};
 ghost use Rattle.filer_kernel.specs.Evidence.{ShowsSo};
 ghost use Rattle.file_manager.specs.Answer.{IsNextFile};
 ghost use Rattle.file_manager.specs.Book.{Books, BringsOwn};
+ghost use Rattle.file_manager.specs.Looking.{Looks};
 
+use crate::growth::frames_of;
 use filer_kernel::FilerOver;
 use labelled_disk::{Disk, FileId, Halt};
 use std::alloc::Allocator;
@@ -28,6 +31,7 @@ pub fn next<D: Disk, A: Allocator>(
     ensures same { (x : List Sector) (shapes : Shapes) (spaces : List Space) → Books (D.state filer.old.swapper.under) filer.old.swapper.pool filer.old.swapper.layout filer.old.runs shapes spaces x
         → Books (D.state filer.new.swapper.under) filer.new.swapper.pool filer.old.swapper.layout filer.new.runs shapes spaces x }
     ensures makes { Makes volume_page [] (D.state filer.old.swapper.under) filer.old.swapper.pool (D.state filer.new.swapper.under) filer.new.swapper.pool }
+    ensures looks { Looks filer.old.swapper.layout (D.state filer.old.swapper.under) filer.old.swapper.pool (runs_of filer.old.swapper.layout.sectors filer.old.runs) (D.state filer.new.swapper.under) filer.new.swapper.pool (runs_of filer.old.swapper.layout.sectors filer.new.runs) }
     ensures brings { BringsOwn filer.old.swapper.pool filer.new.swapper.pool }
     ensures cause { IfErr result (MapHalts filer.old.swapper.layout (D.state filer.old.swapper.under) filer.old.swapper.pool (D.state filer.new.swapper.under)) }
     ensures so { IfErr result (ShowsSo (D.state filer.new.swapper.under)) }
@@ -35,6 +39,7 @@ pub fn next<D: Disk, A: Allocator>(
     ensures layout { filer.new.swapper.layout ≡ filer.old.swapper.layout }
     ensures cost { (D.state filer.new.swapper.under).transfers ≤ (D.state filer.old.swapper.under).transfers + 36 }
 {
+    frames_of(filer);
     match filer.next_file(id) {
         Ok(found) => Ok(found),
         Err(halt) => Err(halt),

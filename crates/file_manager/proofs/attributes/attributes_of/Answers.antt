@@ -1,20 +1,60 @@
 use Rattle.std.proofs.Common.{inr, subst, rules}
 use Rattle.swapper_kernel.specs.Stands.{labels_of}
+use Rattle.filer_kernel.specs.Cached.{runs_of}
 use Rattle.file_manager.specs.Finding.{IsFoundFile}
 use Rattle.file_manager.proofs.CountedLemmas.{rose_of, of_answer}
+use Rattle.file_manager.proofs.LookLemmas.{looks_nothing, looks_searched}
 use Rattle.file_manager.proofs.attributes.attributes_of.Goals as goal
 
 pub returns-in-Ok-Some-clause-told : goal.returns-in-Ok-Some-clause-told
-returns-in-Ok-Some-clause-told g c = λ x shapes spaces books. (subst (IsFoundFile (labels_of x) shapes c.args.id) c.in-Ok-Some.field-0-is (c.in-Ok-Some.ensures.told x shapes spaces books)).1
+returns-in-Ok-Some-clause-told g c = rw (← c.frames_of.ensures.same) (λ x shapes spaces books. (subst (IsFoundFile (labels_of x) shapes c.args.id) c.in-Ok-Some.field-0-is (c.in-Ok-Some.ensures.told x shapes spaces books)).1)
 
 pub returns-in-Ok-None-clause-told : goal.returns-in-Ok-None-clause-told
-returns-in-Ok-None-clause-told g c = λ x shapes spaces books. subst (IsFoundFile (labels_of x) shapes c.args.id) c.in-Ok-None.field-0-is (c.in-Ok-None.ensures.told x shapes spaces books)
+returns-in-Ok-None-clause-told g c = rw (← c.frames_of.ensures.same) (λ x shapes spaces books. subst (IsFoundFile (labels_of x) shapes c.args.id) c.in-Ok-None.field-0-is (c.in-Ok-None.ensures.told x shapes spaces books))
 
 pub returns-in-Err-clause-told : goal.returns-in-Err-clause-told
-returns-in-Err-clause-told g c = λ x shapes spaces books. c.in-Err.ensures.told x shapes spaces books
+returns-in-Err-clause-told g c = rw (← c.frames_of.ensures.same) (λ x shapes spaces books. c.in-Err.ensures.told x shapes spaces books)
 
 pub returns-in-Err-clause-counted : goal.returns-in-Err-clause-counted
-returns-in-Err-clause-counted g c = of_answer c.in-Err.halt (rose_of _ (g.D.Disk.state c.args.filer.now.swapper.under) (g.D.Disk.state c.find_file.new.filer.swapper.under) c.in-Err.halt c.in-Err.ensures.cause)
+returns-in-Err-clause-counted g c = rw (← c.frames_of.ensures.same) (of_answer c.in-Err.halt (rose_of _ (g.D.Disk.state c.frames_of.new.filer.swapper.under) (g.D.Disk.state c.find_file.new.filer.swapper.under) c.in-Err.halt c.in-Err.ensures.cause))
 
 pub returns-in-Ok-None-clause-none : goal.returns-in-Ok-None-clause-none
-returns-in-Ok-None-clause-none g c none = inr (c.in-Ok-None.ensures.missing (search rules))
+returns-in-Ok-None-clause-none g c none = rw (← c.frames_of.ensures.same) (inr (c.in-Ok-None.ensures.missing (search rules)))
+
+-- ---- What the look leaves.
+
+pub returns-in-Ok-Some-clause-same : goal.returns-in-Ok-Some-clause-same
+returns-in-Ok-Some-clause-same g c = rw (← c.frames_of.ensures.same) c.find_file.ensures.same
+
+pub returns-in-Ok-None-clause-same : goal.returns-in-Ok-None-clause-same
+returns-in-Ok-None-clause-same g c = rw (← c.frames_of.ensures.same) c.find_file.ensures.same
+
+pub returns-in-Err-clause-same : goal.returns-in-Err-clause-same
+returns-in-Err-clause-same g c = rw (← c.frames_of.ensures.same) c.find_file.ensures.same
+
+pub returns-then-id-lt-FIRST_CLIENT-clause-looks : goal.returns-then-id-lt-FIRST_CLIENT-clause-looks
+returns-then-id-lt-FIRST_CLIENT-clause-looks g c = looks_nothing _ _ _ _
+
+pub returns-in-Ok-Some-clause-looks : goal.returns-in-Ok-Some-clause-looks
+returns-in-Ok-Some-clause-looks g c =
+    let f = c.frames_of.new.filer in
+    let found = c.find_file.ensures in
+    rw (← c.frames_of.ensures.same)
+    (looks_searched {kept = runs_of f.swapper.layout.sectors f.runs} {runs = runs_of f.swapper.layout.sectors c.find_file.new.filer.runs} f.swapper.accepted (rw c.frames_of.ensures.same c.requires.size) (g.met.D.Disk.whole f.swapper.under) (g.met.D.Disk.in_form f.swapper.under) (rw c.frames_of.ensures.same c.frames_of.ensures.pages)
+    found.beside found.same_bytes found.runs_given found.runs_are)
+
+pub returns-in-Ok-None-clause-looks : goal.returns-in-Ok-None-clause-looks
+returns-in-Ok-None-clause-looks g c =
+    let f = c.frames_of.new.filer in
+    let found = c.find_file.ensures in
+    rw (← c.frames_of.ensures.same)
+    (looks_searched {kept = runs_of f.swapper.layout.sectors f.runs} {runs = runs_of f.swapper.layout.sectors c.find_file.new.filer.runs} f.swapper.accepted (rw c.frames_of.ensures.same c.requires.size) (g.met.D.Disk.whole f.swapper.under) (g.met.D.Disk.in_form f.swapper.under) (rw c.frames_of.ensures.same c.frames_of.ensures.pages)
+    found.beside found.same_bytes found.runs_given found.runs_are)
+
+pub returns-in-Err-clause-looks : goal.returns-in-Err-clause-looks
+returns-in-Err-clause-looks g c =
+    let f = c.frames_of.new.filer in
+    let found = c.find_file.ensures in
+    rw (← c.frames_of.ensures.same)
+    (looks_searched {kept = runs_of f.swapper.layout.sectors f.runs} {runs = runs_of f.swapper.layout.sectors c.find_file.new.filer.runs} f.swapper.accepted (rw c.frames_of.ensures.same c.requires.size) (g.met.D.Disk.whole f.swapper.under) (g.met.D.Disk.in_form f.swapper.under) (rw c.frames_of.ensures.same c.frames_of.ensures.pages)
+    found.beside found.same_bytes found.runs_given found.runs_are)

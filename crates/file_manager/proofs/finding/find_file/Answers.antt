@@ -1,4 +1,4 @@
-use Rattle.std.proofs.Common.{◌≡◌, ◌≤◌, ◌<◌, ℕ, Option, sym, ◌∙◌, ap, subst, rules, arith, inl, inr}
+use Rattle.std.proofs.Common.{◌≡◌, ◌≤◌, ◌<◌, ℕ, Option, refl, sym, ◌∙◌, ap, subst, rules, arith, inl, inr}
 use Rattle.std.specs.Prelude.{IfSome}
 use Rattle.labelled_disk.specs.declared.layout.Layout.{Layout}
 use Rattle.swapper_kernel.specs.declared.manager.Manager.TheVariants.{FileMap}
@@ -18,6 +18,8 @@ use Rattle.file_manager.proofs.MarkLemmas.{leader_one}
 use Rattle.file_manager.proofs.FindingLemmas.{shape_by_leader, leader_halts, no_leader_before, map_halts_before, books_read, read_makes, read_map_brings, read_bytes, read_brings}
 use Rattle.filer_kernel.specs.EvidenceLaws.{so_of_map}
 use Rattle.file_manager.proofs.MadeRun.{made_read, made_look, reads_then}
+use Rattle.swapper_kernel.specs.WindowLaws.{beside_then}
+use Rattle.file_manager.proofs.LookLemmas.{beside_read}
 use Rattle.file_manager.proofs.Keeping.{keeps_read, keeps_look, keeps_then}
 use Rattle.file_manager.proofs.finding.find_file.Goals as goal
 
@@ -197,3 +199,41 @@ returns-in-Ok-size-clause-takes g c =
     let size = c.leader_label.ensures.makes.went.sectors ∙ c.leader_of.ensures.makes.went.sectors ∙ c.requires.size in
     reads_then (made_read c.args.id c.requires.size c.leader_of.ensures.beside c.leader_of.ensures.same_bytes)
     (reads_then (made_look layout c.args.id c.leader_label.ensures.same c.leader_label.ensures.frames) (made_read c.args.id size (rw lay at c.size.ensures.beside) (rw lay at c.size.ensures.same_bytes)))
+
+-- ---- What the searches leave.
+
+pub returns-in-Err-leader_label-clause-same_bytes : goal.returns-in-Err-leader_label-clause-same_bytes
+returns-in-Err-leader_label-clause-same_bytes g c = read_bytes c.leader_of.ensures.beside c.leader_label.ensures.same c.leader_label.ensures.makes c.leader_label.ensures.frames c.leader_of.ensures.same_bytes
+
+pub returns-in-Err-leader_label-clause-beside : goal.returns-in-Err-leader_label-clause-beside
+returns-in-Err-leader_label-clause-beside g c = beside_read c.leader_of.ensures.beside c.leader_label.ensures.same c.leader_label.ensures.makes c.leader_label.ensures.frames c.leader_label.ensures.layout
+
+pub returns-in-Err-leader_label-clause-runs_given : goal.returns-in-Err-leader_label-clause-runs_given
+returns-in-Err-leader_label-clause-runs_given g c = rw c.leader_label.ensures.runs c.leader_of.ensures.runs_given
+
+pub returns-in-Err-leader_label-clause-runs_are : goal.returns-in-Err-leader_label-clause-runs_are
+returns-in-Err-leader_label-clause-runs_are g c = rw c.leader_label.ensures.runs c.leader_of.ensures.runs_are
+
+pub returns-in-Ok-size-clause-beside : goal.returns-in-Ok-size-clause-beside
+returns-in-Ok-size-clause-beside g c = beside_then refl (beside_read c.leader_of.ensures.beside c.leader_label.ensures.same c.leader_label.ensures.makes c.leader_label.ensures.frames c.leader_label.ensures.layout) c.size.ensures.beside
+
+pub returns-in-Ok-size-clause-runs_given : goal.returns-in-Ok-size-clause-runs_given
+returns-in-Ok-size-clause-runs_given g c = rw (c.size.ensures.runs, c.leader_label.ensures.runs) c.leader_of.ensures.runs_given
+
+pub returns-in-Ok-size-clause-runs_are : goal.returns-in-Ok-size-clause-runs_are
+returns-in-Ok-size-clause-runs_are g c = rw (c.size.ensures.runs, c.leader_label.ensures.runs) c.leader_of.ensures.runs_are
+
+pub returns-in-Err-size-clause-same_bytes : goal.returns-in-Err-size-clause-same_bytes
+returns-in-Err-size-clause-same_bytes g c = λ bytes tells.
+    let layout = c.args.filer.now.swapper.layout in
+    let lay : c.leader_label.new.filer.swapper.layout ≡ layout = c.leader_label.ensures.layout ∙ c.leader_of.ensures.layout in
+    (rw lay at c.size.ensures.same_bytes) bytes (read_bytes c.leader_of.ensures.beside c.leader_label.ensures.same c.leader_label.ensures.makes c.leader_label.ensures.frames c.leader_of.ensures.same_bytes bytes tells)
+
+pub returns-in-Err-size-clause-beside : goal.returns-in-Err-size-clause-beside
+returns-in-Err-size-clause-beside g c = beside_then refl (beside_read c.leader_of.ensures.beside c.leader_label.ensures.same c.leader_label.ensures.makes c.leader_label.ensures.frames c.leader_label.ensures.layout) c.size.ensures.beside
+
+pub returns-in-Err-size-clause-runs_given : goal.returns-in-Err-size-clause-runs_given
+returns-in-Err-size-clause-runs_given g c = rw (c.size.ensures.runs, c.leader_label.ensures.runs) c.leader_of.ensures.runs_given
+
+pub returns-in-Err-size-clause-runs_are : goal.returns-in-Err-size-clause-runs_are
+returns-in-Err-size-clause-runs_are g c = rw (c.size.ensures.runs, c.leader_label.ensures.runs) c.leader_of.ensures.runs_are

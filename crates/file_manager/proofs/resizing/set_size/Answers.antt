@@ -321,7 +321,7 @@ returns-in-Err-grow-clause-cause g c =
       next = λ m named later stands map none adds. above_size layout kept c.args.id c.args.pages old new pool c.grow.new.filer.swapper.pool c.in-Ok-Some.file.pages named later c.requires.numbers (sized m named stands map) adds;
     } in
     resize_of_make layout kept c.args.id c.args.pages old new pool c.grow.new.filer.swapper.pool c.in-Err-grow.halt
-    (make_halts_before no_page_of more no_page_of c.find_file.ensures.makes c.in-Ok-Some.ensures.takes leaves (inl (λ none. c.in-Ok-Some.ensures.same_bytes)) (g.D.Disk.state c.grow.new.filer.swapper.under) c.grow.new.filer.swapper.pool c.in-Err-grow.halt (rw c.find_file.ensures.layout at c.in-Err-grow.ensures.cause))
+    (make_halts_before no_page_of more no_page_of c.find_file.ensures.makes c.in-Ok-Some.ensures.takes leaves (inl (λ none. c.find_file.ensures.same_bytes)) (g.D.Disk.state c.grow.new.filer.swapper.under) c.grow.new.filer.swapper.pool c.in-Err-grow.halt (rw c.find_file.ensures.layout at c.in-Err-grow.ensures.cause))
 
 pub returns-in-Err-shrink-clause-cause : goal.returns-in-Err-shrink-clause-cause
 returns-in-Err-shrink-clause-cause g c =
