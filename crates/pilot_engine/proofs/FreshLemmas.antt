@@ -10,7 +10,6 @@ use Rattle.labelled_disk.specs.Root.{page_in, root_page}
 use Rattle.labelled_disk.specs.Sectors.{Sector}
 use Rattle.labelled_disk.specs.State.{DiskState}
 use Rattle.labelled_disk.proofs.Finds.{get_set_same}
-use Rattle.labelled_disk.proofs.WriteRunLemmas.{appended_none}
 use Rattle.frame_pool.specs.Frames.{Slots}
 use Rattle.flat_machine.specs.Machine.{Machine}
 use Rattle.flat_machine.specs.Space.{root}
@@ -23,7 +22,7 @@ use Rattle.labelled_disk.specs.Label.{root_label}
 use Rattle.volume_root.specs.Sound.{Sound}
 use Rattle.volume_root.proofs.NewVolume.{new_is_empty}
 use Rattle.volume_root.proofs.WrittenLemmas.{root_read}
-use Rattle.pilot_engine.specs.Fresh.{BeganVolume, MadeVolume, WroteOnNew}
+use Rattle.pilot_engine.specs.Fresh.{MadeVolume, WroteOnNew}
 use Rattle.pilot_engine.specs.Opening.{IsBare, StartsSome}
 use Rattle.pilot_engine.proofs.StartWrites.{start_wrote}
 
@@ -66,10 +65,6 @@ failed_alone n count (fault.BadCount k) is bad = absurd ((bad k refl).0 count)
 failed_alone n count (fault.NotVolume x) is bad = absurd is
 failed_alone n count fault.Unclean is bad = absurd is
 failed_alone n count (fault.Version x) is bad = absurd is
-
--- where nothing was written, none of the writes of a volume was made
-pub none_made : {old new : DiskState} → OnlyReads old new → BeganVolume old new
-none_made reads = (0, omega arith, appended_none (record { contents = reads.contents; writes = reads.writes }))
 
 -- what a start wrote on the volume that was made
 pub wrote_on_new : {old made new : DiskState} {s t : Slots} → MadeVolume old made → (root : Root) → root ≡ new_root old.sectors 1 1 → IsBare s → StartsSome root made s new t → WroteOnNew old new
