@@ -1,5 +1,5 @@
 -- What holds of the state behind a reference holds of the state.
-use Rattle.std.proofs.Common.{◌≡◌, ℕ, ◌≤◌, List, ◌∷◌, Option, sym, ap, subst, drop}
+use Rattle.std.proofs.Common.{◌≡◌, inl, inr, ℕ, ◌≤◌, List, ◌∷◌, Option, sym, ap, subst, drop}
 use Rattle.labelled_disk.specs.declared.evidence.Evidence.{Evidence}
 use Rattle.labelled_disk.specs.declared.evidence.Evidence.TheVariants.{Mismatch, Malformed, Missing}
 use Rattle.labelled_disk.specs.Calls.{OnlyReads, Rose}
@@ -11,7 +11,7 @@ use Rattle.pilot_engine.specs.Closing.{HasShut}
 use Rattle.filer_kernel.specs.Evidence.{IsSo}
 use Rattle.pilot_top.specs.Headline.{AreToFirst, IsLeftOpen, Run, TellsDamage}
 use Rattle.pilot_top.specs.Moments.{Lawfully, Moments}
-use Rattle.pilot_top.specs.Trial.{HasNoFile}
+use Rattle.pilot_top.specs.Trial.{HasNoFile, TriesLawfully}
 use Rattle.pilot_top.specs.declared.status.Status.{Status}
 use Rattle.pilot_top.specs.declared.status.Status.TheVariants as status
 
@@ -43,6 +43,10 @@ module _ {D : Type 0} (state : D → DiskState) (x y : D) (same : x ≡ y) where
   so_behind n (Mismatch sector wanted found) is = is
   so_behind n (Malformed window page) is = is
   so_behind n (Missing id page) is = is
+
+  -- so it is where it is told in a line
+  pub line_behind : (n : ℕ) {P : Evidence → Type 0} → ((e : Evidence) × IsSo (lent_state n (state y)) e × P e) → (e : Evidence) × IsSo (state x) e × P e
+  line_behind n (e, so, line) = (e, rw same (so_behind n e so), line)
 
   -- what is told of damage
   module _ {t : List ℕ} {took : Option (List ℕ)} {failed : Type 0} (n : ℕ) (told : TellsDamage t took failed (lent_state n (state y))) where
@@ -104,3 +108,14 @@ module _ {D : Type 0} (state : D → DiskState) (x y : D) (same : x ≡ y) where
       lawful = on.lawful;
       open_flag = on.open_flag;
     })
+
+    -- what a trial wrote
+    pub tries_behind : TriesLawfully (lent_state m first) (lent_state n (state y)) → TriesLawfully first (state x)
+    tries_behind (inl (k, few, part)) = inl (k, few, rw same (record { contents = part.contents; told = part.told }))
+    tries_behind (inr (made, wrote, synced, on)) =
+        inr (
+          made,
+          record { contents = wrote.contents; told = wrote.told },
+          synced,
+          rw same (record { writes = on.writes; appended = record { contents = on.appended.contents; told = on.appended.told }; lawful = on.lawful; open_flag = on.open_flag }),
+        )

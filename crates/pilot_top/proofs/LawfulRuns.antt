@@ -56,6 +56,9 @@ lawful_then first next appended early late d i w told at = elim (get_append firs
 pub openly_none : {a b : DiskState} → TellsSame a b → Openly a b
 openly_none same = record { writes = []; appended = appended_none same; lawful = λ d k w told at. absurd (none-some w at); opens = tt }
 
+pub openly_itself : (a : DiskState) → Openly a a
+openly_itself a = openly_none (record { contents = refl; writes = refl })
+
 -- nothing was written
 pub lawfully_none : {a b : DiskState} → TellsSame a b → Lawfully a b
 lawfully_none same = record { writes = []; appended = appended_none same; lawful = λ d k w told at. absurd (none-some w at); open_flag = λ d k told some below. absurd (omega (arith, some, below)) }

@@ -1,6 +1,7 @@
 -- A command for whose words there was no memory did what its record says.
 use Rattle.std.proofs.Common.{◌≡◌, ◌⊎◌, inl, inr, ℕ, List, [], ◌++◌, Some, refl, arith}
 use Rattle.labelled_disk.proofs.CallLemmas.{only_reads_itself}
+use Rattle.labelled_disk.proofs.WriteRunLemmas.{appended_none}
 use Rattle.flat_machine.specs.Start.{start}
 use Rattle.trace_io.specs.Reading.{reading}
 use Rattle.pilot_top.specs.Making.{Formatted}
@@ -70,6 +71,7 @@ module _ (w : World) where
     emptied = λ d told ends. absurd (elim ends [ inl done ↦ cc done | inr failed ↦ cc failed ]);
     complete = λ d told count disk_held sink_held. inr refl;
     only_count = λ is. absurd (cc is);
+    lawful = inl (0, omega arith, appended_none (record { contents = refl; writes = refl }));
     disk_line = λ failed. absurd (cc failed);
     damage_line = λ is. absurd (cc is);
   }

@@ -10,7 +10,9 @@ use Rattle.flat_machine.specs.File.{File}
 use Rattle.flat_machine.specs.Machine.{Machine}
 use Rattle.flat_machine.specs.Settled.{Agrees, settled_file}
 use Rattle.trace_io.specs.Stream.{AppendsFront, IsFrontOf}
+use Rattle.filer_kernel.specs.Evidence.{IsSo}
 use Rattle.pilot_engine.specs.Closing.{HasShut}
+use Rattle.pilot_engine.specs.Opening.{IsSoAtStart}
 use Rattle.pilot_engine.specs.declared.fault.StartFault.{StartFault}
 use Rattle.pilot_engine.specs.declared.fault.StartFault.TheVariants as start_fault
 use Rattle.pilot_top.specs.Last.{last_line, Puts}
@@ -29,17 +31,17 @@ pub front_told : {K : Type 0} (took : K → Option (List ℕ)) (k l : K) (w : Op
     → (front : List ℕ) × IsFrontOf front line × Appends (took k) w front
 front_told took k l w text line same is put = (put.0, subst (λ (t : List ℕ). IsFrontOf put.0 t) is put.1, subst (λ x. Appends (took x) w put.0) same put.2)
 
--- what is told of damage where no session started
-pub refused_damage : {K : Type 0} (f : StartFault) (s : Status) (old new : K) (took : K → Option (List ℕ)) (failed : Type 0) → StopsAs f s old new (Puts failed (took old) (took new)) → s ≡ status.Damaged
-    → (e : Evidence) × Puts failed (took old) (took new) (last_line (cause.Damaged e))
-refused_damage (start_fault.Root fault.Disk) s old new took failed stops is = absurd (cc (stops.0, is))
-refused_damage (start_fault.Root (fault.NotVolume what)) s old new took failed stops is = absurd (cc (stops.0, is))
-refused_damage (start_fault.Root fault.Unclean) s old new took failed stops is = absurd (cc (stops.0, is))
-refused_damage (start_fault.Root (fault.Version v)) s old new took failed stops is = absurd (cc (stops.0, is))
-refused_damage (start_fault.Root (fault.BadCount n)) s old new took failed stops is = absurd (cc (stops.0, is))
-refused_damage start_fault.NoMemory s old new took failed stops is = absurd (cc (stops.0, is))
-refused_damage (start_fault.Halt halt.Disk) s old new took failed stops is = absurd (cc (stops.0, is))
-refused_damage (start_fault.Halt (halt.Damaged e)) s old new took failed stops is = (e, stops.1)
+-- what is told of damage where no session started is so
+pub refused_damage : {K : Type 0} (f : StartFault) (s : Status) (old new : K) (took : K → Option (List ℕ)) (failed : Type 0) (disk : DiskState) → IsSoAtStart disk f → StopsAs f s old new (Puts failed (took old) (took new)) → s ≡ status.Damaged
+    → (e : Evidence) × IsSo disk e × Puts failed (took old) (took new) (last_line (cause.Damaged e))
+refused_damage (start_fault.Root fault.Disk) s old new took failed disk so stops is = absurd (cc (stops.0, is))
+refused_damage (start_fault.Root (fault.NotVolume what)) s old new took failed disk so stops is = absurd (cc (stops.0, is))
+refused_damage (start_fault.Root fault.Unclean) s old new took failed disk so stops is = absurd (cc (stops.0, is))
+refused_damage (start_fault.Root (fault.Version v)) s old new took failed disk so stops is = absurd (cc (stops.0, is))
+refused_damage (start_fault.Root (fault.BadCount n)) s old new took failed disk so stops is = absurd (cc (stops.0, is))
+refused_damage start_fault.NoMemory s old new took failed disk so stops is = absurd (cc (stops.0, is))
+refused_damage (start_fault.Halt halt.Disk) s old new took failed disk so stops is = absurd (cc (stops.0, is))
+refused_damage (start_fault.Halt (halt.Damaged e)) s old new took failed disk so stops is = (e, so, stops.1)
 
 -- files that agree with none are none
 none_agree : (fs : List File) → Agrees fs [] → fs ≡ []

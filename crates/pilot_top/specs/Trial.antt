@@ -1,11 +1,12 @@
 -- A trial: drawn calls on a new volume, and what is told of their replies.
-use Rattle.std.specs.Prelude.{◌≡◌, ℕ, Bool, true, false, ◌%◌, ◌^◌, List, [], ◌∷◌, ◌++◌, codes, filter, flat_map, fold, length, map, sum_by, Some, None}
+use Rattle.std.specs.Prelude.{◌≡◌, ◌⊎◌, ℕ, Bool, true, false, ◌%◌, ◌^◌, List, [], ◌∷◌, ◌++◌, codes, filter, flat_map, fold, length, map, sum_by, Some, None}
 use Rattle.std.specs.Fmt.{decimal}
 use Rattle.std.specs.List.{range_with_len}
 use Rattle.labelled_disk.specs.FilesOn.{files_on}
 use Rattle.labelled_disk.specs.Layout.{capacity}
 use Rattle.labelled_disk.specs.Sectors.{Sector}
 use Rattle.labelled_disk.specs.State.{DiskState}
+use Rattle.labelled_disk.specs.WriteRuns.{Appended}
 use Rattle.flat_machine.specs.declared.call.Call.{Call}
 use Rattle.flat_machine.specs.declared.call.Call.TheVariants.{Create, MakeSpace, Map}
 use Rattle.flat_machine.specs.declared.call.Reply.{Reply}
@@ -15,7 +16,9 @@ use Rattle.flat_machine.specs.Machine.{Machine}
 use Rattle.flat_machine.specs.Next.{next}
 use Rattle.flat_machine.specs.Start.{opened}
 use Rattle.trace_maker.specs.Calls.{call_of}
+use Rattle.volume_root.specs.Format.{PartMade, format_writes}
 use Rattle.volume_root.specs.Sound.{Sound}
+use Rattle.pilot_top.specs.Moments.{Lawfully}
 
 -- The calls.
 
@@ -89,3 +92,9 @@ pub record HasNoFile (disk : DiskState) : Type 0 where
   pub sound : Sound sectors
   pub no_files : files_on sectors ≡ []
   pub synced : disk.synced ≡ true
+
+-- Over any contents: of the writes that make the volume some first ones were made, and no others; or all of them, on the
+-- medium, and behind them lawful ones.
+abbrev pub TriesLawfully : DiskState → DiskState → Type 0
+TriesLawfully old new =
+    PartMade (format_writes old.sectors 1 1) old new ⊎ ((made : DiskState) × Appended (format_writes old.sectors 1 1) old made × (made.synced ≡ true) × Lawfully made new)

@@ -4,7 +4,8 @@ use Rattle.labelled_disk.specs.declared.evidence.Evidence.{Evidence}
 use Rattle.labelled_disk.specs.Layout.{IsCount}
 use Rattle.labelled_disk.specs.Sectors.{Sector}
 use Rattle.flat_machine.specs.declared.call.Reply.{Reply}
-use Rattle.pilot_top.specs.Trial.{HasNoFile, IsTrial, trial_line}
+use Rattle.filer_kernel.specs.Evidence.{IsSo}
+use Rattle.pilot_top.specs.Trial.{HasNoFile, IsTrial, TriesLawfully, trial_line}
 use Rattle.pilot_top.specs.World.{World, Holds, DiskFailed, SinkFailed, Writes, WritesFront, WritesLast}
 use Rattle.pilot_top.specs.declared.last.Cause.TheVariants as cause
 use Rattle.pilot_top.specs.declared.status.Status.{Status}
@@ -21,6 +22,9 @@ pub record Tried (seed calls : ℕ) (s : Status) (before after : World) : Type 0
   pub complete : (d : List Sector) → Holds before d → IsCount before.disk.sectors → ¬ DiskFailed before after → ¬ SinkFailed before after
       → (s ≡ status.Done) ⊎ (s ≡ status.NoMemory)
   pub only_count : s ≡ status.NotOpened → ¬ IsCount before.disk.sectors
-  -- The line of a disk that failed, and of one that tells nothing and was found damaged.
+  -- Over any contents each write behind those of the new volume is lawful at its moment.
+  pub lawful : TriesLawfully before.disk after.disk
+
+  -- The line of a disk that failed, and of one that tells nothing and was found damaged: what is told of it is so.
   pub disk_line : s ≡ status.DiskFault → WritesLast before after cause.DiskFault
-  pub damage_line : s ≡ status.Damaged → (evidence : Evidence) × WritesLast before after (cause.Damaged evidence)
+  pub damage_line : s ≡ status.Damaged → (evidence : Evidence) × IsSo after.disk evidence × WritesLast before after (cause.Damaged evidence)

@@ -11,6 +11,7 @@ ghost use Rattle.flat_machine.specs.After.{ends_trace};
 ghost use Rattle.flat_machine.specs.Form.{IsInForm};
 ghost use Rattle.flat_machine.specs.Machine.{Machine};
 ghost use Rattle.swapper_kernel.specs.Goes.{Went};
+ghost use Rattle.filer_kernel.specs.Evidence.{IsSo, ShowsSo};
 ghost use Rattle.volume_root.specs.Later.{IsLater};
 ghost use Rattle.trace_io.specs.Stream.{IsFrontOf};
 ghost use Rattle.pilot_engine.specs.Closing.{HasShut};
@@ -18,7 +19,8 @@ ghost use Rattle.running_words.specs.Session.{IsOpen};
 ghost use Rattle.running_words.specs.Running.{Runs};
 ghost use Rattle.pilot_top.specs.Counting.{AreOf};
 ghost use Rattle.pilot_top.specs.Last.{last_line, Puts};
-ghost use Rattle.pilot_top.specs.Trial.{HasAnswered, HasNoFile, IsTrial, IsTrialOf, after_calls, drawn_calls, first_calls, trial_line};
+ghost use Rattle.pilot_top.specs.Moments.{Openly, ShutsLast};
+ghost use Rattle.pilot_top.specs.Trial.{HasAnswered, HasNoFile, IsTrial, IsTrialOf, TriesLawfully, after_calls, drawn_calls, first_calls, trial_line};
 
 use crate::Status;
 use crate::closing::close;
@@ -59,6 +61,7 @@ fn first_call(index: u32) -> Call
 }
 
 // Makes the files, the spaces and the windows.
+#[tactic(auto, using(crate::proofs::LawfulRuns::openly_itself))]
 fn prepare<D: Disk, A: Allocator>(session: &mut SessionOver<D, A>) -> Result<(), Halt>
     requires size { (D.state session.old.core.filer.swapper.under).sectors ≡ session.old.core.filer.swapper.layout.sectors }
     requires opened { IsOpen session.old.core.filer.swapper.layout session.old.volume }
@@ -67,6 +70,8 @@ fn prepare<D: Disk, A: Allocator>(session: &mut SessionOver<D, A>) -> Result<(),
         → OnOk result ((replies : List Reply) × HasAnswered m first_calls replies (Runs session.new.core session.new.volume)) }
     ensures sound { (m : Machine) → Runs session.old.core session.old.volume m → IfErr result (λ e. e ≡ halt.Disk) }
     ensures counted { result ≡ Err halt.Disk → Rose (D.state session.old.core.filer.swapper.under).faults (D.state session.new.core.filer.swapper.under).faults }
+    ensures so { IfErr result (ShowsSo (D.state session.new.core.filer.swapper.under)) }
+    ensures lawful { Openly (D.state session.old.core.filer.swapper.under) (D.state session.new.core.filer.swapper.under) }
     ensures went { Went (D.state session.old.core.filer.swapper.under) (D.state session.new.core.filer.swapper.under) }
     ensures layout { session.new.core.filer.swapper.layout ≡ session.old.core.filer.swapper.layout }
     ensures open_still { IsOpen session.new.core.filer.swapper.layout session.new.volume }
@@ -82,6 +87,7 @@ fn prepare<D: Disk, A: Allocator>(session: &mut SessionOver<D, A>) -> Result<(),
 }
 
 // Carries the drawn calls out, so many, and counts what came of them.
+#[tactic(auto, using(crate::proofs::LawfulRuns::openly_itself))]
 fn count_calls<D: Disk, A: Allocator>(
     session: &mut SessionOver<D, A>,
     seed: u32,
@@ -95,6 +101,8 @@ fn count_calls<D: Disk, A: Allocator>(
         × HasAnswered m (drawn_calls seed calls) replies (Runs session.new.core session.new.volume)) }
     ensures sound { (m : Machine) → Runs session.old.core session.old.volume m → IfErr result (λ e. e ≡ halt.Disk) }
     ensures counted { result ≡ Err halt.Disk → Rose (D.state session.old.core.filer.swapper.under).faults (D.state session.new.core.filer.swapper.under).faults }
+    ensures so { IfErr result (ShowsSo (D.state session.new.core.filer.swapper.under)) }
+    ensures lawful { Openly (D.state session.old.core.filer.swapper.under) (D.state session.new.core.filer.swapper.under) }
     ensures went { Went (D.state session.old.core.filer.swapper.under) (D.state session.new.core.filer.swapper.under) }
     ensures layout { session.new.core.filer.swapper.layout ≡ session.old.core.filer.swapper.layout }
     ensures open_still { IsOpen session.new.core.filer.swapper.layout session.new.volume }
@@ -125,6 +133,8 @@ fn try_calls<D: Disk, A: Allocator>(
         × Runs session.new.core session.new.volume (after_calls m (first_calls ++ drawn_calls seed calls))) }
     ensures sound { (m : Machine) → Runs session.old.core session.old.volume m → IfErr result (λ e. e ≡ halt.Disk) }
     ensures counted { result ≡ Err halt.Disk → Rose (D.state session.old.core.filer.swapper.under).faults (D.state session.new.core.filer.swapper.under).faults }
+    ensures so { IfErr result (ShowsSo (D.state session.new.core.filer.swapper.under)) }
+    ensures lawful { Openly (D.state session.old.core.filer.swapper.under) (D.state session.new.core.filer.swapper.under) }
     ensures went { Went (D.state session.old.core.filer.swapper.under) (D.state session.new.core.filer.swapper.under) }
     ensures layout { session.new.core.filer.swapper.layout ≡ session.old.core.filer.swapper.layout }
     ensures open_still { IsOpen session.new.core.filer.swapper.layout session.new.volume }
@@ -170,9 +180,10 @@ fn try_session<D: Disk, A: Allocator, K: Sink>(
         (last_line Cause.DiskFault) }
     ensures stream_cause { result.0 ≡ Status.StreamFault
         → Rose (K.faults sink.old) (K.faults sink.new) }
-    ensures damage_line { result.0 ≡ Status.Damaged → (e : Evidence)
+    ensures damage_line { result.0 ≡ Status.Damaged → (e : Evidence) × IsSo (D.state result.1) e
         × Puts (Rose (K.faults sink.old) (K.faults sink.new)) (K.took sink.old) (K.took sink.new)
         (last_line (Cause.Damaged e)) }
+    ensures lawful { ShutsLast (D.state session.core.filer.swapper.under) (D.state result.1) }
     ensures went { Went (D.state session.core.filer.swapper.under) (D.state result.1) }
 {
     let mut session = session;
@@ -238,9 +249,10 @@ pub(crate) fn run_trial<A: Allocator, D: Disk, K: Sink>(
     ensures stream_cause { result.0 ≡ Status.StreamFault
         → Rose (K.faults sink.old) (K.faults sink.new) }
     ensures sound { (d : List Sector) → (D.state disk).contents ≡ Some d → result.0 ≢ Status.Damaged }
-    ensures damage_line { result.0 ≡ Status.Damaged → (e : Evidence)
+    ensures damage_line { result.0 ≡ Status.Damaged → (e : Evidence) × IsSo (D.state result.1) e
         × Puts (Rose (K.faults sink.old) (K.faults sink.new)) (K.took sink.old) (K.took sink.new)
         (last_line (Cause.Damaged e)) }
+    ensures lawful { TriesLawfully (D.state disk) (D.state result.1) }
     ensures later { IsLater (D.state disk) (D.state result.1) }
 {
     match SessionOver::fresh(alloc, disk, frames) {

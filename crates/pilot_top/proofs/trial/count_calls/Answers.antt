@@ -3,11 +3,15 @@ use Rattle.swapper_kernel.specs.GoesLaws.{went_then}
 use Rattle.trace_maker.specs.Maker.{IsAt}
 use Rattle.running_words.specs.Running.{Runs}
 use Rattle.pilot_top.specs.Trial.{HasAnswered, after_calls, drawn_calls}
+use Rattle.pilot_top.proofs.LawfulRuns.{called_openly, openly_then}
 use Rattle.pilot_top.proofs.TrialLemmas.{drawn_more, one_answered}
 use Rattle.pilot_top.proofs.trial.count_calls.Goals as goal
 
 pub returns-in-Err-clause-sound : goal.returns-in-Err-clause-sound
 returns-in-Err-clause-sound g c = λ m stands. c.in-Err.ensures.sound (after_calls m (drawn_calls c.args.seed c.loop.counter)) (c.loop.invariant.answered m stands).2.stands
+
+pub returns-in-Err-clause-lawful : goal.returns-in-Err-clause-lawful
+returns-in-Err-clause-lawful g c = openly_then c.loop.invariant.lawful (called_openly c.step.ensures.wrote)
 
 pub loop-preserved : goal.loop-preserved
 loop-preserved g c =
@@ -26,6 +30,7 @@ loop-preserved g c =
       drawn = subst (λ (n : ℕ). IsAt c.next_call.new.self seed n) (let on : suc k ≡ k + 1 = omega arith in on) (c.next_call.ensures.next seed k i.drawn);
       errors = omega (arith, c.add.ensures.one, i.errors);
       loaded = omega (arith, c.add.ensures.few, i.loaded);
+      lawful = openly_then i.lawful (called_openly c.step.ensures.wrote);
       went = went_then i.went went;
       layout = c.step.ensures.layout ∙ i.layout;
       size = went.sectors ∙ i.size ∙ ap (λ l. l.sectors) (sym c.step.ensures.layout);

@@ -1,5 +1,6 @@
 use Rattle.std.proofs.Common.{inl, inr, ◌++◌}
 use Rattle.pilot_top.specs.Trial.{after_calls, drawn_calls, empty_volume, first_calls}
+use Rattle.pilot_top.proofs.LawfulRuns.{ran_lawfully, started_lawfully}
 use Rattle.pilot_top.proofs.TopLemmas.{rose_later}
 use Rattle.pilot_top.proofs.TrialEnds.{left_empty, refused_damage}
 use Rattle.pilot_top.proofs.TrialFiles.{none_left}
@@ -28,5 +29,14 @@ returns-in-Ok-clause-complete g c = λ d told count disk sink. elim c.try_sessio
 pub returns-in-Ok-clause-sound : goal.returns-in-Ok-clause-sound
 returns-in-Ok-clause-sound g c = λ d told damaged. c.try_session.ensures.sound (empty_volume (g.D.Disk.state c.args.disk).sectors) (c.in-Ok.ensures.stands d told) damaged
 
+pub returns-in-Ok-clause-lawful : goal.returns-in-Ok-clause-lawful
+returns-in-Ok-clause-lawful g c = let w = c.in-Ok.ensures.wrote in inr (w.made, w.volume.wrote, w.volume.synced, ran_lawfully w.wrote c.in-Ok.ensures.left_open c.try_session.ensures.lawful)
+
+pub returns-in-Err-clause-lawful : goal.returns-in-Err-clause-lawful
+returns-in-Err-clause-lawful g c = elim c.in-Err.ensures.wrote [
+  | inl began ↦ inl began
+  | inr w ↦ inr (w.made, w.volume.wrote, w.volume.synced, started_lawfully w.wrote)
+]
+
 pub returns-in-Err-clause-damage_line : goal.returns-in-Err-clause-damage_line
-returns-in-Err-clause-damage_line g c = λ damaged. refused_damage c.in-Err.fault c.refuse.result _ _ g.K.Sink.took _ c.refuse.ensures.stops damaged
+returns-in-Err-clause-damage_line g c = λ damaged. refused_damage c.in-Err.fault c.refuse.result _ _ g.K.Sink.took _ (g.D.Disk.state c.in-Err.disk) c.in-Err.ensures.so c.refuse.ensures.stops damaged

@@ -1,8 +1,9 @@
 use Rattle.std.proofs.Common.{rules, ◌≡◌, inl, inr, ◌++◌, Option, Some, None, ◌∙◌, ap}
 use Rattle.pilot_top.specs.Trial.{after_calls, drawn_calls, first_calls, trial_line}
 use Rattle.pilot_top.specs.declared.status.Status.{Status}
-use Rattle.pilot_top.proofs.CloseLemmas.{damage_line_told, not_closed}
+use Rattle.pilot_top.proofs.CloseLemmas.{damage_line_so, not_closed}
 use Rattle.pilot_top.proofs.ExitLemmas.{halt_not_damaged, halt_not_done, halt_not_stream}
+use Rattle.pilot_top.proofs.LawfulRuns.{ended_last, openly_last}
 use Rattle.pilot_top.proofs.TrialEnds.{line_told, front_told}
 use Rattle.pilot_top.proofs.trial.try_session.Goals as goal
 
@@ -23,7 +24,11 @@ pub returns-in-Err-clause-sound : goal.returns-in-Err-clause-sound
 returns-in-Err-clause-sound g c = λ m stands damaged. absurd (halt_not_damaged c.in-Err.halt c.stop.result c.stop.ensures.status (c.in-Err.ensures.sound m stands) damaged)
 
 pub returns-in-Err-clause-damage_line : goal.returns-in-Err-clause-damage_line
-returns-in-Err-clause-damage_line g c = λ damaged. damage_line_told c.in-Err.halt c.stop.result _ _ _ c.stop.ensures.status (ap (λ (s : Status). Some s) damaged) c.stop.ensures.line
+returns-in-Err-clause-damage_line g c = λ damaged.
+    rw c.into_disk.ensures (damage_line_so c.in-Err.halt c.stop.result (g.D.Disk.state c.try_calls.new.session.core.filer.swapper.under) _ _ _ c.in-Err.ensures.so c.stop.ensures.status damaged c.stop.ensures.line)
+
+pub returns-in-Err-clause-lawful : goal.returns-in-Err-clause-lawful
+returns-in-Err-clause-lawful g c = rw c.into_disk.ensures (openly_last c.try_calls.ensures.lawful)
 
 -- the end of the session failed
 pub returns-in-Some-clause-line : goal.returns-in-Some-clause-line
@@ -39,6 +44,12 @@ pub returns-in-Some-clause-sound : goal.returns-in-Some-clause-sound
 returns-in-Some-clause-sound g c = λ m stands damaged.
     c.close-stopped.ensures.sound (after_calls m (first_calls ++ drawn_calls c.args.seed c.args.calls)) (c.in-Ok.ensures.answered m stands).3 (c.in-Some.is ∙ ap (λ (s : Status). Some s) damaged)
 
+pub returns-in-Some-clause-damage_line : goal.returns-in-Some-clause-damage_line
+returns-in-Some-clause-damage_line g c = λ damaged. c.close-stopped.ensures.so (c.in-Some.is ∙ ap (λ (s : Status). Some s) damaged)
+
+pub returns-in-Some-clause-lawful : goal.returns-in-Some-clause-lawful
+returns-in-Some-clause-lawful g c = ended_last c.try_calls.ensures.lawful c.close-stopped.ensures.wrote
+
 -- the line was put
 pub returns-in-Ok-put-clause-line : goal.returns-in-Ok-put-clause-line
 returns-in-Ok-put-clause-line g c =
@@ -53,7 +64,13 @@ returns-in-Ok-put-clause-left g c =
     let none : ◌≡◌ {A = Option Status} c.close-stopped.result.0 None = search rules in
     λ m stands ends. c.close-stopped.ensures.closed (after_calls m (first_calls ++ drawn_calls c.args.seed c.args.calls)) (c.in-Ok.ensures.answered m stands).3 none
 
+pub returns-in-Ok-put-clause-lawful : goal.returns-in-Ok-put-clause-lawful
+returns-in-Ok-put-clause-lawful g c = ended_last c.try_calls.ensures.lawful c.close-stopped.ensures.wrote
+
 -- the sink failed on it
+pub returns-in-Err-put-clause-lawful : goal.returns-in-Err-put-clause-lawful
+returns-in-Err-put-clause-lawful g c = ended_last c.try_calls.ensures.lawful c.close-stopped.ensures.wrote
+
 pub returns-in-Err-put-clause-part_of_line : goal.returns-in-Err-put-clause-part_of_line
 returns-in-Err-put-clause-part_of_line g c =
     let none : ◌≡◌ {A = Option Status} c.close-stopped.result.0 None = search rules in
