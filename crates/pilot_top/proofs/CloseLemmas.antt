@@ -47,12 +47,6 @@ pub damage_told : (h : Halt) (s : Status) (failed : Type 0) (u v : Option (List 
 damage_told halt.Disk s failed u v disk so same damaged puts = absurd (cc (same, damaged))
 damage_told (halt.Damaged evidence) s failed u v disk so same damaged puts = (evidence, so, puts)
 
--- the last line of a session that a call stopped
-pub damage_line_so : (h : Halt) (s : Status) (disk : DiskState) (failed : Type 0) (u v : Option (List ℕ)) → ShowsSo disk h → s ≡ status_of h → s ≡ status.Damaged → Puts failed u v (last_line (cause_of h))
-    → (e : Evidence) × IsSo disk e × Puts failed u v (last_line (cause.Damaged e))
-damage_line_so halt.Disk s disk failed u v so same damaged puts = absurd (cc (same, damaged))
-damage_line_so (halt.Damaged evidence) s disk failed u v so same damaged puts = (evidence, so, puts)
-
 -- a damaged volume is left open
 pub left_damaged : (h : Halt) (s : Status) (disk : DiskState) → LeavesOpen disk h → s ≡ status_of h → ◌≡◌ {A = Option Status} (Some s) (Some status.Damaged) → IsUnset disk
 left_damaged halt.Disk s disk left same damaged = absurd (cc (same, damaged))

@@ -1,7 +1,7 @@
 use Rattle.std.proofs.Common.{rules, ◌≡◌, inl, inr, ◌++◌, Option, Some, None, ◌∙◌, ap}
 use Rattle.pilot_top.specs.Trial.{after_calls, drawn_calls, first_calls, trial_line}
 use Rattle.pilot_top.specs.declared.status.Status.{Status}
-use Rattle.pilot_top.proofs.CloseLemmas.{damage_line_so, not_closed}
+use Rattle.pilot_top.proofs.CloseLemmas.{damage_told, not_closed}
 use Rattle.pilot_top.proofs.ExitLemmas.{halt_not_damaged, halt_not_done, halt_not_stream}
 use Rattle.pilot_top.proofs.LawfulRuns.{ended_last, openly_last}
 use Rattle.pilot_top.proofs.TrialEnds.{line_told, front_told}
@@ -25,7 +25,7 @@ returns-in-Err-clause-sound g c = λ m stands damaged. absurd (halt_not_damaged 
 
 pub returns-in-Err-clause-damage_line : goal.returns-in-Err-clause-damage_line
 returns-in-Err-clause-damage_line g c = λ damaged.
-    rw c.into_disk.ensures (damage_line_so c.in-Err.halt c.stop.result (g.D.Disk.state c.try_calls.new.session.core.filer.swapper.under) _ _ _ c.in-Err.ensures.so c.stop.ensures.status damaged c.stop.ensures.line)
+    rw c.into_disk.ensures (damage_told c.in-Err.halt c.stop.result _ _ _ (g.D.Disk.state c.try_calls.new.session.core.filer.swapper.under) c.in-Err.ensures.so c.stop.ensures.status (ap (λ (s : Status). Some s) damaged) c.stop.ensures.line)
 
 pub returns-in-Err-clause-lawful : goal.returns-in-Err-clause-lawful
 returns-in-Err-clause-lawful g c = rw c.into_disk.ensures (openly_last c.try_calls.ensures.lawful)
