@@ -12,7 +12,6 @@ use Rattle.swapper_kernel.specs.Maps.{IsMapHome}
 use Rattle.swapper_kernel.specs.Homes.{IsLayout}
 use Rattle.swapper_kernel.specs.Stands.{Stands}
 use Rattle.swapper_kernel.specs.CourseLaws.{steps_none}
-use Rattle.swapper_kernel.specs.Differs.{Differs}
 use Rattle.swapper_kernel.specs.DiffersLaws.{differs_itself}
 use Rattle.swapper_kernel.specs.Goes.{Makes, Same, no_page}
 use Rattle.swapper_kernel.specs.GoesLaws.{goes_itself, makes_wider}
