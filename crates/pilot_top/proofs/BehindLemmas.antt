@@ -44,9 +44,9 @@ module _ {D : Type 0} (state : D → DiskState) (x y : D) (same : x ≡ y) where
   so_behind n (Malformed window page) is = is
   so_behind n (Missing id page) is = is
 
-  -- so it is where it is told in a line
-  pub line_behind : (n : ℕ) {P : Evidence → Type 0} → ((e : Evidence) × IsSo (lent_state n (state y)) e × P e) → (e : Evidence) × IsSo (state x) e × P e
-  line_behind n (e, so, line) = (e, rw same (so_behind n e so), line)
+  -- so it is there
+  pub so_there : (n : ℕ) (e : Evidence) → IsSo (lent_state n (state y)) e → IsSo (state x) e
+  so_there n e so = rw same (so_behind n e so)
 
   -- what is told of damage
   module _ {t : List ℕ} {took : Option (List ℕ)} {failed : Type 0} (n : ℕ) (told : TellsDamage t took failed (lent_state n (state y))) where

@@ -24,7 +24,6 @@ pub record Tried (seed calls : ℕ) (s : Status) (before after : World) : Type 0
   pub only_count : s ≡ status.NotOpened → ¬ IsCount before.disk.sectors
   -- Over any contents each write behind those of the new volume is lawful at its moment.
   pub lawful : TriesLawfully before.disk after.disk
-
   -- The line of a disk that failed, and of one that tells nothing and was found damaged: what is told of it is so.
   pub disk_line : s ≡ status.DiskFault → WritesLast before after cause.DiskFault
   pub damage_line : s ≡ status.Damaged → (evidence : Evidence) × IsSo after.disk evidence × WritesLast before after (cause.Damaged evidence)
