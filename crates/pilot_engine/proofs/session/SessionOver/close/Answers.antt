@@ -225,5 +225,5 @@ pub returns-in-Err-wait-clause-cause : goal.returns-in-Err-wait-clause-cause
 returns-in-Err-wait-clause-cause g c =
     let v = state c.args.self.now.core in
     let x = state c.write_clean.new.self.core in
-    let w = state c.wait.new.core in
+    let w = state c.settle.new.core in
     inl (fault_halt (BreaksWithin v c.args.self.now.core.intervals 0 root_pages) v x w c.in-Err-wait.halt (shut_then (wrote_then (wrote_then c.let_all_go.ensures.wrote c.empty.ensures.wrote) (wrote_swapping c.write_maps.ensures.swaps)) c.write_clean.ensures.wrote).makes.went.faults c.in-Err-wait.ensures.fault c.in-Err-wait.ensures.counted)
