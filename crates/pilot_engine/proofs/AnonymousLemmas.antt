@@ -18,7 +18,7 @@ use Rattle.flat_machine.specs.declared.space.Window.{Window}
 use Rattle.flat_machine.specs.Allows.{Allows, Answers}
 use Rattle.flat_machine.specs.IsMachine.{IsMachine}
 use Rattle.flat_machine.specs.Machine.{Machine, shares_anonymous}
-use Rattle.flat_machine.specs.Next.{next, change, is_same_page, set_window, unmapped, at_space, without_anonymous, without_file, without_window_of}
+use Rattle.flat_machine.specs.Next.{next, is_same_page, set_window, unmapped, without_anonymous, without_file, without_window_of}
 use Rattle.flat_machine.specs.Refusal.{first_of, refusal, file_mapped}
 use Rattle.projection_laws.specs.Tests.{window_row}
 use Rattle.table_calls.specs.Answers.{Tells}

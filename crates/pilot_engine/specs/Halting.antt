@@ -13,7 +13,8 @@ use Rattle.running_words.specs.Session.{WroteIn}
 use Rattle.fault_core.specs.Kill.{BreaksWithin}
 use Rattle.fault_core.specs.Reach.{Reaches, ReachHalts}
 use Rattle.fault_core.specs.View.{View, kept_by}
-use Rattle.space_calls.specs.Halts.{After, ChangeHalts, Looked, OnFileHalts, PathHalts, SightHalts, TakeHalts}
+use Rattle.space_calls.specs.Unmapping.{Reshapes}
+use Rattle.space_calls.specs.Halts.{After, ChangeHalts, OnFileHalts, PathHalts, SightHalts, TakeHalts}
 
 -- ---- What is done to a file.
 
@@ -37,11 +38,11 @@ MarkHalts id v w e = LeaderHalts v.layout (kept_by v) id v.disk v.slots w.disk e
 
 -- the file map is searched for the next one, and then the tables are asked whether it may be named
 abbrev pub TurnHalts : ℕ → View → View → Halt → Type 0
-TurnHalts count v w e = MapHalts v.layout v.disk v.slots w.disk e ⊎ After Looked (SightHalts count) v w e
+TurnHalts count v w e = MapHalts v.layout v.disk v.slots w.disk e ⊎ After Reaches (SightHalts count) v w e
 
 -- so it is with one of the next ones
 abbrev pub NextHalts : ℕ → View → View → Halt → Type 0
-NextHalts count v w e = After Looked (TurnHalts count) v w e
+NextHalts count v w e = After Reaches (TurnHalts count) v w e
 
 -- ---- A file that comes and goes with its window.
 
@@ -55,13 +56,13 @@ MapNewHalts id count v w e = PathHalts v w e ⊎ After Reaches (λ u x e. NewFil
 
 -- the window of a space is taken away, and then the file that it showed is removed, if it came with it
 abbrev pub UnmapHalts : ℕ → ℕ → View → View → Halt → Type 0
-UnmapHalts space count v w e = TakeHalts space count v w e ⊎ After Looked (λ u x e. (id : ℕ) × OnFileHalts id (RemoveHalts id) u x e) v w e
+UnmapHalts space count v w e = TakeHalts space count v w e ⊎ After Reshapes (λ u x e. (id : ℕ) × OnFileHalts id (RemoveHalts id) u x e) v w e
 
 -- ---- The session's end.
 
 -- the next temporary file is searched for, looked up, and removed
 abbrev pub ClearHalts : View → View → Halt → Type 0
-ClearHalts v w e = MapHalts v.layout v.disk v.slots w.disk e ⊎ After Looked (λ u x e. (id : ℕ) × OnFileHalts id (RemoveHalts id) u x e) v w e
+ClearHalts v w e = MapHalts v.layout v.disk v.slots w.disk e ⊎ After Reaches (λ u x e. (id : ℕ) × OnFileHalts id (RemoveHalts id) u x e) v w e
 
 -- the pages of the space tables are freed
 abbrev pub FreeTablesHalts : View → View → Halt → Type 0

@@ -13,6 +13,7 @@ ghost use Rattle.running_words.specs.Session.{IsOpen, Wrote};
 ghost use Rattle.running_words.specs.Stages.{Passes};
 ghost use Rattle.pilot_engine.specs.Order.{IsTurn, turn_cost};
 ghost use Rattle.fault_core.specs.Core.{state};
+ghost use Rattle.fault_core.specs.Reach.{Reaches};
 ghost use Rattle.pilot_engine.specs.Halting.{NextHalts, TurnHalts};
 
 use crate::SessionOver;
@@ -39,6 +40,7 @@ impl<D: Disk, A: Allocator> SessionOver<D, A> {
         ensures counted { result ≡ Err halt.Disk → Rose (D.state self.old.core.filer.swapper.under).faults (D.state self.new.core.filer.swapper.under).faults }
         ensures cause { IfErr result (TurnHalts self.old.core.intervals (state self.old.core) (state self.new.core)) }
         ensures so { IfErr result (ShowsSo (D.state self.new.core.filer.swapper.under)) }
+        ensures reaches { Reaches (state self.old.core) (state self.new.core) }
         ensures makes { Makes volume_page [] (D.state self.old.core.filer.swapper.under) self.old.core.filer.swapper.pool (D.state self.new.core.filer.swapper.under) self.new.core.filer.swapper.pool }
         ensures layout { self.new.core.filer.swapper.layout ≡ self.old.core.filer.swapper.layout }
         ensures volume { self.new.volume ≡ self.old.volume }

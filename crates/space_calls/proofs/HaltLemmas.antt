@@ -1,32 +1,43 @@
 -- Why a call stops the session that asks the tables and looks at a file, one after the other.
-use Rattle.std.proofs.Common.{◌≡◌, inl, inr, ℕ, Bool, true, false, refl, ◌∙◌, subst, arith}
+use Rattle.std.proofs.Common.{◌≡◌, inl, inr, ℕ, Bool, true, false, sym, subst, arith}
+use Rattle.labelled_disk.specs.declared.layout.Layout.{Layout}
 use Rattle.labelled_disk.specs.declared.evidence.Halt.{Halt}
 use Rattle.space_tables.specs.Form.{Breaks, BreaksHierarchy, BreaksLookUp, BreaksSlot}
 use Rattle.space_tables.specs.declared.shown.Shown.{Shown}
 use Rattle.space_tables.specs.Shows.{IsShownAt}
 use Rattle.session_words.specs.Volume.{volume_page}
-use Rattle.swapper_kernel.specs.GoesLaws.{makes_nothing, makes_then}
+use Rattle.swapper_kernel.specs.GoesLaws.{makes_nothing, makes_then, goes_wider}
+use Rattle.swapper_kernel.specs.Differs.{Differs}
+use Rattle.swapper_kernel.specs.DiffersLaws.{differs_itself}
+use Rattle.swapper_kernel.specs.Goes.{Same}
+use Rattle.swapper_kernel.specs.HaltLaws.{brings_wider}
 use Rattle.swapper_kernel.specs.Homes.{IsLayout}
-use Rattle.fault_core.specs.Reach.{Reaches, ReachHalts}
+use Rattle.swapper_kernel.specs.Stands.{Stands}
+use Rattle.filer_kernel.specs.Cached.{runs_of}
+use Rattle.filer_kernel.specs.Tables.{in_tables, table_pages}
+use Rattle.filer_kernel.specs.TableOnce.{tables_stay}
+use Rattle.filer_kernel.specs.Triples.{AreOf, IsOneOf}
+use Rattle.file_manager.specs.Looking.{Looks}
+use Rattle.fault_core.specs.Reach.{IsReached, Reaches, ReachHalts}
 use Rattle.fault_core.specs.Told.{BreaksTables}
-use Rattle.fault_core.specs.View.{View}
+use Rattle.fault_core.specs.View.{View, kept_by}
 use Rattle.fault_core.proofs.ReachLemmas.{halts_before, reaches_itself}
 use Rattle.table_calls.specs.Answers.{TablesBreak, TablesSay}
 use Rattle.space_calls.specs.Ranges.{BreaksWindow}
-use Rattle.space_calls.specs.Halts.{BreaksSight, ChangeHalts, Looked, MapFileHalts, NamedHalts, PathHalts, ProtectHalts, SightHalts, SlotHalts, WritableHalts}
-use Rattle.space_calls.proofs.RunLemmas.{reached_makes}
+use Rattle.space_calls.specs.Halts.{BreaksSight, ChangeHalts, MapFileHalts, NamedHalts, PathHalts, ProtectHalts, SightHalts, SlotHalts, WritableHalts}
 
 -- ---- What a look leaves.
 
-pub looked_itself : (v : View) → Looked v v
-looked_itself v = record { makes = makes_nothing volume_page v.disk v.slots; layout = refl }
-
-pub looked_then : {v w x : View} → Looked v w → Looked w x → Looked v x
-looked_then h k = record { makes = makes_then h.makes k.makes; layout = k.layout ∙ h.layout }
-
--- pages that are found and brought in
-pub looked_reached : {v w : View} → Reaches v w → Looked v w
-looked_reached reaches = record { makes = reached_makes reaches; layout = reaches.layout }
+pub look_reaches : (v w : View) → Looks v.layout v.disk v.slots (kept_by v) w.disk w.slots (runs_of v.layout.sectors w.runs) → w.layout ≡ v.layout → Reaches v w
+look_reaches v w looks layout = record {
+  goes = goes_wider Same (Differs (in_tables v.layout)) table_pages (λ m n same. subst (Differs (in_tables v.layout) m) (sym same) (differs_itself (in_tables v.layout) m)) (λ id page is. inr is) looks.goes;
+  brings = brings_wider (IsReached v) (λ home map. inl map) looks.brings;
+  layout = layout;
+  given = λ r one. looks.given r (subst (λ (l : Layout). IsOneOf r (runs_of l.sectors w.runs)) layout one);
+  runs_are = λ m named stands map are. subst (λ (l : Layout). AreOf named (runs_of l.sectors w.runs)) (sym layout) (looks.runs_are m named stands map are);
+  told = λ b tells.
+      tables_stay layout looks.goes.makes.went.sectors (λ m named stands map. let now = looks.goes.memory m stands in subst (Stands w.disk w.slots) now.2 now.1) (λ m named stands map are. looks.runs_are m named stands map are) b tells;
+}
 
 -- ---- The tables, asked after pages were brought in.
 
@@ -71,7 +82,7 @@ module _ (v u w : View) (space id count : ℕ) (reaches : Reaches v u) where
   ]
 
 -- the tables could not be changed after that
-pub given_map : (v x w : View) (space id count : ℕ) → Looked v x → (now : ℕ) → now ≡ count → (e : Halt) → ChangeHalts now x w e → MapFileHalts space id count v w e
+pub given_map : (v x w : View) (space id count : ℕ) → Reaches v x → (now : ℕ) → now ≡ count → (e : Halt) → ChangeHalts now x w e → MapFileHalts space id count v w e
 given_map v x w space id count looked now same e halts = inr (v, reaches_itself v, inr (v, reaches_itself v, inr (x, looked, counted_change x w count now same e halts)))
 
 -- ---- A window gets another mode.

@@ -17,6 +17,7 @@ mod MovedLemmas
 mod StoreLemmas
 pub mod RangeLemmas
 mod WindowHalts
+mod ReshapeLemmas
 pub mod HaltLemmas
 pub mod BareLemmas
 pub mod TakenMachine

@@ -1,9 +1,7 @@
 -- Why each call on spaces, and a look at a file, stops the session: the halt of a call from one state to another, with so many
 -- intervals at its start.
-use Rattle.std.specs.Prelude.{◌≡◌, ◌⊎◌, ℕ, Bool, true, false, [], Option}
+use Rattle.std.specs.Prelude.{◌⊎◌, ℕ, Bool, true, false, Option}
 use Rattle.labelled_disk.specs.declared.evidence.Halt.{Halt}
-use Rattle.swapper_kernel.specs.Goes.{Makes}
-use Rattle.session_words.specs.Volume.{volume_page}
 use Rattle.space_tables.specs.Form.{first_in_slot, Breaks, BreaksAt, BreaksFor, BreaksHierarchy, BreaksSlot, MakesTooMany}
 use Rattle.space_tables.specs.declared.shown.Shown.{Shown}
 use Rattle.space_tables.specs.Shows.{IsShownAt}
@@ -64,14 +62,9 @@ LookHalts id v w e = FileHalts v.layout (kept_by v) id v.disk v.slots w.disk e
 abbrev pub NamedHalts : ℕ → ℕ → View → View → Halt → Type 0
 NamedHalts id count v w e = SightHalts count v w e ⊎ After Reaches (LookHalts id) v w e
 
--- What a look at a file leaves: the labels are the same, and no page but those of the volume's own became dirty.
-pub record Looked (v w : View) : Type 0 where
-  pub makes : Makes volume_page [] v.disk v.slots w.disk w.slots
-  pub layout : w.layout ≡ v.layout
-
 -- a file is looked up, and then this is done
 abbrev pub OnFileHalts : ℕ → (View → View → Halt → Type 0) → View → View → Halt → Type 0
-OnFileHalts id P v w e = LookHalts id v w e ⊎ After Looked P v w e
+OnFileHalts id P v w e = LookHalts id v w e ⊎ After Reaches P v w e
 
 -- so it is with one that no anonymous window shows
 abbrev pub OnNamedHalts : ℕ → ℕ → (View → View → Halt → Type 0) → View → View → Halt → Type 0

@@ -1,5 +1,17 @@
 -- What the taking of a window leaves.
-use Rattle.std.specs.Prelude.{◌≡◌, ℕ, List, Some, None, Result, Ok, Err}
+use Rattle.std.specs.Prelude.{◌≡◌, ℕ, List, [], Some, None, Result, Ok, Err}
+use Rattle.labelled_disk.specs.Sectors.{Sector}
+use Rattle.file_map.specs.declared.run.Run.{Run}
+use Rattle.file_map.specs.FileMap.{Triples}
+use Rattle.swapper_kernel.specs.Homes.{Brings}
+use Rattle.swapper_kernel.specs.Stands.{Stands}
+use Rattle.swapper_kernel.specs.Differs.{Differs}
+use Rattle.swapper_kernel.specs.Goes.{Goes}
+use Rattle.filer_kernel.specs.Causes.{IsGiven}
+use Rattle.filer_kernel.specs.Tables.{in_tables, table_pages}
+use Rattle.filer_kernel.specs.Triples.{MapIs, AreOf, IsOneOf}
+use Rattle.fault_core.specs.Reach.{IsReached}
+use Rattle.fault_core.specs.View.{View, kept_by}
 use Rattle.flat_machine.specs.declared.call.Refusal.{Refusal}
 use Rattle.flat_machine.specs.declared.space.Space.{Space}
 use Rattle.flat_machine.specs.Machine.{Machine}
@@ -7,6 +19,16 @@ use Rattle.flat_machine.specs.Next.{set_window, without_window_of}
 use Rattle.flat_machine.specs.Space.{space_at}
 use Rattle.space_tables.specs.declared.shown.Shown.{Shown}
 use Rattle.space_tables.specs.Shows.{window_of}
+
+-- Pages of the space tables were found, brought in and changed: each frame's home was there before or was found so. Only
+-- pages of the space tables and of the file map may have become dirty, and the bytes of the space tables alone may differ.
+-- Runs that are kept were kept before or were read from the map, and are the map's afterwards where they were before.
+pub record Reshapes (v w : View) : Type 0 where
+  pub goes : Goes (Differs (in_tables v.layout)) table_pages [] v.disk v.slots w.disk w.slots
+  pub brings : Brings (IsReached v) v.slots w.slots
+  pub layout : w.layout ≡ v.layout
+  pub given : (r : Run) → IsOneOf r (kept_by w) → IsGiven v.layout v.disk v.slots (kept_by v) r
+  pub runs_are : (m : List Sector) (named : Triples) → Stands v.disk v.slots m → MapIs v.layout named m → AreOf named (kept_by v) → AreOf named (kept_by w)
 
 -- the machine without the window of that space, whose pages are no longer unforced; its file is still there
 abbrev pub without_window : ℕ → Space → Machine → Machine

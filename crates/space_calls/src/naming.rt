@@ -91,6 +91,7 @@ pub fn named_file<D: Disk, A: Allocator>(
     ensures counted { result ≡ Err halt.Disk → Rose (D.state core.old.filer.swapper.under).faults (D.state core.new.filer.swapper.under).faults }
     ensures cause { IfErr result (NamedHalts id core.old.intervals (state core.old) (state core.new)) }
     ensures so { IfErr result (ShowsSo (D.state core.new.filer.swapper.under)) }
+    ensures reaches { Reaches (state core.old) (state core.new) }
     ensures makes { Makes volume_page [] (D.state core.old.filer.swapper.under) core.old.filer.swapper.pool (D.state core.new.filer.swapper.under) core.new.filer.swapper.pool }
     ensures layout { core.new.filer.swapper.layout ≡ core.old.filer.swapper.layout }
     ensures intervals { core.new.intervals ≡ core.old.intervals }

@@ -21,7 +21,7 @@ ghost use Rattle.swapper_kernel.specs.Goes.{Makes};
 ghost use Rattle.table_calls.specs.Answers.{IfGiven, TablesSay, Tells};
 ghost use Rattle.flat_machine.specs.declared.call.Reply.TheVariants as reply;
 ghost use Rattle.space_calls.specs.Halts.{ProtectHalts, TakeHalts, WritableHalts};
-ghost use Rattle.space_calls.specs.Unmapping.{IsGivenUp, IsRefused, IsTaken};
+ghost use Rattle.space_calls.specs.Unmapping.{IsGivenUp, IsRefused, IsTaken, Reshapes};
 ghost use Rattle.filer_kernel.specs.Evidence.{ShowsSo};
 ghost use Rattle.fault_core.specs.Core.{state};
 ghost use Rattle.fault_core.specs.Reach.{ReachHalts};
@@ -48,6 +48,7 @@ pub fn take_window<D: Disk, A: Allocator>(
     ensures counted { result ≡ Err halt.Disk → Rose (D.state core.old.filer.swapper.under).faults (D.state core.new.filer.swapper.under).faults }
     ensures cause { IfErr result (TakeHalts space core.old.intervals (state core.old) (state core.new)) }
     ensures so { IfErr result (ShowsSo (D.state core.new.filer.swapper.under)) }
+    ensures reshapes { Reshapes (state core.old) (state core.new) }
     ensures makes { Makes volume_page [] (D.state core.old.filer.swapper.under) core.old.filer.swapper.pool (D.state core.new.filer.swapper.under) core.new.filer.swapper.pool }
     ensures synced { IfOk result (IsGivenUp ((D.state core.new.filer.swapper.under).synced ≡ true)) }
     ensures layout { core.new.filer.swapper.layout ≡ core.old.filer.swapper.layout }

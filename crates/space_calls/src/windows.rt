@@ -22,7 +22,7 @@ ghost use Rattle.session_words.specs.FrameLaws.{HasFrames};
 ghost use Rattle.session_words.specs.Parts.{DirtyAreLoose};
 ghost use Rattle.fault_core.specs.Range.{AreClean, AreGone};
 ghost use Rattle.table_calls.specs.Answers.{IfGiven, IsDone, TablesSay, Tells};
-ghost use Rattle.space_calls.specs.Unmapping.{IsWindowIn};
+ghost use Rattle.space_calls.specs.Unmapping.{IsWindowIn, Reshapes};
 ghost use Rattle.filer_kernel.specs.Evidence.{ShowsSo};
 ghost use Rattle.fault_core.specs.Core.{state};
 ghost use Rattle.fault_core.specs.Kill.{BreaksWithin};
@@ -130,6 +130,7 @@ pub(crate) fn change_window<D: Disk, A: Allocator>(
     ensures counted { result ≡ Err halt.Disk → Rose (D.state core.old.filer.swapper.under).faults (D.state core.new.filer.swapper.under).faults }
     ensures cause { IfErr result (ChangeHalts core.old.intervals (state core.old) (state core.new)) }
     ensures so { IfErr result (ShowsSo (D.state core.new.filer.swapper.under)) }
+    ensures reshapes { Reshapes (state core.old) (state core.new) }
     ensures makes { Makes volume_page [] (D.state core.old.filer.swapper.under) core.old.filer.swapper.pool (D.state core.new.filer.swapper.under) core.new.filer.swapper.pool }
     ensures layout { core.new.filer.swapper.layout ≡ core.old.filer.swapper.layout }
     ensures cost { (D.state core.new.filer.swapper.under).transfers ≤ (D.state core.old.filer.swapper.under).transfers + 57344 }
@@ -154,6 +155,7 @@ pub(crate) fn shows_immutable<D: Disk, A: Allocator>(
     ensures counted { result ≡ Err halt.Disk → Rose (D.state core.old.filer.swapper.under).faults (D.state core.new.filer.swapper.under).faults }
     ensures cause { IfErr result (LookHalts id (state core.old) (state core.new)) }
     ensures so { IfErr result (ShowsSo (D.state core.new.filer.swapper.under)) }
+    ensures reaches { Reaches (state core.old) (state core.new) }
     ensures makes { Makes volume_page [] (D.state core.old.filer.swapper.under) core.old.filer.swapper.pool (D.state core.new.filer.swapper.under) core.new.filer.swapper.pool }
     ensures layout { core.new.filer.swapper.layout ≡ core.old.filer.swapper.layout }
     ensures intervals { core.new.intervals ≡ core.old.intervals }

@@ -50,4 +50,4 @@ returns-clause-cause g c =
     let w = state c.give_window.new.core in
     let count = c.args.core.now.intervals in
     err_wider c.give_window.result (ChangeHalts x.intervals (state x) w) (MapFileHalts c.args.space c.args.id count v w)
-    (given_map v (state x) w c.args.space c.args.id count (record { makes = c.may_map.ensures.makes; layout = c.may_map.ensures.layout }) x.intervals c.may_map.ensures.intervals) c.give_window.ensures.cause
+    (given_map v (state x) w c.args.space c.args.id count c.may_map.ensures.reaches x.intervals c.may_map.ensures.intervals) c.give_window.ensures.cause

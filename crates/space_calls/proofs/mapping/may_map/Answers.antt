@@ -9,7 +9,8 @@ use Rattle.space_calls.proofs.RunLemmas.{asked_makes, asked_runs, knows, size_ke
 use Rattle.space_calls.proofs.TableAnswers.{bounds_refused, bounds_told, map_refused, map_told}
 use Rattle.fault_core.specs.Core.{state}
 use Rattle.fault_core.proofs.EvidenceLemmas.{shows_so}
-use Rattle.space_calls.proofs.HaltLemmas.{given_map, looked_reached, looked_then, named_map, path_change}
+use Rattle.fault_core.proofs.ReachLemmas.{reaches_then}
+use Rattle.space_calls.proofs.HaltLemmas.{given_map, named_map, path_change}
 use Rattle.space_calls.proofs.mapping.may_map.Goals as goal
 use Rattle.space_calls.proofs.mapping.may_map.Goals.{else-writable-via-then-writable+else-found, else-writable-via-else-writable}
 
@@ -266,5 +267,64 @@ returns-in-Err-can_map-clause-cause g c =
     let x = c.named_file.new.core in
     let w = state c.can_map.new.core in
     let count = c.args.core.now.intervals in
-    let looked = looked_then (looked_reached c.bounds.ensures.asked.reaches) (record { makes = c.named_file.ensures.makes; layout = c.named_file.ensures.layout }) in
-    given_map v (state x) w c.args.space c.args.id count looked count refl c.in-Err-can_map.halt (path_change (state x) x.filer.swapper.accepted count w c.in-Err-can_map.halt c.in-Err-can_map.ensures.cause)
+    let found = reaches_then v (state c.bounds.new.core) c.args.core.now.filer.swapper.accepted c.bounds.ensures.asked.reaches (state x) c.named_file.ensures.reaches in
+    given_map v (state x) w c.args.space c.args.id count found count refl c.in-Err-can_map.halt (path_change (state x) x.filer.swapper.accepted count w c.in-Err-can_map.halt c.in-Err-can_map.ensures.cause)
+
+-- ---- What the tests leave.
+
+pub returns-in-Err-clause-reaches : goal.returns-in-Err-clause-reaches
+returns-in-Err-clause-reaches g c = c.bounds.ensures.asked.reaches
+
+pub returns-in-Ok-Err-clause-reaches : goal.returns-in-Ok-Err-clause-reaches
+returns-in-Ok-Err-clause-reaches g c = c.bounds.ensures.asked.reaches
+
+pub returns-then-space-eq0-clause-reaches : goal.returns-then-space-eq0-clause-reaches
+returns-then-space-eq0-clause-reaches g c = c.bounds.ensures.asked.reaches
+
+pub returns-in-Ok-None-clause-reaches : goal.returns-in-Ok-None-clause-reaches
+returns-in-Ok-None-clause-reaches g c =
+    reaches_then (state c.args.core.now) (state c.bounds.new.core) c.args.core.now.filer.swapper.accepted c.bounds.ensures.asked.reaches (state c.named_file.new.core) c.named_file.ensures.reaches
+
+pub returns-in-Err-named_file-clause-reaches : goal.returns-in-Err-named_file-clause-reaches
+returns-in-Err-named_file-clause-reaches g c =
+    reaches_then (state c.args.core.now) (state c.bounds.new.core) c.args.core.now.filer.swapper.accepted c.bounds.ensures.asked.reaches (state c.named_file.new.core) c.named_file.ensures.reaches
+
+pub returns-in-Ok-Err-can_map-clause-reaches : goal.returns-in-Ok-Err-can_map-clause-reaches
+returns-in-Ok-Err-can_map-clause-reaches g c =
+    let v = state c.args.core.now in
+    let x = state c.named_file.new.core in
+    let is = c.args.core.now.filer.swapper.accepted in
+    let found = reaches_then v (state c.bounds.new.core) is c.bounds.ensures.asked.reaches x c.named_file.ensures.reaches in
+    reaches_then v x is found (state c.can_map.new.core) c.can_map.ensures.asked.reaches
+
+pub returns-in-Err-can_map-clause-reaches : goal.returns-in-Err-can_map-clause-reaches
+returns-in-Err-can_map-clause-reaches g c =
+    let v = state c.args.core.now in
+    let x = state c.named_file.new.core in
+    let is = c.args.core.now.filer.swapper.accepted in
+    let found = reaches_then v (state c.bounds.new.core) is c.bounds.ensures.asked.reaches x c.named_file.ensures.reaches in
+    reaches_then v x is found (state c.can_map.new.core) c.can_map.ensures.asked.reaches
+
+pub returns-then-from-clause-reaches : goal.returns-then-from-clause-reaches
+returns-then-from-clause-reaches g c =
+    let v = state c.args.core.now in
+    let x = state c.named_file.new.core in
+    let is = c.args.core.now.filer.swapper.accepted in
+    let found = reaches_then v (state c.bounds.new.core) is c.bounds.ensures.asked.reaches x c.named_file.ensures.reaches in
+    reaches_then v x is found (state c.can_map.new.core) c.can_map.ensures.asked.reaches
+
+pub returns-then-found-clause-reaches : goal.returns-then-found-clause-reaches
+returns-then-found-clause-reaches g c =
+    let v = state c.args.core.now in
+    let x = state c.named_file.new.core in
+    let is = c.args.core.now.filer.swapper.accepted in
+    let found = reaches_then v (state c.bounds.new.core) is c.bounds.ensures.asked.reaches x c.named_file.ensures.reaches in
+    reaches_then v x is found (state c.can_map.new.core) c.can_map.ensures.asked.reaches
+
+pub returns-clause-reaches : goal.returns-clause-reaches
+returns-clause-reaches g c =
+    let v = state c.args.core.now in
+    let x = state c.named_file.new.core in
+    let is = c.args.core.now.filer.swapper.accepted in
+    let found = reaches_then v (state c.bounds.new.core) is c.bounds.ensures.asked.reaches x c.named_file.ensures.reaches in
+    reaches_then v x is found (state c.can_map.new.core) c.can_map.ensures.asked.reaches

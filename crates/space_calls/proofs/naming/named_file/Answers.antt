@@ -6,6 +6,8 @@ use Rattle.space_calls.proofs.RunLemmas.{books_of, if_failed, if_told, looked_ru
 use Rattle.fault_core.specs.Core.{state}
 use Rattle.space_calls.specs.Halts.{LookHalts, NamedHalts}
 use Rattle.filer_kernel.proofs.Outcomes.{err_wider}
+use Rattle.fault_core.proofs.ReachLemmas.{reaches_then}
+use Rattle.space_calls.proofs.HaltLemmas.{look_reaches}
 use Rattle.space_calls.proofs.naming.named_file.Goals as goal
 
 pub returns-in-Ok-false-clause-answer : goal.returns-in-Ok-false-clause-answer
@@ -39,3 +41,10 @@ returns-clause-cause g c =
     let u = c.may_be_named.new.core in
     let w = state (record u { filer = c.attributes_of.new.filer }) in
     err_wider c.attributes_of.result (LookHalts c.args.id (state u) w) (NamedHalts c.args.id old.intervals (state old) w) (λ e halts. inr (state u, c.may_be_named.ensures.reaches, halts)) c.attributes_of.ensures.cause
+
+pub returns-clause-reaches : goal.returns-clause-reaches
+returns-clause-reaches g c =
+    let old = c.args.core.now in
+    let u = c.may_be_named.new.core in
+    let w = state (record u { filer = c.attributes_of.new.filer }) in
+    reaches_then (state old) (state u) old.filer.swapper.accepted c.may_be_named.ensures.reaches w (look_reaches (state u) w c.attributes_of.ensures.looks c.attributes_of.ensures.layout)

@@ -67,6 +67,6 @@ returns-in-Err-change_window-clause-cause g c =
     let x = c.shows_immutable.new.core in
     inr (
       state x,
-      record { makes = c.shows_immutable.ensures.makes; layout = c.shows_immutable.ensures.layout },
+      c.shows_immutable.ensures.reaches,
       counted_change (state x) (state c.change_window.new.core) c.args.core.now.intervals x.intervals c.shows_immutable.ensures.intervals c.in-Err-change_window.halt c.in-Err-change_window.ensures.cause,
     )

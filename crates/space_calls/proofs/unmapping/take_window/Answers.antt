@@ -15,6 +15,7 @@ use Rattle.table_calls.specs.Answers.{TablesSay}
 use Rattle.space_calls.specs.Ranges.{BreaksWindow}
 use Rattle.space_calls.proofs.RangeLemmas.{fault_halt, given_so}
 use Rattle.space_calls.proofs.WindowHalts.{slot_window, range_window, change_halt}
+use Rattle.space_calls.proofs.ReshapeLemmas.{reshapes_behind, reshapes_reached, reshapes_settled}
 use Rattle.space_calls.proofs.unmapping.take_window.Goals as goal
 
 pub returns-in-Ok-Err-clause-taken : goal.returns-in-Ok-Err-clause-taken
@@ -136,3 +137,51 @@ pub returns-in-Err-settle-clause-cause : goal.returns-in-Err-settle-clause-cause
 returns-in-Err-settle-clause-cause g c =
     fault_halt (BreaksWindow (state c.args.core.now) c.args.core.now.intervals c.args.space) (state c.args.core.now) (state c.change_window.new.core) (state c.settle.new.core) c.in-Err-settle.halt
     (makes_then (makes_then c.find_window.ensures.makes c.let_range_go.ensures.makes) c.change_window.ensures.makes).went.faults c.in-Err-settle.ensures.fault c.in-Err-settle.ensures.counted
+
+-- ---- What the change leaves.
+
+pub returns-in-Ok-Err-clause-reshapes : goal.returns-in-Ok-Err-clause-reshapes
+returns-in-Ok-Err-clause-reshapes g c = reshapes_reached c.find_window.ensures.reaches
+
+pub returns-in-Err-clause-reshapes : goal.returns-in-Err-clause-reshapes
+returns-in-Err-clause-reshapes g c = reshapes_reached c.find_window.ensures.reaches
+
+pub returns-in-Err-let_range_go-clause-reshapes : goal.returns-in-Err-let_range_go-clause-reshapes
+returns-in-Err-let_range_go-clause-reshapes g c =
+    reshapes_reached (reaches_then (state c.args.core.now) (state c.find_window.new.core) c.args.core.now.filer.swapper.accepted c.find_window.ensures.reaches (state c.let_range_go.new.core) c.let_range_go.ensures.reaches)
+
+pub returns-in-Ok-Err-change_window-clause-reshapes : goal.returns-in-Ok-Err-change_window-clause-reshapes
+returns-in-Ok-Err-change_window-clause-reshapes g c =
+    let v = state c.args.core.now in
+    let w = state c.let_range_go.new.core in
+    let is = c.args.core.now.filer.swapper.accepted in
+    let found = reaches_then v (state c.find_window.new.core) is c.find_window.ensures.reaches w c.let_range_go.ensures.reaches in
+    reshapes_behind v w (state c.change_window.new.core) is found c.change_window.ensures.reshapes
+
+pub returns-in-Err-change_window-clause-reshapes : goal.returns-in-Err-change_window-clause-reshapes
+returns-in-Err-change_window-clause-reshapes g c =
+    let v = state c.args.core.now in
+    let w = state c.let_range_go.new.core in
+    let is = c.args.core.now.filer.swapper.accepted in
+    let found = reaches_then v (state c.find_window.new.core) is c.find_window.ensures.reaches w c.let_range_go.ensures.reaches in
+    reshapes_behind v w (state c.change_window.new.core) is found c.change_window.ensures.reshapes
+
+pub returns-in-Ok-settle-clause-reshapes : goal.returns-in-Ok-settle-clause-reshapes
+returns-in-Ok-settle-clause-reshapes g c =
+    let v = state c.args.core.now in
+    let w = state c.let_range_go.new.core in
+    let x = state c.change_window.new.core in
+    let is = c.args.core.now.filer.swapper.accepted in
+    let settled = c.settle.ensures in
+    let found = reaches_then v (state c.find_window.new.core) is c.find_window.ensures.reaches w c.let_range_go.ensures.reaches in
+    reshapes_settled v x (state c.settle.new.core) (reshapes_behind v w x is found c.change_window.ensures.reshapes) settled.reaches settled.frames settled.layout settled.runs
+
+pub returns-in-Err-settle-clause-reshapes : goal.returns-in-Err-settle-clause-reshapes
+returns-in-Err-settle-clause-reshapes g c =
+    let v = state c.args.core.now in
+    let w = state c.let_range_go.new.core in
+    let x = state c.change_window.new.core in
+    let is = c.args.core.now.filer.swapper.accepted in
+    let settled = c.settle.ensures in
+    let found = reaches_then v (state c.find_window.new.core) is c.find_window.ensures.reaches w c.let_range_go.ensures.reaches in
+    reshapes_settled v x (state c.settle.new.core) (reshapes_behind v w x is found c.change_window.ensures.reshapes) settled.reaches settled.frames settled.layout settled.runs

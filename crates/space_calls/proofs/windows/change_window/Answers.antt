@@ -2,6 +2,7 @@ use Rattle.space_calls.proofs.RunLemmas.{knows}
 use Rattle.space_calls.proofs.WindowLemmas.{window_changed}
 use Rattle.fault_core.specs.Core.{state}
 use Rattle.fault_core.proofs.EvidenceLemmas.{shows_so}
+use Rattle.space_calls.proofs.ReshapeLemmas.{reshapes_tables}
 use Rattle.space_calls.proofs.windows.change_window.Goals as goal
 
 pub returns-in-Err-clause-sound : goal.returns-in-Err-clause-sound
@@ -18,3 +19,11 @@ returns-clause-done g c = λ volume m x unforced r may named fits is frames loos
 
 pub returns-in-Err-clause-so : goal.returns-in-Err-clause-so
 returns-in-Err-clause-so g c = shows_so _ (state c.args.core.now) (state c.set_window.new.core) c.set_window.ensures.retabled.beside.goes.makes c.in-Err.halt c.in-Err.ensures.cause
+
+-- ---- What the change leaves.
+
+pub returns-in-Err-clause-reshapes : goal.returns-in-Err-clause-reshapes
+returns-in-Err-clause-reshapes g c = reshapes_tables (state c.args.core.now) (state c.set_window.new.core) c.set_window.ensures.retabled.beside
+
+pub returns-clause-reshapes : goal.returns-clause-reshapes
+returns-clause-reshapes g c = rw c.frame_count-frames.ensures.same (reshapes_tables (state c.args.core.now) (state c.set_window.new.core) c.set_window.ensures.retabled.beside)

@@ -1,6 +1,8 @@
 use Rattle.session_words.specs.Parts.{shapes_of}
 use Rattle.space_calls.proofs.FileLemmas.{immutable_told, missing_told}
 use Rattle.space_calls.proofs.RunLemmas.{books_of, looked_runs}
+use Rattle.fault_core.specs.Core.{state}
+use Rattle.space_calls.proofs.HaltLemmas.{look_reaches}
 use Rattle.space_calls.proofs.windows.shows_immutable.Goals as goal
 
 pub returns-in-Ok-Some-clause-answer : goal.returns-in-Ok-Some-clause-answer
@@ -20,3 +22,12 @@ returns-in-Ok-None-clause-runs g c = λ volume m r. looked_runs r c.attributes_o
 
 pub returns-in-Err-clause-runs : goal.returns-in-Err-clause-runs
 returns-in-Err-clause-runs g c = λ volume m r. looked_runs r c.attributes_of.ensures.makes c.attributes_of.ensures.brings (c.attributes_of.ensures.same _ (shapes_of m.files) m.spaces (books_of r)) c.attributes_of.ensures.layout
+
+pub returns-in-Ok-Some-clause-reaches : goal.returns-in-Ok-Some-clause-reaches
+returns-in-Ok-Some-clause-reaches g c = look_reaches (state c.args.core.now) (state (record c.args.core.now { filer = c.attributes_of.new.filer })) c.attributes_of.ensures.looks c.attributes_of.ensures.layout
+
+pub returns-in-Ok-None-clause-reaches : goal.returns-in-Ok-None-clause-reaches
+returns-in-Ok-None-clause-reaches g c = look_reaches (state c.args.core.now) (state (record c.args.core.now { filer = c.attributes_of.new.filer })) c.attributes_of.ensures.looks c.attributes_of.ensures.layout
+
+pub returns-in-Err-clause-reaches : goal.returns-in-Err-clause-reaches
+returns-in-Err-clause-reaches g c = look_reaches (state c.args.core.now) (state (record c.args.core.now { filer = c.attributes_of.new.filer })) c.attributes_of.ensures.looks c.attributes_of.ensures.layout

@@ -11,6 +11,7 @@ use Rattle.pilot_engine.specs.Closing.{IsOpenStop}
 use Rattle.pilot_engine.proofs.StopLemmas.{stops_quiet, throughout_then}
 use Rattle.file_manager.proofs.Faults.{counted_then}
 use Rattle.fault_core.specs.Core.{state}
+use Rattle.space_calls.proofs.HaltLemmas.{look_reaches}
 use Rattle.pilot_engine.proofs.session.SessionOver.delete_next.Goals as goal
 
 pub returns-in-Ok-None-clause-shed : goal.returns-in-Ok-None-clause-shed
@@ -119,4 +120,4 @@ pub returns-in-Err-clause-cause : goal.returns-in-Err-clause-cause
 returns-in-Err-clause-cause g c = inl c.in-Err.ensures.cause
 
 pub returns-in-Err-delete_unless_permanent-clause-cause : goal.returns-in-Err-delete_unless_permanent-clause-cause
-returns-in-Err-delete_unless_permanent-clause-cause g c = inr (state (record c.args.self.now.core { filer = c.next.new.filer }), record { makes = c.next.ensures.makes; layout = c.next.ensures.layout }, (c.in-Ok-Some.id, c.in-Err-delete_unless_permanent.ensures.cause))
+returns-in-Err-delete_unless_permanent-clause-cause g c = inr (state (record c.args.self.now.core { filer = c.next.new.filer }), look_reaches (state c.args.self.now.core) (state (record c.args.self.now.core { filer = c.next.new.filer })) c.next.ensures.looks c.next.ensures.layout, (c.in-Ok-Some.id, c.in-Err-delete_unless_permanent.ensures.cause))

@@ -10,6 +10,7 @@ use Rattle.pilot_engine.proofs.WroteLemmas.{wrote_by, wrote_then}
 use Rattle.pilot_engine.proofs.StopLemmas.{stops_deleted, stops_quiet}
 use Rattle.file_manager.proofs.Faults.{counted_then}
 use Rattle.fault_core.specs.Core.{state}
+use Rattle.space_calls.proofs.HaltLemmas.{look_reaches}
 use Rattle.pilot_engine.proofs.session.SessionOver.delete_unless_permanent.Goals as goal
 
 pub returns-in-Ok-None-clause-shed : goal.returns-in-Ok-None-clause-shed
@@ -124,4 +125,4 @@ pub returns-in-Err-clause-cause : goal.returns-in-Err-clause-cause
 returns-in-Err-clause-cause g c = inl c.in-Err.ensures.cause
 
 pub returns-in-Err-delete-clause-cause : goal.returns-in-Err-delete-clause-cause
-returns-in-Err-delete-clause-cause g c = inr (state (record c.args.self.now.core { filer = c.attributes_of.new.filer }), record { makes = c.attributes_of.ensures.makes; layout = c.attributes_of.ensures.layout }, c.in-Err-delete.ensures.cause)
+returns-in-Err-delete-clause-cause g c = inr (state (record c.args.self.now.core { filer = c.attributes_of.new.filer }), look_reaches (state c.args.self.now.core) (state (record c.args.self.now.core { filer = c.attributes_of.new.filer })) c.attributes_of.ensures.looks c.attributes_of.ensures.layout, c.in-Err-delete.ensures.cause)

@@ -11,6 +11,7 @@ use Rattle.running_words.proofs.StageLemmas.{no_step}
 use Rattle.label_calls.specs.OwnLaws.{relabels_own, quiet_own}
 use Rattle.file_manager.proofs.OwnSteps.{marked_own, own_after}
 use Rattle.fault_core.specs.Core.{state}
+use Rattle.space_calls.proofs.HaltLemmas.{look_reaches}
 use Rattle.pilot_engine.proofs.session.SessionOver.mark_permanent.Goals as goal
 
 pub returns-in-Ok-None-clause-carried : goal.returns-in-Ok-None-clause-carried
@@ -87,4 +88,4 @@ pub returns-in-Err-clause-cause : goal.returns-in-Err-clause-cause
 returns-in-Err-clause-cause g c = inl c.in-Err.ensures.cause
 
 pub returns-in-Err-make_permanent-clause-cause : goal.returns-in-Err-make_permanent-clause-cause
-returns-in-Err-make_permanent-clause-cause g c = inr (state (record c.args.self.now.core { filer = c.attributes_of.new.filer }), record { makes = c.attributes_of.ensures.makes; layout = c.attributes_of.ensures.layout }, c.in-Err-make_permanent.ensures.cause)
+returns-in-Err-make_permanent-clause-cause g c = inr (state (record c.args.self.now.core { filer = c.attributes_of.new.filer }), look_reaches (state c.args.self.now.core) (state (record c.args.self.now.core { filer = c.attributes_of.new.filer })) c.attributes_of.ensures.looks c.attributes_of.ensures.layout, c.in-Err-make_permanent.ensures.cause)

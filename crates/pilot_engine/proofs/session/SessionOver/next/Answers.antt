@@ -10,12 +10,12 @@ use Rattle.pilot_engine.proofs.NextUpTo.{up_to_end, up_to_found, up_to_more, up_
 use Rattle.pilot_engine.proofs.OrderLemmas.{next_replied, nothing_replied}
 use Rattle.pilot_engine.proofs.WroteLemmas.{wrote_by}
 use Rattle.fault_core.specs.Core.{state}
-use Rattle.space_calls.proofs.HaltLemmas.{looked_itself, looked_then}
+use Rattle.fault_core.proofs.ReachLemmas.{reaches_itself, reaches_then}
 use Rattle.pilot_engine.specs.Halting.{TurnHalts}
 use Rattle.pilot_engine.proofs.session.SessionOver.next.Goals as goal
 
 pub files-init : goal.files-init
-files-init g c = (up_to_none c.args.id _ _ _ _ _ _ c.requires.size, looked_itself (state c.args.self.now.core), refl)
+files-init g c = (up_to_none c.args.id _ _ _ _ _ _ c.requires.size, reaches_itself (state c.args.self.now.core), refl)
 
 pub files-smaller : goal.files-smaller
 files-smaller g c =
@@ -26,7 +26,7 @@ files-smaller g c =
 pub files-preserved : goal.files-preserved
 files-preserved g c = (
   up_to_more _ _ _ _ _ _ _ _ _ _ _ _ _ _ c.files.invariant.0 (λ m r. r.session.stands.is.by.machine) _ _ c.in-Ok-Some.field-0-is c.in-Ok-Some.ensures.turned _ _ _ _ _ _ c.if-passed.false c.next_passed.ensures.runs c.next_passed.ensures.makes c.next_passed.ensures.layout c.next_passed.ensures.volume c.next_passed.ensures.running c.next_passed.ensures.cost,
-  looked_then c.files.invariant.1 (record { makes = c.next_passed.ensures.makes; layout = c.next_passed.ensures.layout }),
+  reaches_then (state c.args.self.now.core) (state c.files.self.core) c.args.self.now.core.filer.swapper.accepted c.files.invariant.1 (state c.next_passed.new.self.core) c.next_passed.ensures.reaches,
   c.next_passed.ensures.intervals ∙ c.files.invariant.2,
 )
 

@@ -9,6 +9,8 @@ use Rattle.pilot_engine.specs.declared.sight.Sight.{Sight}
 use Rattle.pilot_engine.specs.Seen.{IsSight}
 use Rattle.pilot_engine.proofs.LiftLemmas.{searched_running}
 use Rattle.fault_core.specs.Core.{state}
+use Rattle.fault_core.proofs.ReachLemmas.{reaches_then}
+use Rattle.space_calls.proofs.HaltLemmas.{look_reaches}
 use Rattle.pilot_engine.proofs.session.SessionOver.next_passed.Goals as goal
 
 pub returns-in-Ok-None-clause-runs : goal.returns-in-Ok-None-clause-runs
@@ -87,4 +89,30 @@ pub returns-in-Err-clause-cause : goal.returns-in-Err-clause-cause
 returns-in-Err-clause-cause g c = inl c.in-Err.ensures.cause
 
 pub returns-in-Err-sight-clause-cause : goal.returns-in-Err-sight-clause-cause
-returns-in-Err-sight-clause-cause g c = inr (state (record c.args.self.now.core { filer = c.next.new.filer }), record { makes = c.next.ensures.makes; layout = c.next.ensures.layout }, c.in-Err-sight.ensures.cause)
+returns-in-Err-sight-clause-cause g c = inr (state (record c.args.self.now.core { filer = c.next.new.filer }), look_reaches (state c.args.self.now.core) (state (record c.args.self.now.core { filer = c.next.new.filer })) c.next.ensures.looks c.next.ensures.layout, c.in-Err-sight.ensures.cause)
+
+-- ---- What the search leaves.
+
+pub returns-in-Ok-None-clause-reaches : goal.returns-in-Ok-None-clause-reaches
+returns-in-Ok-None-clause-reaches g c = look_reaches (state c.args.self.now.core) (state (record c.args.self.now.core { filer = c.next.new.filer })) c.next.ensures.looks c.next.ensures.layout
+
+pub returns-in-Err-clause-reaches : goal.returns-in-Err-clause-reaches
+returns-in-Err-clause-reaches g c = look_reaches (state c.args.self.now.core) (state (record c.args.self.now.core { filer = c.next.new.filer })) c.next.ensures.looks c.next.ensures.layout
+
+pub returns-in-Ok-Hidden-clause-reaches : goal.returns-in-Ok-Hidden-clause-reaches
+returns-in-Ok-Hidden-clause-reaches g c =
+    let v = state c.args.self.now.core in
+    let u = state (record c.args.self.now.core { filer = c.next.new.filer }) in
+    reaches_then v u c.args.self.now.core.filer.swapper.accepted (look_reaches v u c.next.ensures.looks c.next.ensures.layout) (state c.sight.new.self.core) c.sight.ensures.reaches
+
+pub returns-in-Ok-By-clause-reaches : goal.returns-in-Ok-By-clause-reaches
+returns-in-Ok-By-clause-reaches g c =
+    let v = state c.args.self.now.core in
+    let u = state (record c.args.self.now.core { filer = c.next.new.filer }) in
+    reaches_then v u c.args.self.now.core.filer.swapper.accepted (look_reaches v u c.next.ensures.looks c.next.ensures.layout) (state c.sight.new.self.core) c.sight.ensures.reaches
+
+pub returns-in-Err-sight-clause-reaches : goal.returns-in-Err-sight-clause-reaches
+returns-in-Err-sight-clause-reaches g c =
+    let v = state c.args.self.now.core in
+    let u = state (record c.args.self.now.core { filer = c.next.new.filer }) in
+    reaches_then v u c.args.self.now.core.filer.swapper.accepted (look_reaches v u c.next.ensures.looks c.next.ensures.layout) (state c.sight.new.self.core) c.sight.ensures.reaches

@@ -17,6 +17,7 @@ use Rattle.pilot_engine.proofs.WroteLemmas.{wrote_nothing}
 use Rattle.label_calls.specs.OwnLaws.{relabels_own, quiet_own, same_own}
 use Rattle.file_manager.proofs.OwnSteps.{resized_own, resizing_own, own_after}
 use Rattle.fault_core.specs.Core.{state}
+use Rattle.space_calls.proofs.HaltLemmas.{look_reaches}
 use Rattle.pilot_engine.proofs.session.SessionOver.resize.Goals as goal
 
 pub returns-then-not-may_be_file-clause-carried : goal.returns-then-not-may_be_file-clause-carried
@@ -184,4 +185,4 @@ pub returns-in-Err-clause-cause : goal.returns-in-Err-clause-cause
 returns-in-Err-clause-cause g c = inl c.in-Err.ensures.cause
 
 pub returns-in-Err-set_size-clause-cause : goal.returns-in-Err-set_size-clause-cause
-returns-in-Err-set_size-clause-cause g c = inr (state (record c.args.self.now.core { filer = c.attributes_of.new.filer }), record { makes = c.attributes_of.ensures.makes; layout = c.attributes_of.ensures.layout }, c.in-Err-set_size.ensures.cause)
+returns-in-Err-set_size-clause-cause g c = inr (state (record c.args.self.now.core { filer = c.attributes_of.new.filer }), look_reaches (state c.args.self.now.core) (state (record c.args.self.now.core { filer = c.attributes_of.new.filer })) c.attributes_of.ensures.looks c.attributes_of.ensures.layout, c.in-Err-set_size.ensures.cause)

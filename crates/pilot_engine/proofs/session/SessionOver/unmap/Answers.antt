@@ -172,7 +172,7 @@ pub returns-in-Err-clause-cause : goal.returns-in-Err-clause-cause
 returns-in-Err-clause-cause g c = inl c.in-Err.ensures.cause
 
 pub returns-in-Err-delete_unseen-clause-cause : goal.returns-in-Err-delete_unseen-clause-cause
-returns-in-Err-delete_unseen-clause-cause g c = inr (state c.take_window.new.core, record { makes = c.take_window.ensures.makes; layout = c.take_window.ensures.layout }, (c.in-Ok-Ok.shown.id, c.in-Err-delete_unseen.ensures.cause))
+returns-in-Err-delete_unseen-clause-cause g c = inr (state c.take_window.new.core, c.take_window.ensures.reshapes, (c.in-Ok-Ok.shown.id, c.in-Err-delete_unseen.ensures.cause))
 
 pub returns-in-Err-wait-clause-cause : goal.returns-in-Err-wait-clause-cause
 returns-in-Err-wait-clause-cause g c =
