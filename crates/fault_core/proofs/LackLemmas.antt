@@ -17,7 +17,7 @@ use Rattle.filer_kernel.specs.Tables.{FoundHalts}
 use Rattle.space_tables.specs.SpaceTables.{IsIntervalAt}
 use Rattle.fault_core.specs.Access.{Shows}
 use Rattle.fault_core.specs.Kept.{IsKept}
-use Rattle.fault_core.specs.Lack.{Lacks, Sees, run_pages, shown_unit, unit_pages}
+use Rattle.fault_core.specs.Lack.{LacksPage, Sees, run_pages, shown_unit, unit_pages}
 use Rattle.fault_core.specs.Reach.{Reaches}
 use Rattle.fault_core.specs.Told.{IsIntervalOf}
 use Rattle.fault_core.specs.Unit.{IsUnitRun}
@@ -25,30 +25,30 @@ use Rattle.fault_core.specs.View.{View}
 use Rattle.fault_core.proofs.ShowLemmas.{shown_is}
 use Rattle.fault_core.proofs.ToldLemmas.{interval_at}
 
-pub lacks_wider : (pages more : Pages) → ((id page : ℕ) → pages id page → more id page) → (e : Halt) → Lacks pages e → Lacks more e
+pub lacks_wider : (pages more : Pages) → ((id page : ℕ) → pages id page → more id page) → (e : Halt) → LacksPage pages e → LacksPage more e
 lacks_wider pages more too Disk h = tt
 lacks_wider pages more too (Damaged (Mismatch sector wanted found)) h = tt
 lacks_wider pages more too (Damaged (Malformed window broken)) h = tt
 lacks_wider pages more too (Damaged (Missing id page)) h = elim h [ inl three ↦ inl three | inr one ↦ inr (too id page one) ]
 
-pub none_lacks : (more : Pages) (e : Halt) → Lacks no_page e → Lacks more e
+pub none_lacks : (more : Pages) (e : Halt) → LacksPage no_page e → LacksPage more e
 none_lacks more e h = lacks_wider no_page more (λ id page none. absurd none) e h
 
 -- ---- What is asked below.
 
-pub found_lacks : (layout : Layout) (old : DiskState) (before : Slots) (kept : List Run) (new : DiskState) (e : Halt) → FoundHalts layout old before kept new e → Lacks no_page e
+pub found_lacks : (layout : Layout) (old : DiskState) (before : Slots) (kept : List Run) (new : DiskState) (e : Halt) → FoundHalts layout old before kept new e → LacksPage no_page e
 found_lacks layout old before kept new Disk h = tt
 found_lacks layout old before kept new (Damaged (Mismatch sector wanted found)) h = tt
 found_lacks layout old before kept new (Damaged (Malformed window broken)) h = tt
 found_lacks layout old before kept new (Damaged (Missing id page)) h = inl h.0
 
-pub map_lacks : (layout : Layout) (old : DiskState) (before : Slots) (new : DiskState) (e : Halt) → MapHalts layout old before new e → Lacks no_page e
+pub map_lacks : (layout : Layout) (old : DiskState) (before : Slots) (new : DiskState) (e : Halt) → MapHalts layout old before new e → LacksPage no_page e
 map_lacks layout old before new Disk h = tt
 map_lacks layout old before new (Damaged (Mismatch sector wanted found)) h = tt
 map_lacks layout old before new (Damaged (Malformed window broken)) h = tt
 map_lacks layout old before new (Damaged (Missing id page)) h = absurd h
 
-pub brought_lacks : (come : Homes) (old : DiskState) (before : Slots) (new : DiskState) (more : Pages) (e : Halt) → Halts come old before new e → Lacks more e
+pub brought_lacks : (come : Homes) (old : DiskState) (before : Slots) (new : DiskState) (more : Pages) (e : Halt) → Halts come old before new e → LacksPage more e
 brought_lacks come old before new more Disk h = tt
 brought_lacks come old before new more (Damaged (Mismatch sector wanted found)) h = tt
 brought_lacks come old before new more (Damaged (Malformed window broken)) h = absurd h

@@ -16,11 +16,11 @@ use Rattle.fault_core.specs.Unit.{InUnit, file_page}
 use Rattle.fault_core.specs.View.{View, TablesAre}
 
 -- where the halt is that the map has no sector for a page, it is a page of the space tables or one of these
-abbrev pub Lacks : Pages → Halt → Type 0
-Lacks pages Disk = Unit {0}
-Lacks pages (Damaged (Mismatch sector wanted found)) = Unit {0}
-Lacks pages (Damaged (Malformed window broken)) = Unit {0}
-Lacks pages (Damaged (Missing id page)) = (id ≡ 3) ⊎ pages id page
+abbrev pub LacksPage : Pages → Halt → Type 0
+LacksPage pages Disk = Unit {0}
+LacksPage pages (Damaged (Mismatch sector wanted found)) = Unit {0}
+LacksPage pages (Damaged (Malformed window broken)) = Unit {0}
+LacksPage pages (Damaged (Missing id page)) = (id ≡ 3) ⊎ pages id page
 
 -- so many pages of a file, from the first one on
 abbrev pub run_pages : ℕ → ℕ → ℕ → Pages

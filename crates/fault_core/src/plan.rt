@@ -9,7 +9,7 @@ ghost use Rattle.fault_core.specs.Homes.{homes_in};
 ghost use Rattle.fault_core.specs.Plan.{IsKeptPlan, IsPlanAt};
 ghost use Rattle.fault_core.specs.Reach.{Reaches, ReachHalts, BringsOwn};
 ghost use Rattle.fault_core.specs.Told.{BreaksTables};
-ghost use Rattle.fault_core.specs.Lack.{Lacks, Sees, kept_unit, shown_unit};
+ghost use Rattle.fault_core.specs.Lack.{LacksPage, Sees, kept_unit, shown_unit};
 
 use crate::CoreOver;
 use crate::homes::Homes;
@@ -36,8 +36,8 @@ impl<D: Disk, A: Allocator> CoreOver<D, A> {
         ensures homes { (m : List Sector) (named : Triples) (ss : List Space) → Knows self.old m named ss → IfOk result (λ o. IfSome o (λ plan. IsPlanAt ss named page plan.first (homes_in plan.homes))) }
         ensures none { (m : List Sector) (named : Triples) (ss : List Space) → Knows self.old m named ss → IfOk result (λ o. (o ≡ None) ↔ (shown_at ss page ≡ None)) }
         ensures cause { IfErr result (ReachHalts (BreaksTables (state self.old) self.old.intervals page) (state self.old) (state self.new)) }
-        ensures lacks { IfErr result (Lacks (kept_unit (kept self.new) page)) }
-        ensures missing { (ss : List Space) → Sees (state self.old) (kept self.old) self.old.intervals ss → IfErr result (Lacks (shown_unit ss page)) }
+        ensures lacks { IfErr result (LacksPage (kept_unit (kept self.new) page)) }
+        ensures missing { (ss : List Space) → Sees (state self.old) (kept self.old) self.old.intervals ss → IfErr result (LacksPage (shown_unit ss page)) }
         ensures sound { (m : List Sector) (named : Triples) (ss : List Space) → Knows self.old m named ss → IfErr result (λ e. e ≡ halt.Disk) }
         ensures same { (m : List Sector) (named : Triples) (ss : List Space) → Knows self.old m named ss → Knows self.new m named ss }
         ensures reaches { Reaches (state self.old) (state self.new) }

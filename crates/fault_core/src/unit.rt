@@ -18,7 +18,7 @@ ghost use Rattle.fault_core.specs.Homes.{homes_in, AreHomesOf, HaveSectors};
 ghost use Rattle.fault_core.specs.Unit.{AreResident, AreRunStored, BringsRun, IsResident, IsUnitRun};
 ghost use Rattle.fault_core.specs.Room.{KeepsWhileEmpty};
 ghost use Rattle.swapper_kernel.specs.Steps.{Steps};
-ghost use Rattle.fault_core.specs.Lack.{Lacks, run_pages};
+ghost use Rattle.fault_core.specs.Lack.{LacksPage, run_pages};
 
 use crate::homes::Homes;
 use crate::search::homes_of;
@@ -116,7 +116,7 @@ pub(crate) fn bring_run<D: Disk, A: Allocator>(
     requires fits { first + pages ≤ 2 ^ 32 }
     ensures there { OnOk result (AreResident filer.new.swapper.pool id first pages) }
     ensures cause { IfErr result (ReachHalts no_break (view_of filer.old) (view_of filer.new)) }
-    ensures lacks { IfErr result (Lacks (run_pages id first pages)) }
+    ensures lacks { IfErr result (LacksPage (run_pages id first pages)) }
     ensures sound { (m : List Sector) (named : Triples) (b : List ℕ) → Known (view_of filer.old) m named b → AreRunStored named m id first pages → IfErr result (λ e. e ≡ halt.Disk) }
     ensures reaches { Reaches (view_of filer.old) (view_of filer.new) }
     ensures came { BringsRun id first pages filer.old.swapper.pool filer.new.swapper.pool }

@@ -12,7 +12,7 @@ use Rattle.volume_root.specs.declared.root.Root.{Root}
 pub record RootStays (old new : DiskState) : Type 0 where
   pub stays : (d : List Sector) (before writes : List DiskWrite) → old.contents ≡ Some d → old.writes ≡ Some before → new.writes ≡ Some (before ++ writes) → (k : ℕ) → slice_get (moment d writes k) 0 ≡ slice_get d 0
 
--- So many writes, of pages under their labels alone, leave the counter, and the next one raises it by one; the serial stays.
+-- So many writes, of pages under their labels alone, leave the counter, and the next one, if it was made, raises it by one; the serial stays.
 pub record CountsOnce (serial counter : ℕ) (d : List Sector) (writes : List DiskWrite) : Type 0 where
   pub at : ℕ
   pub same_serial : (k : ℕ) → serial_of (moment d writes k) ≡ serial

@@ -14,7 +14,7 @@ use Rattle.fault_core.specs.Kill.{BreaksWithin}
 use Rattle.fault_core.specs.Reach.{Reaches, ReachHalts}
 use Rattle.fault_core.specs.View.{View, kept_by}
 use Rattle.space_calls.specs.Unmapping.{Reshapes}
-use Rattle.space_calls.specs.Halts.{After, ChangeHalts, OnFileHalts, PathHalts, SightHalts, TakeHalts}
+use Rattle.space_calls.specs.Halts.{After, ChangeHalts, OnFileHalts, PathHalts, SightHalts, TakeWindowHalts}
 
 -- ---- What is done to a file.
 
@@ -56,7 +56,7 @@ MapNewHalts id count v w e = PathHalts v w e ⊎ After Reaches (λ u x e. NewFil
 
 -- the window of a space is taken away, and then the file that it showed is removed, if it came with it
 abbrev pub UnmapHalts : ℕ → ℕ → View → View → Halt → Type 0
-UnmapHalts space count v w e = TakeHalts space count v w e ⊎ After Reshapes (λ u x e. (id : ℕ) × OnFileHalts id (RemoveHalts id) u x e) v w e
+UnmapHalts space count v w e = TakeWindowHalts space count v w e ⊎ After Reshapes (λ u x e. (id : ℕ) × OnFileHalts id (RemoveHalts id) u x e) v w e
 
 -- ---- The session's end.
 

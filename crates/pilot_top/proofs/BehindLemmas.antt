@@ -112,10 +112,9 @@ module _ {D : Type 0} (state : D → DiskState) (x y : D) (same : x ≡ y) where
     -- what a trial wrote
     pub tries_behind : TriesLawfully (lent_state m first) (lent_state n (state y)) → TriesLawfully first (state x)
     tries_behind (inl (k, few, part)) = inl (k, few, rw same (record { contents = part.contents; told = part.told }))
-    tries_behind (inr (made, wrote, synced, on)) =
+    tries_behind (inr (made, wrote, on)) =
         inr (
           made,
           record { contents = wrote.contents; told = wrote.told },
-          synced,
           rw same (record { writes = on.writes; appended = record { contents = on.appended.contents; told = on.appended.told }; lawful = on.lawful; open_flag = on.open_flag }),
         )

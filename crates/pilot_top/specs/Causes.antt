@@ -23,7 +23,7 @@ pub record Understands (words : List (String Global)) (s : Status) (before after
   pub line : s ≡ status.Usage → WritesLast before after cause.Usage
 
 -- Each status but `Done` and `Usage` has its cause.
-pub record HasCause (words : List (String Global)) (s : Status) (before after : World) : Type 0 where
+pub record HasReason (words : List (String Global)) (s : Status) (before after : World) : Type 0 where
   pub disk : s ≡ status.DiskFault → DiskFailed before after
   pub stream : s ≡ status.StreamFault → SourceFailed before after ⊎ SinkFailed before after
   -- nothing was written; and there is a line that says why, which for a count of sectors that no volume has names the count

@@ -42,7 +42,7 @@ pub record Ran (s : Status) (before after : World) : Type 0 where
   pub damage : (t : List ℕ) → Took before t → s ≡ status.Damaged → TellsDamage t after.took (SinkFailed before after) after.disk
   pub damage_behind : (b t : List ℕ) → Gives before b → Took before t → s ≡ status.Damaged
       → (told : TellsDamage t after.took (SinkFailed before after) after.disk) × AreToFirst told.replies (reading b)
-  -- A sound volume is opened, and shows no damage, whatever source and sink tell.
+  -- A sound volume is not refused, and shows no damage, whatever source and sink tell.
   pub sound : (d : List Sector) → Holds before d → Sound d → s ≢ status.NotOpened × s ≢ status.Damaged
   -- A volume that can't be opened.
   pub not_opened : (d : List Sector) → Holds before d → s ≡ status.NotOpened → (why : RootFault) × IsRefused d why × WritesLast before after (cause.Root why)

@@ -93,8 +93,8 @@ pub record HasNoFile (disk : DiskState) : Type 0 where
   pub no_files : files_on sectors ≡ []
   pub synced : disk.synced ≡ true
 
--- Over any contents: of the writes that make the volume some first ones were made, and no others; or all of them, on the
--- medium, and behind them lawful ones.
+-- Over any contents: of the writes that make the volume some first ones were made, and no others; or all of them, and behind
+-- them lawful ones.
 abbrev pub TriesLawfully : DiskState → DiskState → Type 0
 TriesLawfully old new =
-    PartMade (format_writes old.sectors 1 1) old new ⊎ ((made : DiskState) × Appended (format_writes old.sectors 1 1) old made × (made.synced ≡ true) × Lawfully made new)
+    PartMade (format_writes old.sectors 1 1) old new ⊎ ((made : DiskState) × Appended (format_writes old.sectors 1 1) old made × Lawfully made new)

@@ -18,13 +18,16 @@ After leaves P v w e = (u : View) × leaves v u × P u w e
 
 -- ---- The tables alone.
 
+-- a space is made: its parent's path, or the pages from its first one on, break their form; or there would be too many intervals
 abbrev pub MakeSpaceHalts : ℕ → ℕ → Option ℕ → ℕ → View → View → Halt → Type 0
 MakeSpaceHalts parent pages first count v w e =
     ReachHalts (TablesBreak v (λ b page. BreaksHierarchy b page ⊎ (BreaksAt first count b page ⊎ MakesTooMany count b parent pages first page))) v w e
 
+-- a space is removed
 abbrev pub RemoveSpaceHalts : ℕ → ℕ → View → View → Halt → Type 0
 RemoveSpaceHalts space count v w e = ReachHalts (TablesBreak v (λ b page. BreaksFor (first_in_slot b space) count b page)) v w e
 
+-- the innermost space of a page is looked up
 abbrev pub PlaceHalts : ℕ → ℕ → View → View → Halt → Type 0
 PlaceHalts page count v w e = ReachHalts (TablesBreak v (λ b broken. BreaksFor page count b broken)) v w e
 
@@ -41,8 +44,8 @@ abbrev pub PathHalts : View → View → Halt → Type 0
 PathHalts v w e = ReachHalts (TablesBreak v BreaksHierarchy) v w e
 
 -- the window of a space is taken away
-abbrev pub TakeHalts : ℕ → ℕ → View → View → Halt → Type 0
-TakeHalts space count v w e = ReachHalts (BreaksWindow v count space) v w e
+abbrev pub TakeWindowHalts : ℕ → ℕ → View → View → Halt → Type 0
+TakeWindowHalts space count v w e = ReachHalts (BreaksWindow v count space) v w e
 
 -- ---- A file.
 
@@ -87,4 +90,4 @@ ShownHalts space count v w e = (shown : Shown) × TablesSay v (λ b. IsShownAt b
 -- a window gets writable, or read-only
 abbrev pub ProtectHalts : ℕ → Bool → ℕ → View → View → Halt → Type 0
 ProtectHalts space true count v w e = SlotHalts space v w e ⊎ ShownHalts space count v w e
-ProtectHalts space false count v w e = TakeHalts space count v w e
+ProtectHalts space false count v w e = TakeWindowHalts space count v w e

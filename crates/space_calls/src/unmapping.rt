@@ -20,7 +20,7 @@ ghost use Rattle.projection_laws.specs.Tests.{window_row};
 ghost use Rattle.swapper_kernel.specs.Goes.{Makes};
 ghost use Rattle.table_calls.specs.Answers.{IfGiven, TablesSay, Tells};
 ghost use Rattle.flat_machine.specs.declared.call.Reply.TheVariants as reply;
-ghost use Rattle.space_calls.specs.Halts.{ProtectHalts, TakeHalts, WritableHalts};
+ghost use Rattle.space_calls.specs.Halts.{ProtectHalts, TakeWindowHalts, WritableHalts};
 ghost use Rattle.space_calls.specs.Unmapping.{IsGivenUp, IsRefused, IsTaken, Reshapes};
 ghost use Rattle.filer_kernel.specs.Evidence.{ShowsSo};
 ghost use Rattle.fault_core.specs.Core.{state};
@@ -46,7 +46,7 @@ pub fn take_window<D: Disk, A: Allocator>(
     ensures read { IfOk result (IfGiven (TablesSay (state core.old) (λ b. IsShownAt b space))) }
     ensures sound { (volume : Volume) (m : Machine) → Runs core.old volume m → IfErr result (λ e. e ≡ halt.Disk) }
     ensures counted { result ≡ Err halt.Disk → Rose (D.state core.old.filer.swapper.under).faults (D.state core.new.filer.swapper.under).faults }
-    ensures cause { IfErr result (TakeHalts space core.old.intervals (state core.old) (state core.new)) }
+    ensures cause { IfErr result (TakeWindowHalts space core.old.intervals (state core.old) (state core.new)) }
     ensures so { IfErr result (ShowsSo (D.state core.new.filer.swapper.under)) }
     ensures reshapes { Reshapes (state core.old) (state core.new) }
     ensures makes { Makes volume_page [] (D.state core.old.filer.swapper.under) core.old.filer.swapper.pool (D.state core.new.filer.swapper.under) core.new.filer.swapper.pool }

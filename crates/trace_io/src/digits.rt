@@ -1,5 +1,4 @@
-//! Hex digits, read and written. No step of a loop here depends on what a byte is, so that a compiler
-//! can take many bytes at a time.
+//! Hex digits, read and written, a step for each in loops that a compiler can take many bytes at a time.
 ghost use Rattle.std.specs.Prelude.{◌≡◌, ◌<◌, ◌*◌, length, slice_index, Some, Ok, true};
 ghost use Rattle.std.specs.List.{list_all, AllPass};
 ghost use Rattle.hex.specs.Hex.{is_hex_digit, decode_of, hex_digit_value, lower_digits, encode_lower};

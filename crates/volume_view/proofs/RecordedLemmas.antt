@@ -13,7 +13,7 @@ use Rattle.file_map.specs.FileMap.{Triples}
 use Rattle.file_map.specs.InSectors.{label_triples, map_bytes}
 use Rattle.file_map.proofs.Runs.{and_both}
 use Rattle.volume_view.specs.Names.{labelled}
-use Rattle.volume_view.specs.Recorded.{Stands, AllStand, IsRecorded, AreRecorded, AreReadAlike}
+use Rattle.volume_view.specs.Recorded.{StandsInLeaf, AllStand, IsRecorded, AreRecorded, AreReadAlike}
 use Rattle.volume_view.proofs.ListLemmas.{in_pushed}
 use Rattle.volume_view.proofs.NameLemmas.{is_labelled}
 
@@ -34,13 +34,13 @@ recorded_by n m bytes c id page sector o r is count same form has read at =
     }
 
 -- the record that the walk met
-pub stands_by : (bytes c entry : List ℕ) (o : Option ℕ) (leaf : ℕ) (r : Run) → o ≡ Some leaf → c ≡ bytes → ((b : List ℕ) → b ≡ c → IfSome o (StandsIn 24 12 b entry)) → entry ≡ run_bytes r → Stands bytes r
+pub stands_by : (bytes c entry : List ℕ) (o : Option ℕ) (leaf : ℕ) (r : Run) → o ≡ Some leaf → c ≡ bytes → ((b : List ℕ) → b ≡ c → IfSome o (StandsIn 24 12 b entry)) → entry ≡ run_bytes r → StandsInLeaf bytes r
 stands_by bytes c entry o leaf r is same met at = (leaf, subst (λ (e : List ℕ). StandsIn 24 12 bytes e leaf) at (in_some o leaf (StandsIn 24 12 bytes entry) is (met bytes (sym same))))
 
-pub stand_more : (bytes : List ℕ) (runs new : List Run) (r : Run) → AllStand bytes runs → Stands bytes r → new ≡ runs ++ r ∷ [] → AllStand bytes new
+pub stand_more : (bytes : List ℕ) (runs new : List Run) (r : Run) → AllStand bytes runs → StandsInLeaf bytes r → new ≡ runs ++ r ∷ [] → AllStand bytes new
 stand_more bytes runs new r so_far last pushed j x at = elim (in_pushed runs r j x (ap (λ (l : List Run). slice_get l j) (sym pushed) ∙ at)) [
   | inl old ↦ so_far j x old
-  | inr same ↦ subst (Stands bytes) same last
+  | inr same ↦ subst (StandsInLeaf bytes) same last
 ]
 
 -- the pages of the first k labels are recorded in their sectors

@@ -9,6 +9,7 @@ use Rattle.label_survey.specs.declared.standing.Standing.TheVariants.{Free, Stra
 use Rattle.label_survey.specs.declared.triples.Triple.{Triple}
 use Rattle.label_survey.specs.Triples.{triple_of}
 
+-- the sector is neither free, nor needed, nor lost
 abbrev pub is_stray : Standing → Bool
 is_stray Stray = true
 is_stray Free = false

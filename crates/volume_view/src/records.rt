@@ -4,7 +4,7 @@ ghost use Rattle.flat_mem.specs.Vec.{vec_mem_bytes};
 ghost use Rattle.labelled_disk.specs.Layout.{IsCount, layout_of, vfm};
 ghost use Rattle.file_map.specs.declared.run.Run.{Run as MapRun};
 ghost use Rattle.page_tree.specs.Page.{page_at, count_in};
-ghost use Rattle.volume_view.specs.Recorded.{AllStand, Stands};
+ghost use Rattle.volume_view.specs.Recorded.{AllStand, StandsInLeaf};
 ghost use Rattle.volume_view.specs.Records.{AreRunsOfMap, AreAllInForm, IsInForm, IsNoMemory, IsStep, last_of};
 
 use crate::record::{key_of, read_behind};
@@ -46,7 +46,7 @@ fn next_run<A: Allocator>(
         → last ≡ last_of runs k → k ≤ length runs
         → MatchResult result (IsStep runs k) IsNoMemory }
     ensures form { IfOk result (IsInForm layout.now.sectors) }
-    ensures stands { IfOk result (λ found. IfSome found (Stands (vec_mem_bytes map.old))) }
+    ensures stands { IfOk result (λ found. IfSome found (StandsInLeaf (vec_mem_bytes map.old))) }
     ensures same { vec_mem_bytes map.new ≡ vec_mem_bytes map.old }
 {
     let mut bytes = [0; 24];

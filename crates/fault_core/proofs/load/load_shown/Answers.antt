@@ -9,7 +9,7 @@ use Rattle.fault_core.specs.View.{view_of}
 use Rattle.fault_core.proofs.PieceLemmas.{one_page, last_is_next, loads_first, loads_next, one_loaded, two_loaded}
 use Rattle.fault_core.proofs.ReachLemmas.{known_after, halts_before, reaches_then}
 use Rattle.fault_core.proofs.ShowLemmas.{came_first, came_last}
-use Rattle.fault_core.specs.Lack.{Lacks, both_units, unit_pages}
+use Rattle.fault_core.specs.Lack.{LacksPage, both_units, unit_pages}
 use Rattle.fault_core.proofs.LackLemmas.{lacks_wider}
 use Rattle.fault_core.proofs.load.load_shown.Goals as goal
 
@@ -101,7 +101,7 @@ returns-then-into-room-clause-lacks g c =
     let y = c.args.last.now in
     let a = c.args.address in
     let n = length c.args.into.now in
-    err_wider c.load_in.result (Lacks (unit_pages x (a / 512))) (Lacks (both_units x y a n)) (lacks_wider (unit_pages x (a / 512)) (both_units x y a n) (λ id number own. inl own)) c.load_in.ensures.lacks
+    err_wider c.load_in.result (LacksPage (unit_pages x (a / 512))) (LacksPage (both_units x y a n)) (lacks_wider (unit_pages x (a / 512)) (both_units x y a n) (λ id number own. inl own)) c.load_in.ensures.lacks
 
 pub returns-in-Err-clause-lacks : goal.returns-in-Err-clause-lacks
 returns-in-Err-clause-lacks g c =
@@ -119,4 +119,4 @@ returns-clause-lacks g c =
     let n = length c.args.into.now in
     let past = c.if-into-room.false in
     let page = last_is_next a n c.requires.few (omega (arith, past)) in
-    err_wider c.load_in-3.result (Lacks (unit_pages y (a / 512 + 1))) (Lacks (both_units x y a n)) (lacks_wider (unit_pages y (a / 512 + 1)) (both_units x y a n) (λ id number own. inr (subst (λ (q : ℕ). unit_pages y q id number) page own))) c.load_in-3.ensures.lacks
+    err_wider c.load_in-3.result (LacksPage (unit_pages y (a / 512 + 1))) (LacksPage (both_units x y a n)) (lacks_wider (unit_pages y (a / 512 + 1)) (both_units x y a n) (λ id number own. inr (subst (λ (q : ℕ). unit_pages y q id number) page own))) c.load_in-3.ensures.lacks

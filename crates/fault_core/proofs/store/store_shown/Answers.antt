@@ -18,7 +18,7 @@ use Rattle.fault_core.proofs.LeaveLemmas.{still_stored, stored_on_one, stored_no
 use Rattle.fault_core.proofs.PieceLemmas.{one_page, last_is_next}
 use Rattle.fault_core.proofs.ShowLemmas.{came_first, came_last}
 use Rattle.fault_core.proofs.store.store_shown.Given as given
-use Rattle.fault_core.specs.Lack.{Lacks, both_units, unit_pages}
+use Rattle.fault_core.specs.Lack.{LacksPage, both_units, unit_pages}
 use Rattle.fault_core.proofs.LackLemmas.{lacks_wider}
 use Rattle.fault_core.proofs.store.store_shown.Goals as goal
 
@@ -131,7 +131,7 @@ returns-then-bytes-room-clause-lacks g c =
     let y = c.args.last.now in
     let a = c.args.address in
     let n = length c.args.bytes.now in
-    err_wider c.store_in.result (Lacks (unit_pages x (a / 512))) (Lacks (both_units x y a n)) (lacks_wider (unit_pages x (a / 512)) (both_units x y a n) (λ id number own. inl own)) c.store_in.ensures.lacks
+    err_wider c.store_in.result (LacksPage (unit_pages x (a / 512))) (LacksPage (both_units x y a n)) (lacks_wider (unit_pages x (a / 512)) (both_units x y a n) (λ id number own. inl own)) c.store_in.ensures.lacks
 
 pub returns-in-Err-clause-lacks : goal.returns-in-Err-clause-lacks
 returns-in-Err-clause-lacks g c =
@@ -149,4 +149,4 @@ returns-clause-lacks g c =
     let n = length c.args.bytes.now in
     let past = c.if-bytes-room.false in
     let page = last_is_next a n c.requires.few (omega (arith, past)) in
-    err_wider c.store_in-3.result (Lacks (unit_pages y (a / 512 + 1))) (Lacks (both_units x y a n)) (lacks_wider (unit_pages y (a / 512 + 1)) (both_units x y a n) (λ id number own. inr (subst (λ (q : ℕ). unit_pages y q id number) page own))) c.store_in-3.ensures.lacks
+    err_wider c.store_in-3.result (LacksPage (unit_pages y (a / 512 + 1))) (LacksPage (both_units x y a n)) (lacks_wider (unit_pages y (a / 512 + 1)) (both_units x y a n) (λ id number own. inr (subst (λ (q : ℕ). unit_pages y q id number) page own))) c.store_in-3.ensures.lacks

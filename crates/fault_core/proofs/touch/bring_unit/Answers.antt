@@ -5,7 +5,7 @@ use Rattle.fault_core.specs.Told.{Known}
 use Rattle.fault_core.specs.View.{view_of}
 use Rattle.fault_core.proofs.RoomLemmas.{room_same}
 use Rattle.fault_core.proofs.UnitLemmas.{whole_of_run, run_of_whole, run_stored, run_shown}
-use Rattle.fault_core.specs.Lack.{Lacks, run_pages, unit_pages}
+use Rattle.fault_core.specs.Lack.{LacksPage, run_pages, unit_pages}
 use Rattle.fault_core.proofs.LackLemmas.{lacks_wider, run_unit}
 use Rattle.fault_core.proofs.touch.bring_unit.Goals as goal
 
@@ -36,5 +36,5 @@ pub returns-clause-lacks : goal.returns-clause-lacks
 returns-clause-lacks g c =
     let x = c.args.x.now in
     let run = c.unit_run-first.result in
-    err_wider c.bring_run.result (Lacks (run_pages x.id run.0 run.1)) (Lacks (unit_pages x c.args.page))
+    err_wider c.bring_run.result (LacksPage (run_pages x.id run.0 run.1)) (LacksPage (unit_pages x c.args.page))
     (lacks_wider (run_pages x.id run.0 run.1) (unit_pages x c.args.page) (run_unit x c.args.page run c.unit_run-first.ensures)) c.bring_run.ensures.lacks

@@ -11,7 +11,7 @@ use Rattle.fault_core.proofs.ReachLemmas.{known_after}
 use Rattle.fault_core.proofs.RoomLemmas.{room_then, steps_room}
 use Rattle.fault_core.proofs.RunLemmas.{homes_row, homes_resident, run_came, homes_are_named, have_sectors, homes_placed}
 use Rattle.fault_core.proofs.TurnLemmas.{reaches_brought, brought_halt}
-use Rattle.fault_core.specs.Lack.{Lacks, run_pages}
+use Rattle.fault_core.specs.Lack.{LacksPage, run_pages}
 use Rattle.fault_core.proofs.LackLemmas.{brought_lacks}
 use Rattle.fault_core.proofs.unit.bring_run.Goals as goal
 
@@ -58,5 +58,5 @@ pub returns-clause-lacks : goal.returns-clause-lacks
 returns-clause-lacks g c =
     let w = view_of c.homes_of.new.filer in
     let x = view_of c.bring.new.filer in
-    err_wider c.bring.result (Halts (IsAmong (homes_in c.in-Ok.homes)) w.disk w.slots x.disk) (Lacks (run_pages c.args.id c.args.first c.args.pages))
+    err_wider c.bring.result (Halts (IsAmong (homes_in c.in-Ok.homes)) w.disk w.slots x.disk) (LacksPage (run_pages c.args.id c.args.first c.args.pages))
     (brought_lacks (IsAmong (homes_in c.in-Ok.homes)) w.disk w.slots x.disk (run_pages c.args.id c.args.first c.args.pages)) c.bring.ensures.cause

@@ -30,12 +30,12 @@ pub returns-in-Ok-clause-sound : goal.returns-in-Ok-clause-sound
 returns-in-Ok-clause-sound g c = λ d told damaged. c.try_session.ensures.sound (empty_volume (g.D.Disk.state c.args.disk).sectors) (c.in-Ok.ensures.stands d told) damaged
 
 pub returns-in-Ok-clause-lawful : goal.returns-in-Ok-clause-lawful
-returns-in-Ok-clause-lawful g c = let w = c.in-Ok.ensures.wrote in inr (w.made, w.volume.wrote, w.volume.synced, ran_lawfully w.wrote c.in-Ok.ensures.left_open c.try_session.ensures.lawful)
+returns-in-Ok-clause-lawful g c = let w = c.in-Ok.ensures.wrote in inr (w.made, w.volume.wrote, ran_lawfully w.wrote c.in-Ok.ensures.left_open c.try_session.ensures.lawful)
 
 pub returns-in-Err-clause-lawful : goal.returns-in-Err-clause-lawful
 returns-in-Err-clause-lawful g c = elim c.in-Err.ensures.wrote [
   | inl began ↦ inl began
-  | inr w ↦ inr (w.made, w.volume.wrote, w.volume.synced, started_lawfully w.wrote)
+  | inr w ↦ inr (w.made, w.volume.wrote, started_lawfully w.wrote)
 ]
 
 pub returns-in-Err-clause-damage_line : goal.returns-in-Err-clause-damage_line

@@ -5,7 +5,7 @@ use Rattle.flat_mem.specs.Vec.{vec_mem_bytes}
 use Rattle.file_map.specs.declared.run.Run.{Run}
 use Rattle.file_map.specs.Run.{IsRun}
 use Rattle.volume_view.specs.Records.{AreRunsOfMap, AreAllInForm, IsInForm, IsNoMemory, IsStep, last_of}
-use Rattle.volume_view.specs.Recorded.{Stands, AllStand}
+use Rattle.volume_view.specs.Recorded.{StandsInLeaf, AllStand}
 use Rattle.volume_view.proofs.RecordedLemmas.{in_some, stand_more}
 use Rattle.volume_view.proofs.ListLemmas.{in_pushed, if_ok_more}
 use Rattle.volume_view.proofs.RecordLemmas.{taken_more}
@@ -23,7 +23,7 @@ loop-k-preserved g c =
     record {
       same = c.in-Ok-next_run.ensures.same ∙ so_far.same;
       stand = stand_more (vec_mem_bytes c.args.map.now) c.loop-k.runs.items c.push.new.self.items c.in-Some.run' so_far.stand
-          (subst (λ (b : List ℕ). Stands b c.in-Some.run') so_far.same (in_some _ c.in-Some.run' (Stands (vec_mem_bytes c.loop-k.map)) c.in-Some.is c.in-Ok-next_run.ensures.stands)) pushed;
+          (subst (λ (b : List ℕ). StandsInLeaf b c.in-Some.run') so_far.same (in_some _ c.in-Some.run' (StandsInLeaf (vec_mem_bytes c.loop-k.map)) c.in-Some.is c.in-Ok-next_run.ensures.stands)) pushed;
       counted = omega (arith, ap length pushed, length_push c.loop-k.runs.items c.in-Some.run', so_far.counted);
       form = λ j r at. elim (in_pushed c.loop-k.runs.items c.in-Some.run' j r (ap (λ (l : List Run). slice_get l j) (sym pushed) ∙ at)) [
         | inl old ↦ so_far.form j r old
