@@ -14,6 +14,9 @@ use Rattle.fault_core.specs.Kill.{BreaksWithin}
 use Rattle.fault_core.specs.Reach.{Reaches, ReachHalts}
 use Rattle.fault_core.specs.View.{View, kept_by}
 use Rattle.space_calls.specs.Unmapping.{Reshapes}
+use Rattle.space_tables.specs.declared.shown.Shown.{Shown}
+use Rattle.space_tables.specs.Shows.{IsShownAt}
+use Rattle.table_calls.specs.Answers.{TablesSay}
 use Rattle.space_calls.specs.Halts.{After, ChangeHalts, OnFileHalts, PathHalts, SightHalts, TakeWindowHalts}
 
 -- ---- What is done to a file.
@@ -56,11 +59,12 @@ MapNewHalts id count v w e = PathHalts v w e ⊎ After Reaches (λ u x e. NewFil
 
 -- the window of a space is taken away, and then the file that it showed is removed, if it came with it
 abbrev pub UnmapHalts : ℕ → ℕ → View → View → Halt → Type 0
-UnmapHalts space count v w e = TakeWindowHalts space count v w e ⊎ After Reshapes (λ u x e. (id : ℕ) × OnFileHalts id (RemoveHalts id) u x e) v w e
+UnmapHalts space count v w e =
+    TakeWindowHalts space count v w e ⊎ ((shown : Shown) × TablesSay v (λ b. IsShownAt b space) shown × After Reshapes (OnFileHalts shown.id (RemoveHalts shown.id)) v w e)
 
 -- ---- The session's end.
 
--- the next temporary file is searched for, looked up, and removed
+-- a next file is searched for, and one is looked up, and removed
 abbrev pub ClearHalts : View → View → Halt → Type 0
 ClearHalts v w e = MapHalts v.layout v.disk v.slots w.disk e ⊎ After Reaches (λ u x e. (id : ℕ) × OnFileHalts id (RemoveHalts id) u x e) v w e
 

@@ -5,7 +5,8 @@ use Rattle.flat_machine.specs.declared.call.Refusal.{Refusal}
 use Rattle.flat_machine.specs.Refusal.{first_of}
 use Rattle.projection_laws.specs.Tests.{window_row}
 use Rattle.space_tables.specs.declared.shown.Shown.{Shown}
-use Rattle.table_calls.specs.Answers.{Tells}
+use Rattle.space_tables.specs.Shows.{IsShownAt}
+use Rattle.table_calls.specs.Answers.{TablesSay, Tells}
 use Rattle.space_calls.specs.Unmapping.{IsGivenUp, IsRefused, IsTaken}
 use Rattle.space_calls.proofs.RunLemmas.{reached_makes}
 use Rattle.running_words.specs.Running.{Runs}
@@ -15,7 +16,7 @@ use Rattle.pilot_engine.proofs.LiftLemmas.{asked_passes, carried_out, refused_ru
 use Rattle.pilot_engine.proofs.PassThen.{quiet_then}
 use Rattle.pilot_engine.proofs.WroteLemmas.{rose_behind, wrote_by, wrote_then}
 use Rattle.fault_core.specs.Core.{state}
-use Rattle.space_calls.proofs.RangeLemmas.{fault_halt}
+use Rattle.space_calls.proofs.RangeLemmas.{fault_halt, given_so}
 use Rattle.space_calls.specs.Ranges.{BreaksWindow}
 use Rattle.pilot_engine.proofs.session.SessionOver.unmap.Goals as goal
 
@@ -172,7 +173,11 @@ pub returns-in-Err-clause-cause : goal.returns-in-Err-clause-cause
 returns-in-Err-clause-cause g c = inl c.in-Err.ensures.cause
 
 pub returns-in-Err-delete_unseen-clause-cause : goal.returns-in-Err-delete_unseen-clause-cause
-returns-in-Err-delete_unseen-clause-cause g c = inr (state c.take_window.new.core, c.take_window.ensures.reshapes, (c.in-Ok-Ok.shown.id, c.in-Err-delete_unseen.ensures.cause))
+returns-in-Err-delete_unseen-clause-cause g c = inr (
+  c.in-Ok-Ok.shown,
+  given_so (TablesSay (state c.args.self.now.core) (λ b. IsShownAt b c.args.space)) c.in-Ok-Ok.shown c.in-Ok-Ok.field-0 c.in-Ok-Ok.field-0-is c.in-Ok-Ok.ensures.read,
+  (state c.take_window.new.core, c.take_window.ensures.reshapes, c.in-Err-delete_unseen.ensures.cause),
+)
 
 pub returns-in-Err-wait-clause-cause : goal.returns-in-Err-wait-clause-cause
 returns-in-Err-wait-clause-cause g c =
