@@ -9,6 +9,7 @@ use Rattle.labelled_disk.specs.Sectors.{Sector}
 use Rattle.labelled_disk.specs.State.{DiskState}
 use Rattle.swapper_kernel.specs.declared.manager.Manager.TheVariants.{AllocationMap}
 use Rattle.swapper_kernel.specs.Goes.{Goes, no_page}
+use Rattle.swapper_kernel.specs.Homes.{IsLayout}
 use Rattle.swapper_kernel.specs.Halts.{Halts}
 use Rattle.swapper_kernel.specs.Maps.{IsMapHome}
 use Rattle.swapper_kernel.specs.Window.{Beside}
@@ -17,7 +18,7 @@ use Rattle.volume_root.specs.RootPage.{root_in, root_write}
 use Rattle.file_manager.specs.Grounds.{MakeHalts}
 use Rattle.file_manager.specs.Making.{MakesAll}
 use Rattle.fault_core.specs.Reach.{ReachHalts, no_break}
-use Rattle.fault_core.specs.View.{View}
+use Rattle.fault_core.specs.View.{View, kept_by}
 use Rattle.space_calls.specs.Halts.{After}
 use Rattle.pilot_engine.specs.declared.fault.StartFault.{StartFault}
 use Rattle.pilot_engine.specs.declared.fault.StartFault.TheVariants.{Root as NoRoot, NoMemory, Halt as Halted}
@@ -53,13 +54,15 @@ StartHalts root v w e =
     ((e ≡ halt.Disk) × Rose v.disk.faults w.disk.faults)
     ⊎ After (Rooted root) (λ u x e. CountHalts u x e ⊎ After Counted (λ y x e. MakeTablesHalts y x e ⊎ After TablesMade TablesHalts y x e) u x e) v w e
 
--- Such a halt, from the disk as the reading of its root left it, with no frame over it, to this one.
+-- Such a halt, from the disk as the reading of its root left it, with its own layout, no frame over it and no run kept, to this one.
 pub record IsStartHalt (old new : DiskState) (e : Halt) : Type 0 where
   pub root : Root
   pub told : (d : List Sector) → old.contents ≡ Some d → root ≡ root_in (root_page d)
   pub before : View
   pub read : ReadsAtMost 1 old before.disk
+  pub laid : IsLayout before.layout × (before.layout.sectors ≡ old.sectors)
   pub bare : IsBare before.slots
+  pub no_runs : kept_by before ≡ []
   pub after : View
   pub left : after.disk ≡ new
   pub halts : StartHalts root before after e

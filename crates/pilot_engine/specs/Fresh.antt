@@ -1,5 +1,5 @@
 -- How a session starts on a volume that is made for it.
-use Rattle.std.specs.Prelude.{◌≡◌, ◌⊎◌, ℕ, true, List, length, Some}
+use Rattle.std.specs.Prelude.{◌≡◌, ◌⊎◌, ℕ, true, List, [], length, Some}
 use Rattle.labelled_disk.specs.declared.evidence.Halt.{Halt}
 use Rattle.labelled_disk.specs.declared.evidence.Halt.TheVariants as halt
 use Rattle.labelled_disk.specs.declared.layout.RootFault.TheVariants as fault
@@ -10,7 +10,8 @@ use Rattle.labelled_disk.specs.State.{DiskState}
 use Rattle.labelled_disk.specs.WriteRuns.{Appended}
 use Rattle.volume_root.specs.Format.{format_writes, formatted, new_root, PartMade}
 use Rattle.volume_root.specs.Later.{IsLater}
-use Rattle.fault_core.specs.View.{View}
+use Rattle.swapper_kernel.specs.Homes.{IsLayout}
+use Rattle.fault_core.specs.View.{View, kept_by}
 use Rattle.pilot_engine.specs.Beginning.{StartHalts}
 use Rattle.pilot_engine.specs.Opening.{IsBare, WroteFirst}
 use Rattle.pilot_engine.specs.declared.fault.StartFault.{StartFault}
@@ -41,11 +42,13 @@ pub record WroteOnNew (old new : DiskState) : Type 0 where
   pub wrote : WroteFirst made new
   pub root : wrote.root ≡ new_root old.sectors 1 1
 
--- A start on a new volume, with its root and no frame over it, halted so.
+-- A start on a new volume, with its root and its layout, no frame over it and no run kept, halted so.
 pub record IsNewStartHalt (old new : DiskState) (e : Halt) : Type 0 where
   pub before : View
   pub volume : MadeVolume old before.disk
+  pub laid : IsLayout before.layout × (before.layout.sectors ≡ old.sectors)
   pub bare : IsBare before.slots
+  pub no_runs : kept_by before ≡ []
   pub after : View
   pub left : after.disk ≡ new
   pub halts : StartHalts (new_root old.sectors 1 1) before after e

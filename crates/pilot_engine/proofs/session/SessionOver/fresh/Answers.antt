@@ -1,6 +1,8 @@
-use Rattle.std.proofs.Common.{◌≡◌, inl, inr, [], refl}
+use Rattle.std.proofs.Common.{◌≡◌, inl, inr, ℕ, [], refl, sym, ap, ◌∙◌}
 use Rattle.labelled_disk.specs.declared.evidence.Halt.TheVariants as halt
+use Rattle.labelled_disk.specs.declared.layout.Layout.{Layout}
 use Rattle.labelled_disk.specs.Layout.{capacity}
+use Rattle.filer_kernel.specs.Cached.{runs_of}
 use Rattle.flat_machine.specs.Start.{opened}
 use Rattle.fault_core.specs.View.{view_of}
 use Rattle.running_words.specs.Running.{IsRunning}
@@ -64,10 +66,14 @@ returns-in-Err-begin-clause-cause g c =
     let root = rw c.in-Ok.ensures.under at given.root in
     let volume = rw c.in-Ok.ensures.under at given.made in
     let bare : IsBare c.make_volume.new.filer.swapper.pool = rw given.frames c.in-Ok.ensures.bare in
+    let same : c.make_volume.new.filer.swapper.layout.sectors ≡ (g.D.Disk.state c.args.disk).sectors = ap (λ (l : Layout). l.sectors) given.layout ∙ sym (rw c.in-Ok.ensures.under at c.in-Ok.ensures.size) in
+    let runs : (n : ℕ) → runs_of n c.make_volume.new.filer.runs ≡ [] = rw given.runs c.in-Ok.ensures.no_runs in
     rw c.into_disk-in-Err-begin.ensures (inr (record {
       before = view_of c.make_volume.new.filer;
       volume = volume;
+      laid = (c.make_volume.new.filer.swapper.accepted, same);
       bare = bare;
+      no_runs = runs c.make_volume.new.filer.swapper.layout.sectors;
       after = view_of c.begin.new.filer;
       left = refl;
       halts = rw root at c.in-Err-begin.ensures.cause;
