@@ -9,12 +9,11 @@ use Rattle.labelled_disk.specs.Root.{counter_of, root_page, short_at}
 use Rattle.labelled_disk.specs.Sectors.{Sector}
 use Rattle.labelled_disk.specs.State.{DiskState}
 use Rattle.labelled_disk.specs.WriteRuns.{after_writes}
-use Rattle.labelled_disk.proofs.WriteRunLemmas.{after_writes-append, appended_then, moment-earlier}
+use Rattle.labelled_disk.proofs.WriteRunLemmas.{appended_then, moment-earlier, moment-later}
 use Rattle.flat_machine.specs.declared.call.Call.{Call}
 use Rattle.flat_machine.specs.declared.call.Call.TheVariants as call
 use Rattle.flat_machine.specs.Machine.{Machine}
 use Rattle.flat_machine.specs.Next.{next}
-use Rattle.file_manager.proofs.UpTo.{take_past}
 use Rattle.session_words.specs.StandsFor.{TellsSettled}
 use Rattle.running_words.specs.Stages.{HasNumbers, Passes, stage, last_step}
 
@@ -27,10 +26,6 @@ then_low n first later k low = let a : nat_le k n ≡ true = grind (arith, nat_t
 
 then_high : (n : ℕ) (first later : ℕ → ℕ) (k : ℕ) → n < k → steps_then n first later k ≡ later (k - n)
 then_high n first later k high = let a : nat_le k n ≡ false = grind (arith, nat_tests) in ap (λ (b : Bool). cond b (first k) (later (k - n))) a
-
--- later moments begin where the earlier writes end
-later_moment : (d : List Sector) (first next : List DiskWrite) (j : ℕ) → moment d (first ++ next) (length first + j) ≡ moment (after_writes first d) next j
-later_moment d first next j = ap (λ (ws : List DiskWrite). after_writes ws d) (take_past first next j) ∙ sym (after_writes-append first (take j next) d)
 
 -- Two calls, each step of which is one of a third call.
 pub record AreParts (m n : Machine) (first later whole : Call) (one two : ℕ → ℕ) : Type 0 where
@@ -83,7 +78,7 @@ module _ {old mid new : DiskState} (m n : Machine) (a b c : Call) (one two : ℕ
     told_mid = first.appended.contents ∙ ap (option_map (after_writes first.writes)) told
 
     at_later : count < k → moment d (first.writes ++ later.writes) k ≡ moment (after_writes first.writes d) later.writes (k - count)
-    at_later past = let at : k ≡ count + (k - count) = omega (arith, past) in ap (moment d (first.writes ++ later.writes)) at ∙ later_moment d first.writes later.writes (k - count)
+    at_later past = let at : k ≡ count + (k - count) = omega (arith, past) in ap (moment d (first.writes ++ later.writes)) at ∙ moment-later d first.writes later.writes (k - count)
 
     at_moment : TellsSettled (moment d (first.writes ++ later.writes) k) (stage m c (step k))
     at_moment = elim (cases_lt count k) [

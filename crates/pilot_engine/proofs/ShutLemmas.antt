@@ -14,7 +14,7 @@ use Rattle.labelled_disk.specs.Runs.{IsWriteInForm}
 use Rattle.labelled_disk.specs.Sectors.{Sector}
 use Rattle.labelled_disk.specs.State.{DiskState}
 use Rattle.labelled_disk.specs.WriteRuns.{after_writes}
-use Rattle.labelled_disk.proofs.WriteRunLemmas.{appended_no_more, appended_none, appended_one, appended_then, moment-earlier}
+use Rattle.labelled_disk.proofs.WriteRunLemmas.{appended_no_more, appended_none, appended_one, appended_then, moment-earlier, moment-later}
 use Rattle.frame_pool.specs.Frames.{Slots}
 use Rattle.swapper_kernel.specs.Goes.{IsDirty, Makes, Pages, Went, is_page_write}
 use Rattle.swapper_kernel.specs.GoesLaws.{went_then}
@@ -27,7 +27,6 @@ use Rattle.file_manager.proofs.RootForm.{root_in_form}
 use Rattle.running_words.specs.Session.{AreOpen, Wrote, WroteIn}
 use Rattle.running_words.proofs.FlagLemmas.{append_open, open_writes}
 use Rattle.pilot_engine.specs.Closing.{ShutLast, WroteAny, WroteOn, closed_root}
-use Rattle.pilot_engine.proofs.StopLemmas.{later_moment}
 
 -- none of the writes of a call sets the clean flag
 pub writes_open : {pages : Pages} {a b : DiskState} {s t : Slots} (h : WroteIn pages a s b t) → AreOpen h.makes.wrote.writes
@@ -60,7 +59,7 @@ module _ {run more : List DiskWrite} {a b c : DiskState} {s t u : Slots} (h : Ma
   joined_lawful : (d : List Sector) (i : ℕ) (w : DiskWrite) → a.contents ≡ Some d → slice_get (h.wrote.writes ++ k.wrote.writes) i ≡ Some w → Lawful (moment d (h.wrote.writes ++ k.wrote.writes) i) w
   joined_lawful d i w told at = elim (get_append h.wrote.writes k.wrote.writes i w at) [
     | inl (below, here) ↦ subst (λ (now : List Sector). Lawful now w) (sym (moment-earlier d h.wrote.writes k.wrote.writes i (omega arith))) (h.wrote.lawful d i w told here)
-    | inr (j, past, here) ↦ subst (λ (now : List Sector). Lawful now w) (sym (ap (moment d (h.wrote.writes ++ k.wrote.writes)) past ∙ later_moment d h.wrote.writes k.wrote.writes j))
+    | inr (j, past, here) ↦ subst (λ (now : List Sector). Lawful now w) (sym (ap (moment d (h.wrote.writes ++ k.wrote.writes)) past ∙ moment-later d h.wrote.writes k.wrote.writes j))
         (k.wrote.lawful (after_writes h.wrote.writes d) j w (h.wrote.appended.contents ∙ ap (option_map (after_writes h.wrote.writes)) told) here)
   ]
 

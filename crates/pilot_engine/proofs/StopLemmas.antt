@@ -20,7 +20,7 @@ use Rattle.labelled_disk.specs.State.{DiskState}
 use Rattle.labelled_disk.specs.WriteRuns.{after_writes}
 use Rattle.labelled_disk.proofs.Finds.{get_set_other}
 use Rattle.labelled_disk.proofs.WriteLemmas.{first_positive}
-use Rattle.labelled_disk.proofs.WriteRunLemmas.{after_writes-append, appended_then, appended_no_more, moment-earlier, moment-end}
+use Rattle.labelled_disk.proofs.WriteRunLemmas.{appended_then, appended_no_more, moment-earlier, moment-end, moment-later}
 use Rattle.label_laws.specs.MixedVolumes.{label_count}
 use Rattle.frame_pool.specs.Frames.{Slots}
 use Rattle.flat_machine.specs.Settled.{Agrees, settled, settled_file}
@@ -36,7 +36,6 @@ use Rattle.session_words.specs.Volume.{volume_page}
 use Rattle.session_words.proofs.LooseLemmas.{stands_is_settled}
 use Rattle.session_words.proofs.RunStopLemmas.{run_stops}
 use Rattle.session_words.proofs.SettledLemmas.{settled_is_told}
-use Rattle.file_manager.proofs.UpTo.{take_past}
 use Rattle.file_manager.specs.declared.attributes.Attributes.{Attributes}
 use Rattle.file_manager.specs.Attributes.{IsAttributesOf}
 use Rattle.file_manager.specs.Deleting.{AreOfDeleted, DeletesFirst}
@@ -48,10 +47,6 @@ use Rattle.running_words.specs.Session.{AreInForm}
 use Rattle.running_words.proofs.StageLemmas.{begun, same_labels}
 
 -- Writes in a row.
-
--- later moments begin where the earlier writes end
-pub later_moment : (d : List Sector) (first next : List DiskWrite) (j : ℕ) → moment d (first ++ next) (length first + j) ≡ moment (after_writes first d) next j
-later_moment d first next j = ap (λ (ws : List DiskWrite). after_writes ws d) (take_past first next j) ∙ sym (after_writes-append first (take j next) d)
 
 module _ (P : List Sector → Type 0) where
   -- the last moment
@@ -71,7 +66,7 @@ module _ (P : List Sector → Type 0) where
     each = λ d j told. elim (cases_lt (length h.writes) j) [
       | inl past ↦
           let at : j ≡ length h.writes + (j - length h.writes) = omega (arith, past) in
-          subst P (sym (ap (moment d (h.writes ++ k.writes)) at ∙ later_moment d h.writes k.writes (j - length h.writes)))
+          subst P (sym (ap (moment d (h.writes ++ k.writes)) at ∙ moment-later d h.writes k.writes (j - length h.writes)))
           (k.each (after_writes h.writes d) (j - length h.writes) (h.appended.contents ∙ ap (option_map (after_writes h.writes)) told))
       | inr few ↦ subst P (sym (moment-earlier d h.writes k.writes j few)) (h.each d j told)
     ];
