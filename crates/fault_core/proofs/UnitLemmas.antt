@@ -1,8 +1,7 @@
 -- The swap unit of a page as a run of a file's pages, and what is resident of it.
-use Rattle.std.proofs.Common.{◌≡◌, ◌≢◌, ◌⊎◌, inl, inr, ℕ, ◌+◌, ◌-◌, ◌<◌, ◌≤◌, true, false, ◌↔◌, List, refl, sym, ◌∙◌, subst, arith}
-use Rattle.std.proofs.lemmas.Bool.{cases_lt, true≢false}
+use Rattle.std.proofs.Common.{◌≡◌, ◌≢◌, ◌⊎◌, inl, inr, ℕ, ◌+◌, ◌-◌, ◌<◌, ◌≤◌, List, refl, sym, ◌∙◌, subst, arith}
 use Rattle.labelled_disk.specs.Sectors.{Sector}
-use Rattle.frame_pool.specs.Frames.{Slots, IsNowhere}
+use Rattle.frame_pool.specs.Frames.{Slots}
 use Rattle.file_map.specs.FileMap.{Triples}
 use Rattle.swap_units.specs.declared.interval.Interval.{Interval}
 use Rattle.swap_units.specs.Unit.{Holds, IsUnit, IsAmong, LiesIn}
@@ -52,29 +51,3 @@ module _ {x : Interval} {page : ℕ} {run : ℕ × ℕ} (h : IsUnitRun x page ru
 
 pub own_unit : (x : Interval) (page : ℕ) → Holds x page → InUnit x page page
 own_unit x page holds = (holds, refl)
-
--- ---- Pages that are looked for in the frames, one after the other.
-
-pub record IsResidentUpto (s : Slots) (id first pages k : ℕ) : Type 0 where
-  pub below : k ≤ pages
-  pub there : AreResident s id first k
-
-pub upto_none : (s : Slots) (id first pages : ℕ) → IsResidentUpto s id first pages 0
-upto_none s id first pages = record { below = omega arith; there = λ j below. absurd (omega (arith, below)) }
-
-pub upto_more : {s : Slots} {id first pages k : ℕ} → IsResidentUpto s id first pages k → k < pages → IsResident s id (first + k) → IsResidentUpto s id first pages (k + 1)
-upto_more {s = s} {id = id} {first = first} {k = k} h below one = record {
-  below = omega (arith, below);
-  there = λ j under. elim (cases_lt j k) [
-    | inl less ↦ h.there j less
-    | inr from ↦ let same : k ≡ j = omega (arith, from, under) in subst (λ (n : ℕ). IsResident s id (first + n)) same one
-  ];
-}
-
-pub upto_stopped : (s : Slots) (id first pages k : ℕ) → k < pages → IsNowhere s id (first + k) → false ≡ true ↔ AreResident s id first pages
-upto_stopped s id first pages k below nowhere = (λ e. absurd (true≢false (sym e)), λ all. let at = all k below in absurd (nowhere at.0 at.1.0 at.1.1 at.1.2.0 at.1.2.1))
-
-pub upto_all : {s : Slots} {id first pages k : ℕ} → IsResidentUpto s id first pages k → pages ≤ k → true ≡ true ↔ AreResident s id first pages
-upto_all {s = s} {id = id} {first = first} h past =
-    let below = h.below in
-    (λ e. subst (AreResident s id first) (omega (arith, below, past)) h.there, λ all. refl)

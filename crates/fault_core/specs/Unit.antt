@@ -3,6 +3,7 @@ use Rattle.std.specs.Prelude.{◌≡◌, ◌⊎◌, ◌≢◌, ℕ, ◌+◌, ◌
 use Rattle.labelled_disk.specs.Sectors.{Sector}
 use Rattle.frame_pool.specs.declared.home.Home.{Home}
 use Rattle.frame_pool.specs.Frames.{Slots, HasPage, IsWithin}
+use Rattle.frame_pool.specs.Runs.{IsThere, HasRun}
 use Rattle.file_map.specs.FileMap.{Triples}
 use Rattle.flat_machine.specs.declared.space.Space.{Space}
 use Rattle.flat_machine.specs.declared.space.FilePage.{FilePage}
@@ -24,7 +25,7 @@ InUnit x page other = Holds x other × (block_of x other ≡ block_of x page)
 
 -- a slot has the file's page
 abbrev pub IsResident : Slots → ℕ → ℕ → Type 0
-IsResident slots id page = (i : ℕ) × HasPage slots i id page
+IsResident slots id page = IsThere slots id page
 
 -- each page that is resident stays so
 abbrev pub KeepsResident : Slots → Slots → Type 0
@@ -32,7 +33,7 @@ KeepsResident before after = (id page : ℕ) → IsResident before id page → I
 
 -- so many pages of the file, from the first one on, are resident
 abbrev pub AreResident : Slots → ℕ → ℕ → ℕ → Type 0
-AreResident slots id first pages = (j : ℕ) → j < pages → IsResident slots id (first + j)
+AreResident slots id first pages = HasRun slots id first pages
 
 -- the whole swap unit of the page is resident
 abbrev pub IsWhole : Slots → Interval → ℕ → Type 0

@@ -23,7 +23,6 @@ ghost use Rattle.fault_core.specs.Lack.{LacksPage, run_pages};
 use crate::homes::Homes;
 use crate::search::homes_of;
 use filer_kernel::FilerOver;
-use frame_pool::FramePool;
 use labelled_disk::{Disk, FileId, Halt};
 use std::alloc::Allocator;
 use swap_units::{Interval, unit_of};
@@ -39,21 +38,7 @@ pub(crate) fn unit_run(x: &Interval, page: u32) -> (u32, u32)
     (x.page + (first - x.first), pages)
 }
 
-// Whether pages in a row of a file are all resident.
-fn are_resident<A: Allocator>(frames: &FramePool<A>, id: FileId, first: u32, pages: u32) -> bool
-    requires fits { first + pages ≤ 2 ^ 32 }
-    ensures { result ≡ true ↔ AreResident frames.now id first pages }
-{
-    for k in 0..pages {
-        match frames.find(id, first + k) {
-            Some(_slot) => (),
-            None => return false,
-        }
-    }
-    true
-}
-
-/// The same of a filer's frames.
+/// Whether pages in a row of a file are all resident.
 pub(crate) fn is_there<D: Disk, A: Allocator>(
     filer: &mut FilerOver<D, A>,
     id: FileId,
@@ -64,7 +49,7 @@ pub(crate) fn is_there<D: Disk, A: Allocator>(
     ensures there { result ≡ true ↔ AreResident filer.old.swapper.pool id first pages }
     ensures same { filer.new ≡ filer.old }
 {
-    are_resident(filer.swapper_over().frames(), id, first, pages)
+    filer.swapper_over().has_run(id, first, pages)
 }
 
 /// The slot of a page that is resident.

@@ -5,5 +5,6 @@ pub mod KeptLemmas
 pub mod LinkLemmas
 pub mod OrderLemmas
 pub mod PoolLemmas
+pub mod RunLemmas
 pub mod SweepLemmas
 pub mod TableLemmas

@@ -5,4 +5,5 @@ pub mod ListLaws
 pub mod Lists
 pub mod Order
 pub mod Pool
+pub mod Runs
 pub mod Table

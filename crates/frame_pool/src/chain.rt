@@ -1,15 +1,16 @@
 //! The index: the slots whose pages are in one bucket, as a chain of falling numbers.
-ghost use Rattle.std.specs.Prelude.{◌≡◌, ◌≢◌, ◌<◌, ◌≤◌, ◌^◌, ℕ, length, true, false, IfSome, Option, Some, None};
+ghost use Rattle.std.specs.Prelude.{◌≡◌, ◌≢◌, ◌<◌, ◌≤◌, ◌+◌, ◌^◌, ◌↔◌, ℕ, length, true, false, IfSome, Option, Some, None};
 ghost use Rattle.frame_pool.specs.Frames.{frame_at, is_of};
 ghost use Rattle.frame_pool.specs.Lists.{IsSized};
 ghost use Rattle.frame_pool.specs.Index.{bucket_of, bucket_at, IsIndex, IsFirstAbove, Puts, KeepsButChains};
+ghost use Rattle.frame_pool.specs.Runs.{HasRun};
 
-use crate::table::Table;
+use crate::table::{Run, Table};
 use labelled_disk::FileId;
 use std::alloc::Allocator;
 
 /// The odd number next to 2^64 divided by the golden ratio: multiplying by it spreads what is close.
-const SPREAD: u64 = 11_400_714_819_323_198_485;
+pub(crate) const SPREAD: u64 = 11_400_714_819_323_198_485;
 
 /// The bucket of a page, among so many.
 #[tactic(auto, unfolding(crate::specs::Index::bucket_of))]
@@ -42,6 +43,22 @@ pub(crate) fn find<A: Allocator>(table: &Table<A>, id: FileId, page: u32) -> Opt
         cursor = table.next(slot);
     }
     None
+}
+
+/// Whether each page of the run is in a slot.
+pub(crate) fn has_run<A: Allocator>(table: &Table<A>, run: &Run) -> bool
+    requires some { 0 < length table.now.frames }
+    requires few { length table.now.frames < 2 ^ 16 }
+    requires indexed { IsIndex (bucket_at table.now.frames) table.now }
+    requires fits { run.now.first + run.now.pages ≤ 2 ^ 32 }
+    ensures { result ≡ true ↔ HasRun table.now.frames run.now.id run.now.first run.now.pages }
+{
+    for k in 0..run.pages {
+        if let None = find(table, run.id, run.first + k) {
+            return false;
+        }
+    }
+    true
 }
 
 /// The slot of the bucket's chain whose link is to lead to this slot, or none where the head is to.

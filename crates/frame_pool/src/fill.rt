@@ -2,8 +2,10 @@
 ghost use Rattle.std.specs.Prelude.{◌≡◌, ◌<◌, length, Some, None, slice_set};
 ghost use Rattle.frame_pool.specs.Frames.{frame_at, new_frame, IsNowhere};
 ghost use Rattle.frame_pool.specs.Pool.{IsPool};
+ghost use Rattle.frame_pool.specs.Runs.{HasRuns};
 
 use crate::chain::{bucket_of, link, unlink};
+use crate::found::Found;
 use crate::home::Home;
 use crate::order::exchange;
 use crate::table::Table;
@@ -32,15 +34,23 @@ pub(crate) fn fill<A: Allocator>(
     empties - 1
 }
 
-/// Empties a slot, and gives the number of empty slots.
-pub(crate) fn clear<A: Allocator>(table: &mut Table<A>, empties: u16, slot: u16) -> u16
+/// Empties a slot, and gives the number of empty slots. The runs that were found are forgotten with a page.
+pub(crate) fn clear<A: Allocator>(
+    table: &mut Table<A>,
+    found: &mut Found,
+    empties: u16,
+    slot: u16,
+) -> u16
     requires pool { IsPool table.old empties }
+    requires runs { HasRuns table.old.frames found.old.runs }
     requires slot { slot < length table.old.frames }
     ensures frames { table.new.frames ≡ slice_set table.old.frames slot None }
     ensures pool { IsPool table.new result }
+    ensures runs { HasRuns table.new.frames found.new.runs }
 {
     match table.held(slot) {
         Some((home, _)) => {
+            found.forget();
             let bucket = bucket_of(home.id, home.page, table.len() as u16);
             unlink(table, bucket, slot);
             exchange(table, slot, empties);

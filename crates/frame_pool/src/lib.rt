@@ -3,6 +3,7 @@
 
 mod chain;
 mod fill;
+mod found;
 mod home;
 mod order;
 mod pool;

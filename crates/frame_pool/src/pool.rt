@@ -1,7 +1,9 @@
 //! The pool of frames: a bounded map from the pages of files to their bytes, homes and dirty marks.
-ghost use Rattle.std.specs.Prelude.{◌≡◌, ◌<◌, ◌≤◌, ◌+◌, ◌↔◌, ℕ, length, IfOk, IfSome, IsSome, Some, None, slice_set, option_map, replicate};
+ghost use Rattle.std.specs.Prelude.{◌≡◌, ◌<◌, ◌≤◌, ◌+◌, ◌^◌, ◌↔◌, ℕ, length, true, IfOk, IfSome, IsSome, Some, None, slice_set, option_map, replicate};
 ghost use Rattle.frame_pool.specs.Frames.{ArePages, Frame, Has, HasDistinct, HasPage, IsEmpty, IsNowhere, IsOutside, IsPageBytes, changed, changed_at, clean, cleaned_at, frame_at, new_frame, shown};
+ghost use Rattle.frame_pool.specs.Runs.{HasRun};
 
+use crate::found::Found;
 use crate::home::Home;
 use crate::sweep::sweep;
 use crate::table::{Run, Table};
@@ -18,17 +20,20 @@ pub struct FramePool<A: Allocator> {
     empties: u16,
     /// Where the next sweep for a victim begins.
     hand: u16,
+    /// Runs of pages that are all there. A slot that is emptied makes them unknown.
+    found: Found,
 }
 
 impl<A: Allocator> Model for FramePool<A> {
     ghost use Rattle.frame_pool.specs.Frames.{Slots};
     ghost use Rattle.frame_pool.specs.Pool.{IsPool};
+    ghost use Rattle.frame_pool.specs.Runs.{HasRuns};
 
     ghost Value = { Slots };
 
     ghost view = { λ p. p.table.frames };
 
-    ghost invariant = { λ p. IsPool p.table p.empties };
+    ghost invariant = { λ p. IsPool p.table p.empties × HasRuns p.table.frames p.found.runs };
 }
 
 impl<A: Allocator> FramePool<A> {
@@ -43,6 +48,7 @@ impl<A: Allocator> FramePool<A> {
             table,
             empties: frames as u16,
             hand: 0,
+            found: Found::none(),
         })
     }
 
@@ -69,6 +75,24 @@ impl<A: Allocator> FramePool<A> {
             Some(slot) => Some(u32::from(slot)),
             None => None,
         }
+    }
+
+    /// Whether pages in a row of a file are all there. That they are is remembered until a slot is emptied, and the run
+    /// is found then at one look.
+    pub fn has_run(&mut self, id: FileId, first: u32, pages: u32) -> bool
+        requires fits { first + pages ≤ 2 ^ 32 }
+        ensures there { result ≡ true ↔ HasRun self.old id first pages }
+        ensures same { self.new ≡ self.old }
+    {
+        let run = Run { id, first, pages };
+        if self.found.has(&run) {
+            return true;
+        }
+        let there = chain::has_run(&self.table, &run);
+        if there {
+            self.found.keep(run);
+        }
+        there
     }
 
     /// The home of the slot's page, and whether the frame is dirty.
@@ -153,6 +177,7 @@ impl<A: Allocator> FramePool<A> {
         ensures value { self.new ≡ slice_set self.old slot None }
         ensures distinct { HasDistinct self.old }
     {
-        self.empties = fill::clear(&mut self.table, self.empties, slot as u16);
+        let found = &mut self.found;
+        self.empties = fill::clear(&mut self.table, found, self.empties, slot as u16);
     }
 }

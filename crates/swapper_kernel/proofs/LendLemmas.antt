@@ -1,5 +1,6 @@
 -- A swapper is its disk, its frames and its layout: what is known of them has one value.
 use Rattle.std.specs.Prelude.{◌≡◌, ◌≤◌, length}
+use Rattle.std.proofs.Common.{sym, subst}
 use Rattle.std.proofs.Math.Nat.{ℕ_set}
 use Rattle.std.specs.Coded.{le_prop}
 use Rattle.labelled_disk.specs.declared.layout.Layout.{Layout}
@@ -21,3 +22,10 @@ pub same_facts : {D A : Type 0} {disk : DiskGhosts D} (under : D) (pool : Slots)
     → ◌≡◌ {A = SwapperOver D A disk} (record { under = under; pool = pool; layout = layout; accepted = a; placed = c; least = e }) (record { under = under; pool = pool; layout = layout; accepted = b; placed = d; least = f })
 same_facts under pool layout a b c d e f i =
     record { under = under; pool = pool; layout = layout; accepted = accepted_once layout a b i; placed = placed_once pool layout c d i; least = least_once pool e f i }
+
+-- where the frames are the same, all is
+pub same_swapper : {D A : Type 0} {disk : DiskGhosts D} (under : D) (pool after : Slots) (layout : Layout) → after ≡ pool → (a b : IsLayout layout) (c : ArePlaced after layout) (d : ArePlaced pool layout) (e : 24 ≤ length after) (f : 24 ≤ length pool)
+    → ◌≡◌ {A = SwapperOver D A disk} (record { under = under; pool = after; layout = layout; accepted = a; placed = c; least = e }) (record { under = under; pool = pool; layout = layout; accepted = b; placed = d; least = f })
+same_swapper {D = D} {A = A} {disk = disk} under pool after layout is a b c d e f =
+    subst (λ (p : Slots). (c : ArePlaced p layout) (e : 24 ≤ length p) → ◌≡◌ {A = SwapperOver D A disk} (record { under = under; pool = p; layout = layout; accepted = a; placed = c; least = e }) (record { under = under; pool = pool; layout = layout; accepted = b; placed = d; least = f }))
+    (sym is) (λ c e. same_facts under pool layout a b c d e f) c e

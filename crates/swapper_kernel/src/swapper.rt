@@ -1,10 +1,11 @@
 //! Frames over a disk, and who holds the disk.
-ghost use Rattle.std.specs.Prelude.{◌≡◌, ◌==◌, ◌≤◌, ◌+◌, ◌<◌, ◌*◌, ℕ, IfOk, IfErr, IsSome, None, length, replicate, slice_set, Some};
+ghost use Rattle.std.specs.Prelude.{◌≡◌, ◌==◌, ◌≤◌, ◌+◌, ◌<◌, ◌*◌, ◌^◌, ◌↔◌, ℕ, true, IfOk, IfErr, IsSome, None, length, replicate, slice_set, Some};
 ghost use Rattle.frame_pool.specs.Frames.{Has, IsEmpty, IsNowhere, HasDistinct, HasPage, frame_at};
+ghost use Rattle.frame_pool.specs.Runs.{HasRun};
 ghost use Rattle.swapper_kernel.specs.Homes.{IsLayout, ArePlaced};
 
 use frame_pool::FramePool;
-use labelled_disk::{Disk, Layout, NoMemory};
+use labelled_disk::{Disk, FileId, Layout, NoMemory};
 use std::alloc::Allocator;
 
 /// Frames over a disk that is held by value. Every call that moves sectors asks that the disk has as many sectors as
@@ -66,6 +67,15 @@ impl<D: Disk, A: Allocator> SwapperOver<D, A> {
         ensures { result.now ≡ self.now.pool }
     {
         &self.pool
+    }
+
+    /// Whether pages in a row of a file are all in frames. That they are is remembered until a frame is given up.
+    pub fn has_run(&mut self, id: FileId, first: u32, pages: u32) -> bool
+        requires fits { first + pages ≤ 2 ^ 32 }
+        ensures there { result ≡ true ↔ HasRun self.old.pool id first pages }
+        ensures same { self.new ≡ self.old }
+    {
+        self.pool.has_run(id, first, pages)
     }
 
     /// Whether the disk has as many sectors as the layout, which every call that moves sectors asks for.

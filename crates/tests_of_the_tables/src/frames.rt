@@ -2,12 +2,15 @@
 ghost use Rattle.std.specs.Prelude.{◌<◌, ◌≤◌, length};
 
 use frame_pool::{FramePool, Home};
-use labelled_disk::{NoMemory, Page};
+use labelled_disk::{FileId, NoMemory, Page};
 use linked_list_allocator::LocalHeap;
 use std::alloc::Allocator;
 use std::test::Fail;
 
 const FRAMES: u32 = 4096;
+
+/// The file of the first 64 homes.
+const FILE: FileId = 0x7_0000_0001;
 
 /// Puts a page into the slot that is given up for it, and gives the slot. There is none where the page is there already.
 fn bring<A: Allocator>(pool: &mut FramePool<A>, home: Home, bytes: &Page) -> Option<u32>
@@ -28,7 +31,7 @@ fn home(number: u32) -> Home
 {
     Home {
         sector: 300 + number,
-        id: 0x7_0000_0001 + u64::from(number / 64),
+        id: FILE + u64::from(number / 64),
         page: number % 64,
     }
 }
@@ -68,6 +71,28 @@ fn four_thousand_pages_are_found_and_given_up_and_brought_in_another_order(
     for number in 0..FRAMES {
         assert_eq!(rt; sector_of(&pool, number), Some(300 + number));
     }
+    Ok(())
+}
+
+#[test]
+fn a_run_is_found_again_until_one_of_its_pages_leaves(rt: HostRuntime) -> Result<(), Fail> {
+    let mut pool = FramePool::with_frames(rt.alloc(), 24)?;
+    for number in 0..16 {
+        assert!(rt; bring(&mut pool, home(number), &[0; 512]).is_some());
+    }
+    for _turn in 0..2 {
+        assert!(rt; pool.has_run(FILE, 0, 16));
+        assert!(rt; pool.has_run(FILE, 3, 13));
+        assert!(rt; !pool.has_run(FILE, 0, 17));
+        assert!(rt; !pool.has_run(FILE + 1, 0, 16));
+    }
+    if let Some(slot) = pool.find(FILE, 7) {
+        pool.clear(slot);
+    }
+    assert!(rt; !pool.has_run(FILE, 0, 16));
+    assert!(rt; pool.has_run(FILE, 0, 7));
+    assert!(rt; bring(&mut pool, home(7), &[0; 512]).is_some());
+    assert!(rt; pool.has_run(FILE, 0, 16));
     Ok(())
 }
 
