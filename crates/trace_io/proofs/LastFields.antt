@@ -1,5 +1,5 @@
 -- The last field of a line is read from all that is left of it.
-use Rattle.std.proofs.Common.{◌≡◌, ◌<◌, ℕ, Bool, true, false, eqb, List, [], ◌∷◌, length, get_or, Option, Some, None, refl, sym, ap, ◌∙◌, arith, inl, inr}
+use Rattle.std.proofs.Common.{◌≡◌, ◌<◌, ℕ, Bool, true, false, List, [], ◌∷◌, length, get_or, Option, Some, None, refl, sym, ap, ◌∙◌, arith, inl, inr}
 use Rattle.std.specs.List.{AllPass, list_all, join_with_byte}
 use Rattle.std.specs.Prelude.{codes}
 use Rattle.std.specs.Char.{is_ascii_digit}
@@ -10,7 +10,7 @@ use Rattle.std.proofs.lemmas.List.Sums.{AllPass-from_list_all}
 use Rattle.std.proofs.lemmas.Slice.Eq.{bytes_eq-Decides}
 use Rattle.hex.specs.Hex.{decode_sized, is_hex_digit}
 use Rattle.hex.proofs.HexLemmas.{decode_of-ok, decode_sized-ok, decode_sized-twice}
-use Rattle.trace_io.specs.Grammar.{is_plain, value_of, number_of, id_of, bytes_of, count_of, type_of, mode_of, both, only_id, only_number, number_and_type, id_and_number, two_numbers, number_and_mode, number_and_count, number_and_bytes, place, window, words_of, ◌>>=◌}
+use Rattle.trace_io.specs.Grammar.{is_plain, number_of, id_of, bytes_of, count_of, type_of, mode_of, both, only_id, only_number, number_and_type, id_and_number, two_numbers, number_and_mode, number_and_count, number_and_bytes, place, window, words_of, ◌>>=◌}
 use Rattle.trace_io.proofs.Cuts.{split_none}
 use Rattle.trace_io.proofs.WordLemmas.{words_some}
 use Rattle.trace_io.proofs.DigitLemmas.{bytes_of-some}
