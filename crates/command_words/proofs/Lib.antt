@@ -4,6 +4,7 @@ pub mod NameLemmas
 pub mod OptionLemmas
 pub mod PlainLemmas
 pub mod RangeLemmas
+pub mod FoundLemmas
 pub mod ReadingLemmas
 pub mod RefusalLemmas
 pub mod Walks

@@ -1,13 +1,15 @@
--- Plain words mean what they say, and words mean one command at most.
-use Rattle.std.proofs.Common.{◌≡◌, ◌∙◌, ap, sym, refl, List, [], ◌∷◌, arith, length, map, get_or}
+-- Plain words mean what they say, words mean one command at most, and its numbers are in range.
+use Rattle.std.proofs.Common.{◌≡◌, ◌∙◌, ◌≤◌, ap, sym, refl, subst, true, codes, List, [], ◌∷◌, arith, length, map, get_or}
 use Rattle.clap.specs.Words.{Row, Text, matches_of, takes}
 use Rattle.command_words.specs.Meaning.{AreMeant, number_in}
-use Rattle.command_words.specs.Options.{NumberOption, name_of, options_of, parser_of}
+use Rattle.command_words.specs.Options.{AreInRange, IsInRange, NumberOption, calls, counter, frames, name_of, options_of, parser_of, parser_with, seed, serial}
 use Rattle.command_words.specs.Plain.{ArePlain, flat, said}
 use Rattle.command_words.specs.declared.words.Command.{Command}
 use Rattle.command_words.specs.declared.words.Command.TheVariants as command
-use Rattle.command_words.proofs.OptionLemmas.{has_options}
+use Rattle.command_words.proofs.FoundLemmas.{number_bounded, taken_bounded}
+use Rattle.command_words.proofs.OptionLemmas.{IsOf, calls_of_trial, counter_of_format, frames_of_run, frames_of_trial, has_options, seed_of_trial, serial_of_format}
 use Rattle.command_words.proofs.PlainLemmas.{number_said, pairs_taken}
+use Rattle.command_words.proofs.Walks.{IsPlainApp}
 
 same_numbers : (rows : List Row) (pairs : List (Text × Text)) → ((o : NumberOption) → number_in rows o ≡ said pairs o) → (options : List NumberOption)
     → map (number_in rows) options ≡ map (said pairs) options
@@ -37,3 +39,29 @@ one_meaning texts (command.Format s k) (command.Format t l) a b = let e : s ∷ 
 one_meaning texts command.Scavenge command.Scavenge a b = refl
 one_meaning texts (command.Trial s n f) (command.Trial t m g) a b = let e : s ∷ n ∷ f ∷ [] ≡ t ∷ m ∷ g ∷ [] = a.numbers ∙ sym b.numbers in cc
 one_meaning texts c d a b = let e = ap length (same_name texts (name_of c) (name_of d) a.named.0 b.named.0 a.named.1 b.named.1) in absurd (omega (arith, e))
+
+-- the number of an option, in texts that are taken
+number_in_range : (name : Text) (options : List NumberOption) (o : NumberOption) → IsPlainApp (parser_with name options) → IsOf options o → (texts : List Text)
+    → takes (parser_with name options) texts ≡ true
+    → (o.least ≤ number_in (matches_of (parser_with name options) texts) o) × (number_in (matches_of (parser_with name options) texts) o ≤ o.most)
+number_in_range name options o app of texts taken = number_bounded o _ (taken_bounded o name options app of.one texts taken) of.low of.high
+
+-- each number of a command that texts mean is in its range
+pub meant_in_range : (texts : List Text) (c : Command) → AreMeant texts c → IsInRange c
+meant_in_range texts (command.Run n) meant =
+    let app = (has_options (command.Run n)).plain in
+    let f = number_in_range (codes "run") (frames ∷ []) frames app frames_of_run texts meant.taken in
+    subst (AreInRange (frames ∷ [])) (sym meant.numbers) (f.0, f.1, tt)
+meant_in_range texts (command.Format s k) meant =
+    let app = (has_options (command.Format s k)).plain in
+    let a = number_in_range (codes "format") (serial ∷ counter ∷ []) serial app serial_of_format texts meant.taken in
+    let b = number_in_range (codes "format") (serial ∷ counter ∷ []) counter app counter_of_format texts meant.taken in
+    subst (AreInRange (serial ∷ counter ∷ [])) (sym meant.numbers) (a.0, a.1, (b.0, b.1, tt))
+meant_in_range texts command.Scavenge meant = tt
+meant_in_range texts (command.Trial s n f) meant =
+    let app = (has_options (command.Trial s n f)).plain in
+    let options = seed ∷ calls ∷ frames ∷ [] in
+    let a = number_in_range (codes "trial") options seed app seed_of_trial texts meant.taken in
+    let b = number_in_range (codes "trial") options calls app calls_of_trial texts meant.taken in
+    let d = number_in_range (codes "trial") options frames app frames_of_trial texts meant.taken in
+    subst (AreInRange options) (sym meant.numbers) (a.0, a.1, (b.0, b.1, (d.0, d.1, tt)))

@@ -43,7 +43,11 @@ pub(crate) enum Verb {
 fn named(word: &[u8], name: &[u8], verb: Verb) -> Option<Verb>
     ensures { result ≡ (if bytes_eq word.now name.now then Some verb else None) }
 {
-    if word == name { Some(verb) } else { None }
+    if word.len() == name.len() && word == name {
+        Some(verb)
+    } else {
+        None
+    }
 }
 
 fn verb_of(word: &[u8]) -> Option<Verb>

@@ -171,25 +171,22 @@ impl Lines {
         let scan = take_line(source, &mut self.buffer, self.limit - self.taken);
         self.taken += scan.size;
         match scan.end {
-            Ending::Feed => {
-                self.taken += 1;
-                line_in(&self.buffer, scan.size)
-            }
+            Ending::Feed => self.taken += 1,
             Ending::Source => {
                 self.stopped = Some(Stop::End);
                 if scan.size == 0 {
                     return Line::End;
                 }
-                line_in(&self.buffer, scan.size)
             }
             Ending::Fault => {
                 self.stopped = Some(Stop::ReadFault);
-                Line::ReadFault
+                return Line::ReadFault;
             }
             Ending::Room => {
                 self.stopped = Some(Stop::Long);
-                Line::Long
+                return Line::Long;
             }
         }
+        line_in(&self.buffer, scan.size)
     }
 }
