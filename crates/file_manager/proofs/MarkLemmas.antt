@@ -262,6 +262,11 @@ stopped_makes old mid new before between after sector mark first frames (inr (la
 stopped_makes old mid new before between after sector mark first frames (inr (label, _, inr made)) =
     inr (sector, label, subst (λ (q : Slots). Makes volume_page (LabelOnly sector (with_mark mark label) ∷ []) old before new q) (sym frames) (makes_then first (makes_wider volume_page (λ i p no. absurd no) made)))
 
+-- the disk has as many sectors
+pub marked_sectors : (mark : Mark) (old new : DiskState) (before after : Slots) → WritesMark mark old before new after → new.sectors ≡ old.sectors
+marked_sectors mark old new before after (inl none) = none.went.sectors
+marked_sectors mark old new before after (inr made) = made.2.went.sectors
+
 -- the leader of a file has a label that names it
 pub leader_one : (layout : Layout) (runs : List Run) (shapes : Shapes) (x : List Sector) (b : IsBooked layout runs shapes x) (id sector : ℕ) → 16 ≤ id → IsTriple (labels_of x) id leader_page sector → HasOne (ones_of (record { id = id; page = leader_page })) x sector
 leader_one layout runs shapes x b id sector some t =

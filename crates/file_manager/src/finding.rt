@@ -17,7 +17,7 @@ ghost use Rattle.file_manager.specs.Grounds.{KeepsMap, MakesFor, IsUnframed};
 ghost use Rattle.file_manager.specs.Taking.{no_page_of};
 ghost use Rattle.swapper_kernel.specs.declared.manager.Manager.TheVariants.{FileMap};
 ghost use Rattle.swapper_kernel.specs.Window.{Tells, Beside};
-ghost use Rattle.filer_kernel.specs.Evidence.{ShowsSo};
+ghost use Rattle.filer_kernel.specs.Evidence.{MayBeIn, ShowsSo};
 ghost use Rattle.filer_kernel.specs.Causes.{IsGiven};
 ghost use Rattle.filer_kernel.specs.Triples.{MapIs, AreOf, IsOneOf};
 ghost use Rattle.file_map.specs.declared.run.Run.{Run as RunIs};
@@ -52,7 +52,7 @@ fn leader_label<D: Disk, A: Allocator>(
     ensures named { IfOk result (λ label. names label (record { id = id; page = leader_page }) ≡ true) }
     ensures sound { (m : List Sector) → Stands (D.state filer.old.swapper.under) filer.old.swapper.pool m → HasOne (ones_of (record { id = id; page = leader_page })) m sector → IfErr result (λ e. e ≡ halt.Disk) }
     ensures cause { IfErr result (HasCause (IsNotOf sector (record { id = id; page = leader_page }) (D.state filer.old.swapper.under)) (D.state filer.old.swapper.under) (D.state filer.new.swapper.under)) }
-    ensures so { IfErr result (ShowsSo (D.state filer.new.swapper.under)) }
+    ensures so { MayBeIn (D.state filer.old.swapper.under).sectors sector (record { id = id; page = leader_page }) → IfErr result (ShowsSo (D.state filer.new.swapper.under)) }
     ensures same { TellsSame (D.state filer.old.swapper.under) (D.state filer.new.swapper.under) }
     ensures makes { Makes no_page [] (D.state filer.old.swapper.under) filer.old.swapper.pool (D.state filer.new.swapper.under) filer.new.swapper.pool }
     ensures frames { filer.new.swapper.pool ≡ filer.old.swapper.pool }

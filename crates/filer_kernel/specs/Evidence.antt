@@ -1,5 +1,5 @@
 -- What evidence of damage says of a disk, whatever was asked for and why.
-use Rattle.std.specs.Prelude.{◌≡◌, ◌⊎◌, ◌≤◌, false}
+use Rattle.std.specs.Prelude.{◌≡◌, ◌⊎◌, ◌<◌, ◌≤◌, ℕ, false}
 use Rattle.labelled_disk.specs.declared.label.Label.{Label}
 use Rattle.labelled_disk.specs.declared.label.Wanted.{Wanted}
 use Rattle.labelled_disk.specs.declared.evidence.Evidence.{Evidence}
@@ -7,18 +7,29 @@ use Rattle.labelled_disk.specs.declared.evidence.Evidence.TheVariants.{Mismatch,
 use Rattle.labelled_disk.specs.declared.evidence.Halt.{Halt}
 use Rattle.labelled_disk.specs.declared.evidence.Halt.TheVariants.{Disk, Damaged}
 use Rattle.labelled_disk.specs.Label.{is_free, names}
+use Rattle.labelled_disk.specs.Layout.{layout_of}
 use Rattle.labelled_disk.specs.State.{DiskState, HasLabel}
+use Rattle.swapper_kernel.specs.Homes.{IsPlaced, home_at}
 
 -- where a free sector is wanted the label isn't free; elsewhere it doesn't name the wanted page
 abbrev pub IsUnwanted : Label → Wanted → Type 0
 IsUnwanted found wanted = ((wanted ≡ record { id = 0; page = 0 }) × (is_free found ≡ false)) ⊎ (names found wanted ≡ false)
 
--- The disk has that label in that sector, and it is not the wanted one; or the page is one of the file map or of the space
--- tables; or it is one of the space tables or of a client's file.
+-- On a disk of so many sectors the layout lets the wanted page be in this one: a page of a map at its one home there, and
+-- each other page among the data sectors, where a free sector is wanted too.
+abbrev pub MayBeIn : ℕ → ℕ → Wanted → Type 0
+MayBeIn sectors sector wanted = IsPlaced (layout_of sectors) (home_at sector wanted)
+
+-- a page for which the map must have a sector: one of the 96 of the space tables, or of a client's file
+abbrev pub MustBeThere : ℕ → ℕ → Type 0
+MustBeThere id page = ((id ≡ 3) × (page < 96)) ⊎ (16 ≤ id)
+
+-- The disk has that label in that sector, where the layout lets the wanted page be, and it is not the wanted one; or the page
+-- is one of the file map or of the space tables; or it is one that must be there.
 abbrev pub IsSo : DiskState → Evidence → Type 0
-IsSo disk (Mismatch sector wanted found) = HasLabel disk sector found × IsUnwanted found wanted
+IsSo disk (Mismatch sector wanted found) = HasLabel disk sector found × IsUnwanted found wanted × MayBeIn disk.sectors sector wanted
 IsSo disk (Malformed window page) = (window ≡ 2) ⊎ (window ≡ 3)
-IsSo disk (Missing id page) = (id ≡ 3) ⊎ (16 ≤ id)
+IsSo disk (Missing id page) = MustBeThere id page
 
 -- a halt of a call that left the disk so: the disk failed, or what the evidence says is so
 abbrev pub ShowsSo : DiskState → Halt → Type 0

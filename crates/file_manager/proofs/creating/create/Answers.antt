@@ -1,4 +1,4 @@
-use Rattle.std.proofs.Common.{◌≡◌, ◌∙◌, subst, arith, sym}
+use Rattle.std.proofs.Common.{◌≡◌, ◌∙◌, subst, arith, sym, rules}
 use Rattle.std.specs.Prelude.{List, slice_set}
 use Rattle.labelled_disk.specs.Sectors.{Sector, AreSectors}
 use Rattle.swapper_kernel.specs.FormLaws.{memory_in_form}
@@ -16,7 +16,7 @@ use Rattle.file_manager.proofs.NewFile.{created_as, root_stops, map_stop, file_s
 use Rattle.file_manager.proofs.RootForm.{next_is_file, counted_valid, counted_has}
 use Rattle.file_manager.proofs.creating.create.Given as given
 use Rattle.file_manager.proofs.creating.create.Goals.{After-frames_of}
-use Rattle.filer_kernel.specs.EvidenceLaws.{so_of_cut}
+use Rattle.filer_kernel.specs.EvidenceLaws.{fits, so_of_cut}
 use Rattle.file_manager.proofs.SoLemmas.{fault_shows}
 use Rattle.file_manager.proofs.CreateStops.{create_of_cut, create_of_make}
 use Rattle.labelled_disk.specs.declared.evidence.Halt.{Halt}
@@ -139,7 +139,7 @@ pub returns-in-Err-clause-so : goal.returns-in-Err-clause-so
 returns-in-Err-clause-so g c = fault_shows (g.D.Disk.state c.write_over.new.filer.swapper.under) c.in-Err.halt c.in-Err.ensures.fault
 
 pub returns-in-Err-cut-clause-so : goal.returns-in-Err-cut-clause-so
-returns-in-Err-cut-clause-so g c = so_of_cut c.cut.ensures.beside.goes.makes c.in-Err-cut.halt c.write_over.new.filer.swapper.layout c.in-Err-cut.ensures.cause
+returns-in-Err-cut-clause-so g c = so_of_cut (fits c.write_over.new.filer.swapper (search rules)) c.cut.ensures.beside.goes.makes c.in-Err-cut.halt c.in-Err-cut.ensures.cause
 
 pub returns-in-Err-clause-cause : goal.returns-in-Err-clause-cause
 returns-in-Err-clause-cause g c =

@@ -1,4 +1,4 @@
-use Rattle.std.proofs.Common.{◌≤◌, refl, sym, subst, arith}
+use Rattle.std.proofs.Common.{◌≤◌, refl, sym, subst, arith, rules}
 use Rattle.labelled_disk.specs.declared.layout.Layout.{Layout}
 use Rattle.labelled_disk.specs.Label.{leader_page}
 use Rattle.file_map.specs.Run.{IsRun}
@@ -13,7 +13,7 @@ use Rattle.filer_kernel.specs.PlaceLaws.{data_first}
 use Rattle.file_manager.specs.Shrinking.{leader_run}
 use Rattle.file_manager.proofs.CountedLemmas.{rose_of, rose_after}
 use Rattle.file_manager.proofs.CutSteps.{leader_in_form, few_left, leader_new, once_left, others_left}
-use Rattle.filer_kernel.specs.EvidenceLaws.{so_of_add, so_of_cut}
+use Rattle.filer_kernel.specs.EvidenceLaws.{fits, so_of_add, so_of_cut}
 use Rattle.file_manager.proofs.Keeping.{keeps_none}
 use Rattle.file_manager.proofs.CutCauses.{cut_halts_behind, shrink_of_cut, shrink_of_add}
 use Rattle.filer_kernel.specs.Cached.{runs_of}
@@ -73,10 +73,10 @@ pub returns-clause-beside : goal.returns-clause-beside
 returns-clause-beside g c = rw c.frames_of.ensures.same (beside_then refl c.cut.ensures.beside c.add.ensures.beside)
 
 pub returns-in-Err-clause-so : goal.returns-in-Err-clause-so
-returns-in-Err-clause-so g c = so_of_cut c.cut.ensures.beside.goes.makes c.in-Err.halt c.args.filer.now.swapper.layout c.in-Err.ensures.cause
+returns-in-Err-clause-so g c = so_of_cut (fits c.args.filer.now.swapper c.requires.size) c.cut.ensures.beside.goes.makes c.in-Err.halt c.in-Err.ensures.cause
 
 pub returns-in-Err-add-clause-so : goal.returns-in-Err-add-clause-so
-returns-in-Err-add-clause-so g c = so_of_add c.add.ensures.beside.goes.makes c.in-Err-add.halt c.cut.new.self.swapper.layout c.in-Err-add.ensures.cause
+returns-in-Err-add-clause-so g c = so_of_add (fits c.cut.new.self.swapper (search rules)) c.add.ensures.beside.goes.makes c.in-Err-add.halt c.in-Err-add.ensures.cause
 
 pub returns-in-Err-clause-cause : goal.returns-in-Err-clause-cause
 returns-in-Err-clause-cause g c =

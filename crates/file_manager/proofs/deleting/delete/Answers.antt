@@ -1,4 +1,4 @@
-use Rattle.std.proofs.Common.{◌≡◌, ◌+◌, ◌*◌, inl, ◌∙◌, arith, ◌⊎◌, ◌<◌, inr, ap, subst}
+use Rattle.std.proofs.Common.{◌≡◌, ◌+◌, ◌*◌, inl, ◌∙◌, arith, ◌⊎◌, ◌<◌, inr, ap, subst, rules}
 use Rattle.swapper_kernel.specs.declared.manager.Manager.TheVariants.{FileMap}
 use Rattle.file_map.specs.FileMap.{most_records}
 use Rattle.swapper_kernel.specs.FormLaws.{memory_in_form}
@@ -6,7 +6,7 @@ use Rattle.file_manager.proofs.BookLemmas.{map_is, map_named}
 use Rattle.file_manager.proofs.FreedRun.{map_makes, map_stops}
 use Rattle.file_manager.proofs.DeletedFile.{may_free, size_is, deletes_first, deletes_all, deleted_by, delete_makes, delete_stops, free_stops, told_cost, sized_cost}
 use Rattle.file_manager.proofs.Faults.{counted, counted_then}
-use Rattle.filer_kernel.specs.EvidenceLaws.{so_of_map, so_of_cut}
+use Rattle.filer_kernel.specs.EvidenceLaws.{fits, so_of_map, so_of_cut}
 use Rattle.file_manager.proofs.Keeping.{keeps_none, keeps_read, keeps_then, search_halts_behind, free_halts_before}
 use Rattle.file_manager.proofs.CutCauses.{cut_of_free, cut_halts_behind}
 use Rattle.labelled_disk.specs.Label.{leader_page}
@@ -212,10 +212,10 @@ returns-clause-cost_sized g c = λ x shapes spaces f books found hidden.
     rw c.frames_of-volume.ensures.same (sized_cost (g.D.Disk.state c.args.filer.now.swapper.under).transfers (g.D.Disk.state c.size.new.self.swapper.under).transfers (g.D.Disk.state c.free_all.new.filer.swapper.under).transfers (g.D.Disk.state c.cut.new.self.swapper.under).transfers f.size c.in-Ok.pages (16 + 4 * layout.vam) size c.size.ensures.cost two three)
 
 pub returns-in-Err-clause-so : goal.returns-in-Err-clause-so
-returns-in-Err-clause-so g c = so_of_map c.size.ensures.beside.goes.makes c.in-Err.halt c.args.filer.now.swapper.layout c.in-Err.ensures.cause
+returns-in-Err-clause-so g c = so_of_map (fits c.args.filer.now.swapper c.requires.size) c.size.ensures.beside.goes.makes c.in-Err.halt c.in-Err.ensures.cause
 
 pub returns-in-Err-cut-clause-so : goal.returns-in-Err-cut-clause-so
-returns-in-Err-cut-clause-so g c = so_of_cut c.cut.ensures.beside.goes.makes c.in-Err-cut.halt c.free_all.new.filer.swapper.layout c.in-Err-cut.ensures.cause
+returns-in-Err-cut-clause-so g c = so_of_cut (fits c.free_all.new.filer.swapper (search rules)) c.cut.ensures.beside.goes.makes c.in-Err-cut.halt c.in-Err-cut.ensures.cause
 
 pub returns-in-Err-clause-cause : goal.returns-in-Err-clause-cause
 returns-in-Err-clause-cause g c =

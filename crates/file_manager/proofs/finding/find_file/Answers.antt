@@ -16,7 +16,8 @@ use Rattle.file_manager.proofs.BookLemmas.{map_is, kept_are, map_named, own_maps
 use Rattle.file_manager.proofs.FreedRun.{map_makes, map_brings}
 use Rattle.file_manager.proofs.MarkLemmas.{leader_one}
 use Rattle.file_manager.proofs.FindingLemmas.{shape_by_leader, leader_halts, no_leader_before, map_halts_before, books_read, read_makes, read_map_brings, read_bytes, read_brings}
-use Rattle.filer_kernel.specs.EvidenceLaws.{so_of_map}
+use Rattle.file_manager.proofs.SoLemmas.{file_may}
+use Rattle.filer_kernel.specs.EvidenceLaws.{fits, so_of_map}
 use Rattle.file_manager.proofs.MadeRun.{made_read, made_look, reads_then}
 use Rattle.swapper_kernel.specs.WindowLaws.{beside_then}
 use Rattle.file_manager.proofs.LookLemmas.{beside_read}
@@ -140,8 +141,15 @@ returns-in-Err-size-clause-cause g c =
 pub returns-in-Ok-None-clause-missing : goal.returns-in-Ok-None-clause-missing
 returns-in-Ok-None-clause-missing g c none = c.in-Ok-None.ensures.missing (search rules)
 
+pub returns-in-Err-leader_label-clause-so : goal.returns-in-Err-leader_label-clause-so
+returns-in-Err-leader_label-clause-so g c =
+    let layout = c.args.filer.now.swapper.layout in
+    let size = c.leader_of.ensures.makes.went.sectors ∙ c.requires.size in
+    let place = subst (λ (o : Option ℕ). IfSome o (λ sector. (layout.first ≤ sector) × (sector < layout.sectors))) c.in-Ok-Some.field-0-is c.in-Ok-Some.ensures.place in
+    c.in-Err-leader_label.ensures.so (file_may layout (g.D.Disk.state c.leader_of.new.filer.swapper.under) c.args.filer.now.swapper.accepted size c.in-Ok-Some.sector (record { id = c.args.id; page = leader_page }) (inr c.requires.client) place.0 place.1)
+
 pub returns-in-Err-size-clause-so : goal.returns-in-Err-size-clause-so
-returns-in-Err-size-clause-so g c = so_of_map c.size.ensures.beside.goes.makes c.in-Err-size.halt c.leader_label.new.filer.swapper.layout c.in-Err-size.ensures.cause
+returns-in-Err-size-clause-so g c = so_of_map (fits c.leader_label.new.filer.swapper (search rules)) c.size.ensures.beside.goes.makes c.in-Err-size.halt c.in-Err-size.ensures.cause
 
 pub returns-in-Err-clause-keeps : goal.returns-in-Err-clause-keeps
 returns-in-Err-clause-keeps g c = c.leader_of.ensures.keeps

@@ -72,3 +72,9 @@ returns-in-Err-free_up-clause-own g c = own_after (freed_own c.in-Ok.ensures.mak
 
 pub returns-in-Ok-free_up-clause-own : goal.returns-in-Ok-free_up-clause-own
 returns-in-Ok-free_up-clause-own g c = own_after (freed_own c.in-Ok.ensures.makes c.in-Ok.ensures.own) (freed_own c.in-Ok-free_up.ensures.makes c.in-Ok-free_up.ensures.own)
+
+pub returns-in-Err-clause-so : goal.returns-in-Err-clause-so
+returns-in-Err-clause-so g c = c.in-Err.ensures.so (inr c.requires.of_file)
+
+pub returns-in-Err-free_up-clause-so : goal.returns-in-Err-free_up-clause-so
+returns-in-Err-free_up-clause-so g c = c.in-Err-free_up.ensures.so (λ page below. inr c.requires.of_file)

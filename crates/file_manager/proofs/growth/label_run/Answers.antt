@@ -1,4 +1,4 @@
-use Rattle.std.proofs.Common.{arith}
+use Rattle.std.proofs.Common.{◌∙◌, arith}
 use Rattle.file_manager.proofs.Faults.{counted}
 use Rattle.file_manager.proofs.SoLemmas.{so_of_taken}
 use Rattle.file_manager.proofs.growth.label_run.Goals as goal
@@ -12,7 +12,8 @@ returns-in-Err-clause-counted g c = counted _ _ (g.D.Disk.state c.args.filer.now
 pub returns-in-Err-clause-so : goal.returns-in-Err-clause-so
 returns-in-Err-clause-so g c =
     let new = g.D.Disk.state c.make_pages.new.swapper.under in
-    so_of_taken new c.args.run.sector c.args.run.pages (g.D.Disk.state c.args.filer.now.swapper.under) new c.in-Err.halt (rw c.swapper_over-swapper.ensures.value at c.in-Err.ensures.so)
+    let size = (rw c.swapper_over-swapper.ensures.value at c.in-Err.ensures.stopped).makes.went.sectors ∙ c.requires.size in
+    so_of_taken c.args.filer.now.swapper.layout new c.args.filer.now.swapper.accepted size c.args.run.sector c.args.run.pages c.requires.data c.requires.inside (g.D.Disk.state c.args.filer.now.swapper.under) new c.in-Err.halt (rw c.swapper_over-swapper.ensures.value at c.in-Err.ensures.so)
 
 pub returns-in-Err-clause-cause : goal.returns-in-Err-clause-cause
 returns-in-Err-clause-cause g c = rw c.swapper_over-swapper.ensures.value at c.in-Err.ensures.cause

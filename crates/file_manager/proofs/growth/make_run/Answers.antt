@@ -1,4 +1,4 @@
-use Rattle.std.proofs.Common.{◌≡◌, ℕ, ◌+◌, ◌<◌, ◌≤◌, [], sym, ◌∙◌, subst, refl, arith}
+use Rattle.std.proofs.Common.{◌≡◌, ℕ, ◌+◌, ◌<◌, ◌≤◌, [], sym, ◌∙◌, subst, refl, arith, rules}
 use Rattle.labelled_disk.specs.declared.layout.Layout.{Layout}
 use Rattle.file_map.specs.Run.{IsRun}
 use Rattle.swapper_kernel.specs.declared.manager.Manager.TheVariants.{AllocationMap}
@@ -10,7 +10,7 @@ use Rattle.file_manager.proofs.RunStages.{one_free, marks_shown, bits_shown, map
 use Rattle.file_manager.proofs.RunLeads.{above_maps, fewer_of_file, map_makes, added_makes, stopped_labels, stopped_behind, run_in_form, none_over, ones_free, labelled, map_then, named_then, run_leads, row_was_free}
 use Rattle.file_manager.proofs.GrowBroken.{none_grew, labels_grew, all_grew}
 use Rattle.file_manager.proofs.Faults.{counted, counted_then}
-use Rattle.filer_kernel.specs.EvidenceLaws.{so_of_add}
+use Rattle.filer_kernel.specs.EvidenceLaws.{fits, so_of_add}
 use Rattle.file_manager.proofs.MadeRun.{maps_come, bytes_told, made_run}
 use Rattle.file_manager.proofs.MadeRun.{labelled as labelled_so}
 use Rattle.file_manager.proofs.MakeStops.{labels_there, take_halts, label_halts, added_halts}
@@ -164,7 +164,7 @@ returns-in-Err-add-clause-counted g c =
     counted _ _ (g.D.Disk.state c.label_run.new.filer.swapper.under) (g.D.Disk.state c.add.new.self.swapper.under) _ (omega (arith, first, second)) c.in-Err-add.ensures.cause
 
 pub returns-in-Err-add-clause-so : goal.returns-in-Err-add-clause-so
-returns-in-Err-add-clause-so g c = so_of_add c.add.ensures.beside.goes.makes c.in-Err-add.halt c.label_run.new.filer.swapper.layout c.in-Err-add.ensures.cause
+returns-in-Err-add-clause-so g c = so_of_add (fits c.label_run.new.filer.swapper (search rules)) c.add.ensures.beside.goes.makes c.in-Err-add.halt c.in-Err-add.ensures.cause
 
 pub returns-in-Err-clause-cause : goal.returns-in-Err-clause-cause
 returns-in-Err-clause-cause g c =

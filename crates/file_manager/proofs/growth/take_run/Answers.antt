@@ -3,7 +3,8 @@ use Rattle.std.proofs.lemmas.Bool.{true≢false}
 use Rattle.alloc_map.specs.Runs.{IfMem}
 use Rattle.labelled_disk.specs.declared.evidence.Halt.TheVariants as halt
 use Rattle.file_manager.proofs.Faults.{counted, no_fault}
-use Rattle.filer_kernel.specs.EvidenceLaws.{so_of_halts}
+use Rattle.swapper_kernel.specs.declared.manager.Manager.TheVariants.{AllocationMap}
+use Rattle.filer_kernel.specs.EvidenceLaws.{fits, map_homes_placed, so_of_halts}
 use Rattle.file_manager.proofs.MakeStops.{taken_halt}
 use Rattle.file_manager.proofs.growth.take_run.Goals as goal
 
@@ -25,12 +26,12 @@ returns-in-Err-Mem-clause-counted g c =
     counted _ _ (g.D.Disk.state c.args.filer.now.swapper.under) (g.D.Disk.state c.take.new.self.swapper.under) _ (omega arith) (rw (c.in-Err-Mem.field-0-is, c.in-Err-Mem.halt-is) at cause)
 
 pub returns-in-Err-NoRoom-clause-so : goal.returns-in-Err-NoRoom-clause-so
-returns-in-Err-NoRoom-clause-so g c = inl refl
+returns-in-Err-NoRoom-clause-so g c = inl (refl, omega arith)
 
 pub returns-in-Err-Mem-clause-so : goal.returns-in-Err-Mem-clause-so
 returns-in-Err-Mem-clause-so g c =
     let cause = c.in-Err-Mem.ensures.cause in
-    so_of_halts c.take.ensures.kept.goes.makes _ _ (rw (c.in-Err-Mem.field-0-is, c.in-Err-Mem.halt-is) at cause)
+    so_of_halts (fits c.args.filer.now.swapper c.requires.size) c.take.ensures.kept.goes.makes _ _ (map_homes_placed AllocationMap _) (rw (c.in-Err-Mem.field-0-is, c.in-Err-Mem.halt-is) at cause)
 
 pub returns-in-Err-NoRoom-clause-cause : goal.returns-in-Err-NoRoom-clause-cause
 returns-in-Err-NoRoom-clause-cause g c =

@@ -10,7 +10,7 @@ use Rattle.filer_kernel.specs.Cached.{runs_of}
 use Rattle.filer_kernel.specs.Causes.{IsGiven}
 use Rattle.file_manager.proofs.BookLemmas.{map_is, kept_are, map_named, own_maps, books_stay, no_leader, run_place}
 use Rattle.file_manager.proofs.Faults.{counted}
-use Rattle.filer_kernel.specs.EvidenceLaws.{so_of_map}
+use Rattle.filer_kernel.specs.EvidenceLaws.{fits, so_of_map}
 use Rattle.file_manager.proofs.Keeping.{keeps_read}
 use Rattle.file_manager.proofs.leader.leader_of.Goals as goal
 
@@ -83,7 +83,7 @@ pub returns-in-Ok-None-clause-missing : goal.returns-in-Ok-None-clause-missing
 returns-in-Ok-None-clause-missing g c = λ is m named stands map. c.find.ensures.nowhere m named stands map (search rules)
 
 pub returns-in-Err-clause-so : goal.returns-in-Err-clause-so
-returns-in-Err-clause-so g c = so_of_map c.find.ensures.beside.goes.makes c.in-Err.halt c.args.filer.now.swapper.layout c.in-Err.ensures.cause
+returns-in-Err-clause-so g c = so_of_map (fits c.args.filer.now.swapper c.requires.size) c.find.ensures.beside.goes.makes c.in-Err.halt c.in-Err.ensures.cause
 
 pub returns-in-Err-clause-keeps : goal.returns-in-Err-clause-keeps
 returns-in-Err-clause-keeps g c = keeps_read (inr c.requires.client) c.find.ensures.beside c.find.ensures.same_bytes c.find.ensures.runs_given

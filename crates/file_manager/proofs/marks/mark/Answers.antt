@@ -1,7 +1,8 @@
-use Rattle.std.proofs.Common.{rules, inl, inr, ℕ, Option, Some, refl, sym, ◌∙◌, ap, subst}
+use Rattle.std.proofs.Common.{rules, inl, inr, ◌≡◌, ℕ, ◌≤◌, ◌<◌, Option, Some, refl, sym, ◌∙◌, ap, subst}
 use Rattle.std.specs.Prelude.{option_map, IfSome}
 use Rattle.std.proofs.lemmas.Option.{none-some}
 use Rattle.labelled_disk.specs.declared.label.Label.{Label}
+use Rattle.labelled_disk.specs.declared.label.Wanted.{Wanted}
 use Rattle.labelled_disk.specs.Sectors.{Sector}
 use Rattle.labelled_disk.specs.Label.{leader_page}
 use Rattle.swapper_kernel.specs.Homes.{home_at}
@@ -9,11 +10,11 @@ use Rattle.swapper_kernel.specs.Stands.{labels_of}
 use Rattle.filer_kernel.specs.Cached.{runs_of}
 use Rattle.filer_kernel.specs.Causes.{IsRunHome}
 use Rattle.file_manager.specs.Answer.{IsLeaderOf}
-use Rattle.file_manager.proofs.MarkLemmas.{marked_after, stopped_makes, leader_one}
+use Rattle.file_manager.proofs.MarkLemmas.{marked_after, marked_sectors, stopped_makes, leader_one}
 use Rattle.file_manager.proofs.MarkStops.{marks_first}
 use Rattle.file_manager.proofs.CauseLemmas.{search_halts, label_halts}
 use Rattle.file_manager.proofs.Faults.{counted, no_fault}
-use Rattle.file_manager.proofs.SoLemmas.{so_of_other}
+use Rattle.file_manager.proofs.SoLemmas.{file_may, so_of_other}
 use Rattle.label_calls.specs.OwnLaws.{relabels_own, wrote_own, quiet_own}
 use Rattle.file_manager.proofs.OwnSteps.{leader_own, own_after}
 use Rattle.file_manager.proofs.RootCalls.{quiet_root, marked_root}
@@ -89,7 +90,13 @@ pub returns-in-Ok-None-clause-so : goal.returns-in-Ok-None-clause-so
 returns-in-Ok-None-clause-so g c = inr c.requires.client
 
 pub returns-in-Err-mark_leader-clause-so : goal.returns-in-Err-mark_leader-clause-so
-returns-in-Err-mark_leader-clause-so g c = so_of_other (g.D.Disk.state c.mark_leader.new.swapper.under) c.in-Ok-Some.sector (record { id = c.args.id; page = leader_page }) (g.D.Disk.state c.leader_of.new.filer.swapper.under) (g.D.Disk.state c.mark_leader.new.swapper.under) c.in-Err-mark_leader.halt (rw c.swapper_over-swapper.ensures.value at c.in-Err-mark_leader.ensures.so)
+returns-in-Err-mark_leader-clause-so g c =
+    let layout = c.args.filer.now.swapper.layout in
+    let new = g.D.Disk.state c.mark_leader.new.swapper.under in
+    let wanted : Wanted = record { id = c.args.id; page = leader_page } in
+    let size : new.sectors ≡ layout.sectors = marked_sectors c.args.mark _ new _ _ (returns-in-Err-mark_leader-clause-makes g c) ∙ c.requires.size in
+    let place = subst (λ (o : Option ℕ). IfSome o (λ sector. (layout.first ≤ sector) × (sector < layout.sectors))) c.in-Ok-Some.field-0-is c.in-Ok-Some.ensures.place in
+    so_of_other new c.in-Ok-Some.sector wanted (file_may layout new c.args.filer.now.swapper.accepted size c.in-Ok-Some.sector wanted (inr c.requires.client) place.0 place.1) (g.D.Disk.state c.leader_of.new.filer.swapper.under) (g.D.Disk.state c.mark_leader.new.swapper.under) c.in-Err-mark_leader.halt (rw c.swapper_over-swapper.ensures.value at c.in-Err-mark_leader.ensures.so)
 
 pub returns-in-Ok-None-clause-own : goal.returns-in-Ok-None-clause-own
 returns-in-Ok-None-clause-own g c = relabels_own (quiet_own c.args.id c.leader_of.ensures.makes)

@@ -7,7 +7,7 @@ use Rattle.filer_kernel.specs.Triples.{AreOf, IsOneOf}
 use Rattle.file_manager.proofs.BookLemmas.{map_is, kept_are, map_named, own_maps, books_stay}
 use Rattle.file_manager.proofs.NextLemmas.{next_is}
 use Rattle.file_manager.proofs.Faults.{counted}
-use Rattle.filer_kernel.specs.EvidenceLaws.{so_of_map}
+use Rattle.filer_kernel.specs.EvidenceLaws.{fits, so_of_map}
 use Rattle.file_manager.proofs.LookLemmas.{looks_searched}
 use Rattle.file_manager.proofs.order.next.Goals as goal
 
@@ -43,7 +43,7 @@ pub returns-in-Err-clause-counted : goal.returns-in-Err-clause-counted
 returns-in-Err-clause-counted g c = rw (← c.frames_of.ensures.same) (counted _ _ (g.D.Disk.state c.frames_of.new.filer.swapper.under) (g.D.Disk.state c.next_file.new.self.swapper.under) _ (omega arith) c.in-Err.ensures.cause)
 
 pub returns-in-Err-clause-so : goal.returns-in-Err-clause-so
-returns-in-Err-clause-so g c = so_of_map c.next_file.ensures.beside.goes.makes c.in-Err.halt c.frames_of.new.filer.swapper.layout c.in-Err.ensures.cause
+returns-in-Err-clause-so g c = so_of_map (fits c.frames_of.new.filer.swapper (search rules)) c.next_file.ensures.beside.goes.makes c.in-Err.halt c.in-Err.ensures.cause
 
 pub returns-in-Ok-clause-looks : goal.returns-in-Ok-clause-looks
 returns-in-Ok-clause-looks g c =

@@ -1,4 +1,4 @@
-use Rattle.std.proofs.Common.{◌≡◌, ◌+◌, sym, ◌∙◌, ap, subst, arith}
+use Rattle.std.proofs.Common.{◌≡◌, ◌+◌, sym, ◌∙◌, ap, subst, arith, rules}
 use Rattle.labelled_disk.specs.declared.layout.Layout.{Layout}
 use Rattle.swapper_kernel.specs.declared.manager.Manager.TheVariants.{AllocationMap, FileMap}
 use Rattle.filer_kernel.specs.declared.cached.CachedRuns.{CachedRuns}
@@ -8,7 +8,7 @@ use Rattle.filer_kernel.specs.PlaceLaws.{data_first}
 use Rattle.file_manager.proofs.FreedRun.{none_over, ones, labelled, named_then, run_freed, run_makes, run_stops, all_stop, map_stops}
 use Rattle.file_manager.proofs.StoppedFree.{some_none, some_labels, some_run}
 use Rattle.file_manager.proofs.Faults.{counted, counted_then}
-use Rattle.filer_kernel.specs.EvidenceLaws.{so_of_halts}
+use Rattle.filer_kernel.specs.EvidenceLaws.{fits, map_homes_placed, so_of_halts}
 use Rattle.file_manager.proofs.RunCauses.{at_labels, at_marks, run_kept}
 use Rattle.file_manager.specs.Freeing.{run_sectors}
 use Rattle.file_manager.proofs.FreedSectors.{row_has}
@@ -111,10 +111,10 @@ returns-in-Err-give-clause-counted g c =
     counted _ _ (g.D.Disk.state c.free_labels.new.filer.swapper.under) (g.D.Disk.state c.give.new.self.swapper.under) _ (omega (arith, first, second)) c.in-Err-give.ensures.cause
 
 pub returns-in-Err-clause-so : goal.returns-in-Err-clause-so
-returns-in-Err-clause-so g c = c.in-Err.ensures.so c.requires.of_file
+returns-in-Err-clause-so g c = c.in-Err.ensures.so
 
 pub returns-in-Err-give-clause-so : goal.returns-in-Err-give-clause-so
-returns-in-Err-give-clause-so g c = so_of_halts c.in-Err-give.ensures.kept.goes.makes c.in-Err-give.halt _ c.in-Err-give.ensures.cause
+returns-in-Err-give-clause-so g c = λ there. so_of_halts (fits c.free_labels.new.filer.swapper (search rules)) c.in-Err-give.ensures.kept.goes.makes c.in-Err-give.halt _ (map_homes_placed AllocationMap _) c.in-Err-give.ensures.cause
 
 pub returns-in-Err-free_labels-clause-cause : goal.returns-in-Err-free_labels-clause-cause
 returns-in-Err-free_labels-clause-cause g c =

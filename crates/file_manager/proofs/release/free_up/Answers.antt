@@ -66,3 +66,8 @@ returns-in-Err-clause-own g c = own_after c.loop-page.invariant.own (some_own c.
 
 pub returns-clause-own : goal.returns-clause-own
 returns-clause-own g c = relabels_own c.loop-page.invariant.own
+
+pub returns-in-Err-clause-so : goal.returns-in-Err-clause-so
+returns-in-Err-clause-so g c = λ there.
+    let below : c.loop-page.page < c.args.end = search rules in
+    c.in-Err.ensures.so (there c.loop-page.page below)

@@ -3,7 +3,7 @@ use Rattle.std.proofs.lemmas.Bool.{true≢false}
 use Rattle.file_map.specs.FileMap.{IsFound}
 use Rattle.file_manager.proofs.FreedRun.{run_part}
 use Rattle.file_manager.proofs.Faults.{counted, no_fault}
-use Rattle.filer_kernel.specs.EvidenceLaws.{so_of_map}
+use Rattle.filer_kernel.specs.EvidenceLaws.{fits, so_of_map}
 use Rattle.filer_kernel.specs.Cached.{runs_of}
 use Rattle.file_manager.proofs.Keeping.{keeps_none, keeps_read, search_halts_behind}
 use Rattle.file_manager.proofs.RunCauses.{part_homes}
@@ -35,7 +35,7 @@ pub returns-in-Err-clause-counted : goal.returns-in-Err-clause-counted
 returns-in-Err-clause-counted g c = counted _ _ (g.D.Disk.state c.args.filer.now.swapper.under) (g.D.Disk.state c.find.new.self.swapper.under) _ (omega arith) c.in-Err.ensures.cause
 
 pub returns-in-Err-clause-so : goal.returns-in-Err-clause-so
-returns-in-Err-clause-so g c = λ of_file. so_of_map c.find.ensures.beside.goes.makes c.in-Err.halt c.args.filer.now.swapper.layout c.in-Err.ensures.cause
+returns-in-Err-clause-so g c = λ of_file. so_of_map (fits c.args.filer.now.swapper c.requires.size) c.find.ensures.beside.goes.makes c.in-Err.halt c.in-Err.ensures.cause
 
 pub returns-in-Ok-None-clause-so : goal.returns-in-Ok-None-clause-so
 returns-in-Ok-None-clause-so g c = λ of_file. of_file

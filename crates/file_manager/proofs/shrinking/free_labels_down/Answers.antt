@@ -1,5 +1,5 @@
-use Rattle.std.proofs.Common.{◌+◌}
-use Rattle.file_manager.proofs.SoLemmas.{so_of_others}
+use Rattle.std.proofs.Common.{◌∙◌}
+use Rattle.file_manager.proofs.SoLemmas.{so_of_run}
 use Rattle.file_manager.proofs.shrinking.free_labels_down.Goals as goal
 
 pub returns-in-Err-clause-sound : goal.returns-in-Err-clause-sound
@@ -8,7 +8,8 @@ returns-in-Err-clause-sound g c = λ m stands free ones. (rw (c.swapper_over-swa
 pub returns-in-Err-clause-so : goal.returns-in-Err-clause-so
 returns-in-Err-clause-so g c =
     let new = g.D.Disk.state c.free_pages_down.new.swapper.under in
-    so_of_others new c.args.run.sector c.args.run.pages (λ k. record { id = c.args.run.id; page = c.args.run.first + k }) (g.D.Disk.state c.args.filer.now.swapper.under) new c.in-Err.halt (rw c.swapper_over-swapper.ensures.value at c.in-Err.ensures.so)
+    let size = (rw c.swapper_over-swapper.ensures.value at c.in-Err.ensures.stopped).makes.went.sectors ∙ c.requires.size in
+    so_of_run c.args.filer.now.swapper.layout new c.args.filer.now.swapper.accepted size c.args.run c.requires.data c.requires.form (g.D.Disk.state c.args.filer.now.swapper.under) new c.in-Err.halt (rw c.swapper_over-swapper.ensures.value at c.in-Err.ensures.so)
 
 pub returns-in-Err-clause-cause : goal.returns-in-Err-clause-cause
 returns-in-Err-clause-cause g c = rw c.swapper_over-swapper.ensures.value at c.in-Err.ensures.cause

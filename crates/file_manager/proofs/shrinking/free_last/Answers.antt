@@ -1,4 +1,4 @@
-use Rattle.std.proofs.Common.{◌≡◌, inr, ◌-◌, sym, ◌∙◌, ap, subst, arith}
+use Rattle.std.proofs.Common.{◌≡◌, inr, ◌-◌, sym, ◌∙◌, ap, subst, arith, rules}
 use Rattle.labelled_disk.specs.declared.layout.Layout.{Layout}
 use Rattle.swapper_kernel.specs.declared.manager.Manager.TheVariants.{AllocationMap, FileMap}
 use Rattle.filer_kernel.specs.declared.cached.CachedRuns.{CachedRuns}
@@ -7,7 +7,7 @@ use Rattle.filer_kernel.specs.Triples.{AreOf}
 use Rattle.filer_kernel.specs.PlaceLaws.{data_first}
 use Rattle.file_manager.proofs.FreedRun.{all_stop, map_stops}
 use Rattle.file_manager.proofs.DownRun.{none_over, ones, labelled, named_then, is_named, few_pages, run_freed, down_makes, down_stops, down_broken, none_broken, all_broken}
-use Rattle.filer_kernel.specs.EvidenceLaws.{so_of_halts}
+use Rattle.filer_kernel.specs.EvidenceLaws.{fits, map_homes_placed, so_of_halts}
 use Rattle.file_manager.proofs.RunCauses.{at_labels, at_marks, run_kept}
 use Rattle.file_manager.specs.Shrinking.{run_down}
 use Rattle.file_manager.proofs.DownLemmas.{down_has}
@@ -125,7 +125,7 @@ pub returns-in-Err-clause-so : goal.returns-in-Err-clause-so
 returns-in-Err-clause-so g c = c.in-Err.ensures.so (inr c.requires.of_file)
 
 pub returns-in-Err-give-clause-so : goal.returns-in-Err-give-clause-so
-returns-in-Err-give-clause-so g c = so_of_halts c.in-Err-give.ensures.kept.goes.makes c.in-Err-give.halt _ c.in-Err-give.ensures.cause
+returns-in-Err-give-clause-so g c = so_of_halts (fits c.free_labels_down.new.filer.swapper (search rules)) c.in-Err-give.ensures.kept.goes.makes c.in-Err-give.halt _ (map_homes_placed AllocationMap _) c.in-Err-give.ensures.cause
 
 pub returns-in-Err-free_labels_down-clause-cause : goal.returns-in-Err-free_labels_down-clause-cause
 returns-in-Err-free_labels_down-clause-cause g c =

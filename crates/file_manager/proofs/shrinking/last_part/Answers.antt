@@ -2,7 +2,7 @@ use Rattle.std.proofs.Common.{◌≤◌, ◌-◌, sym, ◌∙◌, subst, rules, 
 use Rattle.std.proofs.lemmas.Bool.{true≢false}
 use Rattle.file_map.specs.FileMap.{IsFound}
 use Rattle.file_manager.proofs.DownRun.{last_named}
-use Rattle.filer_kernel.specs.EvidenceLaws.{so_of_map}
+use Rattle.filer_kernel.specs.EvidenceLaws.{fits, so_of_map}
 use Rattle.filer_kernel.specs.Cached.{runs_of}
 use Rattle.file_manager.proofs.Keeping.{keeps_none, keeps_read, search_halts_behind}
 use Rattle.file_manager.proofs.RunCauses.{last_homes}
@@ -28,7 +28,7 @@ pub returns-in-Err-clause-sound : goal.returns-in-Err-clause-sound
 returns-in-Err-clause-sound g c = λ m named sector stands map labels is. c.in-Err.ensures.sound m named stands map labels
 
 pub returns-in-Err-clause-so : goal.returns-in-Err-clause-so
-returns-in-Err-clause-so g c = λ of_file. so_of_map c.find.ensures.beside.goes.makes c.in-Err.halt c.args.filer.now.swapper.layout c.in-Err.ensures.cause
+returns-in-Err-clause-so g c = λ of_file. so_of_map (fits c.args.filer.now.swapper c.requires.size) c.find.ensures.beside.goes.makes c.in-Err.halt c.in-Err.ensures.cause
 
 pub returns-in-Ok-None-clause-so : goal.returns-in-Ok-None-clause-so
 returns-in-Ok-None-clause-so g c = λ of_file. of_file

@@ -1,10 +1,10 @@
-use Rattle.std.proofs.Common.{◌≡◌, ◌∙◌, arith, ap, ◌≤◌, ◌<◌}
+use Rattle.std.proofs.Common.{◌≡◌, inl, refl, ◌∙◌, arith, ap, rules, ◌≤◌, ◌<◌}
 use Rattle.swapper_kernel.specs.FormLaws.{memory_in_form}
 use Rattle.swapper_kernel.specs.declared.manager.Manager.TheVariants.{FileMap}
 use Rattle.file_manager.proofs.FreedRun.{all_stop}
 use Rattle.file_manager.proofs.TablesFreed.{bare, tables_all, tables_may, tables_some, tables_ended, forgot_freed, forgot_some, freed_cut}
 use Rattle.file_manager.proofs.Faults.{counted, counted_then}
-use Rattle.filer_kernel.specs.EvidenceLaws.{so_of_cut}
+use Rattle.filer_kernel.specs.EvidenceLaws.{fits, so_of_cut}
 use Rattle.file_manager.proofs.Forgotten.{keeps_forgotten}
 use Rattle.file_manager.proofs.Keeping.{keeps_then, free_halts_before}
 use Rattle.file_manager.proofs.CutCauses.{cut_of_free, cut_halts_behind}
@@ -87,8 +87,11 @@ returns-in-Err-cut-clause-first g c = λ x shapes spaces books.
     let h = (rw (f.layout, f.runs) at c.in-Ok.ensures.freed) books.booked.named spaces m.0 may in
     tables_all layout is kept shapes spaces x _ _ books _ _ f.gone f.left f.goes f.form _ _ _ _ _ _ _ h c.in-Err-cut.ensures.beside
 
+pub returns-in-Err-clause-so : goal.returns-in-Err-clause-so
+returns-in-Err-clause-so g c = c.in-Err.ensures.so (λ page below. inl (refl, below))
+
 pub returns-in-Err-cut-clause-so : goal.returns-in-Err-cut-clause-so
-returns-in-Err-cut-clause-so g c = so_of_cut c.cut.ensures.beside.goes.makes c.in-Err-cut.halt c.free_up.new.filer.swapper.layout c.in-Err-cut.ensures.cause
+returns-in-Err-cut-clause-so g c = so_of_cut (fits c.free_up.new.filer.swapper (search rules)) c.cut.ensures.beside.goes.makes c.in-Err-cut.halt c.in-Err-cut.ensures.cause
 
 pub returns-in-Err-clause-cause : goal.returns-in-Err-clause-cause
 returns-in-Err-clause-cause g c =

@@ -1,4 +1,4 @@
-use Rattle.std.proofs.Common.{refl, subst}
+use Rattle.std.proofs.Common.{refl, subst, rules}
 use Rattle.flat_machine.specs.declared.call.Call.TheVariants as call
 use Rattle.flat_machine.specs.declared.call.Reply.TheVariants.{Done}
 use Rattle.flat_machine.specs.Machine.{Machine}
@@ -10,6 +10,7 @@ use Rattle.space_calls.proofs.AdviceLemmas.{activate_refused, activate_stays, ac
 use Rattle.space_calls.proofs.CameLemmas.{came_then, knows, still_runs, still_tells, wrote_so}
 use Rattle.space_calls.proofs.CarryLemmas.{allowed_done, allowed_refused}
 use Rattle.space_calls.proofs.RunLemmas.{reached_makes}
+use Rattle.filer_kernel.specs.EvidenceLaws.{fits}
 use Rattle.fault_core.proofs.EvidenceLemmas.{shows_so}
 use Rattle.space_tables.specs.Shows.{IsRunAt}
 use Rattle.table_calls.specs.Answers.{TablesSay}
@@ -134,7 +135,7 @@ returns-in-Err-activate-clause-cause g c =
     within_halt (state c.args.core.now) (state c.bounds.new.core) c.args.core.now.filer.swapper.accepted c.args.space asked.reaches c.args.core.now.intervals c.bounds.new.core.intervals asked.intervals (state c.activate.new.self) c.in-Ok-Ok.run' (given_so (TablesSay (state c.args.core.now) (λ b. IsRunAt b c.args.space)) c.in-Ok-Ok.run' c.in-Ok-Ok.field-0 c.in-Ok-Ok.field-0-is c.in-Ok-Ok.ensures.read) c.in-Err-activate.halt c.in-Err-activate.ensures.cause
 
 pub returns-in-Err-clause-so : goal.returns-in-Err-clause-so
-returns-in-Err-clause-so g c = shows_so _ (state c.args.core.now) (state c.bounds.new.core) c.bounds.ensures.asked.reaches.goes.makes c.in-Err.halt c.in-Err.ensures.cause
+returns-in-Err-clause-so g c = shows_so _ (state c.args.core.now) (state c.bounds.new.core) (fits c.args.core.now.filer.swapper c.requires.size) c.bounds.ensures.asked.reaches.goes.makes c.in-Err.halt c.in-Err.ensures.cause
 
 pub returns-in-Err-activate-clause-so : goal.returns-in-Err-activate-clause-so
-returns-in-Err-activate-clause-so g c = shows_so _ (state c.bounds.new.core) (state c.activate.new.self) c.activate.ensures.reaches.goes.makes c.in-Err-activate.halt c.in-Err-activate.ensures.cause
+returns-in-Err-activate-clause-so g c = shows_so _ (state c.bounds.new.core) (state c.activate.new.self) (fits c.bounds.new.core.filer.swapper (search rules)) c.activate.ensures.reaches.goes.makes c.in-Err-activate.halt c.in-Err-activate.ensures.cause

@@ -2,6 +2,7 @@ use Rattle.std.proofs.Common.{◌∙◌, sym}
 use Rattle.space_calls.proofs.BareLemmas.{bare_core}
 use Rattle.space_calls.proofs.RunLemmas.{knows, reached_runs}
 use Rattle.fault_core.specs.Core.{state}
+use Rattle.filer_kernel.specs.EvidenceLaws.{fits}
 use Rattle.fault_core.proofs.EvidenceLemmas.{shows_so}
 use Rattle.fault_core.proofs.ReachLemmas.{reaches_itself}
 use Rattle.space_calls.proofs.bare.shows_nothing.Goals as goal
@@ -32,7 +33,7 @@ returns-in-Err-clause-sound g c = λ volume m r. c.in-Err.ensures.sound _ _ m.sp
 -- ---- What its evidence says is so.
 
 pub returns-in-Err-clause-so : goal.returns-in-Err-clause-so
-returns-in-Err-clause-so g c = shows_so _ (state c.args.core.now) (state c.describe.new.self) c.describe.ensures.reaches.goes.makes c.in-Err.halt c.in-Err.ensures.cause
+returns-in-Err-clause-so g c = shows_so _ (state c.args.core.now) (state c.describe.new.self) (fits c.args.core.now.filer.swapper c.requires.size) c.describe.ensures.reaches.goes.makes c.in-Err.halt c.in-Err.ensures.cause
 
 -- ---- Pages were found and brought in.
 

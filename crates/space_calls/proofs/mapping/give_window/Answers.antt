@@ -2,6 +2,7 @@ use Rattle.space_calls.proofs.RunLemmas.{knows}
 use Rattle.space_calls.proofs.TableAnswers.{not_refused}
 use Rattle.space_calls.proofs.WindowLemmas.{window_given}
 use Rattle.fault_core.specs.Core.{state}
+use Rattle.filer_kernel.specs.EvidenceLaws.{fits}
 use Rattle.fault_core.proofs.EvidenceLemmas.{shows_so}
 use Rattle.space_calls.proofs.mapping.give_window.Goals as goal
 
@@ -25,4 +26,4 @@ returns-in-Err-answer-clause-given g c = λ volume m x r may named bare fits is.
 -- ---- What its evidence says is so.
 
 pub returns-in-Err-clause-so : goal.returns-in-Err-clause-so
-returns-in-Err-clause-so g c = shows_so _ (state c.args.core.now) (state c.set_window.new.core) c.set_window.ensures.retabled.beside.goes.makes c.in-Err.halt c.in-Err.ensures.cause
+returns-in-Err-clause-so g c = shows_so _ (state c.args.core.now) (state c.set_window.new.core) (fits c.args.core.now.filer.swapper c.requires.size) c.set_window.ensures.retabled.beside.goes.makes c.in-Err.halt c.in-Err.ensures.cause

@@ -1,4 +1,4 @@
-use Rattle.std.proofs.Common.{◌≡◌, inl, inr, ◌+◌, ◌≤◌, ◌&&◌, ℕ, Option, false, refl, ap, subst, arith}
+use Rattle.std.proofs.Common.{◌≡◌, inl, inr, ◌+◌, ◌≤◌, ◌&&◌, ℕ, Option, false, refl, ap, subst, arith, rules}
 use Rattle.file_manager.specs.declared.attributes.Attributes.{Attributes}
 use Rattle.flat_machine.specs.declared.space.Space.{Space}
 use Rattle.flat_machine.specs.Machine.{nameable}
@@ -8,6 +8,7 @@ use Rattle.space_calls.proofs.MapLemmas.{both_not, file_immutable, no_such_file,
 use Rattle.space_calls.proofs.RunLemmas.{asked_makes, asked_runs, knows, size_kept}
 use Rattle.space_calls.proofs.TableAnswers.{bounds_refused, bounds_told, map_refused, map_told}
 use Rattle.fault_core.specs.Core.{state}
+use Rattle.filer_kernel.specs.EvidenceLaws.{fits}
 use Rattle.fault_core.proofs.EvidenceLemmas.{shows_so}
 use Rattle.fault_core.proofs.ReachLemmas.{reaches_then}
 use Rattle.space_calls.proofs.HaltLemmas.{given_map, named_map, path_change}
@@ -246,10 +247,10 @@ returns-clause-answer g c = λ volume m r.
 -- ---- What its evidence says is so.
 
 pub returns-in-Err-clause-so : goal.returns-in-Err-clause-so
-returns-in-Err-clause-so g c = shows_so _ (state c.args.core.now) (state c.bounds.new.core) c.bounds.ensures.asked.reaches.goes.makes c.in-Err.halt c.in-Err.ensures.cause
+returns-in-Err-clause-so g c = shows_so _ (state c.args.core.now) (state c.bounds.new.core) (fits c.args.core.now.filer.swapper c.requires.size) c.bounds.ensures.asked.reaches.goes.makes c.in-Err.halt c.in-Err.ensures.cause
 
 pub returns-in-Err-can_map-clause-so : goal.returns-in-Err-can_map-clause-so
-returns-in-Err-can_map-clause-so g c = shows_so _ (state c.named_file.new.core) (state c.can_map.new.core) c.can_map.ensures.asked.reaches.goes.makes c.in-Err-can_map.halt c.in-Err-can_map.ensures.cause
+returns-in-Err-can_map-clause-so g c = shows_so _ (state c.named_file.new.core) (state c.can_map.new.core) (fits c.named_file.new.core.filer.swapper (search rules)) c.can_map.ensures.asked.reaches.goes.makes c.in-Err-can_map.halt c.in-Err-can_map.ensures.cause
 
 -- ---- Why it failed.
 

@@ -3,6 +3,7 @@ use Rattle.swapper_kernel.specs.GoesLaws.{makes_then}
 use Rattle.space_calls.proofs.BareLemmas.{none_windowed}
 use Rattle.space_calls.proofs.RunLemmas.{knows, asked_runs, asked_makes}
 use Rattle.fault_core.specs.Core.{state}
+use Rattle.filer_kernel.specs.EvidenceLaws.{fits}
 use Rattle.fault_core.proofs.EvidenceLemmas.{if_so}
 use Rattle.fault_core.proofs.ReachLemmas.{reaches_itself, reaches_then}
 use Rattle.space_calls.specs.Halts.{PathHalts, SightHalts}
@@ -34,7 +35,7 @@ returns-clause-makes g c = makes_then c.shows_nothing.ensures.makes (asked_makes
 -- ---- What its evidence says is so.
 
 pub returns-clause-so : goal.returns-clause-so
-returns-clause-so g c = if_so c.shows_file.result _ (state c.shows_nothing.new.core) (state c.shows_file.new.core) c.shows_file.ensures.asked.reaches.goes.makes c.shows_file.ensures.cause
+returns-clause-so g c = if_so c.shows_file.result _ (state c.shows_nothing.new.core) (state c.shows_file.new.core) (fits c.shows_nothing.new.core.filer.swapper (search rules)) c.shows_file.ensures.asked.reaches.goes.makes c.shows_file.ensures.cause
 
 -- ---- Why it failed.
 

@@ -1,4 +1,4 @@
-use Rattle.std.proofs.Common.{sym, subst, refl}
+use Rattle.std.proofs.Common.{sym, subst, refl, rules}
 use Rattle.flat_machine.specs.declared.call.Call.TheVariants as call
 use Rattle.flat_machine.specs.declared.call.Reply.TheVariants as reply
 use Rattle.flat_machine.specs.Machine.{Machine}
@@ -14,6 +14,7 @@ use Rattle.table_calls.specs.Answers.{TablesSay}
 use Rattle.space_calls.proofs.RangeLemmas.{asked_halt, given_so, within_halt, deactivate_stays, found_run, found_word, never_refused, of_space}
 use Rattle.space_calls.proofs.RefusedCalls.{deactivate_refused, deactivate_there}
 use Rattle.fault_core.specs.Range.{AreGone}
+use Rattle.filer_kernel.specs.EvidenceLaws.{fits}
 use Rattle.fault_core.proofs.EvidenceLemmas.{shows_so}
 use Rattle.space_calls.proofs.range.deactivate.Goals as goal
 
@@ -123,4 +124,4 @@ returns-in-Err-let_go-clause-cause g c =
     within_halt (state c.args.core.now) (state c.range_of.new.core) c.args.core.now.filer.swapper.accepted c.args.space asked.reaches c.args.core.now.intervals c.range_of.new.core.intervals asked.intervals (state c.let_go.new.self) c.in-Ok-Ok.found (given_so (TablesSay (state c.args.core.now) (λ b. IsRunAt b c.args.space)) c.in-Ok-Ok.found c.in-Ok-Ok.field-0 c.in-Ok-Ok.field-0-is c.in-Ok-Ok.ensures.read) c.in-Err-let_go.halt c.in-Err-let_go.ensures.cause
 
 pub returns-in-Err-let_go-clause-so : goal.returns-in-Err-let_go-clause-so
-returns-in-Err-let_go-clause-so g c = shows_so _ (state c.range_of.new.core) (state c.let_go.new.self) c.let_go.ensures.reaches.goes.makes c.in-Err-let_go.halt c.in-Err-let_go.ensures.cause
+returns-in-Err-let_go-clause-so g c = shows_so _ (state c.range_of.new.core) (state c.let_go.new.self) (fits c.range_of.new.core.filer.swapper (search rules)) c.let_go.ensures.reaches.goes.makes c.in-Err-let_go.halt c.in-Err-let_go.ensures.cause

@@ -1,4 +1,4 @@
-use Rattle.std.proofs.Common.{◌∙◌, sym, subst, ◌+◌, refl}
+use Rattle.std.proofs.Common.{◌∙◌, sym, subst, ◌+◌, refl, rules}
 use Rattle.std.proofs.lemmas.Option.{none-some}
 use Rattle.flat_machine.specs.declared.call.Call.TheVariants as call
 use Rattle.flat_machine.specs.declared.call.Reply.TheVariants as reply
@@ -18,6 +18,7 @@ use Rattle.space_calls.proofs.RefusedCalls.{force_refused, force_there}
 use Rattle.space_calls.proofs.MovedLemmas.{force_runs}
 use Rattle.fault_core.specs.Range.{AreClean}
 use Rattle.frame_pool.specs.Frames.{Slots}
+use Rattle.filer_kernel.specs.EvidenceLaws.{fits}
 use Rattle.fault_core.proofs.EvidenceLemmas.{shows_so}
 use Rattle.fault_core.proofs.YieldLemmas.{yield_same, yield_then}
 use Rattle.space_calls.proofs.range.force_out.Goals as goal
@@ -156,7 +157,7 @@ returns-in-Err-settle-clause-cause g c =
     (makes_then (reached_makes c.range_of.ensures.asked.reaches) (reached_makes c.force.ensures.reaches)).went.faults c.in-Err-settle.ensures.fault c.in-Err-settle.ensures.counted
 
 pub returns-in-Err-force-clause-so : goal.returns-in-Err-force-clause-so
-returns-in-Err-force-clause-so g c = shows_so _ (state c.range_of.new.core) (state c.force.new.self) c.force.ensures.reaches.goes.makes c.in-Err-force.halt c.in-Err-force.ensures.cause
+returns-in-Err-force-clause-so g c = shows_so _ (state c.range_of.new.core) (state c.force.new.self) (fits c.range_of.new.core.filer.swapper (search rules)) c.force.ensures.reaches.goes.makes c.in-Err-force.halt c.in-Err-force.ensures.cause
 
 -- ---- The frames stay, or give way.
 

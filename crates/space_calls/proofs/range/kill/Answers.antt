@@ -1,4 +1,4 @@
-use Rattle.std.proofs.Common.{sym, ap, subst, ℕ, refl, ◌≡◌, ◌+◌, List, arith}
+use Rattle.std.proofs.Common.{sym, ap, subst, ℕ, refl, ◌≡◌, ◌+◌, List, arith, rules}
 use Rattle.flat_machine.specs.declared.call.Call.TheVariants as call
 use Rattle.flat_machine.specs.declared.call.Reply.TheVariants as reply
 use Rattle.flat_machine.specs.Machine.{Machine}
@@ -15,6 +15,7 @@ use Rattle.space_calls.proofs.RangeLemmas.{asked_halt, given_so, within_halt, fo
 use Rattle.space_calls.proofs.RefusedCalls.{kill_refused, kill_there}
 use Rattle.space_calls.proofs.MovedLemmas.{kill_runs}
 use Rattle.fault_core.specs.Kill.{AreWritableSo, is_absent}
+use Rattle.filer_kernel.specs.EvidenceLaws.{fits}
 use Rattle.fault_core.proofs.EvidenceLemmas.{shows_so}
 use Rattle.fault_core.specs.Kept.{AreFound}
 use Rattle.swap_units.specs.declared.interval.Interval.{Interval}
@@ -134,7 +135,7 @@ returns-in-Err-kill-clause-cause g c =
     within_halt (state c.args.core.now) (state c.range_of.new.core) c.args.core.now.filer.swapper.accepted c.args.space asked.reaches c.args.core.now.intervals c.range_of.new.core.intervals asked.intervals (state c.kill.new.self) c.in-Ok-Ok.found (given_so (TablesSay (state c.args.core.now) (λ b. IsRunAt b c.args.space)) c.in-Ok-Ok.found c.in-Ok-Ok.field-0 c.in-Ok-Ok.field-0-is c.in-Ok-Ok.ensures.read) c.in-Err-kill.halt c.in-Err-kill.ensures.cause
 
 pub returns-in-Err-kill-clause-so : goal.returns-in-Err-kill-clause-so
-returns-in-Err-kill-clause-so g c = shows_so _ (state c.range_of.new.core) (state c.kill.new.self) c.kill.ensures.touches.goes.makes c.in-Err-kill.halt c.in-Err-kill.ensures.cause
+returns-in-Err-kill-clause-so g c = shows_so _ (state c.range_of.new.core) (state c.kill.new.self) (fits c.range_of.new.core.filer.swapper (search rules)) c.kill.ensures.touches.goes.makes c.in-Err-kill.halt c.in-Err-kill.ensures.cause
 
 -- ---- No table was asked but for the space.
 

@@ -1,4 +1,6 @@
+use Rattle.std.proofs.Common.{rules}
 use Rattle.fault_core.specs.Core.{state}
+use Rattle.filer_kernel.specs.EvidenceLaws.{fits}
 use Rattle.fault_core.proofs.EvidenceLemmas.{if_so}
 use Rattle.space_calls.proofs.range.range_of.Goals as goal
 
@@ -17,4 +19,4 @@ returns-clause-cause g c = rw c.frame_count-frames.ensures.same at c.bounds.ensu
 -- ---- What its evidence says is so.
 
 pub returns-clause-so : goal.returns-clause-so
-returns-clause-so g c = if_so c.bounds.result _ (state c.frame_count-frames.new.core) (state c.bounds.new.core) c.bounds.ensures.asked.reaches.goes.makes c.bounds.ensures.cause
+returns-clause-so g c = if_so c.bounds.result _ (state c.frame_count-frames.new.core) (state c.bounds.new.core) (fits c.frame_count-frames.new.core.filer.swapper (search rules)) c.bounds.ensures.asked.reaches.goes.makes c.bounds.ensures.cause

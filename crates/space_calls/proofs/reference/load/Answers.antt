@@ -11,6 +11,7 @@ use Rattle.running_words.proofs.RunningLemmas.{running_laws}
 use Rattle.space_calls.proofs.RunLemmas.{reached_makes}
 use Rattle.space_calls.proofs.CameLemmas.{Came, knows, still_tells, whole_of, wrote_so}
 use Rattle.space_calls.proofs.LoadLemmas.{load_carried, load_not_refused}
+use Rattle.filer_kernel.specs.EvidenceLaws.{fits}
 use Rattle.fault_core.proofs.EvidenceLemmas.{shows_so}
 use Rattle.space_calls.proofs.reference.load.Goals as goal
 
@@ -142,4 +143,4 @@ returns-in-Err-clause-cause g c =
     subst (λ (n : ℕ). ReachHalts (BreaksFor (state c.args.core.now) c.args.core.now.intervals c.args.address n) (state c.args.core.now) (state c.load.new.self) c.in-Err.halt) (sym c.load.ensures.width ∙ long) c.in-Err.ensures.cause
 
 pub returns-in-Err-clause-so : goal.returns-in-Err-clause-so
-returns-in-Err-clause-so g c = shows_so _ (state c.args.core.now) (state c.load.new.self) c.load.ensures.reaches.goes.makes c.in-Err.halt c.in-Err.ensures.cause
+returns-in-Err-clause-so g c = shows_so _ (state c.args.core.now) (state c.load.new.self) (fits c.args.core.now.filer.swapper c.requires.size) c.load.ensures.reaches.goes.makes c.in-Err.halt c.in-Err.ensures.cause

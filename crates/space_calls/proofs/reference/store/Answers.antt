@@ -11,6 +11,7 @@ use Rattle.running_words.proofs.RunningLemmas.{running_laws}
 use Rattle.space_calls.proofs.CameLemmas.{Came, knows, store_makes, whole_of, wrote_so}
 use Rattle.space_calls.proofs.MovedLemmas.{store_runs}
 use Rattle.space_calls.proofs.StoreLemmas.{are_bytes, other_than_done, refused_came, stays_where, store_allowed, store_not_refused, store_stays, store_tells, store_word}
+use Rattle.filer_kernel.specs.EvidenceLaws.{fits}
 use Rattle.fault_core.proofs.EvidenceLemmas.{shows_so}
 use Rattle.space_calls.proofs.reference.store.Goals as goal
 
@@ -152,7 +153,7 @@ returns-in-Ok-ReadOnly-clause-idle g c = λ volume m r first last.
     (refl, two.1, two.2)
 
 pub returns-in-Err-clause-so : goal.returns-in-Err-clause-so
-returns-in-Err-clause-so g c = shows_so _ (state c.args.core.now) (state c.store.new.self) c.store.ensures.touches.goes.makes c.in-Err.halt c.in-Err.ensures.cause
+returns-in-Err-clause-so g c = shows_so _ (state c.args.core.now) (state c.store.new.self) (fits c.args.core.now.filer.swapper c.requires.size) c.store.ensures.touches.goes.makes c.in-Err.halt c.in-Err.ensures.cause
 
 pub returns-in-Err-clause-idle : goal.returns-in-Err-clause-idle
 returns-in-Err-clause-idle g c = λ volume m r first last.

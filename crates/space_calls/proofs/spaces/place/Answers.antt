@@ -1,6 +1,7 @@
 use Rattle.space_calls.proofs.RunLemmas.{asked_makes, asked_runs, knows, nothing_labelled, quiet_passes}
 use Rattle.space_calls.proofs.SpaceLemmas.{place_refused, space_placed}
 use Rattle.fault_core.specs.Core.{state}
+use Rattle.filer_kernel.specs.EvidenceLaws.{fits}
 use Rattle.fault_core.proofs.EvidenceLemmas.{shows_so}
 use Rattle.space_calls.proofs.spaces.place.Goals as goal
 
@@ -40,4 +41,4 @@ returns-in-Err-clause-wrote g c = nothing_labelled (asked_makes _ _ c.place.ensu
 -- ---- What its evidence says is so.
 
 pub returns-in-Err-clause-so : goal.returns-in-Err-clause-so
-returns-in-Err-clause-so g c = shows_so _ (state c.args.core.now) (state c.place.new.core) c.place.ensures.asked.reaches.goes.makes c.in-Err.halt c.in-Err.ensures.cause
+returns-in-Err-clause-so g c = shows_so _ (state c.args.core.now) (state c.place.new.core) (fits c.args.core.now.filer.swapper c.requires.size) c.place.ensures.asked.reaches.goes.makes c.in-Err.halt c.in-Err.ensures.cause

@@ -1,6 +1,7 @@
 use Rattle.space_calls.proofs.RunLemmas.{knows, nothing_labelled, quiet_passes, retabled_makes, retabled_then}
 use Rattle.space_calls.proofs.SpaceLemmas.{unit_refused, unit_set}
 use Rattle.fault_core.specs.Core.{state}
+use Rattle.filer_kernel.specs.EvidenceLaws.{fits}
 use Rattle.fault_core.proofs.EvidenceLemmas.{shows_so}
 use Rattle.space_calls.proofs.spaces.set_units.Goals as goal
 
@@ -44,4 +45,4 @@ returns-in-Err-answer-clause-wrote g c = nothing_labelled (retabled_then _ _ _ c
 -- ---- What its evidence says is so.
 
 pub returns-in-Err-clause-so : goal.returns-in-Err-clause-so
-returns-in-Err-clause-so g c = shows_so _ (state c.args.core.now) (state c.set_unit.new.core) c.set_unit.ensures.retabled.beside.goes.makes c.in-Err.halt c.in-Err.ensures.cause
+returns-in-Err-clause-so g c = shows_so _ (state c.args.core.now) (state c.set_unit.new.core) (fits c.args.core.now.filer.swapper c.requires.size) c.set_unit.ensures.retabled.beside.goes.makes c.in-Err.halt c.in-Err.ensures.cause

@@ -1,6 +1,7 @@
 use Rattle.space_calls.proofs.RunLemmas.{knows}
 use Rattle.space_calls.proofs.WindowLemmas.{window_changed}
 use Rattle.fault_core.specs.Core.{state}
+use Rattle.filer_kernel.specs.EvidenceLaws.{fits}
 use Rattle.fault_core.proofs.EvidenceLemmas.{shows_so}
 use Rattle.space_calls.proofs.ReshapeLemmas.{reshapes_tables}
 use Rattle.space_calls.proofs.windows.change_window.Goals as goal
@@ -18,7 +19,7 @@ returns-clause-done g c = λ volume m x unforced r may named fits is frames loos
 -- ---- What its evidence says is so.
 
 pub returns-in-Err-clause-so : goal.returns-in-Err-clause-so
-returns-in-Err-clause-so g c = shows_so _ (state c.args.core.now) (state c.set_window.new.core) c.set_window.ensures.retabled.beside.goes.makes c.in-Err.halt c.in-Err.ensures.cause
+returns-in-Err-clause-so g c = shows_so _ (state c.args.core.now) (state c.set_window.new.core) (fits c.args.core.now.filer.swapper c.requires.size) c.set_window.ensures.retabled.beside.goes.makes c.in-Err.halt c.in-Err.ensures.cause
 
 -- ---- What the change leaves.
 

@@ -3,8 +3,9 @@ use Rattle.space_calls.proofs.FileLemmas.{window_found, window_lost}
 use Rattle.space_calls.proofs.RunLemmas.{asked_makes, asked_runs, knows, size_kept}
 use Rattle.space_calls.proofs.TableAnswers.{shown_refused}
 use Rattle.fault_core.specs.Core.{state}
+use Rattle.filer_kernel.specs.EvidenceLaws.{fits}
 use Rattle.fault_core.proofs.EvidenceLemmas.{shows_so}
-use Rattle.std.proofs.Common.{ℕ, ◌∙◌}
+use Rattle.std.proofs.Common.{ℕ, ◌∙◌, rules}
 use Rattle.space_tables.specs.Shows.{IsRunAt, IsShownAt}
 use Rattle.table_calls.specs.Answers.{TablesSay}
 use Rattle.space_calls.proofs.RangeLemmas.{given_so}
@@ -102,10 +103,10 @@ returns-in-Err-bounds-clause-makes g c = makes_then (asked_makes _ _ c.shown.ens
 -- ---- What its evidence says is so.
 
 pub returns-in-Err-clause-so : goal.returns-in-Err-clause-so
-returns-in-Err-clause-so g c = shows_so _ (state c.args.core.now) (state c.shown.new.core) c.shown.ensures.asked.reaches.goes.makes c.in-Err.halt c.in-Err.ensures.cause
+returns-in-Err-clause-so g c = shows_so _ (state c.args.core.now) (state c.shown.new.core) (fits c.args.core.now.filer.swapper c.requires.size) c.shown.ensures.asked.reaches.goes.makes c.in-Err.halt c.in-Err.ensures.cause
 
 pub returns-in-Err-bounds-clause-so : goal.returns-in-Err-bounds-clause-so
-returns-in-Err-bounds-clause-so g c = shows_so _ (state c.shown.new.core) (state c.bounds.new.core) c.bounds.ensures.asked.reaches.goes.makes c.in-Err-bounds.halt c.in-Err-bounds.ensures.cause
+returns-in-Err-bounds-clause-so g c = shows_so _ (state c.shown.new.core) (state c.bounds.new.core) (fits c.shown.new.core.filer.swapper (search rules)) c.bounds.ensures.asked.reaches.goes.makes c.in-Err-bounds.halt c.in-Err-bounds.ensures.cause
 
 -- ---- What the tables say.
 

@@ -1,5 +1,7 @@
+use Rattle.std.proofs.Common.{rules}
 use Rattle.space_calls.proofs.RunLemmas.{knows, moved_reaches, moved_runs, moved_size, reached_runs}
 use Rattle.fault_core.specs.Core.{state}
+use Rattle.filer_kernel.specs.EvidenceLaws.{fits}
 use Rattle.fault_core.proofs.EvidenceLemmas.{if_so}
 use Rattle.space_calls.proofs.windows.force_range.Goals as goal
 
@@ -36,7 +38,7 @@ returns-clause-makes g c = moved_reaches c.args.core.now c.frame_count-frames.ne
 -- ---- What its evidence says is so.
 
 pub returns-clause-so : goal.returns-clause-so
-returns-clause-so g c = if_so c.force.result _ (state c.frame_count-frames.new.core) (state c.force.new.self) c.force.ensures.reaches.goes.makes c.force.ensures.cause
+returns-clause-so g c = if_so c.force.result _ (state c.frame_count-frames.new.core) (state c.force.new.self) (fits c.frame_count-frames.new.core.filer.swapper (search rules)) c.force.ensures.reaches.goes.makes c.force.ensures.cause
 
 -- ---- What was asked, and why it failed.
 

@@ -1,5 +1,7 @@
+use Rattle.std.proofs.Common.{rules}
 use Rattle.space_calls.proofs.RunLemmas.{knows, moved_reaches, moved_runs, moved_size, reached_runs}
 use Rattle.fault_core.specs.Core.{state}
+use Rattle.filer_kernel.specs.EvidenceLaws.{fits}
 use Rattle.fault_core.proofs.EvidenceLemmas.{if_so}
 use Rattle.space_calls.proofs.windows.let_range_go.Goals as goal
 
@@ -36,7 +38,7 @@ returns-clause-makes g c = moved_reaches c.args.core.now c.frame_count-frames.ne
 -- ---- What its evidence says is so.
 
 pub returns-clause-so : goal.returns-clause-so
-returns-clause-so g c = if_so c.let_go.result _ (state c.frame_count-frames.new.core) (state c.let_go.new.self) c.let_go.ensures.reaches.goes.makes c.let_go.ensures.cause
+returns-clause-so g c = if_so c.let_go.result _ (state c.frame_count-frames.new.core) (state c.let_go.new.self) (fits c.frame_count-frames.new.core.filer.swapper (search rules)) c.let_go.ensures.reaches.goes.makes c.let_go.ensures.cause
 
 -- ---- What was asked, and why it failed.
 
