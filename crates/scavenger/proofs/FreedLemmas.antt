@@ -1,11 +1,11 @@
 -- A disk on which all unneeded sectors are freed.
-use Rattle.std.proofs.Common.{◌≡◌, ◌≢◌, ◌⊎◌, inl, inr, ℕ, zero, suc, ◌+◌, ◌-◌, ◌<◌, ◌≤◌, Bool, true, false, List, [], ◌∷◌, length, take, Option, Some, None, refl, sym, ◌∙◌, ap, subst, arith}
+use Rattle.std.proofs.Common.{◌≡◌, ◌≢◌, ℕ, zero, suc, true, false, List, [], ◌∷◌, length, take, refl, sym, ◌∙◌, ap, subst, arith}
 use Rattle.std.specs.Prelude.{slice_get}
 use Rattle.std.specs.List.{AllByRecursion}
 use Rattle.std.proofs.lemmas.Bool.{true≢false}
 use Rattle.labelled_disk.specs.declared.disk.DiskWrite.{DiskWrite}
 use Rattle.labelled_disk.specs.FilesOn.{files_on, files_by}
-use Rattle.labelled_disk.specs.Layout.{data_sectors, first_data}
+use Rattle.labelled_disk.specs.Layout.{data_sectors}
 use Rattle.labelled_disk.specs.Lowest.{is_needed}
 use Rattle.labelled_disk.specs.Moment.{moment}
 use Rattle.labelled_disk.specs.Root.{LabelsRight}
@@ -19,25 +19,25 @@ use Rattle.label_laws.specs.Unneeded.{IsUnneeded, AreFreeOrNeeded, FreedMoments,
 use Rattle.label_laws.proofs.CountLemmas.{list_laws}
 use Rattle.label_laws.proofs.MixedLemmas.{sector_stays}
 use Rattle.scavenger.proofs.LowLemmas.{IsLow}
-use Rattle.scavenger.proofs.MomentLemmas.{AtEach, at_end}
+use Rattle.scavenger.proofs.MomentLemmas.{AtEach}
 
 -- The files and the root are the same, and labels stay right.
-pub record IsBetween (d e : List Sector) : Type 0 where
+pub record IsSameVolume (d e : List Sector) : Type 0 where
   pub sectors : length e ≡ length d
   pub files : files_on e ≡ files_on d
   pub root : slice_get e 0 ≡ slice_get d 0
   pub right : LabelsRight d → LabelsRight e
 
-pub between_then : {d e f : List Sector} → IsBetween d e → IsBetween e f → IsBetween d f
-between_then one more = record {
+pub same_volume_then : {d e f : List Sector} → IsSameVolume d e → IsSameVolume e f → IsSameVolume d f
+same_volume_then one more = record {
   sectors = more.sectors ∙ one.sectors;
   files = more.files ∙ one.files;
   root = more.root ∙ one.root;
   right = λ r. more.right (one.right r);
 }
 
-pub low_between : {d e : List Sector} → IsLow d e → IsBetween d e
-low_between {d} {e} low = record {
+pub low_same_volume : {d e : List Sector} → IsLow d e → IsSameVolume d e
+low_same_volume {d} {e} low = record {
   sectors = low.sectors;
   files = ap (λ (xs : List Sector). files_by false xs xs) low.same_data;
   root = low.root;
@@ -64,7 +64,7 @@ module _ (moments : FreedMoments false) (right : FreedStayRight false) (d : List
   each : AllByRecursion (IsUnneeded false d) is
   each = (list_laws false).each d
 
-  pub freed_moments : AtEach (IsBetween d) d (freeing is)
+  pub freed_moments : AtEach (IsSameVolume d) d (freeing is)
   freed_moments k =
       let same = moments d is each k in
       record {

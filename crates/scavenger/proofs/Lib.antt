@@ -12,3 +12,4 @@ mod LayoutLemmas
 mod PlanLemmas
 mod OrderLemmas
 mod TopLemmas
+pub mod BetweenLemmas

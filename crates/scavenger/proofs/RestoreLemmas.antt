@@ -1,20 +1,19 @@
 -- A disk with a valid root is restored.
-use Rattle.std.proofs.Common.{◌≡◌, ◌≢◌, ◌⊎◌, inl, inr, ℕ, zero, suc, ◌+◌, ◌-◌, ◌*◌, ◌/◌, ◌%◌, ◌^◌, ◌<◌, ◌≤◌, Bool, true, false, not, ◌&&◌, ◌||◌, cond, List, [], ◌∷◌, ◌++◌, length, take, drop, Option, Some, None, refl, sym, ◌∙◌, ap, subst, arith, leb, eqb, length-set, length-drop}
+use Rattle.std.proofs.Common.{◌≡◌, ◌≢◌, ◌⊎◌, inl, inr, ℕ, zero, suc, ◌+◌, ◌-◌, ◌*◌, ◌/◌, ◌%◌, ◌^◌, ◌<◌, ◌≤◌, Bool, true, false, not, ◌&&◌, ◌||◌, cond, List, [], ◌∷◌, ◌++◌, length, drop, Option, Some, refl, sym, ◌∙◌, ap, subst, arith, leb, eqb, length-set, length-drop}
 use Rattle.std.specs.Prelude.{◌↔◌, slice_get, slice_set, IsTrue, IsSomeAnd}
 use Rattle.std.specs.Option.{option_map_or}
-use Rattle.std.specs.List.{AllByRecursion, flat_map}
-use Rattle.std.proofs.lemmas.Option.{same_Some, none-some, slice_get_within, slice_get_past}
+use Rattle.std.specs.List.{AllByRecursion}
+use Rattle.std.proofs.lemmas.Option.{slice_get_past}
 use Rattle.std.proofs.lemmas.Bool.{leb-true, le-leb, lt-leb, lt-ltb, true≢false, eqb-false}
 use Rattle.labelled_disk.specs.declared.disk.DiskWrite.{DiskWrite}
 use Rattle.labelled_disk.specs.declared.label.Label.{Label}
-use Rattle.labelled_disk.specs.declared.label.Wanted.{Wanted}
 use Rattle.labelled_disk.specs.Label.{is_file, is_free, names, root_label, page_label}
 use Rattle.labelled_disk.specs.Layout.{IsCount, capacity, data_sectors, first_data, vam, vfm}
 use Rattle.labelled_disk.specs.File.{File, total_room}
 use Rattle.labelled_disk.specs.FilesOn.{files_on, files_by, disk_file}
 use Rattle.labelled_disk.specs.Lowest.{is_needed}
 use Rattle.labelled_disk.specs.Moment.{written, moment}
-use Rattle.labelled_disk.specs.Right.{IsGiven, FilesRight}
+use Rattle.labelled_disk.specs.Right.{IsGiven}
 use Rattle.labelled_disk.specs.Root.{IsRoot, HasMaps, LabelsRight, page_in, root_page, serial_of, counter_of, short_at, number_at}
 use Rattle.labelled_disk.specs.Runs.{freeing}
 use Rattle.labelled_disk.specs.Sectors.{Sector, AreSectors}
@@ -22,15 +21,15 @@ use Rattle.labelled_disk.specs.WriteLaws.{HasData}
 use Rattle.labelled_disk.specs.WriteRuns.{after_writes}
 use Rattle.labelled_disk.proofs.Finds.{get_set_same, get_set_other}
 use Rattle.labelled_disk.proofs.WriteLemmas as writes
-use Rattle.labelled_disk.proofs.WriteRunLemmas.{after_writes-append, moment-end}
+use Rattle.labelled_disk.proofs.WriteRunLemmas.{after_writes-append}
 use Rattle.alloc_map.specs.Bits.{is_used}
-use Rattle.file_map.specs.FileMap.{AreNamed, Triples}
+use Rattle.file_map.specs.FileMap.{AreNamed}
 use Rattle.file_map.specs.InSectors.{label_triples, map_bytes as file_bytes}
 use Rattle.page_tree.specs.Page.{page_at}
 use Rattle.page_tree.specs.Tells.{TellsTree}
 use Rattle.volume_root.specs.declared.root.Root.{Root}
 use Rattle.volume_root.specs.Flag.{with_flag, flag_write}
-use Rattle.volume_root.specs.RootPage.{IsValidRoot, root_in, root_write, root_bytes}
+use Rattle.volume_root.specs.RootPage.{IsValidRoot, root_write, root_bytes}
 use Rattle.volume_root.specs.Sound.{Sound, HasBits, HasFileMap, map_bytes}
 use Rattle.volume_root.proofs.FlagLemmas.{flag_keeps_volume}
 use Rattle.volume_root.proofs.WrittenLemmas.{flag_read, serial_read, counter_read, is_root}
@@ -41,14 +40,30 @@ use Rattle.label_laws.specs.Unneeded.{AreFreeOrNeeded, FreedMoments, FreedStayRi
 use Rattle.label_laws.proofs.FileLemmas.{free_none}
 use Rattle.label_survey.specs.Counter.{IsRaised}
 use Rattle.label_survey.specs.Laws.{NeededAreFiles}
-use Rattle.scavenger.specs.Orders.{Orders, AreFor, closed, map_writes, opening, scavenge_writes}
-use Rattle.scavenger.specs.Restored.{IsRestored, IsOnTheWay, ScavengingRestores}
-use Rattle.scavenger.specs.Stays.{AreBits, AreNames, stays, staying}
+use Rattle.scavenger.specs.Orders.{Orders, AreFor, closed, map_writes, scavenge_writes}
+use Rattle.scavenger.specs.Restored.{IsBetween, IsRestored, ScavengingRestores}
+use Rattle.scavenger.specs.Stays.{stays, staying}
 use Rattle.scavenger.proofs.FoundLemmas.{gathered, taken_as_needed, named_alike}
-use Rattle.scavenger.proofs.FreedLemmas.{IsBetween, between_then, low_between, freed, freed_moments, freed_needs, free_or_needed, needed_stays}
+use Rattle.scavenger.proofs.FreedLemmas.{IsSameVolume, same_volume_then, low_same_volume, freed, freed_moments, freed_needs, free_or_needed, needed_stays}
 use Rattle.scavenger.proofs.LayoutLemmas.{first_is, first_within}
 use Rattle.scavenger.proofs.LowLemmas.{IsLow, low_then, low_moments, map_writes_are, map_written, map_there, map_other, labelled_so}
 use Rattle.scavenger.proofs.MomentLemmas.{AtEach, each_then, at_end}
+
+-- the files of g, and labels that are right where those of g were; a moment whose clean flag is 1 is g or h
+pub record IsOnTheWay (g h now : List Sector) : Type 0 where
+  pub files : files_on now ≡ files_on g
+  pub right : LabelsRight g → LabelsRight now
+  pub clean : short_at (root_page now) 10 ≡ 1 → (now ≡ g) ⊎ (now ≡ h)
+
+on_way_between : (g h now : List Sector) → IsRestored g h → IsOnTheWay g h now → IsBetween g now
+on_way_between g h now restored way = record {
+  files = way.files;
+  right = way.right;
+  clean = λ flag. elim (way.clean flag) [
+    | inl same ↦ inl same
+    | inr same ↦ inr (subst (IsRestored g) (sym same) restored)
+  ];
+}
 
 -- The laws of labels that are used.
 pub record Laws : Type 0 where
@@ -156,7 +171,7 @@ module _ (laws : Laws) (g e : List Sector) (o : Orders) (has : IsRoot (length g)
 
   -- lengths
   long2 : length e2 ≡ n
-  long2 = (at_end (IsBetween e) e (freeing (unneeded_sectors false e)) (freed_moments laws.freed_moments laws.freed_right e)).sectors ∙ opened.sectors
+  long2 = (at_end (IsSameVolume e) e (freeing (unneeded_sectors false e)) (freed_moments laws.freed_moments laws.freed_right e)).sectors ∙ opened.sectors
 
   bits_low : AtEach (IsLow e2) e2 bits_writes
   bits_low = low_moments laws.relabelled n bits_writes (map_writes_are n 1 1 o.bits (vam n) (omega arith) (omega (arith, first_is n)) (low_page n)) e2 long2
@@ -173,24 +188,24 @@ module _ (laws : Laws) (g e : List Sector) (o : Orders) (has : IsRoot (length g)
   long4 : length e4 ≡ n
   long4 = low4.sectors ∙ long2
 
-  between2 : IsBetween e e2
-  between2 = at_end (IsBetween e) e (freeing (unneeded_sectors false e)) (freed_moments laws.freed_moments laws.freed_right e)
+  volume2 : IsSameVolume e e2
+  volume2 = at_end (IsSameVolume e) e (freeing (unneeded_sectors false e)) (freed_moments laws.freed_moments laws.freed_right e)
 
   -- each moment is on the way, or the end
-  pub row_moments : (k : ℕ) → IsBetween e (moment e row k) ⊎ (moment e row k ≡ h)
+  pub row_moments : (k : ℕ) → IsSameVolume e (moment e row k) ⊎ (moment e row k ≡ h)
   row_moments = each_then P e (freeing (unneeded_sectors false e)) (bits_writes ++ (names_writes ++ last ∷ []))
       (λ k. inl (freed_moments laws.freed_moments laws.freed_right e k))
       (each_then P e2 bits_writes (names_writes ++ last ∷ [])
-      (λ k. inl (between_then between2 (low_between (bits_low k))))
+      (λ k. inl (same_volume_then volume2 (low_same_volume (bits_low k))))
       (each_then P e3 names_writes (last ∷ [])
-      (λ k. inl (between_then between2 (low_between (low_then low3 (names_low k)))))
+      (λ k. inl (same_volume_then volume2 (low_same_volume (low_then low3 (names_low k)))))
       at_last))
     where
       P : List Sector → Type 0
-      P now = IsBetween e now ⊎ (now ≡ h)
+      P now = IsSameVolume e now ⊎ (now ≡ h)
 
       at_last : AtEach P e4 (last ∷ [])
-      at_last zero = inl (between_then between2 (low_between low4))
+      at_last zero = inl (same_volume_then volume2 (low_same_volume low4))
       at_last (suc zero) = inr refl
       at_last (suc (suc k)) = inr refl
 
@@ -263,7 +278,7 @@ module _ (laws : Laws) (g e : List Sector) (o : Orders) (has : IsRoot (length g)
   })
 
   same_files : files_on h ≡ files_on g
-  same_files = ap (λ (xs : List Sector). files_by false xs xs) same_data ∙ between2.files ∙ opened.files
+  same_files = ap (λ (xs : List Sector). files_by false xs xs) same_data ∙ volume2.files ∙ opened.files
 
   -- Free, or needed.
 
@@ -393,11 +408,11 @@ module _ (laws : Laws) (g e : List Sector) (o : Orders) (has : IsRoot (length g)
 
   -- The moments, as the disk before sees them.
 
-  on_the_way : (now : List Sector) → IsBetween e now ⊎ (now ≡ h) → IsOnTheWay g h now
-  on_the_way now (inl between) = record {
-    files = between.files ∙ opened.files;
-    right = λ r. between.right (opened.right r);
-    clean = λ flag. absurd (let zero = ap (λ (s : Option Sector). short_at (page_in s) 10) between.root in omega (arith, flag, zero, opened.flag));
+  on_the_way : (now : List Sector) → IsSameVolume e now ⊎ (now ≡ h) → IsOnTheWay g h now
+  on_the_way now (inl same) = record {
+    files = same.files ∙ opened.files;
+    right = λ r. same.right (opened.right r);
+    clean = λ flag. absurd (let zero = ap (λ (s : Option Sector). short_at (page_in s) 10) same.root in omega (arith, flag, zero, opened.flag));
   }
   on_the_way now (inr end) = subst (IsOnTheWay g h) (sym end) (record { files = same_files; right = λ r. (sound_by_room.1 r.files.room).labels; clean = λ flag. inr refl })
 
@@ -421,11 +436,11 @@ module _ (laws : Laws) (g : List Sector) (o : Orders) (are : AreSectors g) (has 
   by_row : (ws : List DiskWrite) (end : List Sector) → scavenge_writes o ≡ ws → after_writes ws g ≡ end → IsRestored g end → ((k : ℕ) → IsOnTheWay g end (moment g ws k)) → ScavengingRestores g o
   by_row ws end same ends restored each =
       let so : after_writes (scavenge_writes o) g ≡ end = ap (λ (vs : List DiskWrite). after_writes vs g) same ∙ ends in
+      let all : (k : ℕ) → IsOnTheWay g end (moment g (scavenge_writes o) k) = λ k. subst (λ (vs : List DiskWrite). IsOnTheWay g end (moment g vs k)) (sym same) (each k) in
       record {
         restored = subst (IsRestored g) (sym so) restored;
-        moments = λ k.
-            subst (λ (x : List Sector). IsOnTheWay g x (moment g (scavenge_writes o) k)) (sym so)
-            (subst (λ (vs : List DiskWrite). IsOnTheWay g end (moment g vs k)) (sym same) (each k));
+        moments = λ k. on_way_between g end (moment g (scavenge_writes o) k) restored (all k);
+        ends = λ k. subst (λ (x : List Sector). short_at (root_page (moment g (scavenge_writes o) k)) 10 ≡ 1 → (moment g (scavenge_writes o) k ≡ g) ⊎ (moment g (scavenge_writes o) k ≡ x)) (sym so) (all k).clean;
       }
 
   abbrev rest : List DiskWrite

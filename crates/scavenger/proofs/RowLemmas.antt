@@ -1,5 +1,5 @@
 -- Writes in a row, as calls that may fail make them.
-use Rattle.std.proofs.Common.{◌≡◌, ◌⊎◌, inl, inr, ℕ, ◌+◌, ◌≤◌, List, [], ◌∷◌, ◌++◌, length, take, Result, Ok, Err, refl, sym, ◌∙◌, ap, subst, arith, length-append}
+use Rattle.std.proofs.Common.{◌≡◌, ◌⊎◌, inl, inr, ◌+◌, List, [], ◌∷◌, ◌++◌, length, take, Result, Ok, Err, refl, sym, ◌∙◌, subst, arith, length-append}
 use Rattle.std.proofs.lemmas.List.{take_all, take-append-le}
 use Rattle.std.proofs.Math.Seq.{take-append-add}
 use Rattle.labelled_disk.specs.declared.disk.DiskError.{DiskError}
@@ -7,7 +7,7 @@ use Rattle.labelled_disk.specs.declared.disk.DiskWrite.{DiskWrite}
 use Rattle.labelled_disk.specs.Calls.{Moves, Rose, Settles, TellsSame, TellsWrite, Writes}
 use Rattle.labelled_disk.specs.State.{DiskState}
 use Rattle.labelled_disk.specs.WriteRuns.{Appended}
-use Rattle.labelled_disk.proofs.CallLemmas.{rose_later, rose_earlier}
+use Rattle.labelled_disk.proofs.CallLemmas.{rose_earlier}
 use Rattle.labelled_disk.proofs.WriteRunLemmas.{appended_none, appended_one, appended_then, appended_no_more}
 use Rattle.volume_root.specs.Format.{PartMade}
 use Rattle.volume_root.specs.Later.{IsLater}
@@ -42,6 +42,11 @@ part_then first next a b c one part = (
   omega (arith, part.1, length-append first next),
   subst (λ (ws : List DiskWrite). Appended ws a c) (sym (take-append-add first next part.0)) (appended_then first (take part.0 next) one part.2),
 )
+
+-- all of a row, or some first ones
+pub carries_part : {E : Type 0} (writes : List DiskWrite) (a b : DiskState) (r : Result (Unit {0}) E) → Carries writes a r b → PartMade writes a b
+carries_part writes a b (Ok x) carries = all_made writes a b carries.all
+carries_part writes a b (Err e) carries = carries.part
 
 -- no write
 pub carries_none : {E : Type 0} (a : DiskState) → Carries {E = E} [] a (Ok tt) a

@@ -23,16 +23,19 @@ pub record IsRestored (g h : List Sector) : Type 0 where
   pub sound : Sound h ↔ (total_room (files_on g) ≤ capacity (length g))
   pub right : LabelsRight g → Sound h × (counter_of h ≡ counter_of g)
 
--- the files of g, and labels that are right where those of g were; a moment whose clean flag is 1 is g or h
-pub record IsOnTheWay (g h now : List Sector) : Type 0 where
+-- A moment of a restoration of g: it has the files of g, and labels that are right where those of g were; and where its
+-- clean flag is 1, it is g, or it is restored.
+pub record IsBetween (g now : List Sector) : Type 0 where
   pub files : files_on now ≡ files_on g
   pub right : LabelsRight g → LabelsRight now
-  pub clean : short_at (root_page now) 10 ≡ 1 → (now ≡ g) ⊎ (now ≡ h)
+  pub clean : short_at (root_page now) 10 ≡ 1 → (now ≡ g) ⊎ IsRestored g now
 
--- so it is for each disk with a valid root, whatever its labels are
+-- so it is for each disk with a valid root, whatever its labels are; the clean flag is 1 at no moment but the first and the last
 pub record ScavengingRestores (g : List Sector) (o : Orders) : Type 0 where
   pub restored : IsRestored g (after_writes (scavenge_writes o) g)
-  pub moments : (k : ℕ) → IsOnTheWay g (after_writes (scavenge_writes o) g) (moment g (scavenge_writes o) k)
+  pub moments : (k : ℕ) → IsBetween g (moment g (scavenge_writes o) k)
+  pub ends : (k : ℕ) → short_at (root_page (moment g (scavenge_writes o) k)) 10 ≡ 1
+      → (moment g (scavenge_writes o) k ≡ g) ⊎ (moment g (scavenge_writes o) k ≡ after_writes (scavenge_writes o) g)
 
 abbrev pub RestoresEach : Type 0
 RestoresEach = (g : List Sector) (o : Orders) → AreSectors g → IsRoot (length g) (slice_get g 0) → AreFor g o → ScavengingRestores g o

@@ -1,7 +1,8 @@
 //! A volume is restored from its labels.
-ghost use Rattle.std.specs.Prelude.{◌≡◌, ◌⊎◌, ℕ, ◌-◌, ◌≤◌, List, [], Some, Err, true, false, length, slice_get, IfOk, IfErr, OnOk};
+ghost use Rattle.std.specs.Prelude.{◌≡◌, ◌⊎◌, ℕ, ◌-◌, ◌≤◌, List, [], ◌++◌, Some, Err, true, false, length, slice_get, IfOk, IfErr, OnOk};
 ghost use Rattle.labelled_disk.specs.Calls.{OnlyReads, ReadsAtMost, Rose, TellsSame};
 ghost use Rattle.labelled_disk.specs.Layout.{IsCount, layout_of, first_data};
+ghost use Rattle.labelled_disk.specs.Moment.{moment};
 ghost use Rattle.labelled_disk.specs.Sectors.{Sector};
 ghost use Rattle.labelled_disk.specs.WriteRuns.{Appended};
 ghost use Rattle.volume_root.specs.Format.{PartMade};
@@ -12,14 +13,14 @@ ghost use Rattle.scavenger.specs.Carries.{Carries};
 ghost use Rattle.scavenger.specs.Plan.{orders, IsSized, IsPlanOf};
 ghost use Rattle.scavenger.specs.Orders.{Orders, AreFor, scavenge_writes};
 ghost use Rattle.scavenger.specs.Reported.{lost_in, Reports};
-ghost use Rattle.scavenger.specs.Restored.{IsRestored};
+ghost use Rattle.scavenger.specs.Restored.{IsBetween, IsRestored};
 
 use crate::laws::scavenging_restores;
 use crate::opening::read_any_root;
 use crate::plan::Plan;
 use crate::{Report, ScavengeFault};
 use label_survey::{SurveyFault, read_labels, standings_tell};
-use labelled_disk::{Disk, Layout};
+use labelled_disk::{Disk, DiskWrite, Layout};
 use std::alloc::Allocator;
 use volume_root::{Root, RootFault};
 
@@ -116,6 +117,12 @@ pub fn scavenge<A: Allocator + Clone, D: Disk>(
         → (g : List Sector) → (D.state disk.old).contents ≡ Some g
         → TellsSame (D.state disk.old) (D.state disk.new) ⊎ ((o : Orders) × AreFor g o
         × PartMade (scavenge_writes o) (D.state disk.old) (D.state disk.new)) }
+
+    // What stands at each moment of its writes, whatever it answers.
+    ensures moments { (g : List Sector) (before writes : List DiskWrite)
+        → (D.state disk.old).contents ≡ Some g → (D.state disk.old).writes ≡ Some before
+        → (D.state disk.new).writes ≡ Some (before ++ writes)
+        → (k : ℕ) → IsBetween g (moment g writes k) }
 
     // The root that was read is refused.
     ensures count { ¬ IsCount (D.state disk.old).sectors

@@ -1,8 +1,10 @@
-use Rattle.std.proofs.Common.{◌≡◌, ◌⊎◌, inl, inr, ℕ, ◌<◌, ◌^◌, List, Some, length, rules, arith, refl, sym, ◌∙◌, ap, subst}
-use Rattle.labelled_disk.specs.Layout.{IsCount, layout_of, first_data}
+use Rattle.std.proofs.Common.{◌≡◌, inr, ◌<◌, ◌^◌, List, Some, length, rules, sym, ◌∙◌, ap}
+use Rattle.labelled_disk.specs.Layout.{first_data}
 use Rattle.labelled_disk.specs.Sectors.{Sector}
-use Rattle.scavenger.specs.Orders.{AreFor, scavenge_writes}
+use Rattle.labelled_disk.proofs.CallLemmas.{only_reads_then}
+use Rattle.scavenger.specs.Orders.{AreFor}
 use Rattle.scavenger.specs.Plan.{orders}
+use Rattle.scavenger.proofs.BetweenLemmas.{moments_of_carried, moments_of_none, reads_same}
 use Rattle.scavenger.proofs.LayoutLemmas.{of_layout}
 use Rattle.scavenger.proofs.PlanLemmas.{ok_then}
 use Rattle.scavenger.proofs.TopLemmas.{are_for, appended_behind, part_behind, restored_by, on_err, accords_by}
@@ -42,3 +44,18 @@ returns-clause-part g c = λ is d told.
 
 pub returns-clause-judged : goal.returns-clause-judged
 returns-clause-judged g c = λ count d told s here. accords_by c.finish.result _ c.finish.ensures.err (c.in_ok-root.ensures.judged count d told s here)
+
+-- ---- What stands at each moment.
+
+pub returns-in_err-root-clause-moments : goal.returns-in_err-root-clause-moments
+returns-in_err-root-clause-moments g c = λ d before writes told earlier later k.
+    moments_of_none d (g.D.Disk.state c.args.disk.now) (g.D.Disk.state c.read_any_root.new.disk) before writes earlier later k (reads_same c.read_any_root.ensures.cost.only)
+
+pub returns-in_err-plan-clause-moments : goal.returns-in_err-plan-clause-moments
+returns-in_err-plan-clause-moments g c = λ d before writes told earlier later k.
+    moments_of_none d (g.D.Disk.state c.args.disk.now) (g.D.Disk.state c.make_plan.new.disk) before writes earlier later k (reads_same (only_reads_then c.read_any_root.ensures.cost.only c.make_plan.ensures.cost.only))
+
+pub returns-clause-moments : goal.returns-clause-moments
+returns-clause-moments g c = λ d before writes told earlier later k.
+    moments_of_carried d (g.D.Disk.state c.args.disk.now) (g.D.Disk.state c.finish.new.disk) before writes earlier later k (orders c.in_ok-root.root c.in-Ok.layout.first c.in_ok-plan.plan) (g.D.Disk.state c.make_plan.new.disk) c.finish.result
+    c.scavenging_restores.ensures (g.met.D.Disk.in_form c.args.disk.now d told) (c.in_ok-root.ensures.root d told).1 (is_for g c d told) (only_reads_then c.in_ok-root.ensures.cost.only c.in_ok-plan.ensures.cost.only) c.finish.ensures.carries
