@@ -1,5 +1,5 @@
 -- Runs of pages that are there.
-use Rattle.std.proofs.Common.{◌≡◌, ◌≢◌, ◌<◌, ◌≤◌, ◌+◌, ◌∙◌, ◌↔◌, ◌⊎◌, ℕ, List, Option, Some, None, true, false, refl, ap, sym, subst, inl, inr, zero, suc, length, set, get_or, arith, get_or-set_same, get_or-set_other, length-set}
+use Rattle.std.proofs.Common.{◌≡◌, ◌≢◌, ◌<◌, ◌≤◌, ◌+◌, ◌∙◌, ◌↔◌, ◌⊎◌, ℕ, List, Option, Some, None, true, false, refl, ap, sym, subst, inl, inr, zero, suc, length, set, arith, get_or-set_same, get_or-set_other, length-set}
 use Rattle.std.specs.Prelude.{◌^◌, option_map, replicate}
 use Rattle.std.proofs.lemmas.Bool.{cases_eq, cases_lt, true≢false}
 use Rattle.std.proofs.lemmas.List.{get_or_past}
@@ -15,11 +15,8 @@ use Rattle.frame_pool.specs.Runs.{IsThere, HasRun, IsFresh, HasRuns}
 -- ---- Runs.
 
 -- nothing is said of no pages
-pub no_pages : (slots : Slots) (id first : ℕ) → HasRun slots id first 0
+no_pages : (slots : Slots) (id first : ℕ) → HasRun slots id first 0
 no_pages slots id first j below = absurd (omega (arith, below))
-
-pub no_pages_there : (slots : Slots) (id first pages : ℕ) → pages ≡ 0 → true ≡ true ↔ HasRun slots id first pages
-no_pages_there slots id first pages none = (λ _. rw none (no_pages slots id first), λ _. refl)
 
 -- a shorter run from the same page on is there
 begins : (slots : Slots) (i j first page more pages : ℕ) → HasRun slots i page more → i ≡ j → page ≡ first → pages ≤ more → HasRun slots j first pages

@@ -1,7 +1,7 @@
 use Rattle.std.proofs.Common.{refl}
 use Rattle.frame_pool.proofs.KeptLemmas.{nowhere_of}
 use Rattle.frame_pool.proofs.PoolLemmas.{found_pool}
-use Rattle.frame_pool.proofs.RunLemmas.{first_nowhere, no_pages_there, runs_found, runs_told}
+use Rattle.frame_pool.proofs.RunLemmas.{first_nowhere, runs_found, runs_told}
 use Rattle.frame_pool.proofs.pool.FramePool.has_run.Goals as goal
 
 pub returns-in_default-clause-there : goal.returns-in_default-clause-there
