@@ -1,6 +1,7 @@
 -- A slot of a pool is filled or emptied.
 use Rattle.std.proofs.Common.{◌≡◌, ◌≢◌, ◌<◌, ◌≤◌, ◌+◌, ◌∙◌, ℕ, List, Option, Some, None, refl, ap, sym, length, get_or, set, arith, inl, inr, Bool, get_or-set_same, get_or-set_other, length-set}
 use Rattle.std.specs.Prelude.{option_map}
+use Rattle.frame_pool.specs.declared.found.FoundRun.{FoundRun}
 use Rattle.frame_pool.specs.declared.home.Home.{Home}
 use Rattle.std.proofs.lemmas.Bool.{cases_eq, cases_lt}
 use Rattle.std.proofs.lemmas.Option.{same_Some, none-some}
@@ -206,6 +207,19 @@ cleared_pool l0 l1 l2 slot place f pool below some chains unlinked orders order 
       distinct = distinct_cleared l0.frames slot below pool.distinct;
       pages = pages_cleared l0.frames slot below pool.pages;
     }
+
+-- what the slots remember has no part in it
+pub found_pool : (l : Lists) (e : ℕ) (founds : List FoundRun) → IsPool l e → IsPool (record l { founds = founds }) e
+found_pool l e founds pool = record {
+  least = pool.least;
+  most = pool.most;
+  sized = record { heads = pool.sized.heads; nexts = pool.sized.nexts; orders = pool.sized.orders; positions = pool.sized.positions };
+  index = index_kept (bucket_at l.frames) l (record l { founds = founds }) refl refl refl pool.index;
+  order = order_kept l (record l { founds = founds }) refl refl refl pool.order;
+  first_empties = record { few = pool.first_empties.few; empty = pool.first_empties.empty; placed = pool.first_empties.placed };
+  distinct = pool.distinct;
+  pages = pool.pages;
+}
 
 -- what is held is of a frame
 pub held_frame : (x : Option Frame) (h : Home) (d : Bool) → Some (h, d) ≡ option_map shown x → (f : Frame) × (x ≡ Some f) × (f.home ≡ h)

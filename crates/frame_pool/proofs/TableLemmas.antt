@@ -3,6 +3,7 @@ use Rattle.std.proofs.Common.{◌≡◌, ℕ, List, Option, Some, None, refl, �
 use Rattle.std.specs.Prelude.{option_map}
 use Rattle.std.proofs.lemmas.List.{map-set, get_or-map, set-get_or, length-map}
 use Rattle.std.proofs.Math.Seq.{map-set_same}
+use Rattle.frame_pool.specs.declared.found.FoundRun.{FoundRun}
 use Rattle.frame_pool.specs.declared.table.Slot.{Slot}
 use Rattle.frame_pool.specs.declared.table.Kept.{Kept}
 use Rattle.frame_pool.specs.Frames.{Frame}
@@ -12,68 +13,84 @@ use Rattle.frame_pool.specs.Table.{frame_of, lists_of}
 abbrev frame_in : Slot → Option Frame
 frame_in s = option_map frame_of s.kept
 
-abbrev pub lists_with : List (Option Frame) → List (Option ℕ) → List (Option ℕ) → List ℕ → List ℕ → Lists
-lists_with f h n o p = record { frames = f; heads = h; nexts = n; orders = o; positions = p }
+abbrev pub lists_with : List (Option Frame) → List (Option ℕ) → List (Option ℕ) → List ℕ → List ℕ → List FoundRun → Lists
+lists_with f h n o p r = record { frames = f; heads = h; nexts = n; orders = o; positions = p; founds = r }
 
 -- lists that are equal one by one are the same
-pub same_lists : (f f2 : List (Option Frame)) (h h2 n n2 : List (Option ℕ)) (o o2 p p2 : List ℕ) → f ≡ f2 → h ≡ h2 → n ≡ n2 → o ≡ o2 → p ≡ p2
-    → lists_with f h n o p ≡ lists_with f2 h2 n2 o2 p2
-same_lists f f2 h h2 n n2 o o2 p p2 ef eh en eo ep = cc
+pub same_lists : (f f2 : List (Option Frame)) (h h2 n n2 : List (Option ℕ)) (o o2 p p2 : List ℕ) (r r2 : List FoundRun) → f ≡ f2 → h ≡ h2 → n ≡ n2 → o ≡ o2 → p ≡ p2 → r ≡ r2
+    → lists_with f h n o p r ≡ lists_with f2 h2 n2 o2 p2 r2
+same_lists f f2 h h2 n n2 o o2 p p2 r r2 ef eh en eo ep er = cc
 
 pub set_head_lists : (slots : List Slot) (i : ℕ) (s : Slot) (x : Option ℕ) → s ≡ get_or slots i s → lists_of (set slots i (record s { head = x })) ≡ record (lists_of slots) { heads = set (map (λ (t : Slot). t.head) slots) i x }
 set_head_lists slots i s x is =
-    same_lists _ _ _ _ _ _ _ _ _ _
+    same_lists _ _ _ _ _ _ _ _ _ _ _ _
     (map-set_same frame_in slots i (record s { head = x }) s (ap frame_in is))
     (map-set (λ (t : Slot). t.head) slots i (record s { head = x }))
     (map-set_same (λ (t : Slot). t.next) slots i (record s { head = x }) s (ap (λ (t : Slot). t.next) is))
     (map-set_same (λ (t : Slot). t.order) slots i (record s { head = x }) s (ap (λ (t : Slot). t.order) is))
     (map-set_same (λ (t : Slot). t.position) slots i (record s { head = x }) s (ap (λ (t : Slot). t.position) is))
+    (map-set_same (λ (t : Slot). t.found) slots i (record s { head = x }) s (ap (λ (t : Slot). t.found) is))
 
 pub set_next_lists : (slots : List Slot) (i : ℕ) (s : Slot) (x : Option ℕ) → s ≡ get_or slots i s → lists_of (set slots i (record s { next = x })) ≡ record (lists_of slots) { nexts = set (map (λ (t : Slot). t.next) slots) i x }
 set_next_lists slots i s x is =
-    same_lists _ _ _ _ _ _ _ _ _ _
+    same_lists _ _ _ _ _ _ _ _ _ _ _ _
     (map-set_same frame_in slots i (record s { next = x }) s (ap frame_in is))
     (map-set_same (λ (t : Slot). t.head) slots i (record s { next = x }) s (ap (λ (t : Slot). t.head) is))
     (map-set (λ (t : Slot). t.next) slots i (record s { next = x }))
     (map-set_same (λ (t : Slot). t.order) slots i (record s { next = x }) s (ap (λ (t : Slot). t.order) is))
     (map-set_same (λ (t : Slot). t.position) slots i (record s { next = x }) s (ap (λ (t : Slot). t.position) is))
+    (map-set_same (λ (t : Slot). t.found) slots i (record s { next = x }) s (ap (λ (t : Slot). t.found) is))
 
 pub set_order_lists : (slots : List Slot) (i : ℕ) (s : Slot) (x : ℕ) → s ≡ get_or slots i s → lists_of (set slots i (record s { order = x })) ≡ record (lists_of slots) { orders = set (map (λ (t : Slot). t.order) slots) i x }
 set_order_lists slots i s x is =
-    same_lists _ _ _ _ _ _ _ _ _ _
+    same_lists _ _ _ _ _ _ _ _ _ _ _ _
     (map-set_same frame_in slots i (record s { order = x }) s (ap frame_in is))
     (map-set_same (λ (t : Slot). t.head) slots i (record s { order = x }) s (ap (λ (t : Slot). t.head) is))
     (map-set_same (λ (t : Slot). t.next) slots i (record s { order = x }) s (ap (λ (t : Slot). t.next) is))
     (map-set (λ (t : Slot). t.order) slots i (record s { order = x }))
     (map-set_same (λ (t : Slot). t.position) slots i (record s { order = x }) s (ap (λ (t : Slot). t.position) is))
+    (map-set_same (λ (t : Slot). t.found) slots i (record s { order = x }) s (ap (λ (t : Slot). t.found) is))
 
 pub set_position_lists : (slots : List Slot) (i : ℕ) (s : Slot) (x : ℕ) → s ≡ get_or slots i s → lists_of (set slots i (record s { position = x })) ≡ record (lists_of slots) { positions = set (map (λ (t : Slot). t.position) slots) i x }
 set_position_lists slots i s x is =
-    same_lists _ _ _ _ _ _ _ _ _ _
+    same_lists _ _ _ _ _ _ _ _ _ _ _ _
     (map-set_same frame_in slots i (record s { position = x }) s (ap frame_in is))
     (map-set_same (λ (t : Slot). t.head) slots i (record s { position = x }) s (ap (λ (t : Slot). t.head) is))
     (map-set_same (λ (t : Slot). t.next) slots i (record s { position = x }) s (ap (λ (t : Slot). t.next) is))
     (map-set_same (λ (t : Slot). t.order) slots i (record s { position = x }) s (ap (λ (t : Slot). t.order) is))
     (map-set (λ (t : Slot). t.position) slots i (record s { position = x }))
+    (map-set_same (λ (t : Slot). t.found) slots i (record s { position = x }) s (ap (λ (t : Slot). t.found) is))
+
+pub set_found_lists : (slots : List Slot) (i : ℕ) (s : Slot) (x : FoundRun) → s ≡ get_or slots i s → lists_of (set slots i (record s { found = x })) ≡ record (lists_of slots) { founds = set (map (λ (t : Slot). t.found) slots) i x }
+set_found_lists slots i s x is =
+    same_lists _ _ _ _ _ _ _ _ _ _ _ _
+    (map-set_same frame_in slots i (record s { found = x }) s (ap frame_in is))
+    (map-set_same (λ (t : Slot). t.head) slots i (record s { found = x }) s (ap (λ (t : Slot). t.head) is))
+    (map-set_same (λ (t : Slot). t.next) slots i (record s { found = x }) s (ap (λ (t : Slot). t.next) is))
+    (map-set_same (λ (t : Slot). t.order) slots i (record s { found = x }) s (ap (λ (t : Slot). t.order) is))
+    (map-set_same (λ (t : Slot). t.position) slots i (record s { found = x }) s (ap (λ (t : Slot). t.position) is))
+    (map-set (λ (t : Slot). t.found) slots i (record s { found = x }))
 
 -- a frame, or none, in a slot
 pub set_kept_lists : (slots : List Slot) (i : ℕ) (s : Slot) (x : Option Kept) → s ≡ get_or slots i s → lists_of (set slots i (record s { kept = x })) ≡ record (lists_of slots) { frames = set (map frame_in slots) i (option_map frame_of x) }
 set_kept_lists slots i s x is =
-    same_lists _ _ _ _ _ _ _ _ _ _
+    same_lists _ _ _ _ _ _ _ _ _ _ _ _
     (map-set frame_in slots i (record s { kept = x }))
     (map-set_same (λ (t : Slot). t.head) slots i (record s { kept = x }) s (ap (λ (t : Slot). t.head) is))
     (map-set_same (λ (t : Slot). t.next) slots i (record s { kept = x }) s (ap (λ (t : Slot). t.next) is))
     (map-set_same (λ (t : Slot). t.order) slots i (record s { kept = x }) s (ap (λ (t : Slot). t.order) is))
     (map-set_same (λ (t : Slot). t.position) slots i (record s { kept = x }) s (ap (λ (t : Slot). t.position) is))
+    (map-set_same (λ (t : Slot). t.found) slots i (record s { kept = x }) s (ap (λ (t : Slot). t.found) is))
 
-pub set_mark_lists : (slots : List Slot) (i : ℕ) (s t : Slot) → s ≡ get_or slots i s → frame_in t ≡ frame_in s → t.head ≡ s.head → t.next ≡ s.next → t.order ≡ s.order → t.position ≡ s.position → lists_of (set slots i t) ≡ lists_of slots
-set_mark_lists slots i s t is f h n o p =
-    same_lists _ _ _ _ _ _ _ _ _ _
+pub set_mark_lists : (slots : List Slot) (i : ℕ) (s t : Slot) → s ≡ get_or slots i s → frame_in t ≡ frame_in s → t.head ≡ s.head → t.next ≡ s.next → t.order ≡ s.order → t.position ≡ s.position → t.found ≡ s.found → lists_of (set slots i t) ≡ lists_of slots
+set_mark_lists slots i s t is f h n o p r =
+    same_lists _ _ _ _ _ _ _ _ _ _ _ _
     (map-set_same frame_in slots i t s (rw f (ap frame_in is)))
     (map-set_same (λ (t : Slot). t.head) slots i t s (rw h (ap (λ (t : Slot). t.head) is)))
     (map-set_same (λ (t : Slot). t.next) slots i t s (rw n (ap (λ (t : Slot). t.next) is)))
     (map-set_same (λ (t : Slot). t.order) slots i t s (rw o (ap (λ (t : Slot). t.order) is)))
     (map-set_same (λ (t : Slot). t.position) slots i t s (rw p (ap (λ (t : Slot). t.position) is)))
+    (map-set_same (λ (t : Slot). t.found) slots i t s (rw r (ap (λ (t : Slot). t.found) is)))
 
 frame_read : (slots : List Slot) (i : ℕ) (s : Slot) → i < length slots → s ≡ get_or slots i s → get_or (map frame_in slots) i None ≡ frame_in s
 frame_read slots i s below is = get_or-map frame_in slots i s None below ∙ ap frame_in (sym is)

@@ -51,6 +51,7 @@ pub record KeepsButChains (before after : Lists) : Type 0 where
   pub frames : after.frames ≡ before.frames
   pub orders : after.orders ≡ before.orders
   pub positions : after.positions ≡ before.positions
+  pub founds : after.founds ≡ before.founds
   pub heads : length after.heads ≡ length before.heads
   pub nexts : length after.nexts ≡ length before.nexts
 

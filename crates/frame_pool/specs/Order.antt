@@ -27,6 +27,7 @@ pub record KeepsButOrder (before after : Lists) : Type 0 where
   pub frames : after.frames ≡ before.frames
   pub heads : after.heads ≡ before.heads
   pub nexts : after.nexts ≡ before.nexts
+  pub founds : after.founds ≡ before.founds
   pub orders : length after.orders ≡ length before.orders
   pub positions : length after.positions ≡ length before.positions
 

@@ -16,4 +16,5 @@ lists_of slots = record {
   nexts = map (λ s. s.next) slots;
   orders = map (λ s. s.order) slots;
   positions = map (λ s. s.position) slots;
+  founds = map (λ s. s.found) slots;
 }

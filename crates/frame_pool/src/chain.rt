@@ -10,7 +10,7 @@ use labelled_disk::FileId;
 use std::alloc::Allocator;
 
 /// The odd number next to 2^64 divided by the golden ratio: multiplying by it spreads what is close.
-pub(crate) const SPREAD: u64 = 11_400_714_819_323_198_485;
+const SPREAD: u64 = 11_400_714_819_323_198_485;
 
 /// The bucket of a page, among so many.
 #[tactic(auto, unfolding(crate::specs::Index::bucket_of))]

@@ -1,67 +1,22 @@
-//! Runs that were found whole, each of which is found again at one look.
-ghost use Rattle.std.specs.Prelude.{◌≡◌, ◌<◌, ◌^◌, true};
-ghost use Rattle.frame_pool.specs.Frames.{Slots};
-ghost use Rattle.frame_pool.specs.Runs.{HasRun, HasRuns};
+//! What a slot remembers of the pages from its own on.
+ghost use Rattle.std.specs.Prelude.{◌≡◌, ◌≤◌, true};
+ghost use Rattle.frame_pool.specs.Runs.{IsFresh};
 
-use crate::chain::SPREAD;
-use crate::table::Run;
-
-/// How many runs are remembered.
-const RUNS: usize = 64;
-
-/// A run of no pages: nothing is said of it.
-const NOTHING: Run = Run {
-    id: 0,
-    first: 0,
-    pages: 0,
-};
-
-/// The place of a run, by its first page. A later run may take it.
-fn place(run: &Run) -> usize
-    ensures { result < 64 }
-{
-    let mixed = run
-        .id
-        .wrapping_add(u64::from(run.first))
-        .wrapping_mul(SPREAD);
-    (mixed / 0x400_0000_0000_0000) as usize
+/// So many pages, from the slot's own on, were there when so many slots had been emptied.
+#[derive(Clone, Copy)]
+pub(crate) struct FoundRun {
+    pub(crate) pages: u32,
+    pub(crate) time: u32,
 }
 
-/// The last runs that were found whole.
-#[derive(Drop)]
-pub(crate) struct Found {
-    pub(crate) runs: [Run; RUNS],
-}
+/// No page: nothing is said.
+pub(crate) const NOTHING: FoundRun = FoundRun { pages: 0, time: 0 };
 
-impl Found {
-    /// No run.
-    pub(crate) fn none() -> Found
-        ensures { (slots : Slots) → HasRuns slots result.runs }
+impl FoundRun {
+    /// Whether it tells, at this time, that so many pages are there. At the greatest time it tells nothing.
+    pub(crate) fn tells(&self, pages: u32, time: u32) -> bool
+        ensures { result ≡ true → IsFresh self.now time × (pages ≤ self.now.pages) }
     {
-        Found {
-            runs: [NOTHING; RUNS],
-        }
-    }
-
-    /// Whether the run is remembered, or is the beginning of one that is.
-    pub(crate) fn has(&self, run: &Run) -> bool
-        ensures { result ≡ true → (slots : Slots) → HasRuns slots self.now.runs → HasRun slots run.now.id run.now.first run.now.pages }
-    {
-        let found = &self.runs[place(run)];
-        found.id == run.id && found.first == run.first && run.pages <= found.pages
-    }
-
-    /// Remembers a run.
-    pub(crate) fn keep(&mut self, run: Run)
-        ensures { (slots : Slots) → HasRuns slots self.old.runs → HasRun slots run.id run.first run.pages → HasRuns slots self.new.runs }
-    {
-        self.runs[place(&run)] = run;
-    }
-
-    /// Forgets all runs.
-    pub(crate) fn forget(&mut self)
-        ensures { (slots : Slots) → HasRuns slots self.new.runs }
-    {
-        self.runs = [NOTHING; RUNS];
+        self.time == time && time < u32::MAX && pages <= self.pages
     }
 }

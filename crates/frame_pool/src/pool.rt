@@ -3,7 +3,7 @@ ghost use Rattle.std.specs.Prelude.{◌≡◌, ◌<◌, ◌≤◌, ◌+◌, ◌^
 ghost use Rattle.frame_pool.specs.Frames.{ArePages, Frame, Has, HasDistinct, HasPage, IsEmpty, IsNowhere, IsOutside, IsPageBytes, changed, changed_at, clean, cleaned_at, frame_at, new_frame, shown};
 ghost use Rattle.frame_pool.specs.Runs.{HasRun};
 
-use crate::found::Found;
+use crate::found::FoundRun;
 use crate::home::Home;
 use crate::sweep::sweep;
 use crate::table::{Run, Table};
@@ -20,8 +20,9 @@ pub struct FramePool<A: Allocator> {
     empties: u16,
     /// Where the next sweep for a victim begins.
     hand: u16,
-    /// Runs of pages that are all there. A slot that is emptied makes them unknown.
-    found: Found,
+    /// How many filled slots were emptied. A run of pages that was found at this time is still there: but at the greatest
+    /// time, at which it stays, nothing is trusted.
+    time: u32,
 }
 
 impl<A: Allocator> Model for FramePool<A> {
@@ -33,7 +34,7 @@ impl<A: Allocator> Model for FramePool<A> {
 
     ghost view = { λ p. p.table.frames };
 
-    ghost invariant = { λ p. IsPool p.table p.empties × HasRuns p.table.frames p.found.runs };
+    ghost invariant = { λ p. IsPool p.table p.empties × HasRuns p.table.frames p.table.founds p.time };
 }
 
 impl<A: Allocator> FramePool<A> {
@@ -48,7 +49,7 @@ impl<A: Allocator> FramePool<A> {
             table,
             empties: frames as u16,
             hand: 0,
-            found: Found::none(),
+            time: 0,
         })
     }
 
@@ -77,20 +78,26 @@ impl<A: Allocator> FramePool<A> {
         }
     }
 
-    /// Whether pages in a row of a file are all there. That they are is remembered until a slot is emptied, and the run
-    /// is found then at one look.
+    /// Whether pages in a row of a file are all there. That they are is remembered in the slot of the first one until a
+    /// slot is emptied, and the run is found then with that page.
     pub fn has_run(&mut self, id: FileId, first: u32, pages: u32) -> bool
         requires fits { first + pages ≤ 2 ^ 32 }
         ensures there { result ≡ true ↔ HasRun self.old id first pages }
         ensures same { self.new ≡ self.old }
     {
-        let run = Run { id, first, pages };
-        if self.found.has(&run) {
+        if pages == 0 {
             return true;
         }
-        let there = chain::has_run(&self.table, &run);
+        let Some(slot) = chain::find(&self.table, id, first) else {
+            return false;
+        };
+        let time = self.time;
+        if self.table.found(slot).tells(pages, time) {
+            return true;
+        }
+        let there = chain::has_run(&self.table, &Run { id, first, pages });
         if there {
-            self.found.keep(run);
+            self.table.set_found(slot, FoundRun { pages, time });
         }
         there
     }
@@ -177,7 +184,7 @@ impl<A: Allocator> FramePool<A> {
         ensures value { self.new ≡ slice_set self.old slot None }
         ensures distinct { HasDistinct self.old }
     {
-        let found = &mut self.found;
-        self.empties = fill::clear(&mut self.table, found, self.empties, slot as u16);
+        let time = &mut self.time;
+        self.empties = fill::clear(&mut self.table, time, self.empties, slot as u16);
     }
 }

@@ -3,15 +3,16 @@ ghost use Rattle.std.specs.Prelude.{◌≡◌, ◌<◌, ◌≤◌, ◌+◌, ◌^
 ghost use Rattle.frame_pool.specs.Table.{lists_of};
 ghost use Rattle.frame_pool.specs.Frames.{frame_at, new_frame, clean, changed, shown, is_of, is_kept, IsPageBytes};
 ghost use Rattle.flat_mem.specs.Memory.{overwritten};
-ghost use Rattle.frame_pool.specs.Lists.{Lists, fresh_lists};
+ghost use Rattle.frame_pool.specs.Lists.{Lists, fresh_lists, found_at};
 
+use crate::found::{FoundRun, NOTHING};
 use crate::home::Home;
 use labelled_disk::{FileId, Page};
 use std::alloc::{AllocError, Allocator};
 use std::cell::Cell;
 use std::marker::Model;
 
-/// The frame of a slot. The fields lie so that a slot takes 560 bytes.
+/// The frame of a slot. The fields lie so that a slot takes 568 bytes.
 #[derive(Clone, Copy)]
 pub(crate) struct Kept {
     pub(crate) id: FileId,
@@ -39,8 +40,8 @@ pub(crate) struct Run {
     pub(crate) pages: u32,
 }
 
-/// What the table has for one number: the slot's frame and its links, the head of the bucket with this number, and
-/// the slot at this place of the order.
+/// What the table has for one number: the slot's frame, its links and what it remembers, the head of the bucket with this
+/// number, and the slot at this place of the order.
 #[derive(Drop)]
 pub(crate) struct Slot {
     kept: Option<Kept>,
@@ -48,11 +49,12 @@ pub(crate) struct Slot {
     next: Option<u16>,
     order: u16,
     position: u16,
+    found: FoundRun,
     referenced: Cell<bool>,
 }
 
-/// 24 slots take 13,440 bytes.
-const _: () = prove!(size_of::<Slot>() == 560);
+/// 24 slots take 13,632 bytes.
+const _: () = prove!(size_of::<Slot>() == 568);
 
 #[derive(Drop)]
 pub(crate) struct Table<A: Allocator> {
@@ -81,6 +83,7 @@ fn empty_slots<A: Allocator>(alloc: A, slots: u16) -> Result<Vec<Slot, A>, Alloc
             next: None,
             order: number,
             position: number,
+            found: NOTHING,
             referenced: Cell::new(false),
         })?;
     }
@@ -129,6 +132,13 @@ impl<A: Allocator> Table<A> {
         self.slots[slot as usize].position
     }
 
+    pub(crate) fn found(&self, slot: u16) -> FoundRun
+        requires { slot < length self.now.frames }
+        ensures { result ≡ found_at self.now.founds slot }
+    {
+        self.slots[slot as usize].found
+    }
+
     pub(crate) fn set_head(&mut self, bucket: u16, head: Option<u16>)
         requires { bucket < length self.old.frames }
         ensures { self.new ≡ record self.old { heads = slice_set self.old.heads bucket head } }
@@ -155,6 +165,13 @@ impl<A: Allocator> Table<A> {
         ensures { self.new ≡ record self.old { positions = slice_set self.old.positions slot place } }
     {
         self.slots[slot as usize].position = place;
+    }
+
+    pub(crate) fn set_found(&mut self, slot: u16, found: FoundRun)
+        requires { slot < length self.old.frames }
+        ensures { self.new ≡ record self.old { founds = slice_set self.old.founds slot found } }
+    {
+        self.slots[slot as usize].found = found;
     }
 
     /// Whether the slot has the page.

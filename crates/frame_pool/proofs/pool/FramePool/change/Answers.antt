@@ -11,5 +11,5 @@ invariant_of-self g c =
       kept_pool (λ f. changed f c.args.at c.args.bytes.now) inside.table inside.empties c.args.slot (λ f. refl)
           (λ f page. overwritten_page f.bytes c.args.at c.args.bytes.now page c.requires.inside (λ k. let fits = c.type_inv.bytes k in omega arith))
           c.self.invariant.0 (rw c.self.view_is c.requires.below),
-      runs_changed (λ f. changed f c.args.at c.args.bytes.now) inside.table.frames c.args.slot inside.found.runs (λ f. refl) c.self.invariant.1,
+      runs_changed (λ f. changed f c.args.at c.args.bytes.now) inside.table.frames inside.table.founds inside.time c.args.slot (λ f. refl) (rw c.self.view_is c.requires.below) c.self.invariant.1,
     )

@@ -1,11 +1,35 @@
 use Rattle.std.proofs.Common.{refl}
+use Rattle.frame_pool.proofs.KeptLemmas.{nowhere_of}
+use Rattle.frame_pool.proofs.PoolLemmas.{found_pool}
+use Rattle.frame_pool.proofs.RunLemmas.{first_nowhere, runs_found, runs_told}
 use Rattle.frame_pool.proofs.pool.FramePool.has_run.Goals as goal
 
-pub returns-then-has-clause-there : goal.returns-then-has-clause-there
-returns-then-has-clause-there g c = rw (← c.self.view_is) (λ e. c.has.ensures c.if-has.true c.self.inside.table.frames c.self.invariant.1, λ all. refl)
+pub returns-in_default-clause-there : goal.returns-in_default-clause-there
+returns-in_default-clause-there g c =
+    let slots = c.self.inside.table.frames in
+    rw (← c.self.view_is) (first_nowhere slots c.args.id c.args.first c.args.pages c.if-pages-eq0.false (nowhere_of slots c.args.id c.args.first (c.find.ensures.nowhere c.in_default.is)))
+
+pub returns-then-tells-clause-there : goal.returns-then-tells-clause-there
+returns-then-tells-clause-there g c =
+    let inside = c.self.inside in
+    let hit = c.in-Some.ensures.found in
+    let told = rw c.found.ensures at (c.tells.ensures c.if-tells.true) in
+    rw (← c.self.view_is) (
+      λ _. runs_told inside.table.frames inside.table.founds inside.time c.in-Some.slot c.args.id c.args.first c.args.pages hit.0 hit.1 c.self.invariant.1 told.0 told.1,
+      λ _. refl,
+    )
 
 pub returns-then-there-clause-there : goal.returns-then-there-clause-there
 returns-then-there-clause-there g c = rw (← c.self.view_is) c.has_run-there.ensures
 
 pub returns-else-there-clause-there : goal.returns-else-there-clause-there
 returns-else-there-clause-there g c = rw (← c.self.view_is) c.has_run-there.ensures
+
+pub invariant_of-self : goal.invariant_of-self
+invariant_of-self g c =
+    let inside = c.self.inside in
+    let hit = c.in-Some.ensures.found in
+    rw c.set_found.ensures (
+      found_pool inside.table inside.empties _ c.self.invariant.0,
+      runs_found inside.table.frames inside.table.founds inside.time c.in-Some.slot c.args.id c.args.first c.args.pages hit.1 (c.has_run-there.ensures.0 c.if-there.true) c.self.invariant.1,
+    )

@@ -9,5 +9,5 @@ invariant_of-self g c =
     let inside = c.self.inside in
     rw c.clean.ensures (
       kept_pool clean inside.table inside.empties c.args.slot (λ f. refl) (λ f page. page) c.self.invariant.0 (rw c.self.view_is c.requires.below),
-      runs_changed clean inside.table.frames c.args.slot inside.found.runs (λ f. refl) c.self.invariant.1,
+      runs_changed clean inside.table.frames inside.table.founds inside.time c.args.slot (λ f. refl) (rw c.self.view_is c.requires.below) c.self.invariant.1,
     )

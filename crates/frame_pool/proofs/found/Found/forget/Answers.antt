@@ -1,5 +1,0 @@
-use Rattle.frame_pool.proofs.RunLemmas.{no_runs}
-use Rattle.frame_pool.proofs.found.Found.forget.Goals as goal
-
-pub returns : goal.returns
-returns c = λ slots. no_runs slots 64 0 0
