@@ -1,4 +1,4 @@
-use Rattle.std.proofs.Common.{◌≡◌, ◌-◌, min, [], ◌∷◌, refl, ◌∙◌, inl, inr}
+use Rattle.std.proofs.Common.{◌≡◌, ◌-◌, min, [], ◌∷◌, refl, ◌∙◌, inl, inr, rules}
 use Rattle.labelled_disk.specs.FilesOn.{files_on}
 use Rattle.flat_machine.specs.Space.{root}
 use Rattle.session_words.specs.Parts.{shapes_of}
@@ -6,7 +6,8 @@ use Rattle.file_manager.specs.declared.volume.Volume.{Volume}
 use Rattle.swapper_kernel.proofs.PlacedLemmas.{parts}
 use Rattle.pilot_engine.proofs.StartStands.{bare_stands, opened, opened_stands, marks, bits, map_named, free_are, may_begin, session_begun}
 use Rattle.pilot_engine.proofs.StartWrites.{root_some, count_some, tables_some, tables_all}
-use Rattle.filer_kernel.specs.EvidenceLaws.{so_of_halts}
+use Rattle.swapper_kernel.specs.declared.manager.Manager.TheVariants.{AllocationMap}
+use Rattle.filer_kernel.specs.EvidenceLaws.{fits, map_homes_placed, so_of_halts}
 use Rattle.file_manager.proofs.RunLeads.{map_makes}
 use Rattle.pilot_engine.proofs.UnsetLemmas.{leaves_open, unset_open, unset_root}
 use Rattle.pilot_engine.proofs.StartWrites.{first_made}
@@ -130,7 +131,7 @@ pub returns-in-Err-clause-so : goal.returns-in-Err-clause-so
 returns-in-Err-clause-so g c = rw c.in-Err.ensures.fault tt
 
 pub returns-in-Err-free_count-clause-so : goal.returns-in-Err-free_count-clause-so
-returns-in-Err-free_count-clause-so g c = so_of_halts (map_makes c.in-Err-free_count.ensures.kept) c.in-Err-free_count.halt _ c.in-Err-free_count.ensures.cause
+returns-in-Err-free_count-clause-so g c = so_of_halts (fits c.write_over.new.filer.swapper (search rules)) (map_makes c.in-Err-free_count.ensures.kept) c.in-Err-free_count.halt _ (map_homes_placed AllocationMap _) c.in-Err-free_count.ensures.cause
 
 -- the clean flag is 0 from the first write on
 pub returns-in-Err-clause-left_open : goal.returns-in-Err-clause-left_open

@@ -2,6 +2,7 @@ use Rattle.fault_core.specs.View.{view_of}
 use Rattle.running_words.specs.RunningLaws.{IsWhole}
 use Rattle.pilot_engine.proofs.AloneLemmas.{own_makes}
 use Rattle.pilot_engine.proofs.StartRuns.{begun_runs, bytes, known_before, tables_before}
+use Rattle.filer_kernel.specs.EvidenceLaws.{fits}
 use Rattle.fault_core.proofs.EvidenceLemmas.{shows_so}
 use Rattle.pilot_engine.proofs.start.write_tables.Goals as goal
 
@@ -26,4 +27,4 @@ pub returns-in-Err-clause-makes : goal.returns-in-Err-clause-makes
 returns-in-Err-clause-makes g c = own_makes c.begin.ensures.kept.goes.makes
 
 pub returns-in-Err-clause-so : goal.returns-in-Err-clause-so
-returns-in-Err-clause-so g c = shows_so _ (view_of c.args.filer.now) (view_of c.begin.new.filer) c.begin.ensures.kept.goes.makes c.in-Err.halt c.in-Err.ensures.cause
+returns-in-Err-clause-so g c = shows_so _ (view_of c.args.filer.now) (view_of c.begin.new.filer) (fits c.args.filer.now.swapper c.requires.size) c.begin.ensures.kept.goes.makes c.in-Err.halt c.in-Err.ensures.cause

@@ -9,6 +9,7 @@ use Rattle.pilot_engine.proofs.EndCosts.{gone_cost}
 use Rattle.pilot_engine.proofs.StopLemmas.{stops_quiet}
 use Rattle.pilot_engine.proofs.WroteLemmas.{wrote_by}
 use Rattle.running_words.specs.Running.{exactly}
+use Rattle.filer_kernel.specs.EvidenceLaws.{fits}
 use Rattle.fault_core.proofs.EvidenceLemmas.{shows_so}
 use Rattle.pilot_engine.proofs.session.SessionOver.let_root_go.Goals as goal
 
@@ -58,4 +59,4 @@ returns-in-Err-clause-cost g c =
     gone_cost c.args.self.now.core.intervals (length c.args.self.now.core.filer.swapper.pool) (g.D.Disk.state c.args.self.now.core.filer.swapper.under).transfers (g.D.Disk.state c.let_go.new.self.filer.swapper.under).transfers c.args.self.now.core.few c.let_go.ensures.cost
 
 pub returns-in-Err-clause-so : goal.returns-in-Err-clause-so
-returns-in-Err-clause-so g c = shows_so _ (state c.args.self.now.core) (state c.let_go.new.self) c.let_go.ensures.reaches.goes.makes c.in-Err.halt c.in-Err.ensures.cause
+returns-in-Err-clause-so g c = shows_so _ (state c.args.self.now.core) (state c.let_go.new.self) (fits c.args.self.now.core.filer.swapper c.requires.size) c.let_go.ensures.reaches.goes.makes c.in-Err.halt c.in-Err.ensures.cause

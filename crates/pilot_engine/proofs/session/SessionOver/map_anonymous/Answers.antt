@@ -15,6 +15,7 @@ use Rattle.pilot_engine.proofs.LiftLemmas.{asked_passes, carried_out, refused_ru
 use Rattle.pilot_engine.proofs.NewWindow.{can_be_mapped, created, created_alike, created_numbers, map_refused, mapped_alike, mapped_machine, mapped_numbers, few_pages, may_have, not_created, own_space, unmapped_yet, window_carried, window_fits}
 use Rattle.pilot_engine.proofs.PassThen.{asked_then, quiet_then, then_quiet}
 use Rattle.pilot_engine.proofs.WroteLemmas.{rose_behind, wrote_by, wrote_then}
+use Rattle.filer_kernel.specs.EvidenceLaws.{fits}
 use Rattle.fault_core.proofs.EvidenceLemmas.{shows_so}
 use Rattle.fault_core.specs.Core.{state}
 use Rattle.filer_kernel.proofs.Outcomes.{err_wider}
@@ -147,7 +148,7 @@ pub returns-clause-cost : goal.returns-clause-cost
 returns-clause-cost g c = λ m r. spent_around (g.D.Disk.state c.args.self.now.core.filer.swapper.under) (g.D.Disk.state c.can_map.new.core.filer.swapper.under) (g.D.Disk.state c.create.new.self.core.filer.swapper.under) (g.D.Disk.state c.give_window.new.core.filer.swapper.under) (reached_makes c.can_map.ensures.asked.reaches).went.sectors (let few = c.can_map.ensures.cost in omega (arith, few)) c.create.ensures.bounded (let few = c.give_window.ensures.cost in omega (arith, few))
 
 pub returns-in-Err-clause-so : goal.returns-in-Err-clause-so
-returns-in-Err-clause-so g c = shows_so _ (state c.args.self.now.core) (state c.can_map.new.core) c.can_map.ensures.asked.reaches.goes.makes c.in-Err.halt c.in-Err.ensures.cause
+returns-in-Err-clause-so g c = shows_so _ (state c.args.self.now.core) (state c.can_map.new.core) (fits c.args.self.now.core.filer.swapper c.requires.size) c.can_map.ensures.asked.reaches.goes.makes c.in-Err.halt c.in-Err.ensures.cause
 
 -- ---- Why it failed.
 

@@ -2,7 +2,7 @@ use Rattle.std.proofs.Common.{rules, ◌≡◌}
 use Rattle.swapper_kernel.specs.Maps.{id_of, pages_of}
 use Rattle.pilot_engine.proofs.EndCosts.{few_written}
 use Rattle.pilot_engine.proofs.EndLemmas.{map_clean}
-use Rattle.filer_kernel.specs.EvidenceLaws.{so_of_halts}
+use Rattle.filer_kernel.specs.EvidenceLaws.{fits, so_of_halts}
 use Rattle.swapper_kernel.specs.Homes.{no_home}
 use Rattle.pilot_engine.proofs.session.SessionOver.write_map.Goals as goal
 
@@ -26,7 +26,7 @@ returns-in-Err-clause-cost g c =
     (rw c.swapper_over-swapper.ensures.value at c.frames.ensures) c.frames-slots.ensures.count c.frames-slots.ensures.most (rw c.swapper_over-swapper.ensures.value at c.force.ensures.cost)
 
 pub returns-in-Err-clause-so : goal.returns-in-Err-clause-so
-returns-in-Err-clause-so g c = so_of_halts (rw c.swapper_over-swapper.ensures.value at c.force.ensures.swaps).makes c.in-Err.halt no_home (rw c.swapper_over-swapper.ensures.value at c.in-Err.ensures.cause)
+returns-in-Err-clause-so g c = so_of_halts (fits c.args.self.now.core.filer.swapper c.requires.size) (rw c.swapper_over-swapper.ensures.value at c.force.ensures.swaps).makes c.in-Err.halt no_home (λ home none. absurd none) (rw c.swapper_over-swapper.ensures.value at c.in-Err.ensures.cause)
 
 -- ---- Why it failed.
 
