@@ -7,7 +7,10 @@ use Rattle.hex.proofs.HexLemmas.{decode_of-ok}
 use Rattle.flat_machine.specs.declared.call.Call.{Call}
 use Rattle.flat_machine.specs.Form.{IsInForm}
 use Rattle.trace_io.specs.Grammar.{number_of, bytes_of, count_of, only_id, only_number, number_and_type, id_and_number, two_numbers, number_and_mode, number_and_count, number_and_bytes, place, window, nothing, verb_of, with_fields, words_of, call_of_words, call_of}
+use Rattle.trace_io.specs.Form.{GivesForm}
+use Rattle.trace_io.specs.Lines.{line_of}
 use Rattle.trace_io.specs.declared.calls.Verb.{Verb}
+use Rattle.trace_io.specs.declared.progress.Line.{Line}
 use Rattle.trace_io.specs.declared.calls.Verb.TheVariants as verb
 use Rattle.trace_io.proofs.LongLines.{some_same, then_some, cond_some, result_some, both-some}
 
@@ -79,5 +82,13 @@ form_of None h = tt
 form_of (Some c) h = h c refl
 
 -- what a line says is in form
-pub call_of-form : (o : Option Call) (line : List ℕ) → o ≡ call_of line → IfSome o IsInForm
+call_of-form : (o : Option Call) (line : List ℕ) → o ≡ call_of line → IfSome o IsInForm
 call_of-form o line is = form_of o (λ c e. words-form (words_of line) c (sym is ∙ e))
+
+line_of-form : (o : Option Call) → IfSome o IsInForm → GivesForm (line_of o)
+line_of-form None form = tt
+line_of-form (Some c) form = form
+
+-- so is the call of a line
+pub line-form : (said : Line) (line : List ℕ) → said ≡ line_of (call_of line) → GivesForm said
+line-form said line is = subst GivesForm (sym is) (line_of-form (call_of line) (call_of-form (call_of line) line refl))

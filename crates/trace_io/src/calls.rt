@@ -1,9 +1,11 @@
-//! The call that a line says, by its words.
+//! What a line says, by its words.
 ghost use Rattle.std.specs.Prelude.{◌≡◌, if◌then◌else◌, Some, None};
 ghost use Rattle.std.specs.Str.{bytes_eq};
 ghost use Rattle.trace_io.specs.Grammar.{verb_of, with_fields, call_of};
+ghost use Rattle.trace_io.specs.Lines.{line_of};
 ghost use Rattle.trace_io.specs.Words.{rest_words};
 
+use crate::Line;
 use crate::fields::{
     id_and_number, nothing, number_and_bytes, number_and_count, number_and_mode, number_and_type,
     only_id, only_number, place, two_numbers, window,
@@ -197,11 +199,24 @@ fn with_fields(verb: Verb, rest: Option<&[u8]>) -> Option<Call>
     }
 }
 
-/// The call that a line says, if it is one.
+// What a verb says with the words behind it.
+fn said(verb: Verb, rest: Option<&[u8]>) -> Line
+    ensures { result ≡ line_of (with_fields verb (rest_words rest.entry)) }
+{
+    match with_fields(verb, rest) {
+        Some(call) => Line::Call(call),
+        None => Line::Bad,
+    }
+}
+
+/// What a line says.
 #[tactic(auto, unfolding(crate::specs::Grammar::call_of_words))]
-pub(crate) fn call_of(line: &[u8]) -> Option<Call>
-    ensures { result ≡ call_of line.now }
+pub(crate) fn line_of(line: &[u8]) -> Line
+    ensures { result ≡ line_of (call_of line.now) }
 {
     let (word, rest) = cut(line);
-    with_fields(verb_of(word)?, rest)
+    match verb_of(word) {
+        Some(verb) => said(verb, rest),
+        None => Line::Bad,
+    }
 }

@@ -2,14 +2,12 @@
 ghost use Rattle.std.specs.Prelude.{◌≡◌, ◌≤◌, ◌<◌, ℕ, List, length, slice_index, Some, None, IfSome};
 ghost use Rattle.trace_io.specs.Stream.{Rose};
 ghost use Rattle.trace_io.specs.Grammar.{call_of};
-ghost use Rattle.flat_machine.specs.Form.{IsInForm};
 ghost use Rattle.trace_io.specs.Form.{GivesForm};
 ghost use Rattle.trace_io.specs.Scan.{Scans, TakesFront, Keeps255};
 ghost use Rattle.trace_io.specs.Lines.{TakesNext, answer_of, line_of};
 
 use crate::progress::{Line, Stop};
 use crate::{Source, SourceFault, calls};
-use flat_machine::Call;
 use std::marker::Model;
 
 const LINE: usize = 255;
@@ -102,16 +100,6 @@ fn take_line<S: Source>(source: &mut S, buffer: &mut [u8; LINE], room: u64) -> S
     }
 }
 
-fn line_of(item: Option<Call>) -> Line
-    ensures line { result ≡ line_of item }
-    ensures form { IfSome item IsInForm → GivesForm result }
-{
-    match item {
-        Some(call) => Line::Call(call),
-        None => Line::Bad,
-    }
-}
-
 // What a line says, of which the buffer has the front.
 fn line_in(buffer: &[u8; LINE], size: u64) -> Line
     ensures form { GivesForm result }
@@ -121,7 +109,7 @@ fn line_in(buffer: &[u8; LINE], size: u64) -> Line
     if size > LINE as u64 {
         return Line::Bad;
     }
-    line_of(calls::call_of(&buffer[..size as usize]))
+    calls::line_of(&buffer[..size as usize])
 }
 
 impl Lines {
