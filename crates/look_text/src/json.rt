@@ -117,16 +117,21 @@ fn names_value(alloc: Global, names: &Names<Global>) -> Result<Value, AllocError
     match names {
         Names::Malformed { page } => {
             let page = *page;
-            json!(in alloc; {"alike": false, "malformed": page})
+            json!(in alloc; {"agrees": false, "alike": false, "malformed": page})
         }
-        Names::Read { differences } => {
+        Names::Read {
+            in_form,
+            differences,
+        } => {
+            let in_form = *in_form;
             let mut values = Vec::new(alloc);
             for difference in differences {
                 values.push(difference_value(alloc, difference)?)?;
             }
             let alike = differences.is_empty();
             let listed = Value::Array(values);
-            json!(in alloc; {"alike": alike, "differences": listed})
+            let agrees = alike && in_form;
+            json!(in alloc; {"agrees": agrees, "alike": alike, "differences": listed, "in_form": in_form})
         }
     }
 }

@@ -70,6 +70,19 @@ fn write_differences(out: &mut String, differences: &[NameDifference]) -> Result
     write_more(out, differences.len())
 }
 
+// What is so of a file map that was read.
+fn names_state(in_form: bool, alike: bool) -> &'static str {
+    if alike && in_form {
+        "agrees with the labels"
+    } else if alike {
+        "names what the labels name, but is out of form"
+    } else if in_form {
+        "differs from the labels, first here:"
+    } else {
+        "is out of form, and differs from the labels, first here:"
+    }
+}
+
 /// Writes what the file map says beside the labels.
 pub(crate) fn write_names(out: &mut String, names: &Names<Global>) -> Result<(), AllocError> {
     match names {
@@ -77,14 +90,12 @@ pub(crate) fn write_names(out: &mut String, names: &Names<Global>) -> Result<(),
             let page = *page;
             writeln!(out, "file map         is out of form in its page {page}")
         }
-        Names::Read { differences } => {
-            if differences.is_empty() {
-                return writeln!(
-                    out,
-                    "file map         names what the labels name; its form as a whole was not tested"
-                );
-            }
-            writeln!(out, "file map         differs from the labels, first here:")?;
+        Names::Read {
+            in_form,
+            differences,
+        } => {
+            let state = names_state(*in_form, differences.is_empty());
+            writeln!(out, "file map         {state}")?;
             write_differences(out, differences)
         }
     }

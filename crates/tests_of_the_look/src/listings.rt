@@ -35,7 +35,7 @@ file                pages   type  marks       runs  first sector
 0000000700000003        0      0  mutable        0           137
 
 allocation map   agrees with the labels
-file map         names what the labels name; its form as a whole was not tested
+file map         agrees with the labels
 leftovers        none
 scavenge         would keep 3 files of 3 pages, free 0 sectors, and lose 0 of these
 ";
@@ -127,6 +127,7 @@ fn broken_maps_as_json(rt: HostRuntime) -> Result<(), Fail> {
     ]
   },
   \"file_map\": {
+    \"agrees\": false,
     \"alike\": false,
     \"malformed\": 1
   },

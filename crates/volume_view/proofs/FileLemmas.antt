@@ -1,26 +1,26 @@
 -- The lines of files beside the files of a disk.
-use Rattle.std.proofs.Common.{◌≡◌, ◌≢◌, ◌⊎◌, inl, inr, ℕ, zero, suc, ◌+◌, ◌-◌, ◌<◌, ◌≤◌, Bool, true, false, not, ◌&&◌, ◌||◌, cond, List, [], ◌∷◌, ◌++◌, length, map, Option, Some, None, refl, sym, ◌∙◌, ap, subst, arith, eqb}
-use Rattle.std.specs.Prelude.{slice_get, nat_lt, option_map, ◌==◌}
+use Rattle.std.proofs.Common.{◌≡◌, ◌⊎◌, inl, inr, ℕ, zero, suc, ◌+◌, ◌-◌, ◌<◌, ◌≤◌, Bool, true, false, not, ◌&&◌, ◌||◌, cond, List, [], ◌∷◌, ◌++◌, length, map, Option, Some, None, refl, sym, ◌∙◌, ap, subst, arith, eqb}
+use Rattle.std.specs.Prelude.{slice_get, nat_lt, option_map}
 use Rattle.std.specs.List.{position_or_len, AllByRecursion}
 use Rattle.std.specs.Option.{option_map_or}
 use Rattle.std.proofs.lemmas.Option.{same_Some, none-some, slice_get-map, slice_get_within}
-use Rattle.std.proofs.lemmas.Bool.{cases_lt, cases_eq, and_parts, eqb-true, eq-eqb, lt-ltb, ltb-true, false≢true, true≢false}
+use Rattle.std.proofs.lemmas.Bool.{cases_lt, cases_eq, and_parts, eqb-true, eq-eqb, lt-ltb, ltb-true, false≢true}
 use Rattle.labelled_disk.specs.declared.label.Label.{Label}
 use Rattle.labelled_disk.specs.Label.{is_file, is_permanent, is_immutable, leader_page}
 use Rattle.labelled_disk.specs.Sectors.{Sector}
 use Rattle.labelled_disk.specs.Layout.{data_sectors, first_data}
 use Rattle.labelled_disk.specs.File.{File, file_at, size}
 use Rattle.labelled_disk.specs.FilesOn.{leads, leads_file, is_page, file_among, files_on, disk_file}
-use Rattle.labelled_disk.specs.Lowest.{FilesAreAsTold, IsFileOn, IsLowest, is_first, is_needed}
+use Rattle.labelled_disk.specs.Lowest.{FilesAreAsTold, is_first, is_needed}
 use Rattle.labelled_disk.specs.Rising.{IsRising, AreRising}
 use Rattle.labelled_disk.specs.WriteLaws.{HasData, FilesAreThose}
-use Rattle.labelled_disk.proofs.RisingLemmas.{at_low, at_head, at_tail, at_id}
+use Rattle.labelled_disk.proofs.RisingLemmas.{at_low, at_head, at_tail}
 use Rattle.label_laws.specs.Counts.{needs_place}
 use Rattle.label_survey.specs.declared.triples.Triple.{Triple}
-use Rattle.label_survey.specs.Triples.{AreNeeded, AreUp, IsUpTo, triple_of}
+use Rattle.label_survey.specs.Triples.{IsUpTo, triple_of}
 use Rattle.volume_view.specs.declared.files.FileLine.{FileLine}
 use Rattle.volume_view.specs.Files.{IsLineOf, AreLinesOf}
-use Rattle.volume_view.specs.Listed.{AreSorted, IsLine, IsLineAt, IsPages, AreLinesTo}
+use Rattle.volume_view.specs.Listed.{AreSorted, IsLineAt, IsPages, AreLinesTo}
 use Rattle.volume_view.proofs.ListLemmas.{dropped, in_pushed, pushed_front, pushed_last}
 
 -- ---- the lowest sector that passes

@@ -1,5 +1,5 @@
 -- Strays that are collected, and sorted.
-use Rattle.std.proofs.Common.{◌≡◌, ◌≢◌, ◌⊎◌, inl, inr, ℕ, ◌+◌, ◌-◌, ◌<◌, ◌≤◌, Bool, true, false, not, ◌&&◌, cond, List, [], ◌∷◌, ◌++◌, length, map, take, drop, Option, Some, None, refl, sym, ◌∙◌, ap, subst, arith, eqb}
+use Rattle.std.proofs.Common.{◌≡◌, ◌≢◌, inl, inr, ℕ, ◌+◌, ◌-◌, ◌<◌, ◌≤◌, Bool, true, false, cond, List, [], ◌∷◌, ◌++◌, length, map, take, drop, Option, Some, None, refl, sym, ◌∙◌, ap, subst, arith, eqb}
 use Rattle.std.specs.Prelude.{slice_get, slice_index_or, option_map, count_by, ◌==◌}
 use Rattle.std.specs.List.{All}
 use Rattle.std.specs.List.Sorted.{IsPermutation}
@@ -14,7 +14,7 @@ use Rattle.labelled_disk.specs.Sectors.{Sector}
 use Rattle.labelled_disk.specs.Layout.{data_sectors, first_data}
 use Rattle.labelled_disk.specs.Lowest.{is_needed}
 use Rattle.labelled_disk.specs.WriteLaws.{HasData}
-use Rattle.label_laws.specs.Counts.{needs_place, is_of_some_file}
+use Rattle.label_laws.specs.Counts.{is_of_some_file}
 use Rattle.label_survey.specs.declared.standing.Standing.{Standing}
 use Rattle.label_survey.specs.declared.standing.Standing.TheVariants.{Free, Stray, Lost, Leader, Page}
 use Rattle.label_survey.specs.declared.triples.Triple.{Triple}

@@ -3,6 +3,16 @@ mod PageLemmas
 mod LayoutLemmas
 mod BitLemmas
 mod RecordLemmas
+mod WalkLemmas
+mod FormedLemmas
+mod ReadLemmas
+mod MapFormLemmas
+mod FreeLemmas
+mod MarkLemmas
+mod LevelLemmas
+mod LeafLemmas
+mod FormLemmas
+mod AgreeLemmas
 mod NameLemmas
 mod RecordedLemmas
 mod LeftoverLemmas

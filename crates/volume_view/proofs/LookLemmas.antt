@@ -1,16 +1,11 @@
--- What the calls of a look cost together, and what they say of a sound map.
-use Rattle.std.proofs.Common.{◌≡◌, ℕ, ◌+◌, ◌-◌, ◌≤◌, List, Result, Ok, Err, IfErr, refl, ◌∙◌, subst, arith}
+-- What the calls of a look cost together.
+use Rattle.std.proofs.Common.{◌≡◌, ℕ, ◌+◌, ◌-◌, ◌≤◌, Result, Err, IfErr, ◌∙◌, subst, arith}
 use Rattle.labelled_disk.specs.Calls.{ReadsAtMost}
 use Rattle.labelled_disk.specs.Layout.{IsCount, first_data, vam, vfm}
-use Rattle.labelled_disk.specs.Sectors.{Sector}
 use Rattle.labelled_disk.specs.State.{DiskState}
 use Rattle.labelled_disk.proofs.CallLemmas.{reads_at_most_then, reads_at_most_wider}
-use Rattle.file_map.specs.InSectors.{label_triples}
 use Rattle.volume_view.specs.declared.fault.LookFault.{LookFault}
 use Rattle.volume_view.specs.declared.fault.LookFault.TheVariants.{BadCount}
-use Rattle.volume_view.specs.declared.names.Names.{Names}
-use Rattle.volume_view.specs.declared.names.Names.TheVariants.{Malformed, Read}
-use Rattle.volume_view.specs.Names.{IsToldOf, SaysAlike}
 use Rattle.volume_view.specs.Pages.{IsDiskOrMemory}
 use Rattle.volume_view.proofs.LayoutLemmas.{first_within, first_is}
 
@@ -35,11 +30,6 @@ module _ (n : ℕ) (count : IsCount n) where
 
   pub names_all : {a b : DiskState} → ReadsAtMost (1 + (n - first_data n) + vam n + vfm n) a b → ReadsAtMost n a b
   names_all reads = reads_at_most_wider fits reads
-
--- a map that names what the labels name is said to do so
-pub says_alike : {A : Type 0} (d : List Sector) (names : Names A) → IsToldOf (label_triples d) d names → SaysAlike names
-says_alike d (Malformed page) told = told
-says_alike d (Read differences) told = told.agrees.1 (λ id page sector. refl)
 
 -- no count is refused
 pub never_bad : {T : Type 0} (r : Result T LookFault) (m : ℕ) → r ≡ Err (BadCount m) → IfErr r IsDiskOrMemory → ⊥

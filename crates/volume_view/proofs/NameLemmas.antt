@@ -1,23 +1,23 @@
 -- What a file map names beside what labels name.
-use Rattle.std.proofs.Common.{◌≡◌, ◌≢◌, ◌⊎◌, inl, inr, ℕ, zero, suc, ◌+◌, ◌-◌, ◌*◌, ◌/◌, ◌<◌, ◌≤◌, Bool, true, false, not, ◌&&◌, ◌||◌, List, [], ◌∷◌, ◌++◌, length, map, take, drop, Option, Some, None, refl, sym, ◌∙◌, ap, subst, arith, eqb}
-use Rattle.std.specs.Prelude.{slice_get, nat_le, option_map, ◌↔◌, ◌==◌}
+use Rattle.std.proofs.Common.{◌≡◌, ◌≢◌, ◌⊎◌, inl, inr, ℕ, zero, suc, ◌+◌, ◌-◌, ◌*◌, ◌/◌, ◌<◌, ◌≤◌, Bool, true, false, not, ◌&&◌, ◌||◌, List, [], ◌∷◌, ◌++◌, length, map, take, Option, Some, None, refl, sym, ◌∙◌, ap, subst, arith, eqb}
+use Rattle.std.specs.Prelude.{slice_get, nat_le, option_map, ◌==◌}
 use Rattle.std.specs.Option.{option_map_or}
-use Rattle.std.proofs.lemmas.Bool.{cases_lt, cases_eq, le-leb, lt-leb, leb-true, true≢false, false≢true, eqb-true, eq-eqb}
-use Rattle.std.proofs.lemmas.Option.{same_Some, none-some, slice_get-get_or, slice_get-map, slice_get_past, slice_get_within}
+use Rattle.std.proofs.lemmas.Bool.{cases_lt, cases_eq, le-leb, leb-true, true≢false, false≢true, eqb-true, eq-eqb}
+use Rattle.std.proofs.lemmas.Option.{same_Some, none-some, slice_get-map, slice_get_within}
 use Rattle.labelled_disk.specs.declared.label.Label.{Label}
 use Rattle.labelled_disk.specs.Label.{is_free}
-use Rattle.labelled_disk.specs.Sectors.{Sector, free_label}
+use Rattle.labelled_disk.specs.Sectors.{Sector}
 use Rattle.labelled_disk.specs.Layout.{first_data, data_sectors, vfm}
 use Rattle.page_tree.specs.Tells.{TellsTree}
 use Rattle.file_map.specs.declared.run.Run.{Run}
-use Rattle.file_map.specs.Run.{IsRun, holds, sector_at}
+use Rattle.file_map.specs.Run.{holds, sector_at}
 use Rattle.file_map.specs.FileMap.{Triples, AreNamed, IsFound, IsNowhere, names_triple, run_names, run_at}
 use Rattle.file_map.specs.InSectors.{label_triples, map_bytes, MapNames}
 use Rattle.file_map.specs.Cause.{FromMemory}
 use Rattle.file_map.specs.declared.error.MapError.{MapError}
 use Rattle.file_map.specs.declared.error.MapError.TheVariants.{Malformed}
-use Rattle.file_map.proofs.Runs.{HasPage, has_page, and_parts}
-use Rattle.file_map.proofs.Searches.{IsNamedBy, named_by}
+use Rattle.file_map.proofs.Runs.{has_page, and_parts}
+use Rattle.file_map.proofs.Searches.{named_by}
 use Rattle.label_survey.specs.declared.triples.Triple.{Triple}
 use Rattle.volume_view.specs.declared.names.NameDifference.{NameDifference}
 use Rattle.volume_view.specs.declared.names.NameDifference.TheVariants.{OnlyLabelled, OnlyMapped}

@@ -1,10 +1,10 @@
 -- A walk over the records of a file map, each behind the one before.
-use Rattle.std.proofs.Common.{◌≡◌, ◌⊎◌, inl, inr, ℕ, zero, suc, ◌+◌, ◌*◌, ◌<◌, ◌≤◌, ◌^◌, Bool, true, false, List, [], ◌∷◌, ◌++◌, length, map, take, Option, Some, None, refl, sym, ◌∙◌, ap, subst, arith}
-use Rattle.std.specs.Prelude.{slice_get, is_some, ◌/◌}
-use Rattle.std.proofs.lemmas.Bool.{cases_lt, cases_eq, true≢false}
+use Rattle.std.proofs.Common.{◌≡◌, inl, inr, ℕ, zero, suc, ◌+◌, ◌*◌, ◌<◌, ◌≤◌, ◌^◌, true, false, List, [], ◌∷◌, ◌++◌, length, map, take, Option, Some, None, sym, ◌∙◌, ap, subst, arith}
+use Rattle.std.specs.Prelude.{is_some, ◌/◌}
+use Rattle.std.proofs.lemmas.Bool.{cases_lt}
 use Rattle.std.proofs.lemmas.List.{length-map}
 use Rattle.std.proofs.lemmas.Option.{slice_get-get_or}
-use Rattle.flat_mem.specs.Order.{at_most, entry_at, key_at, IsBehind}
+use Rattle.flat_mem.specs.Order.{at_most, entry_at, IsBehind}
 use Rattle.page_tree.specs.Answer.{IsNextEntry, FromMemory}
 use Rattle.page_tree.specs.Tells.{TellsTree}
 use Rattle.page_tree.specs.declared.error.TreeError.{TreeError}
@@ -12,9 +12,7 @@ use Rattle.page_tree.specs.declared.error.TreeError.TheVariants.{Malformed}
 use Rattle.labelled_disk.specs.Layout.{vfm}
 use Rattle.file_map.specs.declared.run.Run.{Run}
 use Rattle.file_map.specs.Run.{IsRun, IsRecord, key_bytes, run_bytes, run_in}
-use Rattle.file_map.specs.FileMap.{AreRuns, run_at, no_run}
-use Rattle.file_map.proofs.Keys.{rank}
-use Rattle.file_map.proofs.Records.{run_back, record_of_run}
+use Rattle.file_map.specs.FileMap.{run_at, no_run}
 use Rattle.file_map.proofs.Runs.{rank_of, AreSorted, ordered, spread}
 use Rattle.file_map.proofs.Searches.{low_rank, high_rank, in_form_at, run_is}
 use Rattle.volume_view.specs.Records.{AreRunsOfMap, Follows, IsStep, last_of}

@@ -1,5 +1,5 @@
 -- The lines of files beside the files of a disk.
-use Rattle.std.specs.Prelude.{◌≡◌, ℕ, true, false, List, [], ◌∷◌}
+use Rattle.std.specs.Prelude.{◌≡◌, true, false, List, [], ◌∷◌}
 use Rattle.labelled_disk.specs.Sectors.{Sector}
 use Rattle.labelled_disk.specs.File.{File, size}
 use Rattle.labelled_disk.specs.FilesOn.{leads_file}

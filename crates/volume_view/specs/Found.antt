@@ -1,7 +1,5 @@
 -- What the labels of a disk tell.
-use Rattle.std.specs.Prelude.{◌≡◌, ℕ, List, map}
-use Rattle.labelled_disk.specs.declared.label.Label.{Label}
-use Rattle.labelled_disk.specs.Layout.{data_sectors, first_data}
+use Rattle.std.specs.Prelude.{List}
 use Rattle.labelled_disk.specs.Sectors.{Sector}
 use Rattle.labelled_disk.specs.FilesOn.{files_on}
 use Rattle.label_survey.specs.Runs.{AreRunsOf}

@@ -1,5 +1,9 @@
 pub mod Pages
 pub mod Bits
+pub mod Walk
+pub mod Form
+pub mod Marks
+pub mod Level
 pub mod Records
 pub mod Names
 pub mod Recorded

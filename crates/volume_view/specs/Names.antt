@@ -62,9 +62,14 @@ pub record IsComparison (named said : Triples) (differences : List NameDifferenc
 -- what is told of a map in form that names these pages
 abbrev pub IsToldOf : {A : Type 0} → Triples → List Sector → Names A → Type 0
 IsToldOf named d (Malformed page) = ⊥
-IsToldOf named d (Read differences) = IsComparison named (label_triples d) differences.items
+IsToldOf named d (Read in_form differences) = IsComparison named (label_triples d) differences.items
 
 -- it is said that the map names what the labels name
 abbrev pub SaysAlike : {A : Type 0} → Names A → Type 0
 SaysAlike (Malformed page) = ⊥
-SaysAlike (Read differences) = differences.items ≡ []
+SaysAlike (Read in_form differences) = differences.items ≡ []
+
+-- it is said that the map agrees: that it is in form as a whole, and names what the labels name
+abbrev pub SaysAgree : {A : Type 0} → Names A → Type 0
+SaysAgree (Malformed page) = ⊥
+SaysAgree (Read in_form differences) = (in_form ≡ true) × (differences.items ≡ [])

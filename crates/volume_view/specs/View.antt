@@ -1,5 +1,5 @@
 -- What a look finds on a disk.
-use Rattle.std.specs.Prelude.{◌≡◌, ℕ, ◌-◌, false, List, length, map, slice_get, Some}
+use Rattle.std.specs.Prelude.{◌≡◌, ◌↔◌, false, List, length, map, slice_get, Some}
 use Rattle.labelled_disk.specs.Layout.{data_sectors}
 use Rattle.labelled_disk.specs.Sectors.{Sector}
 use Rattle.file_map.specs.FileMap.{Triples}
@@ -9,17 +9,17 @@ use Rattle.volume_root.specs.Sound.{HasFileMap}
 use Rattle.volume_view.specs.declared.view.View.{View}
 use Rattle.volume_view.specs.Bits.{AreWrongBits}
 use Rattle.volume_view.specs.Found.{IsFound}
-use Rattle.volume_view.specs.Names.{IsToldOf, SaysAlike}
+use Rattle.volume_view.specs.Names.{IsToldOf, SaysAlike, SaysAgree}
 use Rattle.volume_view.specs.Recorded.{AreReadAlike}
 
--- The root as it is judged, the labels, what they tell, and both maps beside them. A file map that has the form of one is
--- read as what it names; and where it has all that a sound volume asks of it, it is said to name what the labels name. Where
--- that is said, whatever the form of the map is, the records that were read are labelled, and what is labelled is recorded.
+-- The root as it is judged, the labels, what they tell, and both maps beside them. The file map is said to agree exactly where it
+-- has all that a sound volume asks of it, whatever its bytes are. One that has the form of a map is read as what it names. Where it
+-- is said to name what the labels name, whatever its form is, the records that were read are labelled, and what is labelled is recorded.
 pub record IsView {A : Type 0} (d : List Sector) (view : View A) : Type 0 where
   pub root : (s : Sector) → slice_get d 0 ≡ Some s → view.root ≡ judged false (length d) s
   pub labels : view.labels.items ≡ map (λ s. s.0) (data_sectors d)
   pub found : IsFound d view.found
   pub bits : AreWrongBits d view.bits.items
   pub names : (named : Triples) → MapNames d named → IsToldOf named d view.names
-  pub sound_map : HasFileMap d → SaysAlike view.names
+  pub agrees : SaysAgree view.names ↔ HasFileMap d
   pub alike : SaysAlike view.names → AreReadAlike (length d) (map_bytes d) (label_triples d)

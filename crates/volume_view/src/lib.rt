@@ -4,10 +4,16 @@
 mod bits;
 mod fault;
 mod files;
+mod form;
 mod found;
+mod free_pages;
+mod header;
+mod leaves;
 mod leftovers;
+mod levels;
 mod mapped;
 mod names;
+mod once;
 mod pages;
 mod record;
 mod records;

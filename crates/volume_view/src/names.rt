@@ -1,17 +1,19 @@
 //! The file map beside the labels.
-ghost use Rattle.std.specs.Prelude.{◌≡◌, [], ◌*◌, ◌-◌, ◌+◌, List, Some, Err, length, map, IfOk, IfErr, MatchResult};
+ghost use Rattle.std.specs.Prelude.{◌≡◌, ◌↔◌, [], ◌*◌, ◌-◌, ◌+◌, List, Some, Err, length, map, IfOk, IfErr, MatchResult};
 ghost use Rattle.flat_mem.specs.Vec.{vec_mem_bytes};
 ghost use Rattle.labelled_disk.specs.Calls.{ReadsAtMost, Rose};
 ghost use Rattle.labelled_disk.specs.Layout.{IsCount, layout_of, data_sectors, first_data, vfm};
 ghost use Rattle.labelled_disk.specs.Sectors.{Sector};
 ghost use Rattle.file_map.specs.FileMap.{Triples};
 ghost use Rattle.file_map.specs.InSectors.{MapNames, label_triples, map_bytes};
-ghost use Rattle.volume_view.specs.Names.{labelled, NamesIn, IsComparison, IsToldOf, SaysAlike};
+ghost use Rattle.volume_root.specs.Sound.{HasFileMap};
+ghost use Rattle.volume_view.specs.Names.{labelled, NamesIn, IsComparison, IsToldOf, SaysAlike, SaysAgree};
 ghost use Rattle.volume_view.specs.Pages.{IsDiskOrMemory};
 ghost use Rattle.volume_view.specs.Recorded.{AreReadAlike};
 ghost use Rattle.volume_view.specs.Records.{IsNoMemory};
 
 use crate::LookFault;
+use crate::form::is_in_form;
 use crate::mapped::find_unlabelled;
 use crate::pages::read_pages;
 use crate::records::read_runs;
@@ -35,9 +37,15 @@ pub enum NameDifference {
 #[derive(Drop)]
 pub enum Names<A: Allocator> {
     /// This page of the map, as it was read, breaks its form.
-    Malformed { page: u32 },
-    /// The map was read: the pages that it and the labels have not in common, or some of them.
-    Read { differences: Vec<NameDifference, A> },
+    Malformed {
+        page: u32,
+    },
+    /// The map was read: whether it is in form as a whole, and the pages that it and the labels have
+    /// not in common, or some of them.
+    Read {
+        in_form: bool,
+        differences: Vec<NameDifference, A>,
+    },
 }
 
 // What the map in this memory has not in common with the labels.
@@ -93,6 +101,8 @@ pub(crate) fn look_at_names<A: Allocator + Clone, D: Disk>(
     ensures alike { IfOk result (λ names. (d : List Sector) → (D.state disk.old).contents ≡ Some d
         → labels.now ≡ map (λ s. s.0) (data_sectors d) → SaysAlike names
         → AreReadAlike (length d) (map_bytes d) (label_triples d)) }
+    ensures agrees { IfOk result (λ names. (d : List Sector) → (D.state disk.old).contents ≡ Some d
+        → labels.now ≡ map (λ s. s.0) (data_sectors d) → SaysAgree names ↔ HasFileMap d) }
     ensures err { IfErr result IsDiskOrMemory }
     ensures cause { result ≡ Err LookFault.Disk
         → Rose (D.state disk.old).faults (D.state disk.new).faults }
@@ -103,8 +113,17 @@ pub(crate) fn look_at_names<A: Allocator + Clone, D: Disk>(
         return Err(LookFault::NoMemory);
     };
     let mut map = read_pages(own, disk, 1 + layout.vam, layout.vfm)?;
+    let Ok(own) = alloc.clone() else {
+        return Err(LookFault::NoMemory);
+    };
+    let Ok(in_form) = is_in_form(own, &mut map, layout) else {
+        return Err(LookFault::NoMemory);
+    };
     match compare_names(alloc, &mut map, layout, labels) {
-        Ok(differences) => Ok(Names::Read { differences }),
+        Ok(differences) => Ok(Names::Read {
+            in_form,
+            differences,
+        }),
         Err(Stop::Broken { page }) => Ok(Names::Malformed { page }),
         Err(Stop::NoMemory) => Err(LookFault::NoMemory),
     }

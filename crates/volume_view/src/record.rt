@@ -72,7 +72,8 @@ fn read_record(bytes: &[u8; 24], first: u32, sectors: u32) -> Option<Run>
 
 // Whether a run begins behind the end of the one before it, by identifier and page.
 fn follows(last: Run, run: Run) -> bool
-    ensures { Follows last run → result ≡ true }
+    ensures all { Follows last run → result ≡ true }
+    ensures right { result ≡ true → Follows last run }
 {
     let end = u64::from(last.first) + u64::from(last.pages);
     run.id > last.id || run.id == last.id && u64::from(run.first) >= end
@@ -84,6 +85,7 @@ pub(crate) fn read_behind(last: Run, bytes: &[u8; 24], first: u32, sectors: u32)
     requires { first ≡ first_data sectors }
     ensures form { IfSome result (λ run. IsRun sectors run) }
     ensures same { IfSome result (λ run. bytes.now ≡ run_bytes run) }
+    ensures follows { IfSome result (λ run. Follows last run) }
     ensures broken { result ≡ None → Follows last (run_in bytes.now) → ¬ IsRecord sectors bytes.now }
 {
     match read_record(bytes, first, sectors) {

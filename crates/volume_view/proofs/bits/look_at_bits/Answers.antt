@@ -1,4 +1,4 @@
-use Rattle.std.proofs.Common.{◌≡◌, ◌∙◌, ◌+◌, ◌*◌, ℕ, List, length, ap, sym, subst, arith}
+use Rattle.std.proofs.Common.{◌≡◌, ◌∙◌, ◌*◌, length, ap, sym, subst, arith}
 use Rattle.flat_mem.specs.Vec.{vec_mem_bytes}
 use Rattle.labelled_disk.specs.Layout.{IsCount, first_data, vam}
 use Rattle.volume_view.specs.Bits.{taken}

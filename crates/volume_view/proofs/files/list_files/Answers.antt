@@ -1,5 +1,4 @@
-use Rattle.std.proofs.Common.{◌≡◌, ◌+◌, ◌∙◌, List, false, ap, sym, subst, arith}
-use Rattle.volume_view.specs.declared.files.FileLine.{FileLine}
+use Rattle.std.proofs.Common.{◌+◌, ◌∙◌, false, ap, sym, subst, arith}
 use Rattle.volume_view.specs.Listed.{AreLinesTo}
 use Rattle.volume_view.proofs.FileLemmas.{lines_same, lines_more, all_lines}
 use Rattle.volume_view.proofs.files.list_files.Goals as goal

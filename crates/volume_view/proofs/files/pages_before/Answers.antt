@@ -1,4 +1,4 @@
-use Rattle.std.proofs.Common.{◌≡◌, ◌-◌, ◌≤◌, false, arith, slice_index_or}
+use Rattle.std.proofs.Common.{◌-◌, ◌≤◌, false, arith, slice_index_or}
 use Rattle.std.proofs.lemmas.Option.{slice_get-get_or}
 use Rattle.label_survey.specs.declared.triples.Triple.{Triple}
 use Rattle.volume_view.proofs.FileLemmas.{pages_none, pages_after, pages_other}

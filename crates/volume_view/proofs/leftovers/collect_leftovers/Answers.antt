@@ -1,8 +1,7 @@
-use Rattle.std.proofs.Common.{◌≡◌, ◌+◌, ◌∙◌, List, length, ap, sym, subst, slice_index_or, arith, ℕ}
+use Rattle.std.proofs.Common.{◌≡◌, ◌+◌, ◌∙◌, length, ap, sym, subst, slice_index_or, arith, ℕ}
 use Rattle.std.proofs.lemmas.Option.{slice_get-get_or}
 use Rattle.labelled_disk.specs.Sectors.{free_label}
 use Rattle.label_survey.specs.declared.standing.Standing.TheVariants.{Free}
-use Rattle.label_survey.specs.declared.triples.Triple.{Triple}
 use Rattle.volume_view.specs.Strays.{AreStrays}
 use Rattle.volume_view.proofs.LeftoverLemmas.{none_stray, stray_pushed, stray_same}
 use Rattle.volume_view.proofs.leftovers.collect_leftovers.Goals as goal

@@ -1,4 +1,4 @@
-use Rattle.std.proofs.Common.{◌≡◌, ◌+◌, ◌∙◌, List, refl, ap, sym, subst, arith}
+use Rattle.std.proofs.Common.{◌+◌, ◌∙◌, refl, ap, sym, subst}
 use Rattle.volume_view.specs.Names.{labelled}
 use Rattle.volume_view.proofs.NameLemmas.{IsAddedTo, added_same, added_more}
 use Rattle.volume_view.proofs.mapped.add_unlabelled.Goals as goal

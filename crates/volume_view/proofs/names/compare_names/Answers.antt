@@ -1,5 +1,4 @@
-use Rattle.std.proofs.Common.{◌≡◌, ℕ, ◌∙◌, List, sym, ap, subst, arith}
-use Rattle.flat_mem.specs.Vec.{vec_mem_bytes}
+use Rattle.std.proofs.Common.{ℕ, ◌∙◌, List, sym, subst, arith}
 use Rattle.file_map.specs.declared.run.Run.{Run}
 use Rattle.volume_view.specs.Names.{labelled, NamesIn, AddsUnlabelled}
 use Rattle.volume_view.specs.Recorded.{AreRecorded}

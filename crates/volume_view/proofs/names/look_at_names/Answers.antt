@@ -1,4 +1,4 @@
-use Rattle.std.proofs.Common.{◌≡◌, ℕ, ◌+◌, ◌∙◌, List, length, sym, ap, arith}
+use Rattle.std.proofs.Common.{◌≡◌, ℕ, ◌+◌, ◌∙◌, Ok, length, sym, ap}
 use Rattle.flat_mem.specs.Vec.{vec_mem_bytes}
 use Rattle.labelled_disk.specs.Layout.{first_data, vam, vfm}
 use Rattle.file_map.specs.InSectors.{label_triples}
@@ -6,6 +6,7 @@ use Rattle.volume_view.specs.Names.{labelled}
 use Rattle.volume_view.specs.Pages.{bytes_of}
 use Rattle.volume_view.proofs.RecordedLemmas.{alike_on}
 use Rattle.volume_view.proofs.LayoutLemmas.{of_layout}
+use Rattle.volume_view.proofs.AgreeLemmas.{agrees_as_told}
 use Rattle.volume_view.proofs.NameLemmas.{names_in, labels_say, comparison_alike, never_stopped}
 use Rattle.volume_view.proofs.names.look_at_names.Goals as goal
 
@@ -16,8 +17,8 @@ returns-in-Ok-compare_names-clause-told g c = λ d told are named map_is.
     let from : c.args.layout.now.first ≡ first_data (length d) = parts.first ∙ ap first_data (sym long) in
     let bits : c.args.layout.now.vam ≡ vam (length d) = parts.bits ∙ ap vam (sym long) in
     let pages : c.args.layout.now.vfm ≡ vfm (length d) = parts.names ∙ ap vfm (sym long) in
-    let bytes = c.in_ok-map.ensures.bytes d told ∙ ap (λ (n : ℕ). bytes_of d (1 + n) c.args.layout.now.vfm) bits ∙ ap (bytes_of d (1 + vam (length d))) pages in
-    let there = names_in d c.args.layout.now.sectors (vec_mem_bytes c.in_ok-map.map) named (long ∙ sym parts.sectors) bytes map_is in
+    let bytes = c.is_in_form.ensures.same ∙ c.in_ok-map.ensures.bytes d told ∙ ap (λ (n : ℕ). bytes_of d (1 + n) c.args.layout.now.vfm) bits ∙ ap (bytes_of d (1 + vam (length d))) pages in
+    let there = names_in d c.args.layout.now.sectors (vec_mem_bytes c.is_in_form.new.map) named (long ∙ sym parts.sectors) bytes map_is in
     comparison_alike named (labelled c.args.layout.now.first c.args.labels.now) (label_triples d) _ (labels_say d c.args.labels.now c.args.layout.now.first from are) (c.in-Ok-compare_names.ensures.compared named there)
 
 pub returns-in-Err-Broken-clause-told : goal.returns-in-Err-Broken-clause-told
@@ -26,8 +27,8 @@ returns-in-Err-Broken-clause-told g c = λ d told are named map_is.
     let long : length d ≡ (g.D.Disk.state c.args.disk.now).sectors = g.met.D.Disk.whole c.args.disk.now d told in
     let bits : c.args.layout.now.vam ≡ vam (length d) = parts.bits ∙ ap vam (sym long) in
     let pages : c.args.layout.now.vfm ≡ vfm (length d) = parts.names ∙ ap vfm (sym long) in
-    let bytes = c.in_ok-map.ensures.bytes d told ∙ ap (λ (n : ℕ). bytes_of d (1 + n) c.args.layout.now.vfm) bits ∙ ap (bytes_of d (1 + vam (length d))) pages in
-    let there = names_in d c.args.layout.now.sectors (vec_mem_bytes c.in_ok-map.map) named (long ∙ sym parts.sectors) bytes map_is in
+    let bytes = c.is_in_form.ensures.same ∙ c.in_ok-map.ensures.bytes d told ∙ ap (λ (n : ℕ). bytes_of d (1 + n) c.args.layout.now.vfm) bits ∙ ap (bytes_of d (1 + vam (length d))) pages in
+    let there = names_in d c.args.layout.now.sectors (vec_mem_bytes c.is_in_form.new.map) named (long ∙ sym parts.sectors) bytes map_is in
     never_stopped c.in-Err-Broken.field-0 _ c.in-Err-Broken.field-0-is (c.in-Err-Broken.ensures.compared named there)
 
 pub returns-in-Ok-compare_names-clause-alike : goal.returns-in-Ok-compare_names-clause-alike
@@ -37,5 +38,18 @@ returns-in-Ok-compare_names-clause-alike g c = λ d told are none.
     let from : c.args.layout.now.first ≡ first_data (length d) = parts.first ∙ ap first_data (sym long) in
     let bits : c.args.layout.now.vam ≡ vam (length d) = parts.bits ∙ ap vam (sym long) in
     let pages : c.args.layout.now.vfm ≡ vfm (length d) = parts.names ∙ ap vfm (sym long) in
+    let bytes = c.is_in_form.ensures.same ∙ c.in_ok-map.ensures.bytes d told ∙ ap (λ (n : ℕ). bytes_of d (1 + n) c.args.layout.now.vfm) bits ∙ ap (bytes_of d (1 + vam (length d))) pages in
+    alike_on d c.args.layout.now.sectors (vec_mem_bytes c.is_in_form.new.map) (labelled c.args.layout.now.first c.args.labels.now) (parts.sectors ∙ sym long) bytes (labels_say d c.args.labels.now c.args.layout.now.first from are) (c.in-Ok-compare_names.ensures.alike none)
+
+pub returns-in-Ok-compare_names-clause-agrees : goal.returns-in-Ok-compare_names-clause-agrees
+returns-in-Ok-compare_names-clause-agrees g c = λ d told are.
+    let parts = of_layout c.args.layout.now (g.D.Disk.state c.args.disk.now).sectors c.requires.layout in
+    let long : length d ≡ (g.D.Disk.state c.args.disk.now).sectors = g.met.D.Disk.whole c.args.disk.now d told in
+    let bits : c.args.layout.now.vam ≡ vam (length d) = parts.bits ∙ ap vam (sym long) in
+    let pages : c.args.layout.now.vfm ≡ vfm (length d) = parts.names ∙ ap vfm (sym long) in
     let bytes = c.in_ok-map.ensures.bytes d told ∙ ap (λ (n : ℕ). bytes_of d (1 + n) c.args.layout.now.vfm) bits ∙ ap (bytes_of d (1 + vam (length d))) pages in
-    alike_on d c.args.layout.now.sectors (vec_mem_bytes c.in_ok-map.map) (labelled c.args.layout.now.first c.args.labels.now) (parts.sectors ∙ sym long) bytes (labels_say d c.args.labels.now c.args.layout.now.first from are) (c.in-Ok-compare_names.ensures.alike none)
+    agrees_as_told d c.args.layout.now.sectors (vec_mem_bytes c.in_ok-map.map) c.in-Ok-is_in_form.in_form _ (parts.sectors ∙ sym long) bytes (λ is. c.in-Ok-is_in_form.ensures.yes (ap Ok is)) (λ is. c.in-Ok-is_in_form.ensures.no (ap Ok is))
+    (returns-in-Ok-compare_names-clause-told g c d told are)
+
+pub returns-in-Err-Broken-clause-agrees : goal.returns-in-Err-Broken-clause-agrees
+returns-in-Err-Broken-clause-agrees g c = λ d told are. (λ never. absurd never, returns-in-Err-Broken-clause-told g c d told are (label_triples d))

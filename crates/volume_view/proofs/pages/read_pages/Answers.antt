@@ -1,8 +1,8 @@
 use Rattle.std.proofs.Common.{◌*◌, ◌∙◌, ap, arith, length}
-use Rattle.labelled_disk.proofs.CallLemmas.{reads_one, reads_at_most_then, reads_at_most_wider}
+use Rattle.labelled_disk.proofs.CallLemmas.{reads_one, reads_at_most_then}
 use Rattle.flat_mem.specs.Vec.{vec_mem_bytes}
 use Rattle.flat_mem.specs.Parts.{length-overwritten}
-use Rattle.volume_view.proofs.PageLemmas.{laid_more, laid_all, laid_none}
+use Rattle.volume_view.proofs.PageLemmas.{laid_more}
 use Rattle.volume_view.proofs.pages.read_pages.Goals as goal
 
 pub loop-index-preserved : goal.loop-index-preserved

@@ -8,4 +8,4 @@ use Rattle.volume_view.proofs.record.read_behind.Goals as goal
 pub returns-else-follows-clause-broken : goal.returns-else-follows-clause-broken
 returns-else-follows-clause-broken c = λ _ behind record_is.
     let same = ap run_in c.in-Some.ensures.same ∙ run_back c.args.sectors c.in-Some.run' c.ranges.sectors.fits c.in-Some.ensures.form in
-    false≢true (sym c.if-follows.false ∙ c.follows.ensures (subst (Follows c.args.last) same behind))
+    false≢true (sym c.if-follows.false ∙ c.follows.ensures.all (subst (Follows c.args.last) same behind))

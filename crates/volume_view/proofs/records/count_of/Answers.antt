@@ -1,7 +1,6 @@
-use Rattle.std.proofs.Common.{◌≡◌, ◌*◌, ◌∙◌, ap, sym, length, map, rules}
+use Rattle.std.proofs.Common.{◌≡◌, ◌∙◌, ap, sym, length, map, rules}
 use Rattle.std.proofs.lemmas.List.{length-map}
 use Rattle.flat_mem.specs.Vec.{vec_mem_bytes}
-use Rattle.labelled_disk.specs.Layout.{vfm}
 use Rattle.file_map.specs.Run.{run_bytes}
 use Rattle.volume_view.proofs.RecordLemmas.{to_tree, never_malformed}
 use Rattle.volume_view.proofs.records.count_of.Goals as goal

@@ -1,6 +1,5 @@
-use Rattle.std.proofs.Common.{◌≡◌, ◌*◌, ◌∙◌, [], ap, sym, refl, length, map, rules, arith}
+use Rattle.std.proofs.Common.{◌≡◌, ◌∙◌, [], ap, refl, length, map, rules, arith}
 use Rattle.flat_mem.specs.Vec.{vec_mem_bytes}
-use Rattle.labelled_disk.specs.Layout.{vfm}
 use Rattle.file_map.specs.Run.{run_bytes}
 use Rattle.volume_view.proofs.RecordedLemmas.{stands_by}
 use Rattle.volume_view.proofs.LayoutLemmas.{of_layout}

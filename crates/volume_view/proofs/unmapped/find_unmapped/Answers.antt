@@ -1,8 +1,7 @@
-use Rattle.std.proofs.Common.{◌≡◌, ℕ, ◌+◌, ◌∙◌, List, sym, ap, subst, arith, slice_index_or}
+use Rattle.std.proofs.Common.{ℕ, ◌+◌, ◌∙◌, List, sym, ap, subst, arith, slice_index_or}
 use Rattle.std.proofs.lemmas.Option.{slice_get-get_or}
 use Rattle.labelled_disk.specs.Sectors.{free_label}
 use Rattle.flat_mem.specs.Vec.{vec_mem_bytes}
-use Rattle.volume_view.specs.declared.names.NameDifference.{NameDifference}
 use Rattle.volume_view.specs.Names.{NamesIn, IsDifferenceAt}
 use Rattle.volume_view.proofs.RecordedLemmas.{recorded_more, recorded_all}
 use Rattle.volume_view.proofs.ListLemmas.{pushed_some}

@@ -1,7 +1,6 @@
-use Rattle.std.proofs.Common.{◌≡◌, ◌*◌, ◌+◌, ◌-◌, ◌∙◌, ap, sym, length, rules, arith, eqb}
-use Rattle.std.proofs.lemmas.Bool.{eqb-true, eq-eqb, true≢false, false≢true}
+use Rattle.std.proofs.Common.{◌≡◌, ◌+◌, ◌∙◌, ap, sym, length, rules, arith, eqb}
+use Rattle.std.proofs.lemmas.Bool.{eqb-true, eq-eqb, false≢true}
 use Rattle.flat_mem.specs.Vec.{vec_mem_bytes}
-use Rattle.labelled_disk.specs.Layout.{vfm}
 use Rattle.volume_view.proofs.RecordedLemmas.{recorded_by}
 use Rattle.volume_view.proofs.NameLemmas.{to_map, found_tells, found_some, found_none, never_broken}
 use Rattle.volume_view.proofs.unmapped.is_mapped.Goals as goal

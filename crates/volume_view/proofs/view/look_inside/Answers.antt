@@ -1,9 +1,8 @@
-use Rattle.std.proofs.Common.{◌≡◌, ◌∙◌, ℕ, List, length, refl, sym, ap}
+use Rattle.std.proofs.Common.{◌≡◌, ◌∙◌, length, refl, sym, ap}
 use Rattle.labelled_disk.specs.Layout.{first_data}
 use Rattle.labelled_disk.proofs.CallLemmas.{only_reads_then}
-use Rattle.file_map.specs.InSectors.{label_triples}
 use Rattle.volume_view.proofs.LayoutLemmas.{of_layout}
-use Rattle.volume_view.proofs.LookLemmas.{labels_cost, bits_cost, names_cost, labels_all, bits_all, names_all, says_alike}
+use Rattle.volume_view.proofs.LookLemmas.{labels_cost, bits_cost, names_cost, labels_all, bits_all, names_all}
 use Rattle.volume_view.proofs.view.look_inside.Goals as goal
 
 pub returns-in_err-labels-clause-cost : goal.returns-in_err-labels-clause-cost
@@ -60,6 +59,6 @@ returns-clause-view g c = λ d told.
       found = c.in-Ok-find_files.ensures d from (c.deref.ensures.value ∙ are);
       bits = c.in_ok-bits.ensures.bits d (two.contents ∙ told) (c.deref-2.ensures.value ∙ are);
       names = names;
-      sound_map = λ has. says_alike d c.in_ok-names.names (names (label_triples d) has);
+      agrees = c.in_ok-names.ensures.agrees d (three.contents ∙ told) (c.deref-3.ensures.value ∙ are);
       alike = c.in_ok-names.ensures.alike d (three.contents ∙ told) (c.deref-3.ensures.value ∙ are);
     }

@@ -1,0 +1,33 @@
+-- A map that is in form and names what the labels name is that of a sound volume, and the other way round.
+use Rattle.std.proofs.Common.{◌≡◌, ℕ, Bool, true, false, List, [], length, refl, sym, subst}
+use Rattle.std.specs.Prelude.{◌↔◌}
+use Rattle.labelled_disk.specs.Sectors.{Sector}
+use Rattle.file_map.specs.FileMap.{Triples, names_triple}
+use Rattle.file_map.specs.InSectors.{MapNames, label_triples, map_bytes}
+use Rattle.volume_root.specs.Sound.{HasFileMap}
+use Rattle.volume_view.specs.declared.names.NameDifference.{NameDifference}
+use Rattle.volume_view.specs.Form.{HasForm}
+use Rattle.volume_view.specs.Names.{IsComparison}
+
+yes_or_no : (b : Bool) → (b ≡ false → ⊥) → b ≡ true
+yes_or_no true never = refl
+yes_or_no false never = absurd (never refl)
+
+pub agrees_as_told : (d : List Sector) (n : ℕ) (bytes : List ℕ) (in_form : Bool) (differences : List NameDifference) → n ≡ length d → bytes ≡ map_bytes d → (in_form ≡ true → HasForm n bytes) → (in_form ≡ false → HasForm n bytes → ⊥)
+    → ((named : Triples) → MapNames d named → IsComparison named (label_triples d) differences) → ((in_form ≡ true) × (differences ≡ [])) ↔ HasFileMap d
+agrees_as_told d n bytes in_form differences long same right wrong told = (
+  λ says.
+      let form = on_disk (right says.0) in
+      let named : MapNames d (names_triple form.runs) = record { runs = form.runs; listed = form.of_map.listed; form = form.of_map.form; few = form.few; are = λ id page sector. refl } in
+      let alike = (told (names_triple form.runs) named).agrees.0 says.1 in
+      record { runs = form.runs; listed = form.of_map.listed; form = form.of_map.form; few = form.few; are = λ id page sector. sym (alike id page sector) },
+  λ has.
+      let form : HasForm (length d) (map_bytes d) = record { runs = has.runs; of_map = record { listed = has.listed; form = has.form }; few = has.few } in
+      (yes_or_no in_form (λ is. wrong is (in_memory form)), (told (label_triples d) has).agrees.1 (λ id page sector. refl)),
+)
+  where
+    on_disk : HasForm n bytes → HasForm (length d) (map_bytes d)
+    on_disk form = subst (HasForm (length d)) same (subst (λ (m : ℕ). HasForm m bytes) long form)
+
+    in_memory : HasForm (length d) (map_bytes d) → HasForm n bytes
+    in_memory form = subst (HasForm n) (sym same) (subst (λ (m : ℕ). HasForm m (map_bytes d)) (sym long) form)
