@@ -17,13 +17,15 @@ use Rattle.flat_machine.specs.Start.{opened, start}
 use Rattle.volume_root.specs.declared.root.Root.{Root}
 use Rattle.volume_root.specs.Format.{formatted, new_root, new_sector, new_sectors, IsFormatFault}
 use Rattle.volume_root.specs.FormatLaws.{IsEmptyVolume}
-use Rattle.volume_root.specs.RootPage.{root_bytes, root_in}
+use Rattle.volume_root.specs.RootPage.{IsValidRoot, root_bytes, root_in}
 use Rattle.labelled_disk.specs.Label.{root_label}
 use Rattle.volume_root.specs.Sound.{Sound}
 use Rattle.volume_root.proofs.NewVolume.{new_is_empty}
 use Rattle.volume_root.proofs.WrittenLemmas.{root_read}
 use Rattle.pilot_engine.specs.Fresh.{MadeVolume, WroteOnNew}
+use Rattle.pilot_engine.specs.NewMoments.{KeepsNew}
 use Rattle.pilot_engine.specs.Opening.{IsBare, StartsSome}
+use Rattle.pilot_engine.proofs.StartMoments.{files_kept}
 use Rattle.pilot_engine.proofs.StartWrites.{start_wrote}
 
 module _ (n : ℕ) (count : IsCount n) where
@@ -77,3 +79,25 @@ wrote_on_new {made = made} volume root same bare starts = record {
   where
     itself : (d : DiskState) → OnlyReads d d
     itself d = record { sectors = refl; contents = refl; writes = refl; lent = refl; faults = omega arith; transfers = omega arith; synced = λ s. s }
+
+-- and what stands at each moment of it
+pub keeps_new : {old made_so new : DiskState} {s t : Slots} (d : List Sector) → length d ≡ old.sectors → IsCount old.sectors → old.contents ≡ Some d → MadeVolume old made_so → (root : Root) → root ≡ new_root old.sectors 1 1
+    → IsBare s → StartsSome root made_so s new t → KeepsNew old new
+keeps_new {old = old} {made_so = made_so} {new = new} {s = s} {t = t} d long count told volume root same bare starts =
+    let n = old.sectors in
+    let empty = made n count in
+    let there : made_so.contents ≡ Some (formatted n 1 1) = volume.contents d told ∙ ap (λ (k : ℕ). Some (formatted k 1 1)) long in
+    let valid : IsValidRoot n (new_root n 1 1) = record { version = refl; accepted = count; count = refl; serial = omega arith; counter = omega arith } in
+    let kept = files_kept (formatted n 1 1) empty.sound.labels (new_root n 1 1) (subst (λ (k : ℕ). IsValidRoot k (new_root n 1 1)) (sym empty.sectors) valid) (omega arith) (omega arith) (sym empty.has_serial) (sym empty.has_counter)
+    made_so new s t there bare (subst (λ (r : Root). StartsSome r made_so s new t) same starts) in
+    record {
+      made = made_so;
+      volume = volume;
+      writes = kept.writes;
+      appended = kept.appended;
+      right = λ k. (kept.right k).right;
+      no_files = λ k. (kept.right k).files ∙ empty.no_files;
+      has_serial = λ k. kept.same_serial k ∙ empty.has_serial;
+      has_counter = λ k. kept.same_counter k ∙ empty.has_counter;
+      opened = kept.opened;
+    }

@@ -8,3 +8,4 @@ pub mod Halting
 pub mod Stepping
 pub mod Advised
 pub mod Beginning
+pub mod NewMoments

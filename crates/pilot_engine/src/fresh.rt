@@ -11,6 +11,7 @@ ghost use Rattle.volume_root.specs.Format.{new_root};
 ghost use Rattle.volume_root.specs.Later.{IsLater};
 ghost use Rattle.pilot_engine.specs.declared.fault.StartFault.TheVariants as start_fault;
 ghost use Rattle.pilot_engine.specs.Fresh.{BeganVolume, HasFreshCause, IsFreshFault, MadeVolume, WroteOnNew};
+ghost use Rattle.pilot_engine.specs.NewMoments.{KeepsNew};
 ghost use Rattle.pilot_engine.specs.Opening.{IsBare, IsDiskFault, IsEarly, IsOutside, IsSoAtStart, IsUnset, LeavesOpenAtStart};
 ghost use Rattle.running_words.specs.Running.{Runs};
 ghost use Rattle.running_words.specs.Session.{IsOpen};
@@ -103,6 +104,8 @@ impl<D: Disk, A: Allocator> SessionOver<D, A> {
 
         // What was written, whether or not one starts.
         ensures wrote { MatchResult result (λ s. WroteOnNew (D.state disk) (D.state s.core.filer.swapper.under)) (λ e. BeganVolume (D.state disk) (D.state e.1) ⊎ WroteOnNew (D.state disk) (D.state e.1)) }
+        ensures moments { (d : List Sector) → (D.state disk).contents ≡ Some d
+            → MatchResult result (λ s. KeepsNew (D.state disk) (D.state s.core.filer.swapper.under)) (λ e. BeganVolume (D.state disk) (D.state e.1) ⊎ KeepsNew (D.state disk) (D.state e.1)) }
         ensures left_open { MatchResult result (λ s. IsUnset (D.state s.core.filer.swapper.under)) (λ e. LeavesOpenAtStart (D.state e.1) e.0) }
 
         // The disk is the same, later.

@@ -4,6 +4,7 @@ use Rattle.labelled_disk.proofs.CallLemmas.{only_reads_itself}
 use Rattle.labelled_disk.proofs.WriteRunLemmas.{appended_none}
 use Rattle.flat_machine.specs.Start.{start}
 use Rattle.trace_io.specs.Reading.{reading}
+use Rattle.scavenger.proofs.BetweenLemmas.{moments_of_none}
 use Rattle.pilot_top.specs.Making.{Formatted}
 use Rattle.pilot_top.specs.Restoring.{Scavenged}
 use Rattle.pilot_top.specs.Running.{Ran}
@@ -11,7 +12,6 @@ use Rattle.pilot_top.specs.Trying.{Tried}
 use Rattle.pilot_top.specs.World.{World}
 use Rattle.pilot_top.specs.declared.status.Status.TheVariants as status
 use Rattle.pilot_top.proofs.LawfulRuns.{lawfully_none}
-use Rattle.pilot_top.proofs.ScavengingLemmas.{moments_of_none}
 use Rattle.pilot_top.proofs.StagedLemmas.{from_nothing, moments_before}
 
 module _ (w : World) where

@@ -1,5 +1,5 @@
 -- A volume that is restored, or has no root.
-use Rattle.std.proofs.Common.{◌≡◌, ◌⊎◌, inl, inr, ℕ, zero, suc, ◌<◌, false, List, [], ◌∷◌, ◌++◌, length, take, Option, Some, Result, Ok, Err, refl, sym, ◌∙◌, ap, subst, arith}
+use Rattle.std.proofs.Common.{◌≡◌, ◌⊎◌, inl, inr, ℕ, ◌<◌, false, List, [], ◌∷◌, length, take, Option, Some, Result, Ok, Err, refl, sym, ◌∙◌, ap, subst, arith}
 use Rattle.std.specs.Prelude.{slice_get}
 use Rattle.std.proofs.lemmas.Bool.{cases_lt}
 use Rattle.labelled_disk.specs.declared.disk.DiskWrite.{DiskWrite}
@@ -7,26 +7,24 @@ use Rattle.labelled_disk.specs.declared.layout.RootFault.{RootFault}
 use Rattle.labelled_disk.specs.declared.layout.RootFault.TheVariants as fault
 use Rattle.labelled_disk.specs.Calls.{OnlyReads, TellsSame}
 use Rattle.labelled_disk.specs.Layout.{IsCount}
-use Rattle.labelled_disk.specs.Moment.{moment}
 use Rattle.labelled_disk.specs.Root.{IsRoot}
-use Rattle.labelled_disk.specs.Sectors.{Sector, AreSectors}
+use Rattle.labelled_disk.specs.Sectors.{Sector}
 use Rattle.labelled_disk.specs.State.{DiskState}
-use Rattle.labelled_disk.specs.WriteRuns.{Appended, after_writes}
+use Rattle.labelled_disk.specs.WriteRuns.{Appended}
 use Rattle.labelled_disk.proofs.CallLemmas.{tells_same_then}
 use Rattle.labelled_disk.proofs.WriteRunLemmas.{appended_none, appended_then}
 use Rattle.volume_root.specs.declared.root.Root.{Root}
 use Rattle.volume_root.specs.Format.{PartMade}
 use Rattle.volume_root.specs.RootPage.{judged}
-use Rattle.volume_root.proofs.RootLemmas.{passes, valid}
+use Rattle.volume_root.proofs.RootLemmas.{passes}
 use Rattle.scavenger.specs.declared.fault.ScavengeFault.{ScavengeFault}
 use Rattle.scavenger.specs.declared.fault.ScavengeFault.TheVariants as why
 use Rattle.scavenger.specs.Opening.{Accords}
 use Rattle.scavenger.specs.Orders.{Orders, AreFor, scavenge_writes}
-use Rattle.scavenger.specs.Restored.{IsRestored, ScavengingRestores, RestoresEach}
-use Rattle.pilot_top.specs.Scavenging.{IsBetween, IsNoVolume}
+use Rattle.scavenger.proofs.BetweenLemmas.{reads_same}
+use Rattle.pilot_top.specs.Scavenging.{IsNoVolume}
 use Rattle.pilot_top.specs.declared.status.Status.{Status}
 use Rattle.pilot_top.specs.declared.status.Status.TheVariants as status
-use Rattle.pilot_top.proofs.MomentLemmas.{reads_same, told_writes}
 
 is_count_or : (n : ℕ) → IsCount n ⊎ (IsCount n → ⊥)
 is_count_or n = elim (cases_lt n 256) [
@@ -68,15 +66,6 @@ module _ {T : Type 0} (n : ℕ) (g : List Sector) (whole : length g ≡ n) (resu
         inl (λ is_count. none (subst (λ (m : ℕ). IsCount m) whole is_count), cc e ∙ ap (λ (m : ℕ). fault.BadCount m) (sym whole))
   ]
 
-  pub has_root : (x : T) → result ≡ Ok x → IsRoot (length g) (slice_get g 0)
-  has_root x is = elim (is_count_or n) [
-    | inl is_count ↦
-        let s = sector_of is_count in
-        let root = subst (λ (r : Result T ScavengeFault). Accords r (judged false (length g) s.0)) is (judges is_count s.0 s.1) in
-        subst (λ (o : Option Sector). IsRoot (length g) o) (sym s.1) (valid (length g) s.0 (counted is_count) root.0 root.1)
-    | inr none ↦ absurd (let e = sym is ∙ count none in cc e)
-  ]
-
   pub refuses : (f : RootFault) → IsNoVolume g f → (result ≡ Err (why.Root f)) ⊎ (result ≡ Err why.Disk)
   refuses f (inl none) =
       inl (count (λ is_count. none.0 (counted is_count)) ∙ ap (λ (x : RootFault). Err (why.Root x)) (ap (λ (m : ℕ). fault.BadCount m) (sym whole) ∙ sym none.1))
@@ -97,69 +86,9 @@ pub part_behind : (g : List Sector) (a b c : DiskState) → OnlyReads a b → Te
 part_behind g a b c reads (inl same) = inl (tells_same_then (reads_same reads) same)
 part_behind g a b c reads (inr some) = inr (some.0, some.1, (some.2.0, some.2.1, made_behind a b c (take some.2.0 (scavenge_writes some.0)) reads some.2.2))
 
--- the disk as it was
-between_itself : (g : List Sector) → IsBetween g g
-between_itself g = record { files = refl; right = λ right. right; clean = λ clean. inl refl }
-
-between_none : (g : List Sector) (k : ℕ) → IsBetween g (moment g [] k)
-between_none g zero = between_itself g
-between_none g (suc k) = between_itself g
-
--- each moment of the writes of a restoration
-between : (g : List Sector) (o : Orders) → ScavengingRestores g o → (k : ℕ) → IsBetween g (moment g (scavenge_writes o) k)
-between g o laws k =
-    let way = laws.moments k in
-    record {
-      files = way.files;
-      right = way.right;
-      clean = λ clean. elim (way.clean clean) [
-        | inl same ↦ inl same
-        | inr same ↦ inr (subst (λ (h : List Sector). IsRestored g h) (sym same) laws.restored)
-      ];
-    }
-
--- some first ones of some first ones
-take_both : (k m : ℕ) (ws : List DiskWrite) → (j : ℕ) × (take k (take m ws) ≡ take j ws)
-take_both zero m ws = (0, refl)
-take_both (suc k) zero ws = (0, refl)
-take_both (suc k) (suc m) [] = (0, refl)
-take_both (suc k) (suc m) (w ∷ ws) = let rest = take_both k m ws in (suc rest.0, ap (λ (l : List DiskWrite). w ∷ l) rest.1)
-
-between_part : (g : List Sector) (o : Orders) → ScavengingRestores g o → (m k : ℕ) → IsBetween g (moment g (take m (scavenge_writes o)) k)
-between_part g o laws m k =
-    let both = take_both k m (scavenge_writes o) in
-    subst (λ (ws : List DiskWrite). IsBetween g (after_writes ws g)) (sym both.1) (between g o laws both.0)
-
--- where a disk that held g tells what was written on it
-module _ (g : List Sector) (a c : DiskState) (before writes : List DiskWrite) (earlier : a.writes ≡ Some before) (later : c.writes ≡ Some (before ++ writes)) (k : ℕ) where
-  pub moments_of_none : TellsSame a c → IsBetween g (moment g writes k)
-  moments_of_none same = subst (λ (ws : List DiskWrite). IsBetween g (moment g ws k)) (told_writes [] a c before writes (appended_none same) earlier later) (between_none g k)
-
-  module _ (laws : RestoresEach) (sectors : AreSectors g) (root : IsRoot (length g) (slice_get g 0)) where
-    pub moments_of_made : (o : Orders) → AreFor g o → Appended (scavenge_writes o) a c → IsBetween g (moment g writes k)
-    moments_of_made o are made =
-        subst (λ (ws : List DiskWrite). IsBetween g (moment g ws k)) (told_writes (scavenge_writes o) a c before writes made earlier later) (between g o (laws g o sectors root are) k)
-
-    pub moments_of_part : TellsSame a c ⊎ ((o : Orders) × AreFor g o × PartMade (scavenge_writes o) a c) → IsBetween g (moment g writes k)
-    moments_of_part (inl same) = moments_of_none same
-    moments_of_part (inr some) =
-        subst (λ (ws : List DiskWrite). IsBetween g (moment g ws k)) (told_writes (take some.2.0 (scavenge_writes some.0)) a c before writes some.2.2 earlier later)
-        (between_part g some.0 (laws g some.0 sectors root some.1) some.2.0 k)
-
 -- a fault that is handed on
 pub carried : {T U : Type 0} (e f : ScavengeFault) (a : Result T ScavengeFault) (b : Result U ScavengeFault) → a ≡ Err e → b ≡ Err e → a ≡ Err f → b ≡ Err f
 carried e f a b was same is = same ∙ ap (λ (x : ScavengeFault). Err x) (let both = sym was ∙ is in cc both)
-
--- a restoration that failed behind calls that wrote nothing: where it was not the disk, nothing was written
-pub moments_of_fault : (g : List Sector) (a b c : DiskState) (before writes : List DiskWrite) → a.writes ≡ Some before → c.writes ≡ Some (before ++ writes) → (k : ℕ) → RestoresEach → AreSectors g
-    → IsRoot (length g) (slice_get g 0) → OnlyReads a b → (e : ScavengeFault) → ((f : RootFault) → e ≡ why.Root f → OnlyReads b c) → (e ≡ why.NoMemory → OnlyReads b c)
-    → (e ≡ why.Disk → TellsSame b c ⊎ ((o : Orders) × AreFor g o × PartMade (scavenge_writes o) b c)) → IsBetween g (moment g writes k)
-moments_of_fault g a b c before writes earlier later k laws sectors root reads (why.Root f) on_root on_memory on_disk =
-    moments_of_none g a c before writes earlier later k (tells_same_then (reads_same reads) (reads_same (on_root f refl)))
-moments_of_fault g a b c before writes earlier later k laws sectors root reads why.NoMemory on_root on_memory on_disk =
-    moments_of_none g a c before writes earlier later k (tells_same_then (reads_same reads) (reads_same (on_memory refl)))
-moments_of_fault g a b c before writes earlier later k laws sectors root reads why.Disk on_root on_memory on_disk =
-    moments_of_part g a c before writes earlier later k laws sectors root (part_behind g a b c reads (on_disk refl))
 
 -- what comes of a root that is refused, and what does not
 module _ {T : Type 0} (result : Result T ScavengeFault) (f : RootFault) (refused : (result ≡ Err (why.Root f)) ⊎ (result ≡ Err why.Disk)) where

@@ -9,9 +9,9 @@ use Rattle.labelled_disk.specs.Sectors.{Sector}
 use Rattle.labelled_disk.specs.WriteRuns.{Appended}
 use Rattle.volume_root.specs.Format.{PartMade}
 use Rattle.scavenger.specs.Orders.{Orders, AreFor, scavenge_writes}
-use Rattle.scavenger.specs.Restored.{IsRestored}
+use Rattle.scavenger.specs.Restored.{IsBetween, IsRestored}
 use Rattle.pilot_top.specs.Reporting.{restored_text}
-use Rattle.pilot_top.specs.Scavenging.{IsBetween, IsNoVolume}
+use Rattle.pilot_top.specs.Scavenging.{IsNoVolume}
 use Rattle.pilot_top.specs.World.{World, Holds, DiskFailed, SinkFailed, StaysUnwritten, Writes, WritesFront, WritesLast}
 use Rattle.pilot_top.specs.declared.last.Cause.TheVariants as cause
 use Rattle.pilot_top.specs.declared.status.Status.{Status}

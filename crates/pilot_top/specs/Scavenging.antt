@@ -1,27 +1,18 @@
--- What a restoration leaves on a disk.
+-- Which disks are not restored, and what is left where maps were lost.
 use Rattle.std.specs.Prelude.{◌≡◌, ◌⊎◌, false, List, length, slice_get, Some, Err}
 use Rattle.labelled_disk.specs.declared.layout.RootFault.{RootFault}
 use Rattle.labelled_disk.specs.declared.layout.RootFault.TheVariants as fault
 use Rattle.labelled_disk.specs.FilesOn.{files_on}
 use Rattle.labelled_disk.specs.Layout.{IsCount}
-use Rattle.labelled_disk.specs.Root.{LabelsRight, root_page, short_at}
 use Rattle.labelled_disk.specs.Sectors.{Sector}
 use Rattle.volume_root.specs.RootPage.{judged}
 use Rattle.volume_root.specs.Sound.{Sound}
-use Rattle.scavenger.specs.Restored.{IsRestored}
 
 -- the disk has no volume that can be restored, and this is why: as where a volume is opened, but the clean flag is not asked
 abbrev pub IsNoVolume : List Sector → RootFault → Type 0
 IsNoVolume g why =
     ((¬ IsCount (length g)) × (why ≡ fault.BadCount (length g)))
     ⊎ (IsCount (length g) × (s : Sector) × (slice_get g 0 ≡ Some s) × (judged false (length g) s ≡ Err why))
-
--- A moment of a restoration of g: it has the files of g, and labels that are right where those of g were; and where its
--- clean flag is 1, it is g, or it is restored.
-pub record IsBetween (g now : List Sector) : Type 0 where
-  pub files : files_on now ≡ files_on g
-  pub right : LabelsRight g → LabelsRight now
-  pub clean : short_at (root_page now) 10 ≡ 1 → (now ≡ g) ⊎ IsRestored g now
 
 -- sound, with the files of this disk
 pub record HasFilesOf (e h : List Sector) : Type 0 where

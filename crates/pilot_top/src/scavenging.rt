@@ -12,16 +12,16 @@ ghost use Rattle.volume_root.specs.RootPage.{judged};
 ghost use Rattle.scavenger.specs.Opening.{Accords};
 ghost use Rattle.scavenger.specs.Orders.{Orders, AreFor, scavenge_writes};
 ghost use Rattle.scavenger.specs.Reported.{lost_in, Reports};
-ghost use Rattle.scavenger.specs.Restored.{IsRestored};
+ghost use Rattle.scavenger.specs.Restored.{IsBetween, IsRestored};
 ghost use Rattle.pilot_top.specs.Last.{last_line, Puts};
 ghost use Rattle.pilot_top.specs.Reporting.{restored_text};
-ghost use Rattle.pilot_top.specs.Scavenging.{IsBetween, IsNoVolume};
+ghost use Rattle.pilot_top.specs.Scavenging.{IsNoVolume};
 
 use crate::Status;
 use crate::last::{Cause, put_last};
 use crate::reporting::put_report;
 use labelled_disk::{Disk, DiskWrite, RootFault};
-use scavenger::{Report, ScavengeFault, scavenge, scavenging_restores};
+use scavenger::{Report, ScavengeFault, scavenge};
 use std::alloc::Allocator;
 use trace_io::Sink;
 use volume_root::read_root;
@@ -101,7 +101,6 @@ fn restored<A: Allocator + Clone, D: Disk>(
     ensures cause { result ≡ Err ScavengeFault.Disk
         → Rose (D.state disk.old).faults (D.state disk.new).faults }
 {
-    scavenging_restores();
     look_at_root(disk)?;
     let mut report = empty_report(&alloc, disk.sectors())?;
     scavenge(alloc, disk, &mut report)?;

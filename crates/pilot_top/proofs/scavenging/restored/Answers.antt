@@ -1,9 +1,8 @@
-use Rattle.std.proofs.Common.{rules, ◌≡◌, inl, inr, Err, ap, ◌∙◌}
-use Rattle.scavenger.specs.declared.fault.ScavengeFault.{ScavengeFault}
+use Rattle.std.proofs.Common.{rules, ◌≡◌, inl, inr, Err, ◌∙◌}
 use Rattle.scavenger.specs.declared.fault.ScavengeFault.TheVariants as why
 use Rattle.scavenger.specs.Orders.{scavenge_writes}
-use Rattle.pilot_top.proofs.MomentLemmas.{reads_same}
-use Rattle.pilot_top.proofs.ScavengingLemmas.{no_volume, has_root, refuses, no_other, made_behind, part_behind, carried, moments_of_none, moments_of_made, moments_of_fault}
+use Rattle.scavenger.proofs.BetweenLemmas.{moments_of_none, reads_same}
+use Rattle.pilot_top.proofs.ScavengingLemmas.{no_volume, refuses, no_other, made_behind, part_behind, carried}
 use Rattle.pilot_top.proofs.scavenging.restored.Goals as goal
 
 -- the root is refused, or the disk failed there
@@ -40,11 +39,7 @@ returns-in_err-scavenge-clause-part g c is d told =
 
 pub returns-in_err-scavenge-clause-moments : goal.returns-in_err-scavenge-clause-moments
 returns-in_err-scavenge-clause-moments g c d before writes told earlier later k =
-    let failed = c.in_err-scavenge.field-0.0 in
-    let root = has_root (g.D.Disk.state c.args.disk.now).sectors d (g.met.D.Disk.whole c.args.disk.now d told) c.look_at_root.result c.look_at_root.ensures.count (λ n. c.look_at_root.ensures.judged n d told) _ c.in_ok-look_at_root.was in
-    moments_of_fault d (g.D.Disk.state c.args.disk.now) (g.D.Disk.state c.look_at_root.new.disk) (g.D.Disk.state c.scavenge.new.disk) before writes earlier later k c.scavenging_restores.ensures (g.met.D.Disk.in_form c.args.disk.now d told) root c.look_at_root.ensures.only_reads failed
-    (λ f is. c.scavenge.ensures.refused f (c.in_err-scavenge.was ∙ ap (λ (x : ScavengeFault). Err x) is)) (λ is. c.scavenge.ensures.unwritten (c.in_err-scavenge.was ∙ ap (λ (x : ScavengeFault). Err x) is))
-    (λ is. c.scavenge.ensures.part (c.in_err-scavenge.was ∙ ap (λ (x : ScavengeFault). Err x) is) d (c.look_at_root.ensures.only_reads.contents ∙ told))
+    c.scavenge.ensures.moments d before writes (c.look_at_root.ensures.only_reads.contents ∙ told) (c.look_at_root.ensures.only_reads.writes ∙ earlier) later k
 
 pub returns-in_err-scavenge-clause-refusal : goal.returns-in_err-scavenge-clause-refusal
 returns-in_err-scavenge-clause-refusal g c f is d told =
@@ -67,10 +62,7 @@ returns-clause-made g c d told =
 
 pub returns-clause-moments : goal.returns-clause-moments
 returns-clause-moments g c d before writes told earlier later k =
-    let made = c.in_ok-scavenge.ensures.made d (c.look_at_root.ensures.only_reads.contents ∙ told) in
-    let root = has_root (g.D.Disk.state c.args.disk.now).sectors d (g.met.D.Disk.whole c.args.disk.now d told) c.look_at_root.result c.look_at_root.ensures.count (λ n. c.look_at_root.ensures.judged n d told) _ c.in_ok-look_at_root.was in
-    moments_of_made d (g.D.Disk.state c.args.disk.now) (g.D.Disk.state c.scavenge.new.disk) before writes earlier later k c.scavenging_restores.ensures (g.met.D.Disk.in_form c.args.disk.now d told) root made.0 made.1
-    (made_behind (g.D.Disk.state c.args.disk.now) (g.D.Disk.state c.look_at_root.new.disk) (g.D.Disk.state c.scavenge.new.disk) (scavenge_writes made.0) c.look_at_root.ensures.only_reads made.2)
+    c.scavenge.ensures.moments d before writes (c.look_at_root.ensures.only_reads.contents ∙ told) (c.look_at_root.ensures.only_reads.writes ∙ earlier) later k
 
 pub returns-clause-refused : goal.returns-clause-refused
 returns-clause-refused g c d f told none =

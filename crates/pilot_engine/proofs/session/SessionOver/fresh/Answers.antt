@@ -7,7 +7,7 @@ use Rattle.flat_machine.specs.Start.{opened}
 use Rattle.fault_core.specs.View.{view_of}
 use Rattle.running_words.specs.Running.{IsRunning}
 use Rattle.pilot_engine.specs.Opening.{IsBare}
-use Rattle.pilot_engine.proofs.FreshLemmas.{fresh_volume, wrote_on_new}
+use Rattle.pilot_engine.proofs.FreshLemmas.{fresh_volume, keeps_new, wrote_on_new}
 use Rattle.pilot_engine.proofs.StartRuns.{runs_over}
 use Rattle.pilot_engine.proofs.session.SessionOver.fresh.Goals as goal
 
@@ -50,6 +50,29 @@ returns-in-Err-begin-clause-wrote g c =
     let volume = rw c.in-Ok.ensures.under at given.made in
     let bare : IsBare c.make_volume.new.filer.swapper.pool = rw given.frames c.in-Ok.ensures.bare in
     rw c.into_disk-in-Err-begin.ensures (inr (wrote_on_new volume c.in-Ok-make_volume.root root bare c.in-Err-begin.ensures.starts))
+
+-- ---- What stands at each moment.
+
+pub returns-in-Err-make_volume-clause-moments : goal.returns-in-Err-make_volume-clause-moments
+returns-in-Err-make_volume-clause-moments g c = λ d told.
+    let part = rw c.in-Ok.ensures.under at c.in-Err-make_volume.ensures.part in
+    rw c.into_disk.ensures (inl part)
+
+pub returns-in-Ok-begin-clause-moments : goal.returns-in-Ok-begin-clause-moments
+returns-in-Ok-begin-clause-moments g c = λ d told.
+    let given = c.in-Ok-make_volume.ensures in
+    let root = rw c.in-Ok.ensures.under at given.root in
+    let volume = rw c.in-Ok.ensures.under at given.made in
+    let bare : IsBare c.make_volume.new.filer.swapper.pool = rw given.frames c.in-Ok.ensures.bare in
+    rw c.over.ensures.filer (keeps_new d (g.met.D.Disk.whole c.args.disk d told) c.in-Ok.ensures.count told volume c.in-Ok-make_volume.root root bare c.in-Ok-begin.ensures.starts)
+
+pub returns-in-Err-begin-clause-moments : goal.returns-in-Err-begin-clause-moments
+returns-in-Err-begin-clause-moments g c = λ d told.
+    let given = c.in-Ok-make_volume.ensures in
+    let root = rw c.in-Ok.ensures.under at given.root in
+    let volume = rw c.in-Ok.ensures.under at given.made in
+    let bare : IsBare c.make_volume.new.filer.swapper.pool = rw given.frames c.in-Ok.ensures.bare in
+    rw c.into_disk-in-Err-begin.ensures (inr (keeps_new d (g.met.D.Disk.whole c.args.disk d told) c.in-Ok.ensures.count told volume c.in-Ok-make_volume.root root bare c.in-Err-begin.ensures.starts))
 
 -- ---- Why it failed.
 
