@@ -17,14 +17,15 @@ use Rattle.pilot_top.specs.Last.{last_line, Puts}
 use Rattle.pilot_top.specs.Stopping.{status_of, cause_of}
 use Rattle.pilot_top.specs.declared.last.Cause.TheVariants as cause
 use Rattle.pilot_top.specs.declared.status.Status.TheVariants as status
-use Rattle.pilot_top.proofs.EndLemmas.{End-answering, End-front, End-rest, End-short}
+use Rattle.pilot_top.proofs.EndLemmas.{End-answering, End-rest, End-short}
 use Rattle.pilot_top.proofs.ExitLemmas.{halt_not_damaged, halt_not_done, halt_evidence, three_ways, stopped_files, halt_not_stream, takes_more, still_moments, still_spends, line_spends, end_spent, still_files, line_moments, halt_files, reply_files, line_not_close, end_closed, end_unheard, end_moments}
 use Rattle.pilot_top.proofs.FrontLemmas.{End-has}
 use Rattle.pilot_top.proofs.LawfulRuns.{called_openly, ended_last, openly_last, openly_none, openly_then}
 use Rattle.pilot_top.proofs.OpenLemmas.{early_halt}
 use Rattle.pilot_top.proofs.PlaceLemmas.{stop_told}
+use Rattle.pilot_top.proofs.RepliedLemmas.{Replied-end, Replied-halted, Replied-long, Replied-read_fault, Replied-write_fault}
 use Rattle.pilot_top.proofs.StagedLemmas.{from_rest, stands_told}
-use Rattle.pilot_top.proofs.TopLemmas.{Run-disk, Run-long, Run-read_fault, Run-write_fault, not_short, rose_later, Puts-later, damage_behind, damage_told, told_front, Going-sink, Going-told}
+use Rattle.pilot_top.proofs.TopLemmas.{Run-disk, Run-long, Run-read_fault, Run-write_fault, not_short, rose_later, Puts-later, damage_told, told_front, Going-sink, Going-told}
 use Rattle.pilot_top.proofs.TurnedLemmas.{more_moments, ended_moments, Turned-start, Turned-reply, Turned-source, Turned-told, Turned-same}
 use Rattle.pilot_top.proofs.run.answer_lines.Given as given
 use Rattle.pilot_top.proofs.run.answer_lines.Goals as goal
@@ -104,6 +105,14 @@ returns-in_default-clause-answering g c m b t stands source sink =
     Run-write_fault m b t _ _ c.turns.lines _ _ turned.going stands _ (HasFilesAt m (reading b) (g.D.Disk.state c.into_disk.result)) _ _ c.take_turn.new.lines _ turn.1 c.in-Replies.reply turn.0 turn.2 turn.3
     (rose_later _ _ _ i.sink c.in_default.ensures.cause.cause) put.0 put.1 put.2 (rw c.into_disk.ensures has)
 
+pub returns-in_default-clause-replied : goal.returns-in_default-clause-replied
+returns-in_default-clause-replied g c b t left source sink =
+    let i = c.turns.invariant in
+    let turn = c.in-Replies.ensures.turns in
+    let put = c.in_default.ensures.err in
+    Replied-write_fault b t (Going-told _ _ _ _ _ _ _ b t i.turned.going source sink) _ (g.D.Disk.state c.into_disk.result) (g.S.Source.left c.take_turn.new.source) _ c.take_turn.new.lines turn.1 c.in-Replies.reply turn.0 turn.2 turn.3.suits
+    (rose_later _ _ _ i.sink c.in_default.ensures.cause.cause) put.0 put.1 put.2
+
 pub returns-in_default-clause-moments : goal.returns-in_default-clause-moments
 returns-in_default-clause-moments g c m b stands source =
     let turn = c.in-Replies.ensures.turns in
@@ -137,6 +146,11 @@ returns-in-ReadFault-clause-answering g c m b t stands source sink =
     Run-read_fault m b t _ _ c.turns.lines _ _ turned.going stands _ (HasFilesAt m (reading b) (g.D.Disk.state c.into_disk-in-ReadFault.result)) _ c.take_turn.new.lines turn.0 turn.1
     (rw c.into_disk-in-ReadFault.ensures (still_files m turned stands (tells g c.take_turn.new.session)))
 
+pub returns-in-ReadFault-clause-replied : goal.returns-in-ReadFault-clause-replied
+returns-in-ReadFault-clause-replied g c b t left source sink =
+    let turn = c.in-ReadFault.ensures.turns in
+    Replied-read_fault b t (Going-told _ _ _ _ _ _ _ b t c.turns.invariant.turned.going source sink) _ (g.D.Disk.state c.into_disk-in-ReadFault.result) (g.S.Source.left c.take_turn.new.source) c.take_turn.new.lines turn.0 turn.1
+
 pub returns-in-ReadFault-clause-moments : goal.returns-in-ReadFault-clause-moments
 returns-in-ReadFault-clause-moments g c m b stands source =
     let same : c.take_turn.new.session ≡ c.turns.session = c.in-ReadFault.ensures.idle tt in
@@ -169,6 +183,13 @@ returns-in-Long-clause-answering g c m b t stands source sink =
     Run-long m b t _ _ c.turns.lines _ _ turned.going stands _ (HasFilesAt m (reading b) (g.D.Disk.state c.into_disk-in-Long.result)) _ _ c.take_turn.new.lines turn.0 turn.1 (turn.2 ∙ turn.1.limit ∙ i.limit)
     (Puts-later _ _ _ _ _ (rose_later _ _ _ i.sink) c.put_last.ensures.put)
     (rw c.into_disk-in-Long.ensures (still_files m turned stands (tells g c.take_turn.new.session)))
+
+pub returns-in-Long-clause-replied : goal.returns-in-Long-clause-replied
+returns-in-Long-clause-replied g c b t left source sink =
+    let i = c.turns.invariant in
+    let turn = c.in-Long.ensures.turns in
+    Replied-long b t (Going-told _ _ _ _ _ _ _ b t i.turned.going source sink) _ (g.D.Disk.state c.into_disk-in-Long.result) (g.S.Source.left c.take_turn.new.source) _ c.take_turn.new.lines turn.0 turn.1 (turn.2 ∙ turn.1.limit ∙ i.limit)
+    (Puts-later _ _ _ _ _ (rose_later _ _ _ i.sink) c.put_last.ensures.put)
 
 pub returns-in-Long-clause-moments : goal.returns-in-Long-clause-moments
 returns-in-Long-clause-moments g c m b stands source =
@@ -241,19 +262,15 @@ returns-in-Halts-clause-damage g c t left sink is =
     (Puts-later _ _ _ _ _ (rose_later _ _ _ i.sink)
     (subst (λ (h : Halt). Puts (Rose (g.K.Sink.faults c.turns.sink) (g.K.Sink.faults c.stop.new.sink)) (g.K.Sink.took c.turns.sink) (g.K.Sink.took c.stop.new.sink) (last_line (cause_of h))) why.1 c.stop.ensures.line)))
 
-pub returns-in-Halts-clause-damage_behind : goal.returns-in-Halts-clause-damage_behind
-returns-in-Halts-clause-damage_behind g c b t left source sink is =
+pub returns-in-Halts-clause-replied : goal.returns-in-Halts-clause-replied
+returns-in-Halts-clause-replied g c b t left source sink =
     let i = c.turns.invariant in
-    let why = halt_evidence c.in-Halts.halt c.stop.result c.stop.ensures.status is in
-    let disk = disk_of g c.take_turn.new.session in
-    let so : IsSo disk why.0 = subst (λ (h : Halt). ShowsSo disk h) why.1 (c.in-Halts.ensures.so c.in-Halts.halt refl) in
     let going = Going-told _ _ _ _ _ _ _ b t i.turned.going source sink in
     let front = told_front b _ c.turns.lines going.lines going.read c.in-Halts.ensures.turns.0 in
     rw c.into_disk-in-Halts.ensures
-    (damage_behind b _ _ _ t c.turns.lines _ _ _ why.0 disk so (unset_then (i.left_open left) c.take_turn.ensures.wrote) going
-    (Puts-later _ _ _ _ _ (rose_later _ _ _ i.sink)
-    (subst (λ (h : Halt). Puts (Rose (g.K.Sink.faults c.turns.sink) (g.K.Sink.faults c.stop.new.sink)) (g.K.Sink.took c.turns.sink) (g.K.Sink.took c.stop.new.sink) (last_line (cause_of h))) why.1 c.stop.ensures.line))
-    front.0 front.1)
+    (Replied-halted b t going _ (disk_of g c.take_turn.new.session) c.stop.result c.in-Halts.halt (g.S.Source.left c.take_turn.new.source) _ front.0 front.1 c.stop.ensures.status
+    (c.in-Halts.ensures.so c.in-Halts.halt refl) (unset_then (i.left_open left) c.take_turn.ensures.wrote)
+    (Puts-later _ _ _ _ _ (rose_later _ _ _ i.sink) c.stop.ensures.line))
 
 pub returns-in-Halts-clause-lawful : goal.returns-in-Halts-clause-lawful
 returns-in-Halts-clause-lawful g c = rw c.into_disk-in-Halts.ensures (openly_last (openly_then c.turns.invariant.turned.lawful (called_openly c.take_turn.ensures.wrote)))
@@ -348,14 +365,16 @@ returns-in-Ends-clause-damage g c t left sink is =
     let open_still = c.end_trace.ensures.left_open (unset_then (i.left_open left) c.take_turn.ensures.wrote) is in
     damage_told _ _ _ _ t c.turns.lines _ _ _ line.0 (g.D.Disk.state c.end_trace.result.1) line.1 open_still (Going-sink _ _ _ _ _ _ _ t i.turned.going sink) (Puts-later _ _ _ _ _ (rose_later _ _ _ i.sink) line.2)
 
-pub returns-in-Ends-clause-damage_behind : goal.returns-in-Ends-clause-damage_behind
-returns-in-Ends-clause-damage_behind g c b t left source sink is =
+pub returns-in-Ends-clause-replied : goal.returns-in-Ends-clause-replied
+returns-in-Ends-clause-replied g c b t left source sink =
     let i = c.turns.invariant in
-    let line = c.end_trace.ensures.damage_line is in
-    let open_still = c.end_trace.ensures.left_open (unset_then (i.left_open left) c.take_turn.ensures.wrote) is in
+    let e = c.end_trace.ensures in
     let going = Going-told _ _ _ _ _ _ _ b t i.turned.going source sink in
-    let front = End-front b _ _ _ c.turns.lines _ _ going c.in-Ends.end _ c.take_turn.new.lines c.in-Ends.ensures.turns in
-    damage_behind b _ _ _ t c.turns.lines _ _ _ line.0 (g.D.Disk.state c.end_trace.result.1) line.1 open_still going (Puts-later _ _ _ _ _ (rose_later _ _ _ i.sink) line.2) front.0 front.1
+    Replied-end b t going _ (g.D.Disk.state c.end_trace.result.1) c.end_trace.result.0 c.in-Ends.end (g.S.Source.left c.take_turn.new.source) _ c.take_turn.new.lines c.in-Ends.ensures.turns e.ends e.done e.part
+    (λ is. (rose_later _ _ _ i.sink (e.stream_cause is).0, (e.stream_cause is).1))
+    (λ is. Puts-later _ _ _ _ _ (rose_later _ _ _ i.sink) (e.disk_line is))
+    (λ is. let line = e.damage_line is in (line.0, line.1, Puts-later _ _ _ _ _ (rose_later _ _ _ i.sink) line.2))
+    (λ is. e.left_open (unset_then (i.left_open left) c.take_turn.ensures.wrote) is)
 
 -- the disk is handed back
 pub returns-in_default-clause-same_disk : goal.returns-in_default-clause-same_disk

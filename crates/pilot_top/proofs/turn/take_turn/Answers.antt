@@ -47,7 +47,7 @@ returns-in-Ok-clause-turns g c =
       Some c.in-Call.call,
       c.in-Call.ensures.next begun,
       answers_call (Runs c.args.session.now.core c.args.session.now.volume)
-          (Runs c.step.new.self.core c.step.new.self.volume) c.in-Call.call c.in-Ok.reply
+          (Runs c.step.new.self.core c.step.new.self.volume) c.in-Call.call c.in-Ok.reply more
           (λ m is. let done = c.in-Ok.ensures.carried m is in (done.allowed, done.runs)),
       more,
       λ m is. (
