@@ -1,5 +1,5 @@
 -- A command for whose words there was no memory did what its record says.
-use Rattle.std.proofs.Common.{◌≡◌, ◌⊎◌, inl, inr, ℕ, List, [], ◌++◌, Some, refl, arith}
+use Rattle.std.proofs.Common.{inl, inr, ℕ, [], refl, arith}
 use Rattle.labelled_disk.proofs.CallLemmas.{only_reads_itself}
 use Rattle.labelled_disk.proofs.WriteRunLemmas.{appended_none}
 use Rattle.flat_machine.specs.Start.{start}

@@ -13,7 +13,7 @@ use Rattle.trace_io.specs.Reading.{is_last, reading}
 use Rattle.volume_root.specs.Flag.{IsRefused}
 use Rattle.pilot_engine.specs.declared.fault.StartFault.{StartFault}
 use Rattle.pilot_engine.specs.declared.fault.StartFault.TheVariants as start_fault
-use Rattle.pilot_engine.specs.Opening.{IsDiskFault, IsEarly, IsOutside, IsRightRefusal, IsSoAtStart, KeepsFiles, LeavesOpenAtStart}
+use Rattle.pilot_engine.specs.Opening.{IsDiskFault, IsEarly, IsOutside, IsRightRefusal, IsSoAtStart, LeavesOpenAtStart}
 use Rattle.pilot_top.specs.Headline.{Answering, EndsEarly, HasFilesAt, HasWritten, IsLeftOpen, Run, TellsDamage}
 use Rattle.pilot_top.specs.Last.{last_line, Puts}
 use Rattle.pilot_top.specs.Moments.{IsBy, Moments}

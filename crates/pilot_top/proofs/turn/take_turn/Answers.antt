@@ -1,7 +1,6 @@
 use Rattle.std.proofs.Common.{◌≡◌, [], ◌∷◌, false, Some, None, refl, sym, ◌∙◌, subst}
 use Rattle.labelled_disk.specs.declared.evidence.Halt.{Halt}
 use Rattle.filer_kernel.specs.Evidence.{ShowsSo}
-use Rattle.flat_machine.specs.declared.call.Reply.TheVariants as reply
 use Rattle.trace_io.specs.Form.{GivesForm}
 use Rattle.trace_io.specs.Reading.{is_last}
 use Rattle.running_words.specs.Running.{Runs}
