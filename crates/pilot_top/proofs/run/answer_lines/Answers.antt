@@ -95,125 +95,114 @@ turns-preserved g c =
     }
 
 -- the sink failed on a reply
-pub returns-in_default-clause-answering : goal.returns-in_default-clause-answering
-returns-in_default-clause-answering g c m b t stands source sink =
-    let i = c.turns.invariant in
-    let turn = c.in-Replies.ensures.turns in
-    let turned = Turned-told i.turned source sink in
-    let put = c.in_default.ensures.err in
-    let has = reply_files m turned stands turn.0 turn.2 turn.4 (disk_of g c.take_turn.new.session) turn.3 (tells g c.take_turn.new.session) in
-    Run-write_fault m b t _ _ c.turns.lines _ _ turned.going stands _ (HasFilesAt m (reading b) (g.D.Disk.state c.into_disk.result)) _ _ c.take_turn.new.lines _ turn.1 c.in-Replies.reply turn.0 turn.2 turn.3
-    (rose_later _ _ _ i.sink c.in_default.ensures.cause.cause) put.0 put.1 put.2 (rw c.into_disk.ensures has)
-
-pub returns-in_default-clause-replied : goal.returns-in_default-clause-replied
-returns-in_default-clause-replied g c b t left source sink =
+pub returns-in_default : goal.returns-in_default
+returns-in_default g c =
     let i = c.turns.invariant in
     let turn = c.in-Replies.ensures.turns in
     let put = c.in_default.ensures.err in
-    Replied-write_fault b t (Going-told _ _ _ _ _ _ _ b t i.turned.going source sink) _ (g.D.Disk.state c.into_disk.result) (g.S.Source.left c.take_turn.new.source) _ c.take_turn.new.lines turn.1 c.in-Replies.reply turn.0 turn.2 turn.3.suits
-    (rose_later _ _ _ i.sink c.in_default.ensures.cause.cause) put.0 put.1 put.2
-
-pub returns-in_default-clause-moments : goal.returns-in_default-clause-moments
-returns-in_default-clause-moments g c m b stands source =
-    let turn = c.in-Replies.ensures.turns in
-    let turned = Turned-source c.turns.invariant.turned source in
-    rw c.into_disk.ensures (line_moments m turned stands turn.0 turn.2 turn.4 turn.5)
-
-pub returns-in_default-clause-closed_unheard : goal.returns-in_default-clause-closed_unheard
-returns-in_default-clause-closed_unheard g c m b stands source is heard left closed =
-    let turn = c.in-Replies.ensures.turns in
-    let turned = Turned-source c.turns.invariant.turned source in
-    absurd (line_not_close m turned stands turn.0 turn.2 turn.4 left closed)
-
-pub returns-in_default-clause-stays_open : goal.returns-in_default-clause-stays_open
-returns-in_default-clause-stays_open g c b left source early = rw c.into_disk.ensures (unset_then (c.turns.invariant.left_open left) c.take_turn.ensures.wrote)
-
-pub returns-in_default-clause-untaken : goal.returns-in_default-clause-untaken
-returns-in_default-clause-untaken g c b left source is some = rw c.into_disk.ensures (unset_then (c.turns.invariant.left_open left) c.take_turn.ensures.wrote)
-
-pub returns-in_default-clause-left_open : goal.returns-in_default-clause-left_open
-returns-in_default-clause-left_open g c left is = rw c.into_disk.ensures (unset_then (c.turns.invariant.left_open left) c.take_turn.ensures.wrote)
-
-pub returns-in_default-clause-lawful : goal.returns-in_default-clause-lawful
-returns-in_default-clause-lawful g c = rw c.into_disk.ensures (openly_last (openly_then c.turns.invariant.turned.lawful (called_openly c.take_turn.ensures.wrote)))
+    let rose = rose_later _ _ _ i.sink c.in_default.ensures.cause.cause in
+    let lawful = openly_last (openly_then i.turned.lawful (called_openly c.take_turn.ensures.wrote)) in
+    let went = went_then i.same_disk c.take_turn.ensures.wrote.makes.went in
+    record {
+      answering = λ m b t stands source sink.
+          let turned = Turned-told i.turned source sink in
+          let has = reply_files m turned stands turn.0 turn.2 turn.4 (disk_of g c.take_turn.new.session) turn.3 (tells g c.take_turn.new.session) in
+          Run-write_fault m b t _ _ c.turns.lines _ _ turned.going stands _ (HasFilesAt m (reading b) (g.D.Disk.state c.into_disk.result)) _ _ c.take_turn.new.lines _ turn.1 c.in-Replies.reply turn.0 turn.2 turn.3
+          rose put.0 put.1 put.2 (rw c.into_disk.ensures has);
+      replied = λ b t left source sink.
+          Replied-write_fault b t (Going-told _ _ _ _ _ _ _ b t i.turned.going source sink) _ (g.D.Disk.state c.into_disk.result) (g.S.Source.left c.take_turn.new.source) _ c.take_turn.new.lines turn.1 c.in-Replies.reply turn.0 turn.2 turn.3.suits
+          rose put.0 put.1 put.2;
+      moments = λ m b stands source. rw c.into_disk.ensures (line_moments m (Turned-source i.turned source) stands turn.0 turn.2 turn.4 turn.5);
+      closed = λ m b stands source done going. absurd (cc done);
+      closed_unheard = λ m b stands source is heard left closed. absurd (line_not_close m (Turned-source i.turned source) stands turn.0 turn.2 turn.4 left closed);
+      some_moments = λ m stands. rw c.into_disk.ensures (_, more_moments i.turned turn.5 m stands);
+      stays_open = λ b left source early. rw c.into_disk.ensures (unset_then (i.left_open left) c.take_turn.ensures.wrote);
+      untaken = λ b left source is some. rw c.into_disk.ensures (unset_then (i.left_open left) c.take_turn.ensures.wrote);
+      left_open = λ left is. rw c.into_disk.ensures (unset_then (i.left_open left) c.take_turn.ensures.wrote);
+      transfers = λ m b stands source. rw c.into_disk.ensures (line_spends m (Turned-source i.turned source) stands turn.0 turn.2 turn.4 i.same_disk.sectors turn.5);
+      sound = λ m stands is. absurd (cc is);
+      damage = λ t left sink is. absurd (cc is);
+      lawful = rw c.into_disk.ensures lawful;
+      same_disk = rw c.into_disk.ensures went;
+      disk_cause = λ is. absurd (cc is);
+      stream_cause = λ is. inr rose;
+      short = λ b source done. absurd (cc done);
+      long = λ b source is. absurd (cc is);
+      opened = (λ is. cc is, λ is. cc is);
+      no_other = (λ is. cc is, λ is. cc is);
+    }
 
 -- the source failed
-pub returns-in-ReadFault-clause-answering : goal.returns-in-ReadFault-clause-answering
-returns-in-ReadFault-clause-answering g c m b t stands source sink =
+pub returns-in-ReadFault : goal.returns-in-ReadFault
+returns-in-ReadFault g c =
+    let i = c.turns.invariant in
     let turn = c.in-ReadFault.ensures.turns in
     let same : c.take_turn.new.session ≡ c.turns.session = c.in-ReadFault.ensures.idle tt in
-    let turned = Turned-same {S = Sessions g} (disk_of g) (stands_of g) same (Turned-told c.turns.invariant.turned source sink) in
-    Run-read_fault m b t _ _ c.turns.lines _ _ turned.going stands _ (HasFilesAt m (reading b) (g.D.Disk.state c.into_disk-in-ReadFault.result)) _ c.take_turn.new.lines turn.0 turn.1
-    (rw c.into_disk-in-ReadFault.ensures (still_files m turned stands (tells g c.take_turn.new.session)))
-
-pub returns-in-ReadFault-clause-replied : goal.returns-in-ReadFault-clause-replied
-returns-in-ReadFault-clause-replied g c b t left source sink =
-    let turn = c.in-ReadFault.ensures.turns in
-    Replied-read_fault b t (Going-told _ _ _ _ _ _ _ b t c.turns.invariant.turned.going source sink) _ (g.D.Disk.state c.into_disk-in-ReadFault.result) (g.S.Source.left c.take_turn.new.source) c.take_turn.new.lines turn.0 turn.1
-
-pub returns-in-ReadFault-clause-moments : goal.returns-in-ReadFault-clause-moments
-returns-in-ReadFault-clause-moments g c m b stands source =
-    let same : c.take_turn.new.session ≡ c.turns.session = c.in-ReadFault.ensures.idle tt in
-    let turned = Turned-same {S = Sessions g} (disk_of g) (stands_of g) same (Turned-source c.turns.invariant.turned source) in
-    rw c.into_disk-in-ReadFault.ensures (still_moments m turned stands)
-
-pub returns-in-ReadFault-clause-stays_open : goal.returns-in-ReadFault-clause-stays_open
-returns-in-ReadFault-clause-stays_open g c b left source early = rw c.into_disk-in-ReadFault.ensures (unset_then (c.turns.invariant.left_open left) c.take_turn.ensures.wrote)
-
-pub returns-in-ReadFault-clause-untaken : goal.returns-in-ReadFault-clause-untaken
-returns-in-ReadFault-clause-untaken g c b left source is some = rw c.into_disk-in-ReadFault.ensures (unset_then (c.turns.invariant.left_open left) c.take_turn.ensures.wrote)
-
-pub returns-in-ReadFault-clause-left_open : goal.returns-in-ReadFault-clause-left_open
-returns-in-ReadFault-clause-left_open g c left is = rw c.into_disk-in-ReadFault.ensures (unset_then (c.turns.invariant.left_open left) c.take_turn.ensures.wrote)
-
-pub returns-in-ReadFault-clause-lawful : goal.returns-in-ReadFault-clause-lawful
-returns-in-ReadFault-clause-lawful g c = rw c.into_disk-in-ReadFault.ensures (openly_last (openly_then c.turns.invariant.turned.lawful (called_openly c.take_turn.ensures.wrote)))
-
-pub returns-in-ReadFault-clause-closed_unheard : goal.returns-in-ReadFault-clause-closed_unheard
-returns-in-ReadFault-clause-closed_unheard g c m b stands source is heard left closed =
-    absurd (heard (rose_later _ _ _ c.turns.invariant.source (c.in-ReadFault.ensures.source_cause refl)))
+    let rose = rose_later _ _ _ i.source (c.in-ReadFault.ensures.source_cause refl) in
+    let lawful = openly_last (openly_then i.turned.lawful (called_openly c.take_turn.ensures.wrote)) in
+    let went = went_then i.same_disk c.take_turn.ensures.wrote.makes.went in
+    record {
+      answering = λ m b t stands source sink.
+          let turned = Turned-same {S = Sessions g} (disk_of g) (stands_of g) same (Turned-told i.turned source sink) in
+          Run-read_fault m b t _ _ c.turns.lines _ _ turned.going stands _ (HasFilesAt m (reading b) (g.D.Disk.state c.into_disk-in-ReadFault.result)) _ c.take_turn.new.lines turn.0 turn.1
+          (rw c.into_disk-in-ReadFault.ensures (still_files m turned stands (tells g c.take_turn.new.session)));
+      replied = λ b t left source sink.
+          Replied-read_fault b t (Going-told _ _ _ _ _ _ _ b t i.turned.going source sink) _ (g.D.Disk.state c.into_disk-in-ReadFault.result) (g.S.Source.left c.take_turn.new.source) c.take_turn.new.lines turn.0 turn.1;
+      moments = λ m b stands source. rw c.into_disk-in-ReadFault.ensures (still_moments m (Turned-same {S = Sessions g} (disk_of g) (stands_of g) same (Turned-source i.turned source)) stands);
+      closed = λ m b stands source done going. absurd (cc done);
+      closed_unheard = λ m b stands source is heard left closed. absurd (heard rose);
+      some_moments = λ m stands. rw (c.into_disk-in-ReadFault.ensures, same) (_, i.turned.along m stands);
+      stays_open = λ b left source early. rw c.into_disk-in-ReadFault.ensures (unset_then (i.left_open left) c.take_turn.ensures.wrote);
+      untaken = λ b left source is some. rw c.into_disk-in-ReadFault.ensures (unset_then (i.left_open left) c.take_turn.ensures.wrote);
+      left_open = λ left is. rw c.into_disk-in-ReadFault.ensures (unset_then (i.left_open left) c.take_turn.ensures.wrote);
+      transfers = λ m b stands source. rw (c.into_disk-in-ReadFault.ensures, same) (still_spends m (Turned-source i.turned source) stands);
+      sound = λ m stands is. absurd (cc is);
+      damage = λ t left sink is. absurd (cc is);
+      lawful = rw c.into_disk-in-ReadFault.ensures lawful;
+      same_disk = rw c.into_disk-in-ReadFault.ensures went;
+      disk_cause = λ is. absurd (cc is);
+      stream_cause = λ is. inl rose;
+      short = λ b source done. absurd (cc done);
+      long = λ b source is. absurd (cc is);
+      opened = (λ is. cc is, λ is. cc is);
+      no_other = (λ is. cc is, λ is. cc is);
+    }
 
 -- as many bytes as the limit were taken
-pub returns-in-Long-clause-answering : goal.returns-in-Long-clause-answering
-returns-in-Long-clause-answering g c m b t stands source sink =
+pub returns-in-Long : goal.returns-in-Long
+returns-in-Long g c =
     let i = c.turns.invariant in
     let turn = c.in-Long.ensures.turns in
     let same : c.take_turn.new.session ≡ c.turns.session = c.in-Long.ensures.idle tt in
-    let turned = Turned-same {S = Sessions g} (disk_of g) (stands_of g) same (Turned-told i.turned source sink) in
-    Run-long m b t _ _ c.turns.lines _ _ turned.going stands _ (HasFilesAt m (reading b) (g.D.Disk.state c.into_disk-in-Long.result)) _ _ c.take_turn.new.lines turn.0 turn.1 (turn.2 ∙ turn.1.limit ∙ i.limit)
-    (Puts-later _ _ _ _ _ (rose_later _ _ _ i.sink) c.put_last.ensures.put)
-    (rw c.into_disk-in-Long.ensures (still_files m turned stands (tells g c.take_turn.new.session)))
-
-pub returns-in-Long-clause-replied : goal.returns-in-Long-clause-replied
-returns-in-Long-clause-replied g c b t left source sink =
-    let i = c.turns.invariant in
-    let turn = c.in-Long.ensures.turns in
-    Replied-long b t (Going-told _ _ _ _ _ _ _ b t i.turned.going source sink) _ (g.D.Disk.state c.into_disk-in-Long.result) (g.S.Source.left c.take_turn.new.source) _ c.take_turn.new.lines turn.0 turn.1 (turn.2 ∙ turn.1.limit ∙ i.limit)
-    (Puts-later _ _ _ _ _ (rose_later _ _ _ i.sink) c.put_last.ensures.put)
-
-pub returns-in-Long-clause-moments : goal.returns-in-Long-clause-moments
-returns-in-Long-clause-moments g c m b stands source =
-    let same : c.take_turn.new.session ≡ c.turns.session = c.in-Long.ensures.idle tt in
-    let turned = Turned-same {S = Sessions g} (disk_of g) (stands_of g) same (Turned-source c.turns.invariant.turned source) in
-    rw c.into_disk-in-Long.ensures (still_moments m turned stands)
-
-pub returns-in-Long-clause-stays_open : goal.returns-in-Long-clause-stays_open
-returns-in-Long-clause-stays_open g c b left source early = rw c.into_disk-in-Long.ensures (unset_then (c.turns.invariant.left_open left) c.take_turn.ensures.wrote)
-
-pub returns-in-Long-clause-untaken : goal.returns-in-Long-clause-untaken
-returns-in-Long-clause-untaken g c b left source is some = rw c.into_disk-in-Long.ensures (unset_then (c.turns.invariant.left_open left) c.take_turn.ensures.wrote)
-
-pub returns-in-Long-clause-left_open : goal.returns-in-Long-clause-left_open
-returns-in-Long-clause-left_open g c left is = rw c.into_disk-in-Long.ensures (unset_then (c.turns.invariant.left_open left) c.take_turn.ensures.wrote)
-
-pub returns-in-Long-clause-lawful : goal.returns-in-Long-clause-lawful
-returns-in-Long-clause-lawful g c = rw c.into_disk-in-Long.ensures (openly_last (openly_then c.turns.invariant.turned.lawful (called_openly c.take_turn.ensures.wrote)))
-
-pub returns-in-Long-clause-long : goal.returns-in-Long-clause-long
-returns-in-Long-clause-long g c b source is =
-    let turn = c.in-Long.ensures.turns in
-    let turned = Turned-source c.turns.invariant.turned source in
-    not_short b _ _ _ c.turns.lines _ _ turned.going _ c.take_turn.new.lines turn.0 turn.1 turn.2 c.turns.invariant.limit
+    let lawful = openly_last (openly_then i.turned.lawful (called_openly c.take_turn.ensures.wrote)) in
+    let went = went_then i.same_disk c.take_turn.ensures.wrote.makes.went in
+    record {
+      answering = λ m b t stands source sink.
+          let turned = Turned-same {S = Sessions g} (disk_of g) (stands_of g) same (Turned-told i.turned source sink) in
+          Run-long m b t _ _ c.turns.lines _ _ turned.going stands _ (HasFilesAt m (reading b) (g.D.Disk.state c.into_disk-in-Long.result)) _ _ c.take_turn.new.lines turn.0 turn.1 (turn.2 ∙ turn.1.limit ∙ i.limit)
+          (Puts-later _ _ _ _ _ (rose_later _ _ _ i.sink) c.put_last.ensures.put) (rw c.into_disk-in-Long.ensures (still_files m turned stands (tells g c.take_turn.new.session)));
+      replied = λ b t left source sink.
+          Replied-long b t (Going-told _ _ _ _ _ _ _ b t i.turned.going source sink) _ (g.D.Disk.state c.into_disk-in-Long.result) (g.S.Source.left c.take_turn.new.source) _ c.take_turn.new.lines turn.0 turn.1 (turn.2 ∙ turn.1.limit ∙ i.limit)
+          (Puts-later _ _ _ _ _ (rose_later _ _ _ i.sink) c.put_last.ensures.put);
+      moments = λ m b stands source. rw c.into_disk-in-Long.ensures (still_moments m (Turned-same {S = Sessions g} (disk_of g) (stands_of g) same (Turned-source i.turned source)) stands);
+      closed = λ m b stands source done going. absurd (cc done);
+      closed_unheard = λ m b stands source is heard left closed. absurd (cc is);
+      some_moments = λ m stands. rw (c.into_disk-in-Long.ensures, same) (_, i.turned.along m stands);
+      stays_open = λ b left source early. rw c.into_disk-in-Long.ensures (unset_then (i.left_open left) c.take_turn.ensures.wrote);
+      untaken = λ b left source is some. rw c.into_disk-in-Long.ensures (unset_then (i.left_open left) c.take_turn.ensures.wrote);
+      left_open = λ left is. rw c.into_disk-in-Long.ensures (unset_then (i.left_open left) c.take_turn.ensures.wrote);
+      transfers = λ m b stands source. rw (c.into_disk-in-Long.ensures, same) (still_spends m (Turned-source i.turned source) stands);
+      sound = λ m stands is. absurd (cc is);
+      damage = λ t left sink is. absurd (cc is);
+      lawful = rw c.into_disk-in-Long.ensures lawful;
+      same_disk = rw c.into_disk-in-Long.ensures went;
+      disk_cause = λ is. absurd (cc is);
+      stream_cause = λ is. absurd (cc is);
+      short = λ b source done. absurd (cc done);
+      long = λ b source is. not_short b _ _ _ c.turns.lines _ _ (Turned-source i.turned source).going _ c.take_turn.new.lines turn.0 turn.1 turn.2 i.limit;
+      opened = (λ is. cc is, λ is. cc is);
+      no_other = (λ is. cc is, λ is. cc is);
+    }
 
 -- a call stopped the session
 pub returns-in-Halts-clause-answering : goal.returns-in-Halts-clause-answering
@@ -376,37 +365,11 @@ returns-in-Ends-clause-replied g c b t left source sink =
     (λ is. let line = e.damage_line is in (line.0, line.1, Puts-later _ _ _ _ _ (rose_later _ _ _ i.sink) line.2))
     (λ is. e.left_open (unset_then (i.left_open left) c.take_turn.ensures.wrote) is)
 
--- the disk is handed back
-pub returns-in_default-clause-same_disk : goal.returns-in_default-clause-same_disk
-returns-in_default-clause-same_disk g c = rw c.into_disk.ensures (went_then c.turns.invariant.same_disk c.take_turn.ensures.wrote.makes.went)
-
-pub returns-in-ReadFault-clause-same_disk : goal.returns-in-ReadFault-clause-same_disk
-returns-in-ReadFault-clause-same_disk g c = rw c.into_disk-in-ReadFault.ensures (went_then c.turns.invariant.same_disk c.take_turn.ensures.wrote.makes.went)
-
-pub returns-in-Long-clause-same_disk : goal.returns-in-Long-clause-same_disk
-returns-in-Long-clause-same_disk g c = rw c.into_disk-in-Long.ensures (went_then c.turns.invariant.same_disk c.take_turn.ensures.wrote.makes.went)
-
 pub returns-in-Halts-clause-same_disk : goal.returns-in-Halts-clause-same_disk
 returns-in-Halts-clause-same_disk g c = rw c.into_disk-in-Halts.ensures (went_then c.turns.invariant.same_disk c.take_turn.ensures.wrote.makes.went)
 
 pub returns-in-Ends-clause-same_disk : goal.returns-in-Ends-clause-same_disk
 returns-in-Ends-clause-same_disk g c = went_then (went_then c.turns.invariant.same_disk c.take_turn.ensures.wrote.makes.went) c.end_trace.ensures.wrote.went
-
--- the moments of the lines that were read, whether or not the source tells its bytes
-pub returns-in_default-clause-some_moments : goal.returns-in_default-clause-some_moments
-returns-in_default-clause-some_moments g c m stands =
-    let turn = c.in-Replies.ensures.turns in
-    rw c.into_disk.ensures (_, more_moments c.turns.invariant.turned turn.5 m stands)
-
-pub returns-in-ReadFault-clause-some_moments : goal.returns-in-ReadFault-clause-some_moments
-returns-in-ReadFault-clause-some_moments g c m stands =
-    let same : c.take_turn.new.session ≡ c.turns.session = c.in-ReadFault.ensures.idle tt in
-    rw (c.into_disk-in-ReadFault.ensures, same) (_, c.turns.invariant.turned.along m stands)
-
-pub returns-in-Long-clause-some_moments : goal.returns-in-Long-clause-some_moments
-returns-in-Long-clause-some_moments g c m stands =
-    let same : c.take_turn.new.session ≡ c.turns.session = c.in-Long.ensures.idle tt in
-    rw (c.into_disk-in-Long.ensures, same) (_, c.turns.invariant.turned.along m stands)
 
 pub returns-in-Halts-clause-some_moments : goal.returns-in-Halts-clause-some_moments
 returns-in-Halts-clause-some_moments g c m stands =
@@ -418,23 +381,6 @@ returns-in-Ends-clause-some_moments g c m stands =
     let same : c.take_turn.new.session ≡ c.turns.session = c.in-Ends.ensures.idle tt in
     let turned = Turned-same {S = Sessions g} (disk_of g) (stands_of g) same c.turns.invariant.turned in
     (_, ended_moments turned m stands (c.end_trace.ensures.stops _ (turned.going.stands m stands)))
-
--- the sum of what the lines cost
-pub returns-in_default-clause-transfers : goal.returns-in_default-clause-transfers
-returns-in_default-clause-transfers g c m b stands source =
-    let turn = c.in-Replies.ensures.turns in
-    let turned = Turned-source c.turns.invariant.turned source in
-    rw c.into_disk.ensures (line_spends m turned stands turn.0 turn.2 turn.4 c.turns.invariant.same_disk.sectors turn.5)
-
-pub returns-in-ReadFault-clause-transfers : goal.returns-in-ReadFault-clause-transfers
-returns-in-ReadFault-clause-transfers g c m b stands source =
-    let same : c.take_turn.new.session ≡ c.turns.session = c.in-ReadFault.ensures.idle tt in
-    rw (c.into_disk-in-ReadFault.ensures, same) (still_spends m (Turned-source c.turns.invariant.turned source) stands)
-
-pub returns-in-Long-clause-transfers : goal.returns-in-Long-clause-transfers
-returns-in-Long-clause-transfers g c m b stands source =
-    let same : c.take_turn.new.session ≡ c.turns.session = c.in-Long.ensures.idle tt in
-    rw (c.into_disk-in-Long.ensures, same) (still_spends m (Turned-source c.turns.invariant.turned source) stands)
 
 pub returns-in-Halts-clause-transfers : goal.returns-in-Halts-clause-transfers
 returns-in-Halts-clause-transfers g c m b stands source =
