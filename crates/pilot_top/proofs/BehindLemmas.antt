@@ -7,10 +7,12 @@ use Rattle.labelled_disk.specs.State.{DiskState, lent_state}
 use Rattle.labelled_disk.specs.Sectors.{Sector}
 use Rattle.flat_machine.specs.After.{TraceLine}
 use Rattle.flat_machine.specs.Machine.{Machine}
+use Rattle.trace_io.specs.Reading.{reading}
 use Rattle.pilot_engine.specs.Closing.{HasShut}
 use Rattle.filer_kernel.specs.Evidence.{IsSo}
-use Rattle.pilot_top.specs.Headline.{AreToFirst, IsLeftOpen, Run, TellsDamage}
+use Rattle.pilot_top.specs.Headline.{IsLeftOpen, Run, TellsDamage}
 use Rattle.pilot_top.specs.Moments.{Lawfully, Moments}
+use Rattle.pilot_top.specs.Replied.{AreToFirst, Replied}
 use Rattle.pilot_top.specs.Trial.{HasNoFile, TriesLawfully}
 use Rattle.pilot_top.specs.declared.status.Status.{Status}
 use Rattle.pilot_top.specs.declared.status.Status.TheVariants as status
@@ -56,8 +58,20 @@ module _ {D : Type 0} (state : D → DiskState) (x y : D) (same : x ≡ y) where
     pub damage_behind : TellsDamage t took failed (state x)
     damage_behind = subst (λ (z : D). TellsDamage t took failed (state z)) (sym same) tells_there
 
-    pub damage_lines_behind : (lines : List TraceLine) → AreToFirst told.replies lines → (there : TellsDamage t took failed (state x)) × AreToFirst there.replies lines
-    damage_lines_behind lines to_first = subst (λ (z : D). (there : TellsDamage t took failed (state z)) × AreToFirst there.replies lines) (sym same) (tells_there, to_first)
+    first_behind : (lines : List TraceLine) → AreToFirst told.replies lines → (there : TellsDamage t took failed (state x)) × AreToFirst there.replies lines
+    first_behind lines to_first = subst (λ (z : D). (there : TellsDamage t took failed (state z)) × AreToFirst there.replies lines) (sym same) (tells_there, to_first)
+
+  -- what was replied
+  pub replied_behind : (s : Status) (b t : List ℕ) (left took : Option (List ℕ)) (failed : Type 0) (n : ℕ) → Replied s b left t took failed (lent_state n (state y)) → Replied s b left t took failed (state x)
+  replied_behind status.Damaged b t left took failed n is = first_behind n is.0 (reading b) is.1
+  replied_behind status.Done b t left took failed n is = is
+  replied_behind status.DiskFault b t left took failed n is = is
+  replied_behind status.Long b t left took failed n is = is
+  replied_behind status.StreamFault b t left took failed n is = is
+  replied_behind status.NotOpened b t left took failed n is = is
+  replied_behind status.NoMemory b t left took failed n is = is
+  replied_behind status.Usage b t left took failed n is = is
+  replied_behind status.Unfit b t left took failed n is = is
 
   -- and so many transfers were made
   pub spent_behind : (most : ℕ) → (state y).transfers ≤ most → (state x).transfers ≤ most

@@ -29,12 +29,14 @@ use Rattle.pilot_top.proofs.TopLemmas.{Going, done_all, Run-last, Run-disk, Run-
 -- the reply to a line that ends the trace
 close_answers : (now later : Machine → Type 0) → Answers now later (Some call.Close) reply.Done
 close_answers now later = record {
+  suits = refl;
   allowed = λ m stands. refl;
   next = λ m stands going. absurd (true≢false going);
 }
 
 halt_answers : (now later : Machine → Type 0) → Answers now later (Some call.Halt) reply.Done
 halt_answers now later = record {
+  suits = refl;
   allowed = λ m stands. refl;
   next = λ m stands going. absurd (true≢false going);
 }

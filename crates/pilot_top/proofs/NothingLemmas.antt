@@ -1,5 +1,5 @@
 -- A command for whose words there was no memory did what its record says.
-use Rattle.std.proofs.Common.{◌≡◌, ◌⊎◌, inl, inr, ℕ, List, [], ◌++◌, Some, refl, arith}
+use Rattle.std.proofs.Common.{inl, inr, ℕ, [], refl, arith}
 use Rattle.labelled_disk.proofs.CallLemmas.{only_reads_itself}
 use Rattle.labelled_disk.proofs.WriteRunLemmas.{appended_none}
 use Rattle.flat_machine.specs.Start.{start}
@@ -18,6 +18,7 @@ module _ (w : World) where
   pub ran_nothing : Ran status.NoMemory w w
   ran_nothing = record {
     answers = λ d b t told sound source sink. (source, sink);
+    replied = λ b t source sink. (source, sink);
     closed = λ d b told sound source done going. absurd (cc done);
     closed_unheard = λ d b told sound source failed held rest closes. absurd (cc failed);
     moments = λ d b told sound source. moments_before (start d) [] (reading b) (from_nothing d sound told);
@@ -28,7 +29,6 @@ module _ (w : World) where
     transfers = λ d b told sound source. omega arith;
     lawful = lawfully_none (record { contents = refl; writes = refl });
     damage = λ t sink is. absurd (cc is);
-    damage_behind = λ b t source sink is. absurd (cc is);
     sound = λ d told sound. (λ is. cc is, λ is. cc is);
     not_opened = λ d told is. absurd (cc is);
     refused = λ d why told refused. inr (inr refl);
@@ -53,6 +53,8 @@ module _ (w : World) where
     synced = λ ends. absurd (elim ends [ inl done ↦ cc done | inr failed ↦ cc failed ]);
     told = λ done g told. absurd (cc done);
     part_of_text = λ failed g told. absurd (cc failed);
+    some_text = λ done. absurd (cc done);
+    some_front = λ failed. absurd (cc failed);
     by = λ ends g told. absurd (elim ends [ inl done ↦ cc done | inr failed ↦ cc failed ]);
     part = λ failed g told. absurd (cc failed);
     part_line = λ failed. absurd (cc failed);
@@ -68,6 +70,8 @@ module _ (w : World) where
   tried_nothing seed calls = record {
     line = λ d told done. absurd (cc done);
     part_of_line = λ d told failed. absurd (cc failed);
+    some_line = λ done. absurd (cc done);
+    some_front = λ failed. absurd (cc failed);
     emptied = λ d told ends. absurd (elim ends [ inl done ↦ cc done | inr failed ↦ cc failed ]);
     complete = λ d told count disk_held sink_held. inr refl;
     only_count = λ is. absurd (cc is);

@@ -11,7 +11,7 @@ use Rattle.trace_io.specs.declared.stream.SinkFault.{SinkFault}
 use Rattle.scavenger.specs.declared.report.Lost.{Lost}
 use Rattle.scavenger.specs.declared.report.Report.{Report}
 use Rattle.scavenger.specs.Reported.{lost_at, lost_in, Reports}
-use Rattle.pilot_top.specs.Reporting.{lost_line, lost_lines, count_line, report_text, restored_text}
+use Rattle.pilot_top.specs.Reporting.{IsReport, lost_line, lost_lines, count_line, report_text, restored_text}
 
 -- a front of what comes next, behind what was put
 pub front_behind : (a b c : Option (List ℕ)) (first next : List ℕ) → Appends a b first → AppendsFront b c next → AppendsFront a c (first ++ next)
@@ -54,6 +54,10 @@ counts_begun a b c put lost files pages freed line piece (Ok done) are first is_
 counts_begun a b c put lost files pages freed line piece (Err fault) are first is_line is_piece more =
     subst (λ (l : List Lost). AppendsFront a c (lost_lines l ++ count_line files pages freed (length l))) are
     (front_behind a b c (lost_lines put) (count_line files pages freed (length put)) first (subst (λ t. AppendsFront b c t) (is_piece ∙ is_line) more))
+
+-- the lines of a report are those of one
+pub of_report : {A : Type 0} (report : Report A) → IsReport (report_text report)
+of_report report = record { lost = lost_in report; files = report.files; pages = report.pages; freed = report.freed; text_is = refl }
 
 -- the lines of a report that tells of a disk are those about the disk
 pub text_is : {A : Type 0} (g : List Sector) (report : Report A) → Reports g report → report_text report ≡ restored_text g

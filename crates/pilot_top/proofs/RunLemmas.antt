@@ -13,21 +13,23 @@ use Rattle.trace_io.specs.Reading.{is_last, reading}
 use Rattle.volume_root.specs.Flag.{IsRefused}
 use Rattle.pilot_engine.specs.declared.fault.StartFault.{StartFault}
 use Rattle.pilot_engine.specs.declared.fault.StartFault.TheVariants as start_fault
-use Rattle.pilot_engine.specs.Opening.{IsDiskFault, IsEarly, IsOutside, IsRightRefusal, IsSoAtStart, KeepsFiles, LeavesOpenAtStart}
-use Rattle.pilot_top.specs.Headline.{Answering, AreToFirst, EndsEarly, HasFilesAt, HasWritten, IsLeftOpen, Run, TellsDamage}
+use Rattle.pilot_engine.specs.Opening.{IsDiskFault, IsEarly, IsOutside, IsRightRefusal, IsSoAtStart, LeavesOpenAtStart}
+use Rattle.pilot_top.specs.Headline.{Answering, EndsEarly, HasFilesAt, HasWritten, IsLeftOpen, Run, TellsDamage}
 use Rattle.pilot_top.specs.Last.{last_line, Puts}
 use Rattle.pilot_top.specs.Moments.{IsBy, Moments}
+use Rattle.pilot_top.specs.Replied.{Replied}
 use Rattle.pilot_top.specs.Stopping.{StopsAs}
 use Rattle.pilot_top.specs.declared.last.Cause.TheVariants as cause
 use Rattle.pilot_top.specs.declared.status.Status.{Status}
 use Rattle.pilot_top.specs.declared.status.Status.TheVariants as status
 use Rattle.pilot_top.proofs.PlaceLemmas.{files_before, some_files}
 use Rattle.pilot_top.proofs.PutLemmas.{damage_alone, put_alone}
+use Rattle.pilot_top.proofs.SuitLemmas.{none_first}
 
 -- what a run answers that was opened
 pub run_of : (s : Status) (d : List Sector) (b t : List ℕ) (left took : Option (List ℕ)) (failed : Type 0) (disk : DiskState) → s ≢ status.NotOpened → s ≢ status.NoMemory
     → Answering s (start d) b left t took failed (HasFilesAt (start d) (reading b) disk) → Run s d b left t took failed disk
-run_of status.NotOpened d b t left took failed disk opened memory is = absurd (opened refl)
+run_of status.NotOpened d b t left took failed disk opened memory is = is
 run_of status.NoMemory d b t left took failed disk opened memory is = absurd (memory refl)
 run_of status.Done d b t left took failed disk opened memory is = is
 run_of status.DiskFault d b t left took failed disk opened memory is = is
@@ -128,16 +130,33 @@ module _ {K : Type 0} (f : StartFault) (s : Status) (old new : K) (took : K → 
     | inr (inr (inr damage)) ↦ absurd (let e : halt.Damaged damage.0 ≡ halt.Disk = subst IsOutside damage.1 outside in cc e)
   ]
 
-  -- what is told of damage before any line, and of all lines none has a reply
-  pub damage_first : (disk : DiskState) → IsSoAtStart disk f → LeavesOpenAtStart disk f → (t : List ℕ) → took old ≡ Some t → s ≡ status.Damaged → (lines : List TraceLine) → (told : TellsDamage t (took new) failed disk) × AreToFirst told.replies lines
-  damage_first disk so left t sink is lines = elim (how f s old new (Puts failed (took old) (took new)) stops) [
+  -- what is told of damage before any line
+  pub damage_first : (disk : DiskState) → IsSoAtStart disk f → LeavesOpenAtStart disk f → (t : List ℕ) → took old ≡ Some t → s ≡ status.Damaged → TellsDamage t (took new) failed disk
+  damage_first disk so left t sink is = elim (how f s old new (Puts failed (took old) (took new)) stops) [
     | inl refusal ↦ absurd (let e = sym refusal.3 ∙ is in cc e)
     | inr (inl fault) ↦ absurd (let e = sym fault.1 ∙ is in cc e)
     | inr (inr (inl memory)) ↦ absurd (let e = sym memory.1 ∙ is in cc e)
-    | inr (inr (inr damage)) ↦ (
-      damage_alone failed t (took old) (took new) damage.0 disk (subst (IsSoAtStart disk) damage.1 so) (subst (LeavesOpenAtStart disk) damage.1 left) sink damage.3,
-      (omega arith, some_line lines),
-    )
+    | inr (inr (inr damage)) ↦ damage_alone failed t (took old) (took new) damage.0 disk (subst (IsSoAtStart disk) damage.1 so) (subst (LeavesOpenAtStart disk) damage.1 left) sink damage.3
+  ]
+
+  -- nothing was taken, and no line has a reply
+  pub replied_refused : (b t : List ℕ) (left : Option (List ℕ)) (disk : DiskState) → IsSoAtStart disk f → LeavesOpenAtStart disk f → left ≡ Some b → took old ≡ Some t → Replied s b left t (took new) failed disk
+  replied_refused b t left disk so open_still source sink = elim (how f s old new (Puts failed (took old) (took new)) stops) [
+    | inl refusal ↦
+        subst (λ (x : Status). Replied x b left t (took new) failed disk) (sym refusal.3)
+        (source, refusal.0, put_alone failed t (took old) (took new) (last_line (cause.Root refusal.0)) sink refusal.4)
+    | inr (inl fault) ↦
+        subst (λ (x : Status). Replied x b left t (took new) failed disk) (sym fault.1) (
+          [],
+          none_first (reading b),
+          subst (λ (u : List ℕ). HasWritten failed u (took new) (last_line cause.DiskFault)) (sym (append-nil t)) (put_alone failed t (took old) (took new) (last_line cause.DiskFault) sink fault.2),
+        )
+    | inr (inr (inl memory)) ↦ subst (λ (x : Status). Replied x b left t (took new) failed disk) (sym memory.1) (source, ap took memory.2 ∙ sink)
+    | inr (inr (inr damage)) ↦
+        subst (λ (x : Status). Replied x b left t (took new) failed disk) (sym damage.2) (
+          damage_alone failed t (took old) (took new) damage.0 disk (subst (IsSoAtStart disk) damage.1 so) (subst (LeavesOpenAtStart disk) damage.1 open_still) sink damage.3,
+          none_first (reading b),
+        )
   ]
 
   -- a volume that was refused, and why

@@ -22,14 +22,16 @@ use Rattle.trace_io.specs.Course.{AreLines, HasRead, HasReadAll}
 use Rattle.trace_io.specs.declared.progress.Stop.TheVariants as stop
 use Rattle.trace_io.proofs.CourseLemmas.{HasRead-none, HasRead-line, HasRead-last, HasRead-end, HasRead-part, HasRead-item, HasRead-long}
 use Rattle.pilot_top.specs.Ending.{is_halt, halts}
+use Rattle.pilot_top.specs.Replied.{AreTo}
 use Rattle.pilot_top.specs.Turn.{Answers}
 use Rattle.pilot_top.specs.Last.{last_line, Puts}
 use Rattle.filer_kernel.specs.Evidence.{IsSo}
 use Rattle.labelled_disk.specs.State.{DiskState}
-use Rattle.pilot_top.specs.Headline.{Answered, AreToFirst, HasWritten, IsLeftOpen, Taken, Unheard, Answering, TellsDamage}
+use Rattle.pilot_top.specs.Headline.{Answered, HasWritten, IsLeftOpen, Taken, Unheard, Answering, TellsDamage}
 use Rattle.pilot_top.specs.declared.last.Cause.TheVariants as cause
 use Rattle.pilot_top.specs.declared.status.Status.TheVariants as status
 use Rattle.pilot_top.proofs.StagedLemmas.{after_then}
+use Rattle.pilot_top.proofs.SuitLemmas.{to_more}
 
 -- the machine after lines
 abbrev pub last_of : Machine → List TraceLine → Machine
@@ -89,7 +91,7 @@ pub record Going (a c t u : Option (List ℕ)) (p : Progress) (first now : Machi
   pub wrote : Appends t u out
   pub replies : List Reply
   pub said : out ≡ flat_map text replies
-  pub one_a_line : length replies ≡ length lines
+  pub each : AreTo replies lines
   pub script : (m : Machine) → first m → Answered m lines out
   pub stands : (m : Machine) → first m → now (last_of m lines)
   pub none_halts : halts lines ≡ false
@@ -103,7 +105,7 @@ Going-start a t p first zero none = record {
   wrote = Appends-nil t;
   replies = [];
   said = refl;
-  one_a_line = refl;
+  each = tt;
   script = λ m is. record { replies = []; one_a_line = refl; allowed = tt; text_is = refl };
   stands = λ m is. is;
   none_halts = refl;
@@ -124,7 +126,7 @@ module _ (a b t u : Option (List ℕ)) (p : Progress) (first now : Machine → T
     wrote = Appends-trans t u v going.out (text r) going.wrote wrote;
     replies = going.replies ++ r ∷ [];
     said = ap (λ b. b ++ text r) going.said ∙ flat_map_more text [] going.replies r;
-    one_a_line = let same = going.one_a_line in omega (arith, length_push going.replies r, length_push going.lines line, same);
+    each = to_more going.lines going.replies line r going.each answers.suits;
     script = more_script then line r answers;
     stands = λ m is.
         subst then (sym (after_then m going.lines (line ∷ []))) (answers.next (last_of m going.lines) (going.stands m is) goes);
@@ -137,11 +139,15 @@ module _ (a b t u : Option (List ℕ)) (p : Progress) (first now : Machine → T
   unfolding Going-reply
   reply_lines c v q then line r none takes answers goes wrote = refl
 
-told_bytes : (t : List ℕ) (u : Option (List ℕ)) (out : List ℕ) → Appends (Some t) u out → u ≡ Some (t ++ out)
+pub told_bytes : (t : List ℕ) (u : Option (List ℕ)) (out : List ℕ) → Appends (Some t) u out → u ≡ Some (t ++ out)
 told_bytes t None out wrote = absurd wrote
 told_bytes t (Some y) out wrote = ap Some wrote
 
-told_taken : (b : List ℕ) (c : Option (List ℕ)) (bytes : List ℕ) → Consumes (Some b) c bytes → (taken : Taken b c) × (taken.bytes ≡ bytes)
+pub told_end : (x : List ℕ) (c : Option (List ℕ)) (bytes : List ℕ) → Consumes (Some x) c bytes → IsAtEnd c → c ≡ Some []
+told_end x None bytes took end = absurd took
+told_end x (Some s) bytes took end = ap Some end
+
+pub told_taken : (b : List ℕ) (c : Option (List ℕ)) (bytes : List ℕ) → Consumes (Some b) c bytes → (taken : Taken b c) × (taken.bytes ≡ bytes)
 told_taken b None bytes took = absurd took
 told_taken b (Some s) bytes took = (record { bytes = bytes; rest = s; all = took; left_is = refl }, refl)
 
@@ -213,7 +219,7 @@ module _ (m : Machine) (x t : List ℕ) (b u : Option (List ℕ)) (p : Progress)
         | inl read ↦
             let taken = told_taken x c read.bytes read.took in
             inr (inl (rose, taken.0, unheard (whole_reading taken.0.bytes) (ap whole_reading taken.1 ∙ read.items_are), rw (taken.1, read.items_are) there))
-        | inr read ↦ inr (inr (rose, at_end x c read.0.bytes read.0.took read.1, unheard (reading x) read.0.items_are, rw read.0.items_are there))
+        | inr read ↦ inr (inr (rose, told_end x c read.0.bytes read.0.took read.1, unheard (reading x) read.0.items_are, rw read.0.items_are there))
       ]
     where
       unheard : (all : List TraceLine) → all ≡ going.lines ++ line ∷ [] → Unheard m all t v
@@ -229,10 +235,6 @@ module _ (m : Machine) (x t : List ℕ) (b u : Option (List ℕ)) (p : Progress)
         is_front = is_front;
         took_is = told_bytes t v (going.out ++ front) (Appends-trans (Some t) u v going.out front going.wrote wrote) ∙ ap Some (sym (append_assoc t going.out front));
       }
-
-      at_end : (x : List ℕ) (c : Option (List ℕ)) (bytes : List ℕ) → Consumes (Some x) c bytes → IsAtEnd c → c ≡ Some []
-      at_end x None bytes took end = absurd took
-      at_end x (Some s) bytes took end = ap Some end
 
 -- where the source tells its bytes
 pub Going-source : (a b t u : Option (List ℕ)) (p : Progress) (first now : Machine → Type 0) (x : List ℕ) → Going a b t u p first now → a ≡ Some x → Going (Some x) b t u p first now
@@ -258,18 +260,6 @@ module _ (a b u v : Option (List ℕ)) (t : List ℕ) (p : Progress) (first now 
     left_open = open_still;
     written = rw (sym going.said) (wrote_last failed t u v going.out (last_line (cause.Damaged e)) going.wrote put);
   }
-
--- and where the source tells its bytes, they are replies to some first lines
-pub damage_behind : (x : List ℕ) (b u v : Option (List ℕ)) (t : List ℕ) (p : Progress) (first now : Machine → Type 0) (failed : Type 0) (e : Evidence) (disk : DiskState) → IsSo disk e → IsLeftOpen disk → (going : Going (Some x) b (Some t) u p first now)
-    → Puts failed u v (last_line (cause.Damaged e)) → (more : List TraceLine) → reading x ≡ going.lines ++ more → (told : TellsDamage t v failed disk) × AreToFirst told.replies (reading x)
-damage_behind x b u v t p first now failed e disk so open_still going put more are =
-    let same = going.one_a_line in (
-      damage_told (Some x) b u v t p first now failed e disk so open_still going put,
-      (
-        omega (arith, same, ap length are, length-append going.lines more),
-        λ some. let fewer = before_last going.lines more (reading x) are going.none_last some in omega (arith, same, fewer),
-      ),
-    )
 
 -- a trace that was read to its end is short enough, and one of which as many bytes as the limit were taken is not
 module _ (x : List ℕ) (b t u : Option (List ℕ)) (p : Progress) (first now : Machine → Type 0) (going : Going (Some x) b t u p first now) where

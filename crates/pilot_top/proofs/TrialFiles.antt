@@ -1,6 +1,6 @@
 -- No call of a trial makes a file permanent.
 use Rattle.std.proofs.Common.{◌≡◌, ℕ, ◌+◌, ◌*◌, ◌%◌, Bool, true, false, List, [], ◌∷◌, ◌++◌, map, filter, Option, Some, None, refl, sym, ◌∙◌, subst}
-use Rattle.std.specs.Prelude.{nat_lt, ◌==◌, fold, is_none, if◌then◌else◌}
+use Rattle.std.specs.Prelude.{nat_lt, ◌==◌, is_none, if◌then◌else◌}
 use Rattle.std.specs.List.{AllByRecursion, range_with_len}
 use Rattle.std.specs.Option.{option_map_or}
 use Rattle.std.proofs.lemmas.List.Sums.{fold-append}

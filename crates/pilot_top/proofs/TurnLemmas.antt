@@ -1,5 +1,5 @@
 -- What one line of a trace is answered, and what it writes.
-use Rattle.std.proofs.Common.{◌≡◌, ◌≢◌, ◌⊎◌, inl, inr, ℕ, [], Option, Some, None, refl, sym, ◌∙◌, ap}
+use Rattle.std.proofs.Common.{◌≡◌, ◌≢◌, ◌⊎◌, inl, inr, ℕ, false, [], Option, Some, None, refl, sym, ◌∙◌, ap}
 use Rattle.std.specs.Prelude.{IfSome}
 use Rattle.std.proofs.lemmas.Option.{same_Some, none-some}
 use Rattle.labelled_disk.specs.State.{DiskState}
@@ -17,12 +17,14 @@ use Rattle.trace_io.specs.declared.progress.Line.TheVariants as line
 use Rattle.trace_io.specs.declared.progress.Stop.{Stop}
 use Rattle.trace_io.specs.declared.progress.Stop.TheVariants as stop
 use Rattle.trace_io.specs.Lines.{answer_of}
+use Rattle.trace_io.specs.Reading.{is_last}
 use Rattle.frame_pool.specs.Frames.{Slots}
 use Rattle.swapper_kernel.specs.GoesLaws.{makes_nothing, makes_wider}
 use Rattle.running_words.specs.Session.{WroteIn}
 use Rattle.running_words.specs.Stages.{client_or_own, may_dirty}
 use Rattle.pilot_top.specs.Turn.{Answers}
 use Rattle.pilot_top.specs.declared.turn.Turn.TheVariants as turn
+use Rattle.pilot_top.proofs.SuitLemmas.{call_suits}
 
 -- a reading that gave a line was not at its end
 pub goes_on : (stopped : Option Stop) (result : Line) (X Y : Type 0) → (stopped ≡ None) ⊎ (stopped ≡ Some stop.End) → IfSome stopped (λ why. (result ≡ answer_of why) × X × Y) → result ≢ line.End → stopped ≡ None
@@ -40,8 +42,8 @@ pub same_halt : (h k : Halt) → turn.Halts h ≡ turn.Halts k → h ≡ k
 same_halt h k same = cc same
 
 -- the reply to a call
-pub answers_call : (old new : Machine → Type 0) (c : Call) (r : Reply) → ((m : Machine) → old m → Allows m c r × new (next m c)) → Answers old new (Some c) r
-answers_call old new c r carried = record { allowed = λ m is. (carried m is).0; next = λ m is going. (carried m is).1 }
+pub answers_call : (old new : Machine → Type 0) (c : Call) (r : Reply) → is_last (Some c) ≡ false → ((m : Machine) → old m → Allows m c r × new (next m c)) → Answers old new (Some c) r
+answers_call old new c r more carried = record { suits = call_suits c r more; allowed = λ m is. (carried m is).0; next = λ m is going. (carried m is).1 }
 
 -- Which pages it makes dirty.
 
@@ -57,4 +59,4 @@ nothing_wrote a s = record { labels = []; makes = makes_nothing client_or_own a 
 
 -- a bad line
 pub answers_bad : (old : Machine → Type 0) → Answers old old None (reply.Refused why.Syntax)
-answers_bad old = record { allowed = λ m is. refl; next = λ m is going. is }
+answers_bad old = record { suits = refl; allowed = λ m is. refl; next = λ m is going. is }

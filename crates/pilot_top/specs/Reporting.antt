@@ -1,5 +1,5 @@
 -- The lines about a restoration.
-use Rattle.std.specs.Prelude.{ℕ, false, List, ◌++◌, codes, flat_map, length, map}
+use Rattle.std.specs.Prelude.{◌≡◌, ℕ, false, List, ◌++◌, codes, flat_map, length, map}
 use Rattle.std.specs.Fmt.{decimal}
 use Rattle.labelled_disk.specs.FilesOn.{files_on}
 use Rattle.labelled_disk.specs.Sectors.{Sector}
@@ -20,6 +20,14 @@ lost_lines lost = flat_map lost_line lost
 -- the line of the counts: files and pages that stay, sectors that were freed, and those of them that were lost
 abbrev pub count_line : ℕ → ℕ → ℕ → ℕ → List ℕ
 count_line files pages freed lost = codes "scavenged " ++ decimal files ++ codes " " ++ decimal pages ++ codes " " ++ decimal freed ++ codes " " ++ decimal lost ++ codes "\n"
+
+-- The text is a line for each of some sectors, and then a line of counts, the last of which is that of these sectors.
+pub record IsReport (text : List ℕ) : Type 0 where
+  pub lost : List Lost
+  pub files : ℕ
+  pub pages : ℕ
+  pub freed : ℕ
+  pub text_is : text ≡ lost_lines lost ++ count_line files pages freed (length lost)
 
 -- the lines of a report
 abbrev pub report_text : {A : Type 0} → Report A → List ℕ

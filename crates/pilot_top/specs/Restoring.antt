@@ -10,7 +10,7 @@ use Rattle.labelled_disk.specs.WriteRuns.{Appended}
 use Rattle.volume_root.specs.Format.{PartMade}
 use Rattle.scavenger.specs.Orders.{Orders, AreFor, scavenge_writes}
 use Rattle.scavenger.specs.Restored.{IsBetween, IsRestored}
-use Rattle.pilot_top.specs.Reporting.{restored_text}
+use Rattle.pilot_top.specs.Reporting.{IsReport, restored_text}
 use Rattle.pilot_top.specs.Scavenging.{IsNoVolume}
 use Rattle.pilot_top.specs.World.{World, Holds, DiskFailed, SinkFailed, StaysUnwritten, Writes, WritesFront, WritesLast}
 use Rattle.pilot_top.specs.declared.last.Cause.TheVariants as cause
@@ -24,6 +24,9 @@ pub record Scavenged (s : Status) (before after : World) : Type 0 where
   pub synced : (s ≡ status.Done) ⊎ (s ≡ status.StreamFault) → after.disk.synced ≡ true
   pub told : s ≡ status.Done → (g : List Sector) → Holds before g → Writes before after (restored_text g)
   pub part_of_text : s ≡ status.StreamFault → (g : List Sector) → Holds before g → WritesFront before after (restored_text g)
+  -- Whatever the disk holds, it is the text of some report.
+  pub some_text : s ≡ status.Done → (text : List ℕ) × IsReport text × Writes before after text
+  pub some_front : s ≡ status.StreamFault → (text : List ℕ) × IsReport text × WritesFront before after text
   -- Which writes were made, and what stands after each of them.
   pub by : (s ≡ status.Done) ⊎ (s ≡ status.StreamFault) → (g : List Sector) → Holds before g → (o : Orders) × AreFor g o × Appended (scavenge_writes o) before.disk after.disk
   pub part : s ≡ status.DiskFault → (g : List Sector) → Holds before g

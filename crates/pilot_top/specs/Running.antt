@@ -1,5 +1,5 @@
 -- What `run` does, by its status.
-use Rattle.std.specs.Prelude.{◌≡◌, ◌≢◌, ◌⊎◌, ◌+◌, ◌^◌, ◌≤◌, true, false, ℕ, List, Some}
+use Rattle.std.specs.Prelude.{◌≡◌, ◌≢◌, ◌⊎◌, ◌+◌, ◌^◌, ◌≤◌, true, false, ℕ, List}
 use Rattle.labelled_disk.specs.Sectors.{Sector}
 use Rattle.labelled_disk.specs.declared.layout.RootFault.{RootFault}
 use Rattle.flat_machine.specs.After.{TraceLine}
@@ -9,8 +9,9 @@ use Rattle.volume_root.specs.Flag.{IsRefused}
 use Rattle.volume_root.specs.Sound.{Sound}
 use Rattle.pilot_engine.specs.Closing.{HasShut}
 use Rattle.pilot_top.specs.Ending.{halts, closes}
-use Rattle.pilot_top.specs.Headline.{AreToFirst, EndsEarly, IsLeftOpen, Run, TellsDamage, at_end, run_bound}
+use Rattle.pilot_top.specs.Headline.{EndsEarly, IsLeftOpen, Run, TellsDamage, at_end, run_bound}
 use Rattle.pilot_top.specs.Moments.{Lawfully, Moments}
+use Rattle.pilot_top.specs.Replied.{Replied}
 use Rattle.pilot_top.specs.World.{World, Holds, Gives, Took, DiskFailed, SourceFailed, SinkFailed, StaysUnwritten, WritesLast}
 use Rattle.pilot_top.specs.declared.last.Cause.TheVariants as cause
 use Rattle.pilot_top.specs.declared.status.Status.{Status}
@@ -20,6 +21,8 @@ use Rattle.pilot_top.specs.declared.status.Status.TheVariants as status
 pub record Ran (s : Status) (before after : World) : Type 0 where
   -- On a sound volume: the replies, what the source has left, and the files of the disk.
   pub answers : (d : List Sector) (b t : List ℕ) → Holds before d → Sound d → Gives before b → Took before t → Run s d b after.left t after.took (SinkFailed before after) after.disk
+  -- Whatever the disk holds, replies to the lines that were read, and the last line where it stopped.
+  pub replied : (b t : List ℕ) → Gives before b → Took before t → Replied s b after.left t after.took (SinkFailed before after) after.disk
   -- Where its end was not a `halt`, the volume is closed, sound, and on the medium; so it is where only the reply to `close`
   -- was not heard.
   pub closed : (d : List Sector) (b : List ℕ) → Holds before d → Sound d → Gives before b → s ≡ status.Done → halts (reading b) ≡ false → HasShut (at_end d (reading b)) after.disk
@@ -40,8 +43,6 @@ pub record Ran (s : Status) (before after : World) : Type 0 where
   -- is told of a damaged volume is so.
   pub lawful : Lawfully before.disk after.disk
   pub damage : (t : List ℕ) → Took before t → s ≡ status.Damaged → TellsDamage t after.took (SinkFailed before after) after.disk
-  pub damage_behind : (b t : List ℕ) → Gives before b → Took before t → s ≡ status.Damaged
-      → (told : TellsDamage t after.took (SinkFailed before after) after.disk) × AreToFirst told.replies (reading b)
   -- A sound volume is not refused, and shows no damage, whatever source and sink tell.
   pub sound : (d : List Sector) → Holds before d → Sound d → s ≢ status.NotOpened × s ≢ status.Damaged
   -- A volume that can't be opened.

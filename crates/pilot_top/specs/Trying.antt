@@ -1,5 +1,5 @@
 -- What `trial` does, by its status.
-use Rattle.std.specs.Prelude.{◌≡◌, ◌⊎◌, ℕ, List}
+use Rattle.std.specs.Prelude.{◌≡◌, ◌⊎◌, ℕ, List, length}
 use Rattle.labelled_disk.specs.declared.evidence.Evidence.{Evidence}
 use Rattle.labelled_disk.specs.Layout.{IsCount}
 use Rattle.labelled_disk.specs.Sectors.{Sector}
@@ -17,6 +17,9 @@ pub record Tried (seed calls : ℕ) (s : Status) (before after : World) : Type 0
   pub line : (d : List Sector) → Holds before d → s ≡ status.Done → (replies : List Reply) × IsTrial before.disk.sectors seed calls replies × Writes before after (trial_line calls replies)
   pub part_of_line : (d : List Sector) → Holds before d → s ≡ status.StreamFault
       → (replies : List Reply) × IsTrial before.disk.sectors seed calls replies × WritesFront before after (trial_line calls replies)
+  -- Whatever the disk holds, it is the line about as many replies as calls.
+  pub some_line : s ≡ status.Done → (replies : List Reply) × (length replies ≡ calls) × Writes before after (trial_line calls replies)
+  pub some_front : s ≡ status.StreamFault → (replies : List Reply) × (length replies ≡ calls) × WritesFront before after (trial_line calls replies)
   pub emptied : (d : List Sector) → Holds before d → (s ≡ status.Done) ⊎ (s ≡ status.StreamFault) → HasNoFile after.disk
   -- It does all its work where nothing failed, and refuses a count of sectors alone.
   pub complete : (d : List Sector) → Holds before d → IsCount before.disk.sectors → ¬ DiskFailed before after → ¬ SinkFailed before after

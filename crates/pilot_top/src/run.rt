@@ -16,9 +16,10 @@ ghost use Rattle.pilot_engine.specs.Closing.{HasShut};
 ghost use Rattle.running_words.specs.Session.{IsOpen};
 ghost use Rattle.running_words.specs.Running.{Runs};
 ghost use Rattle.pilot_top.specs.Ending.{halts, closes};
-ghost use Rattle.pilot_top.specs.Headline.{Answering, AreToFirst, EndsEarly, HasFilesAt, IsLeftOpen, Run, TellsDamage, at_end, line_bound, run_bound};
+ghost use Rattle.pilot_top.specs.Headline.{Answering, EndsEarly, HasFilesAt, IsLeftOpen, Run, TellsDamage, at_end, line_bound, run_bound};
 ghost use Rattle.pilot_top.specs.Last.{last_line, Puts};
 ghost use Rattle.pilot_top.specs.Moments.{Lawfully, Moments, ShutsLast};
+ghost use Rattle.pilot_top.specs.Replied.{Replied};
 
 use crate::Status;
 use crate::closing::end_trace;
@@ -46,6 +47,10 @@ fn answer_lines<D: Disk, A: Allocator, S: Source, K: Sink>(
         → S.left source.old ≡ Some b → K.took sink.old ≡ Some t
         → Answering result.0 m b (S.left source.new) t (K.took sink.new)
         (Rose (K.faults sink.old) (K.faults sink.new)) (HasFilesAt m (reading b) (D.state result.1)) }
+    ensures replied { (b t : List ℕ) → IsLeftOpen (D.state session.core.filer.swapper.under)
+        → S.left source.old ≡ Some b → K.took sink.old ≡ Some t
+        → Replied result.0 b (S.left source.new) t (K.took sink.new)
+        (Rose (K.faults sink.old) (K.faults sink.new)) (D.state result.1) }
     ensures moments { (m : Machine) (b : List ℕ) → Runs session.core session.volume m
         → S.left source.old ≡ Some b → Moments m (reading b) (D.state session.core.filer.swapper.under) (D.state result.1) }
     ensures closed { (m : Machine) (b : List ℕ) → Runs session.core session.volume m
@@ -72,9 +77,6 @@ fn answer_lines<D: Disk, A: Allocator, S: Source, K: Sink>(
     ensures damage { (t : List ℕ) → IsLeftOpen (D.state session.core.filer.swapper.under)
         → K.took sink.old ≡ Some t → result.0 ≡ Status.Damaged
         → TellsDamage t (K.took sink.new) (Rose (K.faults sink.old) (K.faults sink.new)) (D.state result.1) }
-    ensures damage_behind { (b t : List ℕ) → IsLeftOpen (D.state session.core.filer.swapper.under)
-        → S.left source.old ≡ Some b → K.took sink.old ≡ Some t → result.0 ≡ Status.Damaged
-        → (told : TellsDamage t (K.took sink.new) (Rose (K.faults sink.old) (K.faults sink.new)) (D.state result.1)) × AreToFirst told.replies (reading b) }
     ensures lawful { ShutsLast (D.state session.core.filer.swapper.under) (D.state result.1) }
     ensures same_disk { Went (D.state session.core.filer.swapper.under) (D.state result.1) }
     ensures disk_cause { result.0 ≡ Status.DiskFault
@@ -125,6 +127,9 @@ pub(crate) fn run<A: Allocator, D: Disk, S: Source, K: Sink>(
         → K.took sink.old ≡ Some t
         → Run result.0 d b (S.left source.new) t (K.took sink.new)
         (Rose (K.faults sink.old) (K.faults sink.new)) (D.state result.1) }
+    ensures replied { (b t : List ℕ) → S.left source.old ≡ Some b → K.took sink.old ≡ Some t
+        → Replied result.0 b (S.left source.new) t (K.took sink.new)
+        (Rose (K.faults sink.old) (K.faults sink.new)) (D.state result.1) }
     ensures moments { (d : List Sector) (b : List ℕ)
         → (D.state disk).contents ≡ Some d → Sound d → S.left source.old ≡ Some b
         → Moments (start d) (reading b) (D.state disk) (D.state result.1) }
@@ -151,8 +156,6 @@ pub(crate) fn run<A: Allocator, D: Disk, S: Source, K: Sink>(
         → result.0 ≢ Status.NotOpened × result.0 ≢ Status.Damaged }
     ensures damage { (t : List ℕ) → K.took sink.old ≡ Some t → result.0 ≡ Status.Damaged
         → TellsDamage t (K.took sink.new) (Rose (K.faults sink.old) (K.faults sink.new)) (D.state result.1) }
-    ensures damage_behind { (b t : List ℕ) → S.left source.old ≡ Some b → K.took sink.old ≡ Some t → result.0 ≡ Status.Damaged
-        → (told : TellsDamage t (K.took sink.new) (Rose (K.faults sink.old) (K.faults sink.new)) (D.state result.1)) × AreToFirst told.replies (reading b) }
     ensures lawful { Lawfully (D.state disk) (D.state result.1) }
     ensures same_disk { Went (D.state disk) (D.state result.1) }
 

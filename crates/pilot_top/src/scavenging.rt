@@ -14,7 +14,7 @@ ghost use Rattle.scavenger.specs.Orders.{Orders, AreFor, scavenge_writes};
 ghost use Rattle.scavenger.specs.Reported.{lost_in, Reports};
 ghost use Rattle.scavenger.specs.Restored.{IsBetween, IsRestored};
 ghost use Rattle.pilot_top.specs.Last.{last_line, Puts};
-ghost use Rattle.pilot_top.specs.Reporting.{restored_text};
+ghost use Rattle.pilot_top.specs.Reporting.{IsReport, restored_text};
 ghost use Rattle.pilot_top.specs.Scavenging.{IsNoVolume};
 
 use crate::Status;
@@ -128,6 +128,11 @@ pub(crate) fn restore_volume<A: Allocator + Clone, D: Disk, K: Sink>(
     ensures part_of_text { result ≡ Status.StreamFault → (g : List Sector)
         → (D.state disk.old).contents ≡ Some g
         → (front : List ℕ) × IsFrontOf front (restored_text g)
+        × Appends (K.took sink.old) (K.took sink.new) front }
+    ensures some_text { result ≡ Status.Done → (text : List ℕ) × IsReport text
+        × Appends (K.took sink.old) (K.took sink.new) text }
+    ensures some_front { result ≡ Status.StreamFault → (text : List ℕ) × IsReport text
+        × (front : List ℕ) × IsFrontOf front text
         × Appends (K.took sink.old) (K.took sink.new) front }
     ensures stream_cause { result ≡ Status.StreamFault
         → Rose (K.faults sink.old) (K.faults sink.new) }

@@ -1,5 +1,5 @@
 //! A trial: drawn calls are carried out in a session on a new volume, and what came of them is told in one line.
-ghost use Rattle.std.specs.Prelude.{◌≡◌, ◌≢◌, ◌↔◌, ◌⊎◌, ◌<◌, ◌≤◌, ◌++◌, ℕ, List, Some, true, false, slice_get, IfOk, IfErr, OnOk, Err};
+ghost use Rattle.std.specs.Prelude.{◌≡◌, ◌≢◌, ◌↔◌, ◌⊎◌, ◌<◌, ◌≤◌, ◌++◌, ℕ, List, Some, true, false, length, slice_get, IfOk, IfErr, OnOk, Err};
 ghost use Rattle.std.specs.Io.KnownBytes.{Appends};
 ghost use Rattle.labelled_disk.specs.declared.evidence.Evidence.{Evidence};
 ghost use Rattle.labelled_disk.specs.declared.evidence.Halt.TheVariants as halt;
@@ -96,9 +96,9 @@ fn count_calls<D: Disk, A: Allocator>(
     requires size { (D.state session.old.core.filer.swapper.under).sectors ≡ session.old.core.filer.swapper.layout.sectors }
     requires opened { IsOpen session.old.core.filer.swapper.layout session.old.volume }
     requires running { session.old.running ≡ true }
-    ensures answered { (m : Machine) → Runs session.old.core session.old.volume m
-        → IfOk result (λ counts. (replies : List Reply) × AreOf counts replies
-        × HasAnswered m (drawn_calls seed calls) replies (Runs session.new.core session.new.volume)) }
+    ensures answered { IfOk result (λ counts. (replies : List Reply) × AreOf counts replies × (length replies ≡ calls)
+        × ((m : Machine) → Runs session.old.core session.old.volume m
+        → HasAnswered m (drawn_calls seed calls) replies (Runs session.new.core session.new.volume))) }
     ensures sound { (m : Machine) → Runs session.old.core session.old.volume m → IfErr result (λ e. e ≡ halt.Disk) }
     ensures counted { result ≡ Err halt.Disk → Rose (D.state session.old.core.filer.swapper.under).faults (D.state session.new.core.filer.swapper.under).faults }
     ensures so { IfErr result (ShowsSo (D.state session.new.core.filer.swapper.under)) }
@@ -128,9 +128,9 @@ fn try_calls<D: Disk, A: Allocator>(
     requires size { (D.state session.old.core.filer.swapper.under).sectors ≡ session.old.core.filer.swapper.layout.sectors }
     requires opened { IsOpen session.old.core.filer.swapper.layout session.old.volume }
     requires running { session.old.running ≡ true }
-    ensures answered { (m : Machine) → Runs session.old.core session.old.volume m
-        → IfOk result (λ counts. (replies : List Reply) × AreOf counts replies × IsTrialOf m seed calls replies
-        × Runs session.new.core session.new.volume (after_calls m (first_calls ++ drawn_calls seed calls))) }
+    ensures answered { IfOk result (λ counts. (replies : List Reply) × AreOf counts replies × (length replies ≡ calls)
+        × ((m : Machine) → Runs session.old.core session.old.volume m → IsTrialOf m seed calls replies
+        × Runs session.new.core session.new.volume (after_calls m (first_calls ++ drawn_calls seed calls)))) }
     ensures sound { (m : Machine) → Runs session.old.core session.old.volume m → IfErr result (λ e. e ≡ halt.Disk) }
     ensures counted { result ≡ Err halt.Disk → Rose (D.state session.old.core.filer.swapper.under).faults (D.state session.new.core.filer.swapper.under).faults }
     ensures so { IfErr result (ShowsSo (D.state session.new.core.filer.swapper.under)) }
@@ -162,11 +162,11 @@ fn try_session<D: Disk, A: Allocator, K: Sink>(
     requires running { session.running ≡ true }
     ensures ends { (result.0 ≡ Status.Done) ⊎ (result.0 ≡ Status.StreamFault)
         ⊎ (result.0 ≡ Status.DiskFault) ⊎ (result.0 ≡ Status.Damaged) }
-    ensures line { (m : Machine) → Runs session.core session.volume m → result.0 ≡ Status.Done
-        → (replies : List Reply) × IsTrialOf m seed calls replies
+    ensures line { result.0 ≡ Status.Done → (replies : List Reply) × (length replies ≡ calls)
+        × ((m : Machine) → Runs session.core session.volume m → IsTrialOf m seed calls replies)
         × Appends (K.took sink.old) (K.took sink.new) (trial_line calls replies) }
-    ensures part_of_line { (m : Machine) → Runs session.core session.volume m → result.0 ≡ Status.StreamFault
-        → (replies : List Reply) × IsTrialOf m seed calls replies
+    ensures part_of_line { result.0 ≡ Status.StreamFault → (replies : List Reply) × (length replies ≡ calls)
+        × ((m : Machine) → Runs session.core session.volume m → IsTrialOf m seed calls replies)
         × (front : List ℕ) × IsFrontOf front (trial_line calls replies)
         × Appends (K.took sink.old) (K.took sink.new) front }
     ensures left { (m : Machine) → Runs session.core session.volume m
@@ -216,11 +216,11 @@ pub(crate) fn run_trial<A: Allocator, D: Disk, K: Sink>(
     ensures ends { (result.0 ≡ Status.Done) ⊎ (result.0 ≡ Status.StreamFault)
         ⊎ (result.0 ≡ Status.DiskFault) ⊎ (result.0 ≡ Status.NotOpened)
         ⊎ (result.0 ≡ Status.NoMemory) ⊎ (result.0 ≡ Status.Damaged) }
-    ensures line { (d : List Sector) → (D.state disk).contents ≡ Some d → result.0 ≡ Status.Done
-        → (replies : List Reply) × IsTrial (D.state disk).sectors seed calls replies
+    ensures line { result.0 ≡ Status.Done → (replies : List Reply) × (length replies ≡ calls)
+        × ((d : List Sector) → (D.state disk).contents ≡ Some d → IsTrial (D.state disk).sectors seed calls replies)
         × Appends (K.took sink.old) (K.took sink.new) (trial_line calls replies) }
-    ensures part_of_line { (d : List Sector) → (D.state disk).contents ≡ Some d → result.0 ≡ Status.StreamFault
-        → (replies : List Reply) × IsTrial (D.state disk).sectors seed calls replies
+    ensures part_of_line { result.0 ≡ Status.StreamFault → (replies : List Reply) × (length replies ≡ calls)
+        × ((d : List Sector) → (D.state disk).contents ≡ Some d → IsTrial (D.state disk).sectors seed calls replies)
         × (front : List ℕ) × IsFrontOf front (trial_line calls replies)
         × Appends (K.took sink.old) (K.took sink.new) front }
     ensures left { (d : List Sector) → (D.state disk).contents ≡ Some d

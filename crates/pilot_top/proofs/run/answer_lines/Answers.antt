@@ -15,16 +15,20 @@ use Rattle.running_words.specs.Running.{Runs}
 use Rattle.pilot_top.specs.Headline.{HasFilesAt}
 use Rattle.pilot_top.specs.Last.{last_line, Puts}
 use Rattle.pilot_top.specs.Stopping.{status_of, cause_of}
+use Rattle.pilot_top.specs.declared.last.Cause.{Cause}
 use Rattle.pilot_top.specs.declared.last.Cause.TheVariants as cause
 use Rattle.pilot_top.specs.declared.status.Status.TheVariants as status
-use Rattle.pilot_top.proofs.EndLemmas.{End-answering, End-front, End-rest, End-short}
-use Rattle.pilot_top.proofs.ExitLemmas.{halt_not_damaged, halt_not_done, halt_evidence, three_ways, stopped_files, halt_not_stream, takes_more, still_moments, still_spends, line_spends, end_spent, still_files, line_moments, halt_files, reply_files, line_not_close, end_closed, end_unheard, end_moments}
+use Rattle.pilot_top.specs.declared.turn.Turn.TheVariants.{Halts}
+use Rattle.pilot_top.proofs.EndLemmas.{End-answering, End-rest, End-short}
+use Rattle.pilot_top.proofs.ExitLemmas.{halt_not_damaged, halt_evidence, three_ways, stopped_files, takes_more, still_moments, still_spends, line_spends, end_spent, still_files, line_moments, halt_files, reply_files, line_not_close, end_closed, end_unheard, end_moments}
 use Rattle.pilot_top.proofs.FrontLemmas.{End-has}
 use Rattle.pilot_top.proofs.LawfulRuns.{called_openly, ended_last, openly_last, openly_none, openly_then}
 use Rattle.pilot_top.proofs.OpenLemmas.{early_halt}
 use Rattle.pilot_top.proofs.PlaceLemmas.{stop_told}
+use Rattle.pilot_top.proofs.RepliedLemmas.{Replied-end, Replied-halted, Replied-long, Replied-read_fault, Replied-write_fault}
 use Rattle.pilot_top.proofs.StagedLemmas.{from_rest, stands_told}
-use Rattle.pilot_top.proofs.TopLemmas.{Run-disk, Run-long, Run-read_fault, Run-write_fault, not_short, rose_later, Puts-later, damage_behind, damage_told, told_front, Going-sink, Going-told}
+use Rattle.pilot_top.proofs.StatusLemmas.{halt_disk, halt_ends, trace_ends}
+use Rattle.pilot_top.proofs.TopLemmas.{Run-disk, Run-long, Run-read_fault, Run-write_fault, not_short, rose_later, Puts-later, damage_told, told_front, Going-sink, Going-told}
 use Rattle.pilot_top.proofs.TurnedLemmas.{more_moments, ended_moments, Turned-start, Turned-reply, Turned-source, Turned-told, Turned-same}
 use Rattle.pilot_top.proofs.run.answer_lines.Given as given
 use Rattle.pilot_top.proofs.run.answer_lines.Goals as goal
@@ -43,6 +47,10 @@ stands_of g s m = Runs s.core s.volume m
 tells : (g : given.Over) (s : Sessions g) (m : Machine) → stands_of g s m → (e : List Sector) → (disk_of g s).contents ≡ Some e → TellsSettled e m
 tells g s m stands e told =
     (stands_told m stands (λ d is. g.met.D.Disk.in_form s.core.filer.swapper.under d is) e told).told
+
+-- the last line was put
+abbrev PutsLast : (g : given.Over) → g.row.K.Denot → g.row.K.Denot → Cause → Type 0
+PutsLast g k l why = Puts (Rose (g.K.Sink.faults k) (g.K.Sink.faults l)) (g.K.Sink.took k) (g.K.Sink.took l) (last_line why)
 
 pub turns-init : goal.turns-init
 turns-init g c =
@@ -94,338 +102,230 @@ turns-preserved g c =
     }
 
 -- the sink failed on a reply
-pub returns-in_default-clause-answering : goal.returns-in_default-clause-answering
-returns-in_default-clause-answering g c m b t stands source sink =
+pub returns-in_default : goal.returns-in_default
+returns-in_default g c =
     let i = c.turns.invariant in
     let turn = c.in-Replies.ensures.turns in
-    let turned = Turned-told i.turned source sink in
     let put = c.in_default.ensures.err in
-    let has = reply_files m turned stands turn.0 turn.2 turn.4 (disk_of g c.take_turn.new.session) turn.3 (tells g c.take_turn.new.session) in
-    Run-write_fault m b t _ _ c.turns.lines _ _ turned.going stands _ (HasFilesAt m (reading b) (g.D.Disk.state c.into_disk.result)) _ _ c.take_turn.new.lines _ turn.1 c.in-Replies.reply turn.0 turn.2 turn.3
-    (rose_later _ _ _ i.sink c.in_default.ensures.cause.cause) put.0 put.1 put.2 (rw c.into_disk.ensures has)
-
-pub returns-in_default-clause-moments : goal.returns-in_default-clause-moments
-returns-in_default-clause-moments g c m b stands source =
-    let turn = c.in-Replies.ensures.turns in
-    let turned = Turned-source c.turns.invariant.turned source in
-    rw c.into_disk.ensures (line_moments m turned stands turn.0 turn.2 turn.4 turn.5)
-
-pub returns-in_default-clause-closed_unheard : goal.returns-in_default-clause-closed_unheard
-returns-in_default-clause-closed_unheard g c m b stands source is heard left closed =
-    let turn = c.in-Replies.ensures.turns in
-    let turned = Turned-source c.turns.invariant.turned source in
-    absurd (line_not_close m turned stands turn.0 turn.2 turn.4 left closed)
-
-pub returns-in_default-clause-stays_open : goal.returns-in_default-clause-stays_open
-returns-in_default-clause-stays_open g c b left source early = rw c.into_disk.ensures (unset_then (c.turns.invariant.left_open left) c.take_turn.ensures.wrote)
-
-pub returns-in_default-clause-untaken : goal.returns-in_default-clause-untaken
-returns-in_default-clause-untaken g c b left source is some = rw c.into_disk.ensures (unset_then (c.turns.invariant.left_open left) c.take_turn.ensures.wrote)
-
-pub returns-in_default-clause-left_open : goal.returns-in_default-clause-left_open
-returns-in_default-clause-left_open g c left is = rw c.into_disk.ensures (unset_then (c.turns.invariant.left_open left) c.take_turn.ensures.wrote)
-
-pub returns-in_default-clause-lawful : goal.returns-in_default-clause-lawful
-returns-in_default-clause-lawful g c = rw c.into_disk.ensures (openly_last (openly_then c.turns.invariant.turned.lawful (called_openly c.take_turn.ensures.wrote)))
+    let rose = rose_later _ _ _ i.sink c.in_default.ensures.cause.cause in
+    let lawful = openly_last (openly_then i.turned.lawful (called_openly c.take_turn.ensures.wrote)) in
+    let went = went_then i.same_disk c.take_turn.ensures.wrote.makes.went in
+    record {
+      answering = λ m b t stands source sink.
+          let turned = Turned-told i.turned source sink in
+          let has = reply_files m turned stands turn.0 turn.2 turn.4 (disk_of g c.take_turn.new.session) turn.3 (tells g c.take_turn.new.session) in
+          Run-write_fault m b t _ _ c.turns.lines _ _ turned.going stands _ (HasFilesAt m (reading b) (g.D.Disk.state c.into_disk.result)) _ _ c.take_turn.new.lines _ turn.1 c.in-Replies.reply turn.0 turn.2 turn.3
+          rose put.0 put.1 put.2 (rw c.into_disk.ensures has);
+      replied = λ b t left source sink.
+          Replied-write_fault b t (Going-told _ _ _ _ _ _ _ b t i.turned.going source sink) _ (g.D.Disk.state c.into_disk.result) (g.S.Source.left c.take_turn.new.source) _ c.take_turn.new.lines turn.1 c.in-Replies.reply turn.0 turn.2 turn.3.suits
+          rose put.0 put.1 put.2;
+      moments = λ m b stands source. rw c.into_disk.ensures (line_moments m (Turned-source i.turned source) stands turn.0 turn.2 turn.4 turn.5);
+      closed = λ m b stands source done going. absurd (cc done);
+      closed_unheard = λ m b stands source is heard left closed. absurd (line_not_close m (Turned-source i.turned source) stands turn.0 turn.2 turn.4 left closed);
+      some_moments = λ m stands. rw c.into_disk.ensures (_, more_moments i.turned turn.5 m stands);
+      stays_open = λ b left source early. rw c.into_disk.ensures (unset_then (i.left_open left) c.take_turn.ensures.wrote);
+      untaken = λ b left source is some. rw c.into_disk.ensures (unset_then (i.left_open left) c.take_turn.ensures.wrote);
+      left_open = λ left is. rw c.into_disk.ensures (unset_then (i.left_open left) c.take_turn.ensures.wrote);
+      transfers = λ m b stands source. rw c.into_disk.ensures (line_spends m (Turned-source i.turned source) stands turn.0 turn.2 turn.4 i.same_disk.sectors turn.5);
+      sound = λ m stands is. absurd (cc is);
+      damage = λ t left sink is. absurd (cc is);
+      lawful = rw c.into_disk.ensures lawful;
+      same_disk = rw c.into_disk.ensures went;
+      disk_cause = λ is. absurd (cc is);
+      stream_cause = λ is. inr rose;
+      short = λ b source done. absurd (cc done);
+      long = λ b source is. absurd (cc is);
+      opened = (λ is. cc is, λ is. cc is);
+      no_other = (λ is. cc is, λ is. cc is);
+    }
 
 -- the source failed
-pub returns-in-ReadFault-clause-answering : goal.returns-in-ReadFault-clause-answering
-returns-in-ReadFault-clause-answering g c m b t stands source sink =
+pub returns-in-ReadFault : goal.returns-in-ReadFault
+returns-in-ReadFault g c =
+    let i = c.turns.invariant in
     let turn = c.in-ReadFault.ensures.turns in
     let same : c.take_turn.new.session ≡ c.turns.session = c.in-ReadFault.ensures.idle tt in
-    let turned = Turned-same {S = Sessions g} (disk_of g) (stands_of g) same (Turned-told c.turns.invariant.turned source sink) in
-    Run-read_fault m b t _ _ c.turns.lines _ _ turned.going stands _ (HasFilesAt m (reading b) (g.D.Disk.state c.into_disk-in-ReadFault.result)) _ c.take_turn.new.lines turn.0 turn.1
-    (rw c.into_disk-in-ReadFault.ensures (still_files m turned stands (tells g c.take_turn.new.session)))
-
-pub returns-in-ReadFault-clause-moments : goal.returns-in-ReadFault-clause-moments
-returns-in-ReadFault-clause-moments g c m b stands source =
-    let same : c.take_turn.new.session ≡ c.turns.session = c.in-ReadFault.ensures.idle tt in
-    let turned = Turned-same {S = Sessions g} (disk_of g) (stands_of g) same (Turned-source c.turns.invariant.turned source) in
-    rw c.into_disk-in-ReadFault.ensures (still_moments m turned stands)
-
-pub returns-in-ReadFault-clause-stays_open : goal.returns-in-ReadFault-clause-stays_open
-returns-in-ReadFault-clause-stays_open g c b left source early = rw c.into_disk-in-ReadFault.ensures (unset_then (c.turns.invariant.left_open left) c.take_turn.ensures.wrote)
-
-pub returns-in-ReadFault-clause-untaken : goal.returns-in-ReadFault-clause-untaken
-returns-in-ReadFault-clause-untaken g c b left source is some = rw c.into_disk-in-ReadFault.ensures (unset_then (c.turns.invariant.left_open left) c.take_turn.ensures.wrote)
-
-pub returns-in-ReadFault-clause-left_open : goal.returns-in-ReadFault-clause-left_open
-returns-in-ReadFault-clause-left_open g c left is = rw c.into_disk-in-ReadFault.ensures (unset_then (c.turns.invariant.left_open left) c.take_turn.ensures.wrote)
-
-pub returns-in-ReadFault-clause-lawful : goal.returns-in-ReadFault-clause-lawful
-returns-in-ReadFault-clause-lawful g c = rw c.into_disk-in-ReadFault.ensures (openly_last (openly_then c.turns.invariant.turned.lawful (called_openly c.take_turn.ensures.wrote)))
-
-pub returns-in-ReadFault-clause-closed_unheard : goal.returns-in-ReadFault-clause-closed_unheard
-returns-in-ReadFault-clause-closed_unheard g c m b stands source is heard left closed =
-    absurd (heard (rose_later _ _ _ c.turns.invariant.source (c.in-ReadFault.ensures.source_cause refl)))
+    let rose = rose_later _ _ _ i.source (c.in-ReadFault.ensures.source_cause refl) in
+    let lawful = openly_last (openly_then i.turned.lawful (called_openly c.take_turn.ensures.wrote)) in
+    let went = went_then i.same_disk c.take_turn.ensures.wrote.makes.went in
+    record {
+      answering = λ m b t stands source sink.
+          let turned = Turned-same {S = Sessions g} (disk_of g) (stands_of g) same (Turned-told i.turned source sink) in
+          Run-read_fault m b t _ _ c.turns.lines _ _ turned.going stands _ (HasFilesAt m (reading b) (g.D.Disk.state c.into_disk-in-ReadFault.result)) _ c.take_turn.new.lines turn.0 turn.1
+          (rw c.into_disk-in-ReadFault.ensures (still_files m turned stands (tells g c.take_turn.new.session)));
+      replied = λ b t left source sink.
+          Replied-read_fault b t (Going-told _ _ _ _ _ _ _ b t i.turned.going source sink) _ (g.D.Disk.state c.into_disk-in-ReadFault.result) (g.S.Source.left c.take_turn.new.source) c.take_turn.new.lines turn.0 turn.1;
+      moments = λ m b stands source. rw c.into_disk-in-ReadFault.ensures (still_moments m (Turned-same {S = Sessions g} (disk_of g) (stands_of g) same (Turned-source i.turned source)) stands);
+      closed = λ m b stands source done going. absurd (cc done);
+      closed_unheard = λ m b stands source is heard left closed. absurd (heard rose);
+      some_moments = λ m stands. rw (c.into_disk-in-ReadFault.ensures, same) (_, i.turned.along m stands);
+      stays_open = λ b left source early. rw c.into_disk-in-ReadFault.ensures (unset_then (i.left_open left) c.take_turn.ensures.wrote);
+      untaken = λ b left source is some. rw c.into_disk-in-ReadFault.ensures (unset_then (i.left_open left) c.take_turn.ensures.wrote);
+      left_open = λ left is. rw c.into_disk-in-ReadFault.ensures (unset_then (i.left_open left) c.take_turn.ensures.wrote);
+      transfers = λ m b stands source. rw (c.into_disk-in-ReadFault.ensures, same) (still_spends m (Turned-source i.turned source) stands);
+      sound = λ m stands is. absurd (cc is);
+      damage = λ t left sink is. absurd (cc is);
+      lawful = rw c.into_disk-in-ReadFault.ensures lawful;
+      same_disk = rw c.into_disk-in-ReadFault.ensures went;
+      disk_cause = λ is. absurd (cc is);
+      stream_cause = λ is. inl rose;
+      short = λ b source done. absurd (cc done);
+      long = λ b source is. absurd (cc is);
+      opened = (λ is. cc is, λ is. cc is);
+      no_other = (λ is. cc is, λ is. cc is);
+    }
 
 -- as many bytes as the limit were taken
-pub returns-in-Long-clause-answering : goal.returns-in-Long-clause-answering
-returns-in-Long-clause-answering g c m b t stands source sink =
+pub returns-in-Long : goal.returns-in-Long
+returns-in-Long g c =
     let i = c.turns.invariant in
     let turn = c.in-Long.ensures.turns in
     let same : c.take_turn.new.session ≡ c.turns.session = c.in-Long.ensures.idle tt in
-    let turned = Turned-same {S = Sessions g} (disk_of g) (stands_of g) same (Turned-told i.turned source sink) in
-    Run-long m b t _ _ c.turns.lines _ _ turned.going stands _ (HasFilesAt m (reading b) (g.D.Disk.state c.into_disk-in-Long.result)) _ _ c.take_turn.new.lines turn.0 turn.1 (turn.2 ∙ turn.1.limit ∙ i.limit)
-    (Puts-later _ _ _ _ _ (rose_later _ _ _ i.sink) c.put_last.ensures.put)
-    (rw c.into_disk-in-Long.ensures (still_files m turned stands (tells g c.take_turn.new.session)))
-
-pub returns-in-Long-clause-moments : goal.returns-in-Long-clause-moments
-returns-in-Long-clause-moments g c m b stands source =
-    let same : c.take_turn.new.session ≡ c.turns.session = c.in-Long.ensures.idle tt in
-    let turned = Turned-same {S = Sessions g} (disk_of g) (stands_of g) same (Turned-source c.turns.invariant.turned source) in
-    rw c.into_disk-in-Long.ensures (still_moments m turned stands)
-
-pub returns-in-Long-clause-stays_open : goal.returns-in-Long-clause-stays_open
-returns-in-Long-clause-stays_open g c b left source early = rw c.into_disk-in-Long.ensures (unset_then (c.turns.invariant.left_open left) c.take_turn.ensures.wrote)
-
-pub returns-in-Long-clause-untaken : goal.returns-in-Long-clause-untaken
-returns-in-Long-clause-untaken g c b left source is some = rw c.into_disk-in-Long.ensures (unset_then (c.turns.invariant.left_open left) c.take_turn.ensures.wrote)
-
-pub returns-in-Long-clause-left_open : goal.returns-in-Long-clause-left_open
-returns-in-Long-clause-left_open g c left is = rw c.into_disk-in-Long.ensures (unset_then (c.turns.invariant.left_open left) c.take_turn.ensures.wrote)
-
-pub returns-in-Long-clause-lawful : goal.returns-in-Long-clause-lawful
-returns-in-Long-clause-lawful g c = rw c.into_disk-in-Long.ensures (openly_last (openly_then c.turns.invariant.turned.lawful (called_openly c.take_turn.ensures.wrote)))
-
-pub returns-in-Long-clause-long : goal.returns-in-Long-clause-long
-returns-in-Long-clause-long g c b source is =
-    let turn = c.in-Long.ensures.turns in
-    let turned = Turned-source c.turns.invariant.turned source in
-    not_short b _ _ _ c.turns.lines _ _ turned.going _ c.take_turn.new.lines turn.0 turn.1 turn.2 c.turns.invariant.limit
+    let lawful = openly_last (openly_then i.turned.lawful (called_openly c.take_turn.ensures.wrote)) in
+    let went = went_then i.same_disk c.take_turn.ensures.wrote.makes.went in
+    record {
+      answering = λ m b t stands source sink.
+          let turned = Turned-same {S = Sessions g} (disk_of g) (stands_of g) same (Turned-told i.turned source sink) in
+          Run-long m b t _ _ c.turns.lines _ _ turned.going stands _ (HasFilesAt m (reading b) (g.D.Disk.state c.into_disk-in-Long.result)) _ _ c.take_turn.new.lines turn.0 turn.1 (turn.2 ∙ turn.1.limit ∙ i.limit)
+          (Puts-later _ _ _ _ _ (rose_later _ _ _ i.sink) c.put_last.ensures.put) (rw c.into_disk-in-Long.ensures (still_files m turned stands (tells g c.take_turn.new.session)));
+      replied = λ b t left source sink.
+          Replied-long b t (Going-told _ _ _ _ _ _ _ b t i.turned.going source sink) _ (g.D.Disk.state c.into_disk-in-Long.result) (g.S.Source.left c.take_turn.new.source) _ c.take_turn.new.lines turn.0 turn.1 (turn.2 ∙ turn.1.limit ∙ i.limit)
+          (Puts-later _ _ _ _ _ (rose_later _ _ _ i.sink) c.put_last.ensures.put);
+      moments = λ m b stands source. rw c.into_disk-in-Long.ensures (still_moments m (Turned-same {S = Sessions g} (disk_of g) (stands_of g) same (Turned-source i.turned source)) stands);
+      closed = λ m b stands source done going. absurd (cc done);
+      closed_unheard = λ m b stands source is heard left closed. absurd (cc is);
+      some_moments = λ m stands. rw (c.into_disk-in-Long.ensures, same) (_, i.turned.along m stands);
+      stays_open = λ b left source early. rw c.into_disk-in-Long.ensures (unset_then (i.left_open left) c.take_turn.ensures.wrote);
+      untaken = λ b left source is some. rw c.into_disk-in-Long.ensures (unset_then (i.left_open left) c.take_turn.ensures.wrote);
+      left_open = λ left is. rw c.into_disk-in-Long.ensures (unset_then (i.left_open left) c.take_turn.ensures.wrote);
+      transfers = λ m b stands source. rw (c.into_disk-in-Long.ensures, same) (still_spends m (Turned-source i.turned source) stands);
+      sound = λ m stands is. absurd (cc is);
+      damage = λ t left sink is. absurd (cc is);
+      lawful = rw c.into_disk-in-Long.ensures lawful;
+      same_disk = rw c.into_disk-in-Long.ensures went;
+      disk_cause = λ is. absurd (cc is);
+      stream_cause = λ is. absurd (cc is);
+      short = λ b source done. absurd (cc done);
+      long = λ b source is. not_short b _ _ _ c.turns.lines _ _ (Turned-source i.turned source).going _ c.take_turn.new.lines turn.0 turn.1 turn.2 i.limit;
+      opened = (λ is. cc is, λ is. cc is);
+      no_other = (λ is. cc is, λ is. cc is);
+    }
 
 -- a call stopped the session
-pub returns-in-Halts-clause-answering : goal.returns-in-Halts-clause-answering
-returns-in-Halts-clause-answering g c m b t stands source sink =
+pub returns-in-Halts : goal.returns-in-Halts
+returns-in-Halts g c =
     let i = c.turns.invariant in
     let turn = c.in-Halts.ensures.turns in
-    let turned = Turned-told i.turned source sink in
-    let why : c.in-Halts.halt ≡ halt.Disk = c.in-Halts.ensures.sound _ c.in-Halts.halt (turned.going.stands m stands) refl in
-    let is : c.stop.result ≡ status.DiskFault = c.stop.ensures.status ∙ ap status_of why in
-    let line : Puts (Rose (g.K.Sink.faults c.turns.sink) (g.K.Sink.faults c.stop.new.sink)) (g.K.Sink.took c.turns.sink) (g.K.Sink.took c.stop.new.sink) (last_line cause.DiskFault) =
-    subst (λ (h : Halt). Puts (Rose (g.K.Sink.faults c.turns.sink) (g.K.Sink.faults c.stop.new.sink)) (g.K.Sink.took c.turns.sink) (g.K.Sink.took c.stop.new.sink) (last_line (cause_of h))) why c.stop.ensures.line in
-    let has = halt_files m turned stands turn.0 turn.2 turn.3 turn.4 (λ n stands. stands.session.stands.is.by.machine) in
-    rw is
-    (Run-disk m b t _ _ c.turns.lines _ _ turned.going stands _ (HasFilesAt m (reading b) (g.D.Disk.state c.into_disk-in-Halts.result)) (g.S.Source.left c.take_turn.new.source) _ turn.0
-    (Puts-later _ _ _ _ _ (rose_later _ _ _ i.sink) line) has.0 (rw c.into_disk-in-Halts.ensures has.1))
-
-pub returns-in-Halts-clause-moments : goal.returns-in-Halts-clause-moments
-returns-in-Halts-clause-moments g c m b stands source =
-    let turn = c.in-Halts.ensures.turns in
-    let turned = Turned-source c.turns.invariant.turned source in
-    rw c.into_disk-in-Halts.ensures (line_moments m turned stands turn.0 turn.2 turn.3 turn.4)
-
-pub returns-in-Halts-clause-closed : goal.returns-in-Halts-clause-closed
-returns-in-Halts-clause-closed g c m b stands source done going = absurd (halt_not_done c.in-Halts.halt c.stop.result c.stop.ensures.status done)
-
-pub returns-in-Halts-clause-closed_unheard : goal.returns-in-Halts-clause-closed_unheard
-returns-in-Halts-clause-closed_unheard g c m b stands source is heard left closed = absurd (halt_not_stream c.in-Halts.halt c.stop.result c.stop.ensures.status is)
-
-pub returns-in-Halts-clause-stays_open : goal.returns-in-Halts-clause-stays_open
-returns-in-Halts-clause-stays_open g c b left source early = rw c.into_disk-in-Halts.ensures (unset_then (c.turns.invariant.left_open left) c.take_turn.ensures.wrote)
-
-pub returns-in-Halts-clause-untaken : goal.returns-in-Halts-clause-untaken
-returns-in-Halts-clause-untaken g c b left source is some = rw c.into_disk-in-Halts.ensures (unset_then (c.turns.invariant.left_open left) c.take_turn.ensures.wrote)
-
-pub returns-in-Halts-clause-left_open : goal.returns-in-Halts-clause-left_open
-returns-in-Halts-clause-left_open g c left is = rw c.into_disk-in-Halts.ensures (unset_then (c.turns.invariant.left_open left) c.take_turn.ensures.wrote)
-
-pub returns-in-Halts-clause-damage : goal.returns-in-Halts-clause-damage
-returns-in-Halts-clause-damage g c t left sink is =
-    let i = c.turns.invariant in
-    let why = halt_evidence c.in-Halts.halt c.stop.result c.stop.ensures.status is in
-    let disk = disk_of g c.take_turn.new.session in
-    let so : IsSo disk why.0 = subst (λ (h : Halt). ShowsSo disk h) why.1 (c.in-Halts.ensures.so c.in-Halts.halt refl) in
-    rw c.into_disk-in-Halts.ensures
-    (damage_told _ _ _ _ t c.turns.lines _ _ _ why.0 disk so (unset_then (i.left_open left) c.take_turn.ensures.wrote) (Going-sink _ _ _ _ _ _ _ t i.turned.going sink)
-    (Puts-later _ _ _ _ _ (rose_later _ _ _ i.sink)
-    (subst (λ (h : Halt). Puts (Rose (g.K.Sink.faults c.turns.sink) (g.K.Sink.faults c.stop.new.sink)) (g.K.Sink.took c.turns.sink) (g.K.Sink.took c.stop.new.sink) (last_line (cause_of h))) why.1 c.stop.ensures.line)))
-
-pub returns-in-Halts-clause-damage_behind : goal.returns-in-Halts-clause-damage_behind
-returns-in-Halts-clause-damage_behind g c b t left source sink is =
-    let i = c.turns.invariant in
-    let why = halt_evidence c.in-Halts.halt c.stop.result c.stop.ensures.status is in
-    let disk = disk_of g c.take_turn.new.session in
-    let so : IsSo disk why.0 = subst (λ (h : Halt). ShowsSo disk h) why.1 (c.in-Halts.ensures.so c.in-Halts.halt refl) in
-    let going = Going-told _ _ _ _ _ _ _ b t i.turned.going source sink in
-    let front = told_front b _ c.turns.lines going.lines going.read c.in-Halts.ensures.turns.0 in
-    rw c.into_disk-in-Halts.ensures
-    (damage_behind b _ _ _ t c.turns.lines _ _ _ why.0 disk so (unset_then (i.left_open left) c.take_turn.ensures.wrote) going
-    (Puts-later _ _ _ _ _ (rose_later _ _ _ i.sink)
-    (subst (λ (h : Halt). Puts (Rose (g.K.Sink.faults c.turns.sink) (g.K.Sink.faults c.stop.new.sink)) (g.K.Sink.took c.turns.sink) (g.K.Sink.took c.stop.new.sink) (last_line (cause_of h))) why.1 c.stop.ensures.line))
-    front.0 front.1)
-
-pub returns-in-Halts-clause-lawful : goal.returns-in-Halts-clause-lawful
-returns-in-Halts-clause-lawful g c = rw c.into_disk-in-Halts.ensures (openly_last (openly_then c.turns.invariant.turned.lawful (called_openly c.take_turn.ensures.wrote)))
-
-pub returns-in-Halts-clause-short : goal.returns-in-Halts-clause-short
-returns-in-Halts-clause-short g c b source done = absurd (halt_not_done c.in-Halts.halt c.stop.result c.stop.ensures.status done)
+    let stopped = c.stop.ensures.status in
+    let other = halt_ends c.in-Halts.halt c.stop.result stopped in
+    let lawful = openly_last (openly_then i.turned.lawful (called_openly c.take_turn.ensures.wrote)) in
+    let went = went_then i.same_disk c.take_turn.ensures.wrote.makes.went in
+    record {
+      answering = λ m b t stands source sink.
+          let turned = Turned-told i.turned source sink in
+          let why : c.in-Halts.halt ≡ halt.Disk = c.in-Halts.ensures.sound _ c.in-Halts.halt (turned.going.stands m stands) refl in
+          let is : c.stop.result ≡ status.DiskFault = stopped ∙ ap status_of why in
+          let line : PutsLast g c.turns.sink c.stop.new.sink cause.DiskFault = subst (λ (h : Halt). PutsLast g c.turns.sink c.stop.new.sink (cause_of h)) why c.stop.ensures.line in
+          let has = halt_files m turned stands turn.0 turn.2 turn.3 turn.4 (λ n stands. stands.session.stands.is.by.machine) in
+          rw is
+          (Run-disk m b t _ _ c.turns.lines _ _ turned.going stands _ (HasFilesAt m (reading b) (g.D.Disk.state c.into_disk-in-Halts.result)) (g.S.Source.left c.take_turn.new.source) _ turn.0
+          (Puts-later _ _ _ _ _ (rose_later _ _ _ i.sink) line) has.0 (rw c.into_disk-in-Halts.ensures has.1));
+      replied = λ b t left source sink.
+          let going = Going-told _ _ _ _ _ _ _ b t i.turned.going source sink in
+          let front = told_front b _ c.turns.lines going.lines going.read turn.0 in
+          rw c.into_disk-in-Halts.ensures
+          (Replied-halted b t going _ (disk_of g c.take_turn.new.session) c.stop.result c.in-Halts.halt (g.S.Source.left c.take_turn.new.source) _ front.0 front.1 stopped
+          (c.in-Halts.ensures.so c.in-Halts.halt refl) (unset_then (i.left_open left) c.take_turn.ensures.wrote)
+          (Puts-later _ _ _ _ _ (rose_later _ _ _ i.sink) c.stop.ensures.line));
+      moments = λ m b stands source. rw c.into_disk-in-Halts.ensures (line_moments m (Turned-source i.turned source) stands turn.0 turn.2 turn.3 turn.4);
+      closed = λ m b stands source done going. absurd (other.0 done);
+      closed_unheard = λ m b stands source is heard left closed. absurd (other.1 is);
+      some_moments = λ m stands. rw c.into_disk-in-Halts.ensures (_, more_moments i.turned turn.4 m stands);
+      stays_open = λ b left source early. rw c.into_disk-in-Halts.ensures (unset_then (i.left_open left) c.take_turn.ensures.wrote);
+      untaken = λ b left source is some. absurd (other.1 is);
+      left_open = λ left is. rw c.into_disk-in-Halts.ensures (unset_then (i.left_open left) c.take_turn.ensures.wrote);
+      transfers = λ m b stands source. rw c.into_disk-in-Halts.ensures (line_spends m (Turned-source i.turned source) stands turn.0 turn.2 turn.3 i.same_disk.sectors turn.4);
+      -- no session that stood for a machine stops at a damaged volume
+      sound = λ m stands is. halt_not_damaged c.in-Halts.halt c.stop.result stopped (c.in-Halts.ensures.sound _ c.in-Halts.halt (i.turned.going.stands m stands) refl) is;
+      damage = λ t left sink is.
+          let why = halt_evidence c.in-Halts.halt c.stop.result stopped is in
+          let disk = disk_of g c.take_turn.new.session in
+          let so : IsSo disk why.0 = subst (λ (h : Halt). ShowsSo disk h) why.1 (c.in-Halts.ensures.so c.in-Halts.halt refl) in
+          rw c.into_disk-in-Halts.ensures
+          (damage_told _ _ _ _ t c.turns.lines _ _ _ why.0 disk so (unset_then (i.left_open left) c.take_turn.ensures.wrote) (Going-sink _ _ _ _ _ _ _ t i.turned.going sink)
+          (Puts-later _ _ _ _ _ (rose_later _ _ _ i.sink) (subst (λ (h : Halt). PutsLast g c.turns.sink c.stop.new.sink (cause_of h)) why.1 c.stop.ensures.line)));
+      lawful = rw c.into_disk-in-Halts.ensures lawful;
+      same_disk = rw c.into_disk-in-Halts.ensures went;
+      disk_cause = λ is.
+          let why = halt_disk c.in-Halts.halt c.stop.result stopped is in
+          rw c.into_disk-in-Halts.ensures (rose_later _ _ _ i.same_disk.faults (c.in-Halts.ensures.counted (ap (λ (h : Halt). Halts h) why)));
+      stream_cause = λ is. absurd (other.1 is);
+      short = λ b source done. absurd (other.0 done);
+      long = λ b source is. absurd (other.2 is);
+      opened = (other.3, other.4);
+      no_other = (other.5, other.6);
+    }
 
 -- the trace is at its end
-pub returns-in-Ends-clause-answering : goal.returns-in-Ends-clause-answering
-returns-in-Ends-clause-answering g c m b t stands source sink =
+pub returns-in-Ends : goal.returns-in-Ends
+returns-in-Ends g c =
     let i = c.turns.invariant in
     let e = c.end_trace.ensures in
+    let ended = c.in-Ends.ensures.turns in
     let same : c.take_turn.new.session ≡ c.turns.session = c.in-Ends.ensures.idle tt in
-    let turned = Turned-same {S = Sessions g} (disk_of g) (stands_of g) same (Turned-told i.turned source sink) in
-    let there = turned.going.stands m stands in
-    let told = stop_told _ (e.stops _ there) in
+    let stands_still = Turned-same {S = Sessions g} (disk_of g) (stands_of g) same i.turned in
     let disk = g.D.Disk.state c.end_trace.result.1 in
-    End-answering m b t _ _ c.turns.lines _ _ turned.going stands _ (HasFilesAt m (reading b) disk) c.end_trace.result.0 c.in-Ends.end _ _ c.take_turn.new.lines c.in-Ends.ensures.turns
-    (three_ways c.end_trace.result.0 e.ends (e.sound _ there)) e.done e.part
-    (λ is. (rose_later _ _ _ i.sink (e.stream_cause is).0, (e.stream_cause is).1))
-    (λ is. Puts-later _ _ _ _ _ (rose_later _ _ _ i.sink) (e.disk_line is))
-    (λ well. End-has m b _ _ _ c.turns.lines _ _ turned.going disk told c.in-Ends.end _ c.take_turn.new.lines c.in-Ends.ensures.turns (λ other. e.closed _ there other well))
-    (stopped_files m turned stands disk told)
-
-pub returns-in-Ends-clause-moments : goal.returns-in-Ends-clause-moments
-returns-in-Ends-clause-moments g c m b stands source =
-    let same : c.take_turn.new.session ≡ c.turns.session = c.in-Ends.ensures.idle tt in
-    let turned = Turned-same {S = Sessions g} (disk_of g) (stands_of g) same (Turned-source c.turns.invariant.turned source) in
-    end_moments m turned stands _ (c.end_trace.ensures.stops _ (turned.going.stands m stands))
-
-pub returns-in-Ends-clause-closed : goal.returns-in-Ends-clause-closed
-returns-in-Ends-clause-closed g c m b stands source done going =
-    let same : c.take_turn.new.session ≡ c.turns.session = c.in-Ends.ensures.idle tt in
-    let turned = Turned-same {S = Sessions g} (disk_of g) (stands_of g) same (Turned-source c.turns.invariant.turned source) in
-    end_closed m turned stands _ c.in-Ends.end _ c.take_turn.new.lines c.in-Ends.ensures.turns going (λ other. c.end_trace.ensures.closed _ (turned.going.stands m stands) other (inl done))
-
-pub returns-in-Ends-clause-closed_unheard : goal.returns-in-Ends-clause-closed_unheard
-returns-in-Ends-clause-closed_unheard g c m b stands source is heard left closed =
-    let same : c.take_turn.new.session ≡ c.turns.session = c.in-Ends.ensures.idle tt in
-    let turned = Turned-same {S = Sessions g} (disk_of g) (stands_of g) same (Turned-source c.turns.invariant.turned source) in
-    end_unheard m turned stands _ c.in-Ends.end _ c.take_turn.new.lines c.in-Ends.ensures.turns closed (λ other. c.end_trace.ensures.closed _ (turned.going.stands m stands) other (inr is))
-
-pub returns-in-Ends-clause-stays_open : goal.returns-in-Ends-clause-stays_open
-returns-in-Ends-clause-stays_open g c b left source early =
-    let e = c.end_trace.ensures in
-    let turned = Turned-source c.turns.invariant.turned source in
-    let now = unset_then (c.turns.invariant.left_open left) c.take_turn.ensures.wrote in
-    let ended = early_halt b _ _ _ c.turns.lines _ _ turned.going c.end_trace.result.0 c.in-Ends.end _ c.take_turn.new.lines c.in-Ends.ensures.turns e.ends (λ is. (e.stream_cause is).1) early in
-    elim ended [ inl halted ↦ rw (e.halted halted) now | inr damaged ↦ e.left_open now damaged ]
-
-pub returns-in-Ends-clause-untaken : goal.returns-in-Ends-clause-untaken
-returns-in-Ends-clause-untaken g c b left source is some =
-    let turned = Turned-source c.turns.invariant.turned source in
-    absurd (some (End-rest b _ _ _ c.turns.lines _ _ turned.going c.in-Ends.end _ c.take_turn.new.lines c.in-Ends.ensures.turns))
-
-pub returns-in-Ends-clause-left_open : goal.returns-in-Ends-clause-left_open
-returns-in-Ends-clause-left_open g c left is = elim is [
-  | inl long ↦ elim c.end_trace.ensures.ends [
-    | inl done ↦ absurd (let e = sym done ∙ long in cc e)
-    | inr (inl stream) ↦ absurd (let e = sym stream ∙ long in cc e)
-    | inr (inr (inl disk)) ↦ absurd (let e = sym disk ∙ long in cc e)
-    | inr (inr (inr damaged)) ↦ absurd (let e = sym damaged ∙ long in cc e)
-  ]
-  | inr damaged ↦ c.end_trace.ensures.left_open (unset_then (c.turns.invariant.left_open left) c.take_turn.ensures.wrote) damaged
-]
-
-pub returns-in-Ends-clause-lawful : goal.returns-in-Ends-clause-lawful
-returns-in-Ends-clause-lawful g c = ended_last (openly_then c.turns.invariant.turned.lawful (called_openly c.take_turn.ensures.wrote)) c.end_trace.ensures.wrote
-
-pub returns-in-Ends-clause-short : goal.returns-in-Ends-clause-short
-returns-in-Ends-clause-short g c b source done =
-    let turned = Turned-source c.turns.invariant.turned source in
-    End-short b _ _ _ c.turns.lines _ _ turned.going c.in-Ends.end _ c.take_turn.new.lines c.in-Ends.ensures.turns c.turns.invariant.limit
-
--- no session that stood for a machine stops at a damaged volume
-pub returns-in-Halts-clause-sound : goal.returns-in-Halts-clause-sound
-returns-in-Halts-clause-sound g c m stands is =
-    let turned = c.turns.invariant.turned in
-    let why : c.in-Halts.halt ≡ halt.Disk = c.in-Halts.ensures.sound _ c.in-Halts.halt (turned.going.stands m stands) refl in
-    halt_not_damaged c.in-Halts.halt c.stop.result (c.stop.ensures.status) why is
-
-pub returns-in-Ends-clause-sound : goal.returns-in-Ends-clause-sound
-returns-in-Ends-clause-sound g c m stands =
-    let same : c.take_turn.new.session ≡ c.turns.session = c.in-Ends.ensures.idle tt in
-    let turned = Turned-same {S = Sessions g} (disk_of g) (stands_of g) same c.turns.invariant.turned in
-    c.end_trace.ensures.sound _ (turned.going.stands m stands)
-
-pub returns-in-Ends-clause-damage : goal.returns-in-Ends-clause-damage
-returns-in-Ends-clause-damage g c t left sink is =
-    let i = c.turns.invariant in
-    let line = c.end_trace.ensures.damage_line is in
-    let open_still = c.end_trace.ensures.left_open (unset_then (i.left_open left) c.take_turn.ensures.wrote) is in
-    damage_told _ _ _ _ t c.turns.lines _ _ _ line.0 (g.D.Disk.state c.end_trace.result.1) line.1 open_still (Going-sink _ _ _ _ _ _ _ t i.turned.going sink) (Puts-later _ _ _ _ _ (rose_later _ _ _ i.sink) line.2)
-
-pub returns-in-Ends-clause-damage_behind : goal.returns-in-Ends-clause-damage_behind
-returns-in-Ends-clause-damage_behind g c b t left source sink is =
-    let i = c.turns.invariant in
-    let line = c.end_trace.ensures.damage_line is in
-    let open_still = c.end_trace.ensures.left_open (unset_then (i.left_open left) c.take_turn.ensures.wrote) is in
-    let going = Going-told _ _ _ _ _ _ _ b t i.turned.going source sink in
-    let front = End-front b _ _ _ c.turns.lines _ _ going c.in-Ends.end _ c.take_turn.new.lines c.in-Ends.ensures.turns in
-    damage_behind b _ _ _ t c.turns.lines _ _ _ line.0 (g.D.Disk.state c.end_trace.result.1) line.1 open_still going (Puts-later _ _ _ _ _ (rose_later _ _ _ i.sink) line.2) front.0 front.1
-
--- the disk is handed back
-pub returns-in_default-clause-same_disk : goal.returns-in_default-clause-same_disk
-returns-in_default-clause-same_disk g c = rw c.into_disk.ensures (went_then c.turns.invariant.same_disk c.take_turn.ensures.wrote.makes.went)
-
-pub returns-in-ReadFault-clause-same_disk : goal.returns-in-ReadFault-clause-same_disk
-returns-in-ReadFault-clause-same_disk g c = rw c.into_disk-in-ReadFault.ensures (went_then c.turns.invariant.same_disk c.take_turn.ensures.wrote.makes.went)
-
-pub returns-in-Long-clause-same_disk : goal.returns-in-Long-clause-same_disk
-returns-in-Long-clause-same_disk g c = rw c.into_disk-in-Long.ensures (went_then c.turns.invariant.same_disk c.take_turn.ensures.wrote.makes.went)
-
-pub returns-in-Halts-clause-same_disk : goal.returns-in-Halts-clause-same_disk
-returns-in-Halts-clause-same_disk g c = rw c.into_disk-in-Halts.ensures (went_then c.turns.invariant.same_disk c.take_turn.ensures.wrote.makes.went)
-
-pub returns-in-Ends-clause-same_disk : goal.returns-in-Ends-clause-same_disk
-returns-in-Ends-clause-same_disk g c = went_then (went_then c.turns.invariant.same_disk c.take_turn.ensures.wrote.makes.went) c.end_trace.ensures.wrote.went
-
--- the moments of the lines that were read, whether or not the source tells its bytes
-pub returns-in_default-clause-some_moments : goal.returns-in_default-clause-some_moments
-returns-in_default-clause-some_moments g c m stands =
-    let turn = c.in-Replies.ensures.turns in
-    rw c.into_disk.ensures (_, more_moments c.turns.invariant.turned turn.5 m stands)
-
-pub returns-in-ReadFault-clause-some_moments : goal.returns-in-ReadFault-clause-some_moments
-returns-in-ReadFault-clause-some_moments g c m stands =
-    let same : c.take_turn.new.session ≡ c.turns.session = c.in-ReadFault.ensures.idle tt in
-    rw (c.into_disk-in-ReadFault.ensures, same) (_, c.turns.invariant.turned.along m stands)
-
-pub returns-in-Long-clause-some_moments : goal.returns-in-Long-clause-some_moments
-returns-in-Long-clause-some_moments g c m stands =
-    let same : c.take_turn.new.session ≡ c.turns.session = c.in-Long.ensures.idle tt in
-    rw (c.into_disk-in-Long.ensures, same) (_, c.turns.invariant.turned.along m stands)
-
-pub returns-in-Halts-clause-some_moments : goal.returns-in-Halts-clause-some_moments
-returns-in-Halts-clause-some_moments g c m stands =
-    let turn = c.in-Halts.ensures.turns in
-    rw c.into_disk-in-Halts.ensures (_, more_moments c.turns.invariant.turned turn.4 m stands)
-
-pub returns-in-Ends-clause-some_moments : goal.returns-in-Ends-clause-some_moments
-returns-in-Ends-clause-some_moments g c m stands =
-    let same : c.take_turn.new.session ≡ c.turns.session = c.in-Ends.ensures.idle tt in
-    let turned = Turned-same {S = Sessions g} (disk_of g) (stands_of g) same c.turns.invariant.turned in
-    (_, ended_moments turned m stands (c.end_trace.ensures.stops _ (turned.going.stands m stands)))
-
--- the sum of what the lines cost
-pub returns-in_default-clause-transfers : goal.returns-in_default-clause-transfers
-returns-in_default-clause-transfers g c m b stands source =
-    let turn = c.in-Replies.ensures.turns in
-    let turned = Turned-source c.turns.invariant.turned source in
-    rw c.into_disk.ensures (line_spends m turned stands turn.0 turn.2 turn.4 c.turns.invariant.same_disk.sectors turn.5)
-
-pub returns-in-ReadFault-clause-transfers : goal.returns-in-ReadFault-clause-transfers
-returns-in-ReadFault-clause-transfers g c m b stands source =
-    let same : c.take_turn.new.session ≡ c.turns.session = c.in-ReadFault.ensures.idle tt in
-    rw (c.into_disk-in-ReadFault.ensures, same) (still_spends m (Turned-source c.turns.invariant.turned source) stands)
-
-pub returns-in-Long-clause-transfers : goal.returns-in-Long-clause-transfers
-returns-in-Long-clause-transfers g c m b stands source =
-    let same : c.take_turn.new.session ≡ c.turns.session = c.in-Long.ensures.idle tt in
-    rw (c.into_disk-in-Long.ensures, same) (still_spends m (Turned-source c.turns.invariant.turned source) stands)
-
-pub returns-in-Halts-clause-transfers : goal.returns-in-Halts-clause-transfers
-returns-in-Halts-clause-transfers g c m b stands source =
-    let turn = c.in-Halts.ensures.turns in
-    let turned = Turned-source c.turns.invariant.turned source in
-    rw c.into_disk-in-Halts.ensures (line_spends m turned stands turn.0 turn.2 turn.3 c.turns.invariant.same_disk.sectors turn.4)
-
-pub returns-in-Ends-clause-transfers : goal.returns-in-Ends-clause-transfers
-returns-in-Ends-clause-transfers g c m b stands source =
-    let same : c.take_turn.new.session ≡ c.turns.session = c.in-Ends.ensures.idle tt in
-    let turned = Turned-same {S = Sessions g} (disk_of g) (stands_of g) same (Turned-source c.turns.invariant.turned source) in
-    let sectors = (went_then c.turns.invariant.same_disk c.take_turn.ensures.wrote.makes.went).sectors in
-    end_spent m turned stands (g.D.Disk.state c.end_trace.result.1) sectors (c.end_trace.ensures.cost _ (turned.going.stands m stands))
+    let went = went_then i.same_disk c.take_turn.ensures.wrote.makes.went in
+    let other = trace_ends c.end_trace.result.0 e.ends in
+    record {
+      answering = λ m b t stands source sink.
+          let turned = Turned-told stands_still source sink in
+          let there = turned.going.stands m stands in
+          let told = stop_told _ (e.stops _ there) in
+          End-answering m b t _ _ c.turns.lines _ _ turned.going stands _ (HasFilesAt m (reading b) disk) c.end_trace.result.0 c.in-Ends.end _ _ c.take_turn.new.lines ended
+          (three_ways c.end_trace.result.0 e.ends (e.sound _ there)) e.done e.part
+          (λ is. (rose_later _ _ _ i.sink (e.stream_cause is).0, (e.stream_cause is).1))
+          (λ is. Puts-later _ _ _ _ _ (rose_later _ _ _ i.sink) (e.disk_line is))
+          (λ well. End-has m b _ _ _ c.turns.lines _ _ turned.going disk told c.in-Ends.end _ c.take_turn.new.lines ended (λ other. e.closed _ there other well))
+          (stopped_files m turned stands disk told);
+      replied = λ b t left source sink.
+          Replied-end b t (Going-told _ _ _ _ _ _ _ b t i.turned.going source sink) _ disk c.end_trace.result.0 c.in-Ends.end (g.S.Source.left c.take_turn.new.source) _ c.take_turn.new.lines ended e.ends e.done e.part
+          (λ is. (rose_later _ _ _ i.sink (e.stream_cause is).0, (e.stream_cause is).1))
+          (λ is. Puts-later _ _ _ _ _ (rose_later _ _ _ i.sink) (e.disk_line is))
+          (λ is. let line = e.damage_line is in (line.0, line.1, Puts-later _ _ _ _ _ (rose_later _ _ _ i.sink) line.2))
+          (λ is. e.left_open (unset_then (i.left_open left) c.take_turn.ensures.wrote) is);
+      moments = λ m b stands source. let turned = Turned-source stands_still source in end_moments m turned stands _ (e.stops _ (turned.going.stands m stands));
+      closed = λ m b stands source done going.
+          let turned = Turned-source stands_still source in
+          end_closed m turned stands _ c.in-Ends.end _ c.take_turn.new.lines ended going (λ other. e.closed _ (turned.going.stands m stands) other (inl done));
+      closed_unheard = λ m b stands source is heard left closed.
+          let turned = Turned-source stands_still source in
+          end_unheard m turned stands _ c.in-Ends.end _ c.take_turn.new.lines ended closed (λ other. e.closed _ (turned.going.stands m stands) other (inr is));
+      some_moments = λ m stands. (_, ended_moments stands_still m stands (e.stops _ (stands_still.going.stands m stands)));
+      stays_open = λ b left source early.
+          let now = unset_then (i.left_open left) c.take_turn.ensures.wrote in
+          let turned = Turned-source i.turned source in
+          elim (early_halt b _ _ _ c.turns.lines _ _ turned.going c.end_trace.result.0 c.in-Ends.end _ c.take_turn.new.lines ended e.ends (λ is. (e.stream_cause is).1) early) [
+            | inl halted ↦ rw (e.halted halted) now
+            | inr damaged ↦ e.left_open now damaged
+          ];
+      untaken = λ b left source is some. absurd (some (End-rest b _ _ _ c.turns.lines _ _ (Turned-source i.turned source).going c.in-Ends.end _ c.take_turn.new.lines ended));
+      left_open = λ left is. elim is [
+        | inl long ↦ absurd (other.0 long)
+        | inr damaged ↦ e.left_open (unset_then (i.left_open left) c.take_turn.ensures.wrote) damaged
+      ];
+      transfers = λ m b stands source. let turned = Turned-source stands_still source in end_spent m turned stands disk went.sectors (e.cost _ (turned.going.stands m stands));
+      sound = λ m stands. e.sound _ (stands_still.going.stands m stands);
+      damage = λ t left sink is.
+          let line = e.damage_line is in
+          let open_still = e.left_open (unset_then (i.left_open left) c.take_turn.ensures.wrote) is in
+          damage_told _ _ _ _ t c.turns.lines _ _ _ line.0 disk line.1 open_still (Going-sink _ _ _ _ _ _ _ t i.turned.going sink) (Puts-later _ _ _ _ _ (rose_later _ _ _ i.sink) line.2);
+      lawful = ended_last (openly_then i.turned.lawful (called_openly c.take_turn.ensures.wrote)) e.wrote;
+      same_disk = went_then went e.wrote.went;
+      disk_cause = λ is. rose_later _ _ _ went.faults (e.disk_cause is);
+      stream_cause = λ is. inr (rose_later _ _ _ i.sink (e.stream_cause is).0);
+      short = λ b source done. End-short b _ _ _ c.turns.lines _ _ (Turned-source i.turned source).going c.in-Ends.end _ c.take_turn.new.lines ended i.limit;
+      long = λ b source is. absurd (other.0 is);
+      opened = (other.1, other.2);
+      no_other = (other.3, other.4);
+    }

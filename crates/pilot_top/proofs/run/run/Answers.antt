@@ -6,7 +6,7 @@ use Rattle.pilot_top.specs.Headline.{EndsEarly}
 use Rattle.pilot_top.specs.declared.status.Status.{Status}
 use Rattle.pilot_top.proofs.CostLemmas.{run_spends, start_spends}
 use Rattle.pilot_top.proofs.LawfulRuns.{ran_lawfully, started_lawfully}
-use Rattle.pilot_top.proofs.RunLemmas.{run_of, not_sound, not_done, left_early, run_refused, damage_first, refused_why, refused_line, refused_ends, is_early}
+use Rattle.pilot_top.proofs.RunLemmas.{run_of, not_sound, not_done, left_early, run_refused, damage_first, replied_refused, refused_why, refused_line, refused_ends, is_early}
 use Rattle.pilot_top.proofs.StagedLemmas.{from_start, moments_before, moments_then}
 use Rattle.pilot_top.proofs.run.run.Goals as goal
 
@@ -47,8 +47,8 @@ returns-in-Ok-clause-left_open g c is = c.answer_lines.ensures.left_open c.in-Ok
 pub returns-in-Ok-clause-damage : goal.returns-in-Ok-clause-damage
 returns-in-Ok-clause-damage g c t sink is = c.answer_lines.ensures.damage t c.in-Ok.ensures.left_open sink is
 
-pub returns-in-Ok-clause-damage_behind : goal.returns-in-Ok-clause-damage_behind
-returns-in-Ok-clause-damage_behind g c b t source sink is = c.answer_lines.ensures.damage_behind b t c.in-Ok.ensures.left_open source sink is
+pub returns-in-Ok-clause-replied : goal.returns-in-Ok-clause-replied
+returns-in-Ok-clause-replied g c b t source sink = c.answer_lines.ensures.replied b t c.in-Ok.ensures.left_open source sink
 
 pub returns-in-Ok-clause-sound : goal.returns-in-Ok-clause-sound
 returns-in-Ok-clause-sound g c d told sound = (c.answer_lines.ensures.opened.1, c.answer_lines.ensures.sound (start d) (c.in-Ok.ensures.stands d told sound))
@@ -104,11 +104,11 @@ returns-in-Err-clause-sound g c d told sound = not_sound c.in-Err.fault c.refuse
 
 pub returns-in-Err-clause-damage : goal.returns-in-Err-clause-damage
 returns-in-Err-clause-damage g c t sink is =
-    (damage_first c.in-Err.fault c.refuse.result _ _ g.K.Sink.took _ c.refuse.ensures.stops (g.D.Disk.state c.in-Err.disk) c.in-Err.ensures.so c.in-Err.ensures.left_open t sink is []).0
+    damage_first c.in-Err.fault c.refuse.result _ _ g.K.Sink.took _ c.refuse.ensures.stops (g.D.Disk.state c.in-Err.disk) c.in-Err.ensures.so c.in-Err.ensures.left_open t sink is
 
-pub returns-in-Err-clause-damage_behind : goal.returns-in-Err-clause-damage_behind
-returns-in-Err-clause-damage_behind g c b t source sink is =
-    damage_first c.in-Err.fault c.refuse.result _ _ g.K.Sink.took _ c.refuse.ensures.stops (g.D.Disk.state c.in-Err.disk) c.in-Err.ensures.so c.in-Err.ensures.left_open t sink is (reading b)
+pub returns-in-Err-clause-replied : goal.returns-in-Err-clause-replied
+returns-in-Err-clause-replied g c b t source sink =
+    replied_refused c.in-Err.fault c.refuse.result _ _ g.K.Sink.took _ c.refuse.ensures.stops b t _ (g.D.Disk.state c.in-Err.disk) c.in-Err.ensures.so c.in-Err.ensures.left_open source sink
 
 pub returns-in-Err-clause-lawful : goal.returns-in-Err-clause-lawful
 returns-in-Err-clause-lawful g c = started_lawfully c.in-Err.ensures.wrote

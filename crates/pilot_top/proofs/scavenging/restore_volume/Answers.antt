@@ -4,8 +4,9 @@ use Rattle.labelled_disk.specs.Calls.{Rose}
 use Rattle.trace_io.specs.Stream.{AppendsFront}
 use Rattle.scavenger.specs.declared.fault.ScavengeFault.{ScavengeFault}
 use Rattle.pilot_top.specs.Last.{last_line, Puts}
+use Rattle.pilot_top.specs.Reporting.{report_text}
 use Rattle.pilot_top.specs.declared.last.Cause.TheVariants as cause
-use Rattle.pilot_top.proofs.ReportingLemmas.{text_is}
+use Rattle.pilot_top.proofs.ReportingLemmas.{of_report, text_is}
 use Rattle.pilot_top.proofs.ScavengingLemmas.{not_restored, not_memory, same_root}
 use Rattle.pilot_top.proofs.scavenging.restore_volume.Goals as goal
 
@@ -20,6 +21,12 @@ pub returns-in-Ok-clause-part_of_text : goal.returns-in-Ok-clause-part_of_text
 returns-in-Ok-clause-part_of_text g c is d told =
     subst (λ (t : List ℕ). AppendsFront (g.K.Sink.took c.args.sink.now) (g.K.Sink.took c.put_report.new.sink) t) (text_is d c.in-Ok.report (c.in-Ok.ensures.reports d told))
     c.in-Err-put_report.ensures.err
+
+pub returns-in-Ok-put_report-clause-some_text : goal.returns-in-Ok-put_report-clause-some_text
+returns-in-Ok-put_report-clause-some_text g c done = (report_text c.in-Ok.report, of_report c.in-Ok.report, c.in-Ok-put_report.ensures.ok)
+
+pub returns-in-Ok-clause-some_front : goal.returns-in-Ok-clause-some_front
+returns-in-Ok-clause-some_front g c failed = let put = c.in-Err-put_report.ensures.err in (report_text c.in-Ok.report, of_report c.in-Ok.report, put.0, put.1, put.2)
 
 -- the root is refused
 pub returns-in-Root-clause-count : goal.returns-in-Root-clause-count

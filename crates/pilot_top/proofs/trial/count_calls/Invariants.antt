@@ -1,5 +1,5 @@
 -- The first of the drawn calls were answered, and their replies are counted.
-use Rattle.std.proofs.Common.{◌≡◌, ◌*◌, ◌≤◌, true, List}
+use Rattle.std.proofs.Common.{◌≡◌, ◌*◌, ◌≤◌, true, List, length}
 use Rattle.flat_machine.specs.declared.call.Reply.{Reply}
 use Rattle.flat_machine.specs.Machine.{Machine}
 use Rattle.swapper_kernel.specs.Goes.{Went}
@@ -13,8 +13,8 @@ use Rattle.pilot_top.proofs.trial.count_calls.Given as goal
 
 abbrev pub invariant-loop : goal.invariant-loop
 invariant-loop g l = record {
-  answered : (m : Machine) → Runs l.fn.session.core l.fn.session.volume m
-      → (replies : List Reply) × AreOf l.counts replies × HasAnswered m (drawn_calls l.seed l.counter) replies (Runs l.session.core l.session.volume);
+  answered : (replies : List Reply) × AreOf l.counts replies × (length replies ≡ l.counter)
+      × ((m : Machine) → Runs l.fn.session.core l.fn.session.volume m → HasAnswered m (drawn_calls l.seed l.counter) replies (Runs l.session.core l.session.volume));
   drawn : IsAt l.maker l.seed l.counter;
   errors : l.counts.errors ≤ l.counter;
   loaded : l.counts.loaded ≤ 64 * l.counter;

@@ -7,10 +7,14 @@ use Rattle.pilot_top.proofs.TrialFiles.{none_left}
 use Rattle.pilot_top.proofs.trial.run_trial.Goals as goal
 
 pub returns-in-Ok-clause-line : goal.returns-in-Ok-clause-line
-returns-in-Ok-clause-line g c = λ d told done. c.try_session.ensures.line (empty_volume (g.D.Disk.state c.args.disk).sectors) (c.in-Ok.ensures.stands d told) done
+returns-in-Ok-clause-line g c = λ done.
+    let all = c.try_session.ensures.line done in
+    (all.0, all.1, λ d told. all.2 (empty_volume (g.D.Disk.state c.args.disk).sectors) (c.in-Ok.ensures.stands d told), all.3)
 
 pub returns-in-Ok-clause-part_of_line : goal.returns-in-Ok-clause-part_of_line
-returns-in-Ok-clause-part_of_line g c = λ d told failed. c.try_session.ensures.part_of_line (empty_volume (g.D.Disk.state c.args.disk).sectors) (c.in-Ok.ensures.stands d told) failed
+returns-in-Ok-clause-part_of_line g c = λ failed.
+    let all = c.try_session.ensures.part_of_line failed in
+    (all.0, all.1, λ d told. all.2 (empty_volume (g.D.Disk.state c.args.disk).sectors) (c.in-Ok.ensures.stands d told), all.3, all.4, all.5)
 
 pub returns-in-Ok-clause-left : goal.returns-in-Ok-clause-left
 returns-in-Ok-clause-left g c = λ d told ends.

@@ -9,10 +9,10 @@ use Rattle.pilot_top.proofs.trial.try_session.Goals as goal
 
 -- a call stopped the session
 pub returns-in-Err-clause-line : goal.returns-in-Err-clause-line
-returns-in-Err-clause-line g c = λ m stands done. absurd (halt_not_done c.in-Err.halt c.stop.result c.stop.ensures.status done)
+returns-in-Err-clause-line g c = λ done. absurd (halt_not_done c.in-Err.halt c.stop.result c.stop.ensures.status done)
 
 pub returns-in-Err-clause-part_of_line : goal.returns-in-Err-clause-part_of_line
-returns-in-Err-clause-part_of_line g c = λ m stands failed. absurd (halt_not_stream c.in-Err.halt c.stop.result c.stop.ensures.status failed)
+returns-in-Err-clause-part_of_line g c = λ failed. absurd (halt_not_stream c.in-Err.halt c.stop.result c.stop.ensures.status failed)
 
 pub returns-in-Err-clause-left : goal.returns-in-Err-clause-left
 returns-in-Err-clause-left g c = λ m stands ends. elim ends [
@@ -32,17 +32,17 @@ returns-in-Err-clause-lawful g c = rw c.into_disk.ensures (openly_last c.try_cal
 
 -- the end of the session failed
 pub returns-in-Some-clause-line : goal.returns-in-Some-clause-line
-returns-in-Some-clause-line g c = λ m stands done. absurd (not_closed c.close-stopped.result.0 c.in-Some.status c.in-Some.is c.close-stopped.ensures.ends (inl done))
+returns-in-Some-clause-line g c = λ done. absurd (not_closed c.close-stopped.result.0 c.in-Some.status c.in-Some.is c.close-stopped.ensures.ends (inl done))
 
 pub returns-in-Some-clause-part_of_line : goal.returns-in-Some-clause-part_of_line
-returns-in-Some-clause-part_of_line g c = λ m stands failed. absurd (not_closed c.close-stopped.result.0 c.in-Some.status c.in-Some.is c.close-stopped.ensures.ends (inr failed))
+returns-in-Some-clause-part_of_line g c = λ failed. absurd (not_closed c.close-stopped.result.0 c.in-Some.status c.in-Some.is c.close-stopped.ensures.ends (inr failed))
 
 pub returns-in-Some-clause-left : goal.returns-in-Some-clause-left
 returns-in-Some-clause-left g c = λ m stands ends. absurd (not_closed c.close-stopped.result.0 c.in-Some.status c.in-Some.is c.close-stopped.ensures.ends ends)
 
 pub returns-in-Some-clause-sound : goal.returns-in-Some-clause-sound
 returns-in-Some-clause-sound g c = λ m stands damaged.
-    c.close-stopped.ensures.sound (after_calls m (first_calls ++ drawn_calls c.args.seed c.args.calls)) (c.in-Ok.ensures.answered m stands).3 (c.in-Some.is ∙ ap (λ (s : Status). Some s) damaged)
+    c.close-stopped.ensures.sound (after_calls m (first_calls ++ drawn_calls c.args.seed c.args.calls)) (c.in-Ok.ensures.answered.3 m stands).1 (c.in-Some.is ∙ ap (λ (s : Status). Some s) damaged)
 
 pub returns-in-Some-clause-damage_line : goal.returns-in-Some-clause-damage_line
 returns-in-Some-clause-damage_line g c = λ damaged. c.close-stopped.ensures.so (c.in-Some.is ∙ ap (λ (s : Status). Some s) damaged)
@@ -55,14 +55,13 @@ pub returns-in-Ok-put-clause-line : goal.returns-in-Ok-put-clause-line
 returns-in-Ok-put-clause-line g c =
     let none : ◌≡◌ {A = Option Status} c.close-stopped.result.0 None = search rules in
     let quiet = c.close-stopped.ensures.quiet none in
-    λ m stands done.
-    let so = c.in-Ok.ensures.answered m stands in
-    (so.0, so.2, line_told g.K.Sink.took c.args.sink.now c.close-stopped.new.sink _ c.deref.result.now (trial_line c.args.calls so.0) quiet (c.deref.ensures.0 ∙ c.line.ensures so.0 so.1) c.in-Ok-put.ensures.ok)
+    let so = c.in-Ok.ensures.answered in
+    λ done. (so.0, so.2, λ m stands. (so.3 m stands).0, line_told g.K.Sink.took c.args.sink.now c.close-stopped.new.sink _ c.deref.result.now (trial_line c.args.calls so.0) quiet (c.deref.ensures.0 ∙ c.line.ensures so.0 so.1) c.in-Ok-put.ensures.ok)
 
 pub returns-in-Ok-put-clause-left : goal.returns-in-Ok-put-clause-left
 returns-in-Ok-put-clause-left g c =
     let none : ◌≡◌ {A = Option Status} c.close-stopped.result.0 None = search rules in
-    λ m stands ends. c.close-stopped.ensures.closed (after_calls m (first_calls ++ drawn_calls c.args.seed c.args.calls)) (c.in-Ok.ensures.answered m stands).3 none
+    λ m stands ends. c.close-stopped.ensures.closed (after_calls m (first_calls ++ drawn_calls c.args.seed c.args.calls)) (c.in-Ok.ensures.answered.3 m stands).1 none
 
 pub returns-in-Ok-put-clause-lawful : goal.returns-in-Ok-put-clause-lawful
 returns-in-Ok-put-clause-lawful g c = ended_last c.try_calls.ensures.lawful c.close-stopped.ensures.wrote
@@ -75,12 +74,12 @@ pub returns-in-Err-put-clause-part_of_line : goal.returns-in-Err-put-clause-part
 returns-in-Err-put-clause-part_of_line g c =
     let none : ◌≡◌ {A = Option Status} c.close-stopped.result.0 None = search rules in
     let quiet = c.close-stopped.ensures.quiet none in
-    λ m stands failed.
-    let so = c.in-Ok.ensures.answered m stands in
+    let so = c.in-Ok.ensures.answered in
+    λ failed.
     let front = front_told g.K.Sink.took c.args.sink.now c.close-stopped.new.sink _ c.deref.result.now (trial_line c.args.calls so.0) quiet (c.deref.ensures.0 ∙ c.line.ensures so.0 so.1) c.in-Err-put.ensures.err in
-    (so.0, so.2, front.0, front.1, front.2)
+    (so.0, so.2, λ m stands. (so.3 m stands).0, front.0, front.1, front.2)
 
 pub returns-in-Err-put-clause-left : goal.returns-in-Err-put-clause-left
 returns-in-Err-put-clause-left g c =
     let none : ◌≡◌ {A = Option Status} c.close-stopped.result.0 None = search rules in
-    λ m stands ends. c.close-stopped.ensures.closed (after_calls m (first_calls ++ drawn_calls c.args.seed c.args.calls)) (c.in-Ok.ensures.answered m stands).3 none
+    λ m stands ends. c.close-stopped.ensures.closed (after_calls m (first_calls ++ drawn_calls c.args.seed c.args.calls)) (c.in-Ok.ensures.answered.3 m stands).1 none

@@ -1,7 +1,6 @@
 use Rattle.std.proofs.Common.{◌≡◌, [], ◌∷◌, false, Some, None, refl, sym, ◌∙◌, subst}
 use Rattle.labelled_disk.specs.declared.evidence.Halt.{Halt}
 use Rattle.filer_kernel.specs.Evidence.{ShowsSo}
-use Rattle.flat_machine.specs.declared.call.Reply.TheVariants as reply
 use Rattle.trace_io.specs.Form.{GivesForm}
 use Rattle.trace_io.specs.Reading.{is_last}
 use Rattle.running_words.specs.Running.{Runs}
@@ -47,7 +46,7 @@ returns-in-Ok-clause-turns g c =
       Some c.in-Call.call,
       c.in-Call.ensures.next begun,
       answers_call (Runs c.args.session.now.core c.args.session.now.volume)
-          (Runs c.step.new.self.core c.step.new.self.volume) c.in-Call.call c.in-Ok.reply
+          (Runs c.step.new.self.core c.step.new.self.volume) c.in-Call.call c.in-Ok.reply more
           (λ m is. let done = c.in-Ok.ensures.carried m is in (done.allowed, done.runs)),
       more,
       λ m is. (
