@@ -7,21 +7,19 @@ use Rattle.labelled_disk.specs.declared.evidence.Halt.TheVariants.{Disk, Damaged
 use Rattle.labelled_disk.specs.declared.label.Wanted.{Wanted}
 use Rattle.labelled_disk.specs.declared.layout.Layout.{Layout}
 use Rattle.labelled_disk.specs.Label.{names}
-use Rattle.labelled_disk.specs.Layout.{first_data}
 use Rattle.labelled_disk.specs.State.{DiskState, HasLabel}
 use Rattle.file_map.specs.declared.run.Run.{Run}
 use Rattle.file_map.specs.Run.{IsRun}
 use Rattle.swapper_kernel.specs.declared.manager.Manager.{Manager}
 use Rattle.swapper_kernel.specs.declared.manager.Manager.TheVariants.{AllocationMap, FileMap}
 use Rattle.swapper_kernel.specs.Halts.{HasCause}
-use Rattle.swapper_kernel.specs.Homes.{IsLayout, IsPlaced, home_at}
+use Rattle.swapper_kernel.specs.Homes.{IsLayout, home_at}
 use Rattle.swapper_kernel.specs.Maps.{id_of}
 use Rattle.swapper_kernel.proofs.PlacedLemmas.{file_placed}
 use Rattle.label_calls.specs.Labels.{IsTaken, IsNotOf, nobody}
 use Rattle.label_calls.specs.Runs.{IsOneTaken, IsOneNotOf}
 use Rattle.filer_kernel.specs.Evidence.{MayBeIn, IsSo, ShowsSo}
 use Rattle.filer_kernel.specs.EvidenceLaws.{may_be_in}
-use Rattle.filer_kernel.specs.PlaceLaws.{data_first}
 
 -- a fault of the disk shows nothing
 pub fault_shows : (disk : DiskState) (halt : Halt) → halt ≡ Disk → ShowsSo disk halt

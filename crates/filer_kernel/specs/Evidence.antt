@@ -15,8 +15,8 @@ use Rattle.swapper_kernel.specs.Homes.{IsPlaced, home_at}
 abbrev pub IsUnwanted : Label → Wanted → Type 0
 IsUnwanted found wanted = ((wanted ≡ record { id = 0; page = 0 }) × (is_free found ≡ false)) ⊎ (names found wanted ≡ false)
 
--- On a disk of so many sectors the layout lets the wanted page be in this one: a page of a map at its one home there, and
--- each other page among the data sectors, where a free sector is wanted too.
+-- The layout of a disk of so many sectors lets the wanted page be in this one: for a page of a map it is the one home that the
+-- page has, and for each other page, as where a free sector is wanted, it is a data sector.
 abbrev pub MayBeIn : ℕ → ℕ → Wanted → Type 0
 MayBeIn sectors sector wanted = IsPlaced (layout_of sectors) (home_at sector wanted)
 
