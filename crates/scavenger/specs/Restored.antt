@@ -30,7 +30,8 @@ pub record IsBetween (g now : List Sector) : Type 0 where
   pub right : LabelsRight g → LabelsRight now
   pub clean : short_at (root_page now) 10 ≡ 1 → (now ≡ g) ⊎ IsRestored g now
 
--- so it is for each disk with a valid root, whatever its labels are; the clean flag is 1 at no moment but the first and the last
+-- so it is for each disk with a valid root, whatever its labels are; and where the clean flag is 1, the disk is the one before
+-- these writes, or the one behind them all
 pub record ScavengingRestores (g : List Sector) (o : Orders) : Type 0 where
   pub restored : IsRestored g (after_writes (scavenge_writes o) g)
   pub moments : (k : ℕ) → IsBetween g (moment g (scavenge_writes o) k)
