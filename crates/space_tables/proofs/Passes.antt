@@ -1,7 +1,7 @@
 -- Passes over the slots and over the intervals.
-use Rattle.std.proofs.Common.{◌≡◌, ◌≢◌, ◌⊎◌, inl, inr, ℕ, zero, suc, ◌+◌, ◌*◌, ◌<◌, ◌≤◌, Bool, true, false, cond, List, [], ◌∷◌, drop, length, Option, Some, None, refl, sym, ◌∙◌, ap, subst, arith}
+use Rattle.std.proofs.Common.{◌≡◌, ◌≢◌, ◌⊎◌, inl, inr, ℕ, zero, suc, ◌+◌, ◌*◌, ◌<◌, ◌≤◌, Bool, true, false, cond, List, [], ◌∷◌, drop, length, Option, Some, None, refl, sym, ◌∙◌, ap, arith}
 use Rattle.std.specs.Prelude.{slice_get, find, if◌then◌else◌}
-use Rattle.std.proofs.lemmas.Option.{same_Some, none-some, slice_get_past}
+use Rattle.std.proofs.lemmas.Option.{same_Some, none-some}
 use Rattle.std.proofs.lemmas.Bool.{cases_eq}
 use Rattle.std.proofs.lemmas.Nat.{mul-le}
 use Rattle.flat_machine.specs.declared.space.Space.{Space}
@@ -58,11 +58,11 @@ pub none_left : (test : Space → Bool) (slots : List (Option Space)) (n : ℕ) 
 none_left test slots n l = ap (λ (os : List (Option Space)). find test (listed os)) (nothing_left n slots l)
 
 -- one handle more is taken
-pub one_taken : (slots : List (Option Space)) (h : ℕ) (s : Space) → AreTaken slots h → slice_get slots h ≡ Some (Some s) → AreTaken slots (h + 1)
-one_taken slots h s taken e = λ j low below free. by j low below free (cases_eq j h)
+pub one_taken : (slots : List (Option Space)) (h : ℕ) → AreTaken slots h → slice_get slots h ≢ Some None → AreTaken slots (h + 1)
+one_taken slots h taken here = λ j low below free. by j low below free (cases_eq j h)
   where
     by : (j : ℕ) → 1 ≤ j → j < h + 1 → slice_get slots j ≡ Some None → (j ≡ h) ⊎ (j ≢ h) → ⊥
-    by j low below free (inl same) = none-some s (same_Some None (Some s) (sym free ∙ ap (slice_get slots) same ∙ e))
+    by j low below free (inl same) = here (ap (slice_get slots) (sym same) ∙ free)
     by j low below free (inr apart) = taken j low (omega (arith, below, apart)) free
 
 -- ---- what is paid

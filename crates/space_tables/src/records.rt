@@ -1,5 +1,5 @@
 //! Records of the tables in a memory, read and written by their index.
-ghost use Rattle.std.specs.Prelude.{◌≡◌, ℕ, ◌+◌, ◌*◌, ◌-◌, ◌<◌, ◌≤◌, true, List, length, Option, Some, None, IfOk, IfErr, IfSome, OnOk, OnErr, MatchResult, slice_get, slice_set, insert, remove};
+ghost use Rattle.std.specs.Prelude.{◌≡◌, ℕ, ◌+◌, ◌*◌, ◌-◌, ◌<◌, ◌≤◌, ◌↔◌, true, false, List, length, Option, Some, None, IfOk, IfErr, IfSome, OnOk, OnErr, MatchResult, slice_get, slice_set, insert, remove};
 ghost use Rattle.flat_machine.specs.declared.space.Space.{Space};
 ghost use Rattle.flat_mem.specs.Memory.{part, overwritten};
 ghost use Rattle.projection_laws.specs.Sight.{Interval};
@@ -72,6 +72,25 @@ pub fn slot<M: FlatMem>(mem: &mut M, handle: u32) -> Result<Option<Space>, Space
     match read_slot(handle, &bytes) {
         Some(slot) => Ok(slot),
         None => Err(SpaceError::Malformed { page: handle / 16 }),
+    }
+}
+
+/// Whether a space stands at a handle: the first byte of its record is not 0.
+pub fn has_space<M: FlatMem>(mem: &mut M, handle: u32) -> Result<bool, SpaceError<M::Error>>
+    requires size { 49152 ≤ M.size mem.old }
+    requires inside { handle < 512 }
+    ensures space { (slots : List (Option Space)) (xs : List Interval) → HoldTables (M.tells mem.old) slots xs
+        → IfOk result (λ there. (there ≡ false) ↔ (slice_get slots handle ≡ Some None)) }
+    ensures memory { IfErr result FromMemory }
+    ensures unchanged { (b : List ℕ) → M.tells mem.old b → M.tells mem.new b }
+    ensures kept { M.beside mem.old mem.new }
+    ensures cause { IfErr result (IfMem (M.accounted mem.old mem.new)) }
+    ensures cost { M.spent mem.new ≤ M.spent mem.old + M.cost }
+{
+    let mut first = [0; 1];
+    match mem.read(32 * u64::from(handle), &mut first) {
+        Ok(()) => Ok(first[0] != 0),
+        Err(error) => Err(SpaceError::Mem(error)),
     }
 }
 

@@ -10,7 +10,7 @@ ghost use Rattle.space_tables.specs.Stored.{HoldTables, AreReadable};
 ghost use Rattle.space_tables.specs.Scan.{passes, kept, IsLowestFree};
 
 use crate::SpaceError;
-use crate::records::slot;
+use crate::records::{has_space, slot};
 use flat_machine::{Space, Window};
 use flat_mem::FlatMem;
 use labelled_disk::FileId;
@@ -103,7 +103,7 @@ pub fn free_handle<M: FlatMem>(mem: &mut M) -> Result<Option<u32>, SpaceError<M:
     ensures free { (slots : List (Option Space)) (xs : List Interval) → HoldTables (M.tells mem.old) slots xs → AreReadable slots xs
         → MatchResult result (IsLowestFree slots) FromMemory }
     ensures form { IfOk result (λ o. IfSome o (λ h. (1 ≤ h) × (h < 512))) }
-    ensures malformed { (b : List ℕ) → M.tells mem.old b → IfErr result (IfMalformed (BreaksHierarchy b)) }
+    ensures memory { IfErr result FromMemory }
     ensures refused { IfErr result NotRefused }
     ensures unchanged { (b : List ℕ) → M.tells mem.old b → M.tells mem.new b }
     ensures kept { M.beside mem.old mem.new }
@@ -112,7 +112,7 @@ pub fn free_handle<M: FlatMem>(mem: &mut M) -> Result<Option<u32>, SpaceError<M:
 {
     let mut handle = 1;
     'scan: while handle < 512 {
-        if let None = slot(mem, handle)? {
+        if !has_space(mem, handle)? {
             return Ok(Some(handle));
         }
         handle += 1;

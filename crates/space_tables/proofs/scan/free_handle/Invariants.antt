@@ -1,4 +1,4 @@
-use Rattle.std.proofs.Common.{◌≡◌, ℕ, ◌+◌, ◌-◌, ◌*◌, ◌≤◌, List, Option}
+use Rattle.std.proofs.Common.{ℕ, ◌+◌, ◌-◌, ◌*◌, ◌≤◌, List, Option}
 use Rattle.flat_machine.specs.declared.space.Space.{Space}
 use Rattle.projection_laws.specs.Sight.{Interval}
 use Rattle.space_tables.specs.Stored.{HoldTables, AreReadable}
