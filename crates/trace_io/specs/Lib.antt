@@ -1,6 +1,7 @@
 pub mod Stream
 pub mod Memory
 pub mod Grammar
+pub mod Groups
 pub mod Reading
 pub mod Words
 pub mod Progress

@@ -2,6 +2,7 @@
 ghost use Rattle.std.specs.Prelude.{◌≡◌, if◌then◌else◌, Some, None};
 ghost use Rattle.std.specs.Str.{bytes_eq};
 ghost use Rattle.trace_io.specs.Grammar.{verb_of, with_fields, call_of};
+ghost use Rattle.trace_io.specs.Groups.{IsOfFiles, IsOfSpaces, IsOfWindows};
 ghost use Rattle.trace_io.specs.Lines.{line_of};
 ghost use Rattle.trace_io.specs.Words.{rest_words};
 
@@ -86,9 +87,10 @@ fn verb_of(word: &[u8]) -> Option<Verb>
     }
 }
 
+// The calls of files.
 #[tactic(auto, unfolding(crate::specs::Grammar::with_fields))]
-fn with_fields(verb: Verb, rest: Option<&[u8]>) -> Option<Call>
-    ensures { result ≡ with_fields verb (rest_words rest.entry) }
+fn file_call(verb: Verb, rest: Option<&[u8]>) -> Option<Call>
+    ensures { IsOfFiles verb → result ≡ with_fields verb (rest_words rest.entry) }
 {
     match verb {
         Verb::Create => {
@@ -123,6 +125,16 @@ fn with_fields(verb: Verb, rest: Option<&[u8]>) -> Option<Call>
             nothing(rest)?;
             Some(Call::Volume)
         }
+        _ => None,
+    }
+}
+
+// The calls of spaces.
+#[tactic(auto, unfolding(crate::specs::Grammar::with_fields))]
+fn space_call(verb: Verb, rest: Option<&[u8]>) -> Option<Call>
+    ensures { IsOfSpaces verb → result ≡ with_fields verb (rest_words rest.entry) }
+{
+    match verb {
         Verb::Space => {
             let (parent, pages, first) = place(rest)?;
             Some(Call::MakeSpace {
@@ -143,6 +155,32 @@ fn with_fields(verb: Verb, rest: Option<&[u8]>) -> Option<Call>
             let (space, pages) = two_numbers(rest)?;
             Some(Call::Units { space, pages })
         }
+        Verb::Activate => {
+            let space = only_number(rest)?;
+            Some(Call::Activate { space })
+        }
+        Verb::Deactivate => {
+            let space = only_number(rest)?;
+            Some(Call::Deactivate { space })
+        }
+        Verb::Kill => {
+            let space = only_number(rest)?;
+            Some(Call::Kill { space })
+        }
+        Verb::Force => {
+            let space = only_number(rest)?;
+            Some(Call::ForceOut { space })
+        }
+        _ => None,
+    }
+}
+
+// The calls of windows and of their bytes.
+#[tactic(auto, unfolding(crate::specs::Grammar::with_fields))]
+fn window_call(verb: Verb, rest: Option<&[u8]>) -> Option<Call>
+    ensures { IsOfWindows verb → result ≡ with_fields verb (rest_words rest.entry) }
+{
+    match verb {
         Verb::Map => {
             let (space, id, page, writable) = window(rest)?;
             Some(Call::Map {
@@ -172,22 +210,34 @@ fn with_fields(verb: Verb, rest: Option<&[u8]>) -> Option<Call>
             let (address, bytes) = number_and_bytes(rest)?;
             Some(Call::Store { address, bytes })
         }
-        Verb::Activate => {
-            let space = only_number(rest)?;
-            Some(Call::Activate { space })
-        }
-        Verb::Deactivate => {
-            let space = only_number(rest)?;
-            Some(Call::Deactivate { space })
-        }
-        Verb::Kill => {
-            let space = only_number(rest)?;
-            Some(Call::Kill { space })
-        }
-        Verb::Force => {
-            let space = only_number(rest)?;
-            Some(Call::ForceOut { space })
-        }
+        _ => None,
+    }
+}
+
+// The call of a verb and the words behind it.
+#[tactic(auto, unfolding(crate::specs::Grammar::with_fields))]
+fn with_fields(verb: Verb, rest: Option<&[u8]>) -> Option<Call>
+    ensures { result ≡ with_fields verb (rest_words rest.entry) }
+{
+    match verb {
+        Verb::Create
+        | Verb::Delete
+        | Verb::Attr
+        | Verb::SetSize
+        | Verb::Permanent
+        | Verb::Immutable
+        | Verb::Next
+        | Verb::Volume => file_call(verb, rest),
+        Verb::Space
+        | Verb::Remove
+        | Verb::Where
+        | Verb::Units
+        | Verb::Activate
+        | Verb::Deactivate
+        | Verb::Kill
+        | Verb::Force => space_call(verb, rest),
+        Verb::Map | Verb::MapData | Verb::Unmap | Verb::Protect | Verb::Load | Verb::Store =>
+            window_call(verb, rest),
         Verb::Close => {
             nothing(rest)?;
             Some(Call::Close)
