@@ -74,18 +74,22 @@ fn poke(disk: &mut MemoryDisk<Global>, sector: u32, at: usize, byte: u8) -> Resu
 }
 
 // Whether the file map is said to agree, and whether it is said to name what the labels name.
-fn says(alloc: Global, disk: &mut MemoryDisk<Global>) -> Result<(bool, bool), Fail> {
-    let view = look(alloc, disk)?;
-    match view.names {
-        Names::Malformed { page: _ } => Ok((false, false)),
+fn told_of(names: &Names<Global>) -> (bool, bool) {
+    match names {
+        Names::Malformed { page: _ } => (false, false),
         Names::Read {
             in_form,
             differences,
         } => {
             let alike = differences.is_empty();
-            Ok((alike && in_form, alike))
+            (alike && *in_form, alike)
         }
     }
+}
+
+fn says(alloc: Global, disk: &mut MemoryDisk<Global>) -> Result<(bool, bool), Fail> {
+    let view = look(alloc, disk)?;
+    Ok(told_of(&view.names))
 }
 
 #[test]
