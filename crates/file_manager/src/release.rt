@@ -20,7 +20,7 @@ ghost use Rattle.filer_kernel.specs.Triples.{MapIs, AreOf};
 ghost use Rattle.file_manager.specs.Grounds.{FreeHalts, IsUnframed, KeepsMap};
 ghost use Rattle.filer_kernel.specs.Causes.{IsRunHome};
 ghost use Rattle.swapper_kernel.specs.Halts.{HasCause};
-ghost use Rattle.filer_kernel.specs.Evidence.{MustBeThere, ShowsSo};
+ghost use Rattle.filer_kernel.specs.Evidence.{MayBeMissing, ShowsSo};
 ghost use Rattle.file_manager.specs.Freeing.{MayFree, Freed, FreedSome, IsPartOf, NamesAll, MakesFree, MakesSomeFree, run_sectors};
 
 use file_map::Run;
@@ -41,7 +41,7 @@ fn part_of<D: Disk, A: Allocator>(
     ensures cause { IfErr result (FreeHalts (IsUnframed filer.old.swapper.pool id) filer.old.swapper.layout (runs_of filer.old.swapper.layout.sectors filer.old.runs) id (λ p. p ≡ page) (D.state filer.old.swapper.under) filer.old.swapper.pool (D.state filer.new.swapper.under)) }
     ensures homes { IfOk result (λ run. (k : ℕ) → k < run.pages → IsRunHome filer.old.swapper.layout (D.state filer.old.swapper.under) filer.old.swapper.pool (runs_of filer.old.swapper.layout.sectors filer.old.runs) (home_at (run.sector + k) (record { id = id; page = run.first + k }))) }
     ensures keeps { (id ≡ 3) ⊎ (16 ≤ id) → KeepsMap (IsUnframed filer.old.swapper.pool id) filer.old.swapper.layout id (D.state filer.old.swapper.under) filer.old.swapper.pool (runs_of filer.old.swapper.layout.sectors filer.old.runs) (D.state filer.new.swapper.under) filer.new.swapper.pool (runs_of filer.old.swapper.layout.sectors filer.new.runs) }
-    ensures so { MustBeThere id page → IfErr result (ShowsSo (D.state filer.new.swapper.under)) }
+    ensures so { MayBeMissing id page → IfErr result (ShowsSo (D.state filer.new.swapper.under)) }
     ensures counted { result ≡ Err halt.Disk → Rose (D.state filer.old.swapper.under).faults (D.state filer.new.swapper.under).faults }
     ensures form { IfOk result (IsPartOf filer.old.swapper.layout.sectors id page (page + most)) }
     ensures named { (m : List Sector) (named : Triples) → Stands (D.state filer.old.swapper.under) filer.old.swapper.pool m → MapIs filer.old.swapper.layout named m → AreOf named (runs_of filer.old.swapper.layout.sectors filer.old.runs)
@@ -118,7 +118,7 @@ pub(crate) fn free_run<D: Disk, A: Allocator>(
     ensures stopped { OnErr result (MakesSomeFree (D.state filer.old.swapper.under) filer.old.swapper.pool (D.state filer.new.swapper.under) filer.new.swapper.pool) }
     ensures cause { IfErr result (FreeHalts (IsUnframed filer.old.swapper.pool id) filer.old.swapper.layout (runs_of filer.old.swapper.layout.sectors filer.old.runs) id (λ p. p ≡ page) (D.state filer.old.swapper.under) filer.old.swapper.pool (D.state filer.new.swapper.under)) }
     ensures keeps { OnOk result (KeepsMap (IsUnframed filer.old.swapper.pool id) filer.old.swapper.layout id (D.state filer.old.swapper.under) filer.old.swapper.pool (runs_of filer.old.swapper.layout.sectors filer.old.runs) (D.state filer.new.swapper.under) filer.new.swapper.pool (runs_of filer.old.swapper.layout.sectors filer.new.runs)) }
-    ensures so { MustBeThere id page → IfErr result (ShowsSo (D.state filer.new.swapper.under)) }
+    ensures so { MayBeMissing id page → IfErr result (ShowsSo (D.state filer.new.swapper.under)) }
     ensures counted { result ≡ Err halt.Disk → Rose (D.state filer.old.swapper.under).faults (D.state filer.new.swapper.under).faults }
     ensures layout { filer.new.swapper.layout ≡ filer.old.swapper.layout }
     ensures spent { IfOk result (λ pages. (D.state filer.new.swapper.under).transfers ≤ (D.state filer.old.swapper.under).transfers + (14 + 2 * pages + 4 * filer.old.swapper.layout.vam)) }
@@ -160,7 +160,7 @@ pub(crate) fn free_up<D: Disk, A: Allocator>(
     ensures stopped { OnErr result (MakesSomeFree (D.state filer.old.swapper.under) filer.old.swapper.pool (D.state filer.new.swapper.under) filer.new.swapper.pool) }
     ensures cause { IfErr result (FreeHalts (IsUnframed filer.old.swapper.pool id) filer.old.swapper.layout (runs_of filer.old.swapper.layout.sectors filer.old.runs) id (λ p. (from ≤ p) × (p < end)) (D.state filer.old.swapper.under) filer.old.swapper.pool (D.state filer.new.swapper.under)) }
     ensures keeps { OnOk result (KeepsMap (IsUnframed filer.old.swapper.pool id) filer.old.swapper.layout id (D.state filer.old.swapper.under) filer.old.swapper.pool (runs_of filer.old.swapper.layout.sectors filer.old.runs) (D.state filer.new.swapper.under) filer.new.swapper.pool (runs_of filer.old.swapper.layout.sectors filer.new.runs)) }
-    ensures so { ((page : ℕ) → page < end → MustBeThere id page) → IfErr result (ShowsSo (D.state filer.new.swapper.under)) }
+    ensures so { ((page : ℕ) → page < end → MayBeMissing id page) → IfErr result (ShowsSo (D.state filer.new.swapper.under)) }
     ensures counted { result ≡ Err halt.Disk → Rose (D.state filer.old.swapper.under).faults (D.state filer.new.swapper.under).faults }
     ensures layout { filer.new.swapper.layout ≡ filer.old.swapper.layout }
     ensures cost { (D.state filer.new.swapper.under).transfers ≤ (D.state filer.old.swapper.under).transfers + (end - from) * (16 + 4 * filer.old.swapper.layout.vam) }

@@ -20,7 +20,7 @@ ghost use Rattle.filer_kernel.specs.Triples.{MapIs, AreOf};
 ghost use Rattle.file_manager.specs.Grounds.{FreeHalts, IsUnframed, KeepsMap};
 ghost use Rattle.filer_kernel.specs.Causes.{IsRunHome};
 ghost use Rattle.swapper_kernel.specs.Halts.{HasCause};
-ghost use Rattle.filer_kernel.specs.Evidence.{MustBeThere, ShowsSo};
+ghost use Rattle.filer_kernel.specs.Evidence.{MayBeMissing, ShowsSo};
 ghost use Rattle.file_manager.specs.Freeing.{MayFree, NamesAll, MakesFree, MakesSomeFree};
 ghost use Rattle.file_manager.specs.Shrinking.{IsLastPart, FreedDown, StoppedDown, run_down};
 
@@ -49,7 +49,7 @@ fn last_part<D: Disk, A: Allocator>(
     ensures cause { IfErr result (FreeHalts (IsUnframed filer.old.swapper.pool id) filer.old.swapper.layout (runs_of filer.old.swapper.layout.sectors filer.old.runs) id (λ p. p ≡ end - 1) (D.state filer.old.swapper.under) filer.old.swapper.pool (D.state filer.new.swapper.under)) }
     ensures homes { IfOk result (λ run. (k : ℕ) → k < run.pages → IsRunHome filer.old.swapper.layout (D.state filer.old.swapper.under) filer.old.swapper.pool (runs_of filer.old.swapper.layout.sectors filer.old.runs) (home_at (run.sector + k) (record { id = id; page = run.first + k }))) }
     ensures keeps { (id ≡ 3) ⊎ (16 ≤ id) → KeepsMap (IsUnframed filer.old.swapper.pool id) filer.old.swapper.layout id (D.state filer.old.swapper.under) filer.old.swapper.pool (runs_of filer.old.swapper.layout.sectors filer.old.runs) (D.state filer.new.swapper.under) filer.new.swapper.pool (runs_of filer.old.swapper.layout.sectors filer.new.runs) }
-    ensures so { MustBeThere id (end - 1) → IfErr result (ShowsSo (D.state filer.new.swapper.under)) }
+    ensures so { MayBeMissing id (end - 1) → IfErr result (ShowsSo (D.state filer.new.swapper.under)) }
     ensures counted { IfErr result (λ e. e ≡ halt.Disk → Rose (D.state filer.old.swapper.under).faults (D.state filer.new.swapper.under).faults) }
     ensures same { (m : List Sector) (named : Triples) → Stands (D.state filer.old.swapper.under) filer.old.swapper.pool m → MapIs filer.old.swapper.layout named m → Stands (D.state filer.new.swapper.under) filer.new.swapper.pool m }
     ensures beside { Beside FileMapPages (D.state filer.old.swapper.under) filer.old.swapper.pool filer.old.swapper.layout (D.state filer.new.swapper.under) filer.new.swapper.pool filer.new.swapper.layout }

@@ -117,7 +117,7 @@ fn look_inside<A: Allocator + Clone, D: Disk>(
 }
 
 /// Looks at a volume, sound or not, and writes nothing: each sector is read once at most. The
-/// memory is taken as it is needed, at most some 200 bytes for each sector.
+/// memory is taken as it is needed, at most some 250 bytes for each sector.
 pub fn look<A: Allocator + Clone, D: Disk>(alloc: A, disk: &mut D) -> Result<View<A>, LookFault>
     ensures view { IfOk result (λ view. (d : List Sector) → (D.state disk.old).contents ≡ Some d
         → IsView d view) }
