@@ -1,6 +1,6 @@
 -- Runs of pages that are there.
 use Rattle.std.proofs.Common.{◌≡◌, ◌≢◌, ◌<◌, ◌≤◌, ◌+◌, ◌∙◌, ◌↔◌, ◌⊎◌, ℕ, List, Option, Some, None, true, false, refl, ap, sym, subst, inl, inr, zero, suc, length, set, arith, get_or-set_same, get_or-set_other, length-set}
-use Rattle.std.specs.Prelude.{◌^◌, option_map, replicate}
+use Rattle.std.specs.Prelude.{◌^◌, IsSome, option_map, replicate}
 use Rattle.std.proofs.lemmas.Bool.{cases_eq, cases_lt, true≢false}
 use Rattle.std.proofs.lemmas.List.{get_or_past}
 use Rattle.std.proofs.lemmas.Option.{same_Some, none-some}
@@ -40,6 +40,13 @@ hit_in slots slot id page (Some f) below is hit = (f, has_of_frame slots slot f 
 -- a slot whose frame is that of the page has it
 frame_of_hit : (slots : Slots) (slot id page : ℕ) → slot < length slots → is_of id page (frame_at slots slot) ≡ true → HasPage slots slot id page
 frame_of_hit slots slot id page below hit = hit_in slots slot id page (frame_at slots slot) below refl hit
+
+hit_filled : (id page : ℕ) (x : Option Frame) → is_of id page x ≡ true → IsSome x
+hit_filled id page None hit = absurd cc
+hit_filled id page (Some f) hit = refl
+
+pub hit_some : (slots : Slots) (slot id page : ℕ) → is_of id page (frame_at slots slot) ≡ true → IsSome (frame_at slots slot)
+hit_some slots slot id page hit = hit_filled id page (frame_at slots slot) hit
 
 pub hit_there : (slots : Slots) (slot id page : ℕ) → slot < length slots → is_of id page (frame_at slots slot) ≡ true → IsThere slots id page
 hit_there slots slot id page below hit = (slot, frame_of_hit slots slot id page below hit)
@@ -133,15 +140,17 @@ runs_filled s founds time i f below empty runs =
     (λ j g apart has. elim (has_set s i j (Some f) g below has) [ inl (same, _) ↦ absurd (apart same) | inr (_, was) ↦ was ])
     (omega arith) (λ g _. no_pages (set s i (Some f)) g.home.id g.home.page)
 
--- after a slot was emptied nothing is of the time that it is
-pub runs_cleared : (s after : Slots) (founds : List FoundRun) (time later : ℕ) → time ≤ later → (later + 1 < 2 ^ 32 → later ≡ time + 1) → HasRuns s founds time → HasRuns after founds later
-runs_cleared s after founds time later least more runs = record {
-  past = λ i. let was = runs.past i in omega (arith, was, least);
-  there = λ i f _ (same, low).
-      let was = runs.past i in
-      let is = more low in
-      absurd (omega (arith, was, is, same));
-}
+-- after a slot was emptied it remembers nothing, and nothing is of the time that it is
+pub runs_cleared : (s after : Slots) (founds : List FoundRun) (time later i : ℕ) → time ≤ later → (later + 1 < 2 ^ 32 → later ≡ time + 1) → HasRuns s founds time → HasRuns after (set founds i nothing) later
+runs_cleared s after founds time later i least more runs =
+    let all : HasRuns after founds later = record {
+      past = λ j. let was = runs.past j in omega (arith, was, least);
+      there = λ j f _ (same, low).
+          let was = runs.past j in
+          let is = more low in
+          absurd (omega (arith, was, is, same));
+    } in
+    runs_set after after founds later i nothing all (λ _ _ _ h. h) (λ _ _ _ h. h) (omega arith) (λ f _. no_pages after f.home.id f.home.page)
 
 has_changed : (g : Frame → Frame) (s : Slots) (i j : ℕ) (f : Frame) → ((h : Frame) → (g h).home ≡ h.home) → Has s j f → (h : Frame) × Has (set s i (option_map g (frame_at s i))) j h × (h.home ≡ f.home)
 has_changed g s i j f homes has = elim (cases_eq j i) [

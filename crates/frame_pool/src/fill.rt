@@ -5,7 +5,6 @@ ghost use Rattle.frame_pool.specs.Pool.{IsPool};
 ghost use Rattle.frame_pool.specs.Runs.{HasRuns};
 
 use crate::chain::{bucket_of, link, unlink};
-use crate::found::NOTHING;
 use crate::home::Home;
 use crate::order::exchange;
 use crate::table::Table;
@@ -31,7 +30,6 @@ pub(crate) fn fill<A: Allocator>(
     let bucket = bucket_of(home.id, home.page, table.len() as u16);
     link(table, bucket, slot);
     exchange(table, slot, empties - 1);
-    table.set_found(slot, NOTHING);
     table.fill(slot, home, bytes);
     empties - 1
 }

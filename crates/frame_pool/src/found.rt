@@ -5,7 +5,7 @@ ghost use Rattle.frame_pool.specs.Runs.{IsFresh};
 /// So many pages, from the slot's own on, were there when so many slots had been emptied.
 #[derive(Clone, Copy)]
 pub(crate) struct FoundRun {
-    pub(crate) pages: u32,
+    pub(crate) pages: u16,
     pub(crate) time: u32,
 }
 
@@ -17,6 +17,6 @@ impl FoundRun {
     pub(crate) fn tells(&self, pages: u32, time: u32) -> bool
         ensures { result ≡ true → IsFresh self.now time × (pages ≤ self.now.pages) }
     {
-        self.time == time && time < u32::MAX && pages <= self.pages
+        self.time == time && time < u32::MAX && pages <= u32::from(self.pages)
     }
 }

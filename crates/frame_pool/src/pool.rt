@@ -78,8 +78,8 @@ impl<A: Allocator> FramePool<A> {
         }
     }
 
-    /// Whether pages in a row of a file are all there. That they are is remembered in the slot of the first one until a
-    /// slot is emptied, and the run is found then with that page.
+    /// Whether pages in a row of a file are all there. That they are, if they are not more than 65,535, is remembered in
+    /// the slot of the first one until a slot is emptied, and the run is found then with that page.
     pub fn has_run(&mut self, id: FileId, first: u32, pages: u32) -> bool
         requires fits { first + pages ≤ 2 ^ 32 }
         ensures there { result ≡ true ↔ HasRun self.old id first pages }
@@ -96,7 +96,8 @@ impl<A: Allocator> FramePool<A> {
             return true;
         }
         let there = chain::has_run(&self.table, &Run { id, first, pages });
-        if there {
+        if there && pages <= u32::from(u16::MAX) {
+            let pages = pages as u16;
             self.table.set_found(slot, FoundRun { pages, time });
         }
         there

@@ -3,7 +3,7 @@ ghost use Rattle.std.specs.Prelude.{◌≡◌, ◌<◌, ◌≤◌, ◌+◌, ◌^
 ghost use Rattle.frame_pool.specs.Table.{lists_of};
 ghost use Rattle.frame_pool.specs.Frames.{frame_at, new_frame, clean, changed, shown, is_of, is_kept, IsPageBytes};
 ghost use Rattle.flat_mem.specs.Memory.{overwritten};
-ghost use Rattle.frame_pool.specs.Lists.{Lists, fresh_lists, found_at};
+ghost use Rattle.frame_pool.specs.Lists.{Lists, fresh_lists, found_at, nothing};
 
 use crate::found::{FoundRun, NOTHING};
 use crate::home::Home;
@@ -12,12 +12,15 @@ use std::alloc::{AllocError, Allocator};
 use std::cell::Cell;
 use std::marker::Model;
 
-/// The frame of a slot. The fields lie so that a slot takes 568 bytes.
+/// The frame of a slot, and what the slot remembers of the pages from its own on. The fields lie so that a slot takes
+/// 560 bytes.
 #[derive(Clone, Copy)]
 pub(crate) struct Kept {
     pub(crate) id: FileId,
     pub(crate) sector: u32,
     pub(crate) page: u32,
+    pub(crate) found_time: u32,
+    pub(crate) found_pages: u16,
     pub(crate) dirty: bool,
     pub(crate) bytes: Page,
 }
@@ -40,8 +43,8 @@ pub(crate) struct Run {
     pub(crate) pages: u32,
 }
 
-/// What the table has for one number: the slot's frame, its links and what it remembers, the head of the bucket with this
-/// number, and the slot at this place of the order.
+/// What the table has for one number: the slot's frame and its links, the head of the bucket with this number, and
+/// the slot at this place of the order.
 #[derive(Drop)]
 pub(crate) struct Slot {
     kept: Option<Kept>,
@@ -49,12 +52,11 @@ pub(crate) struct Slot {
     next: Option<u16>,
     order: u16,
     position: u16,
-    found: FoundRun,
     referenced: Cell<bool>,
 }
 
-/// 24 slots take 13,632 bytes.
-const _: () = prove!(size_of::<Slot>() == 568);
+/// 24 slots take 13,440 bytes.
+const _: () = prove!(size_of::<Slot>() == 560);
 
 #[derive(Drop)]
 pub(crate) struct Table<A: Allocator> {
@@ -83,7 +85,6 @@ fn empty_slots<A: Allocator>(alloc: A, slots: u16) -> Result<Vec<Slot, A>, Alloc
             next: None,
             order: number,
             position: number,
-            found: NOTHING,
             referenced: Cell::new(false),
         })?;
     }
@@ -136,7 +137,13 @@ impl<A: Allocator> Table<A> {
         requires { slot < length self.now.frames }
         ensures { result ≡ found_at self.now.founds slot }
     {
-        self.slots[slot as usize].found
+        match &self.slots[slot as usize].kept {
+            Some(kept) => FoundRun {
+                pages: kept.found_pages,
+                time: kept.found_time,
+            },
+            None => NOTHING,
+        }
     }
 
     pub(crate) fn set_head(&mut self, bucket: u16, head: Option<u16>)
@@ -167,11 +174,19 @@ impl<A: Allocator> Table<A> {
         self.slots[slot as usize].position = place;
     }
 
+    /// What a filled slot remembers from now on.
     pub(crate) fn set_found(&mut self, slot: u16, found: FoundRun)
-        requires { slot < length self.old.frames }
+        requires below { slot < length self.old.frames }
+        requires filled { IsSome (frame_at self.old.frames slot) }
         ensures { self.new ≡ record self.old { founds = slice_set self.old.founds slot found } }
     {
-        self.slots[slot as usize].found = found;
+        match &mut self.slots[slot as usize].kept {
+            Some(kept) => {
+                kept.found_pages = found.pages;
+                kept.found_time = found.time;
+            }
+            None => unreachable!(),
+        }
     }
 
     /// Whether the slot has the page.
@@ -243,9 +258,10 @@ impl<A: Allocator> Table<A> {
         }
     }
 
+    /// Puts a clean frame into the slot, which remembers nothing.
     pub(crate) fn fill(&mut self, slot: u16, home: Home, bytes: &Page)
         requires { slot < length self.old.frames }
-        ensures value { self.new ≡ record self.old { frames = slice_set self.old.frames slot (Some (new_frame home bytes.now)) } }
+        ensures value { self.new ≡ record self.old { frames = slice_set self.old.frames slot (Some (new_frame home bytes.now)); founds = slice_set self.old.founds slot nothing } }
         ensures page { IsPageBytes bytes.now }
     {
         let Home { sector, id, page } = home;
@@ -253,6 +269,8 @@ impl<A: Allocator> Table<A> {
             id,
             sector,
             page,
+            found_time: 0,
+            found_pages: 0,
             dirty: false,
             bytes: *bytes,
         });
@@ -260,7 +278,7 @@ impl<A: Allocator> Table<A> {
 
     pub(crate) fn empty(&mut self, slot: u16)
         requires { slot < length self.old.frames }
-        ensures { self.new ≡ record self.old { frames = slice_set self.old.frames slot None } }
+        ensures { self.new ≡ record self.old { frames = slice_set self.old.frames slot None; founds = slice_set self.old.founds slot nothing } }
     {
         self.slots[slot as usize].kept = None;
     }

@@ -97,15 +97,15 @@ fn a_run_is_found_again_until_one_of_its_pages_leaves(rt: HostRuntime) -> Result
 }
 
 #[test]
-fn twenty_four_frames_take_13632_bytes_and_no_more(rt: HostRuntime) -> Result<(), Fail> {
-    let heap = LocalHeap::new(rt.alloc(), 13_632)?;
+fn twenty_four_frames_take_13440_bytes_and_no_more(rt: HostRuntime) -> Result<(), Fail> {
+    let heap = LocalHeap::new(rt.alloc(), 13_440)?;
     let mut pool = FramePool::with_frames(&heap, 24)?;
     for number in 0..30 {
         assert!(rt; bring(&mut pool, home(number), &[7; 512]).is_some());
     }
-    assert_eq!(rt; heap.used(), 13_632);
+    assert_eq!(rt; heap.used(), 13_440);
     // The heap counts in units of 16 bytes.
-    let small = LocalHeap::new(rt.alloc(), 13_616)?;
+    let small = LocalHeap::new(rt.alloc(), 13_424)?;
     assert!(rt; matches!(FramePool::with_frames(&small, 24), Err(NoMemory)));
     Ok(())
 }

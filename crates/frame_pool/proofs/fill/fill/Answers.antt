@@ -13,7 +13,7 @@ returns-clause-pool g c =
     let low = c.requires.pool.first_empties.placed c.args.slot c.requires.slot c.requires.empty in
     let one_less : place + 1 ≡ c.args.empties = omega (arith, low) in
     let pool : IsPool l0 (place + 1) = rw one_less c.requires.pool in
-    rw (c.fill.ensures.value, c.set_found.ensures, c.exchange.ensures.kept.frames, c.link.ensures.kept.frames)
+    rw (c.fill.ensures.value, c.exchange.ensures.kept.frames, c.link.ensures.kept.frames)
     (found_pool (with_frame l0 c.exchange.new.table c.args.slot (Some frame)) place _
     (filled_pool l0 c.link.new.table c.exchange.new.table c.args.slot place frame pool c.requires.slot c.requires.empty c.requires.nowhere c.fill.ensures.page c.link.ensures.kept
     (λ at puts. c.link.ensures.linked at (rw (c.bucket_of-bucket.ensures.value, c.len.ensures) puts))
@@ -22,5 +22,5 @@ returns-clause-pool g c =
 pub returns-clause-runs : goal.returns-clause-runs
 returns-clause-runs g c time runs =
     let l0 = c.args.table.now in
-    rw (c.fill.ensures.value, c.set_found.ensures, c.exchange.ensures.kept.frames, c.exchange.ensures.kept.founds, c.link.ensures.kept.frames, c.link.ensures.kept.founds)
+    rw (c.fill.ensures.value, c.exchange.ensures.kept.frames, c.exchange.ensures.kept.founds, c.link.ensures.kept.frames, c.link.ensures.kept.founds)
     (runs_filled l0.frames l0.founds time c.args.slot (new_frame c.args.home c.args.bytes.now) c.requires.slot c.requires.empty runs)

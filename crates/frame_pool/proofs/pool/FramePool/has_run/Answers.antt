@@ -1,7 +1,7 @@
 use Rattle.std.proofs.Common.{refl}
 use Rattle.frame_pool.proofs.KeptLemmas.{nowhere_of}
 use Rattle.frame_pool.proofs.PoolLemmas.{found_pool}
-use Rattle.frame_pool.proofs.RunLemmas.{first_nowhere, runs_found, runs_told}
+use Rattle.frame_pool.proofs.RunLemmas.{first_nowhere, hit_some, runs_found, runs_told}
 use Rattle.frame_pool.proofs.pool.FramePool.has_run.Goals as goal
 
 pub returns-in_default-clause-there : goal.returns-in_default-clause-there
@@ -19,8 +19,8 @@ returns-then-tells-clause-there g c =
       λ _. refl,
     )
 
-pub returns-then-there-clause-there : goal.returns-then-there-clause-there
-returns-then-there-clause-there g c = rw (← c.self.view_is) c.has_run-there.ensures
+pub returns-then-pages-from-clause-there : goal.returns-then-pages-from-clause-there
+returns-then-pages-from-clause-there g c = rw (← c.self.view_is) c.has_run-there.ensures
 
 pub returns-else-there-clause-there : goal.returns-else-there-clause-there
 returns-else-there-clause-there g c = rw (← c.self.view_is) c.has_run-there.ensures
@@ -33,3 +33,6 @@ invariant_of-self g c =
       found_pool inside.table inside.empties _ c.self.invariant.0,
       runs_found inside.table.frames inside.table.founds inside.time c.in-Some.slot c.args.id c.args.first c.args.pages hit.1 (c.has_run-there.ensures.0 c.if-there.true) c.self.invariant.1,
     )
+
+pub set_found-requires-clause-filled : goal.set_found-requires-clause-filled
+set_found-requires-clause-filled g c = hit_some c.self.inside.table.frames c.in-Some.slot c.args.id c.args.first c.in-Some.ensures.found.1
