@@ -22,18 +22,6 @@ use flat_machine::{Piece, Refusal, Reply};
 use labelled_disk::{Disk, Halt};
 use std::alloc::Allocator;
 
-// At most 64 bytes, as a piece.
-fn piece_of(bytes: &[u8]) -> Piece
-    requires few { length bytes.now ≤ 64 }
-    ensures { result ≡ bytes.now }
-{
-    let mut piece = Piece::new();
-    for byte in bytes {
-        piece.append(*byte);
-    }
-    piece
-}
-
 /// Loads 1 to 64 bytes from an address on.
 pub fn load<D: Disk, A: Allocator>(
     core: &mut CoreOver<D, A>,
@@ -59,7 +47,7 @@ pub fn load<D: Disk, A: Allocator>(
     let mut room = [0; 64];
     let bytes = &mut room[..usize::from(count)];
     match core.load(address, bytes) {
-        Ok(Access::Done) => Ok(Reply::Bytes(piece_of(bytes))),
+        Ok(Access::Done) => Ok(Reply::Bytes(Piece::of(bytes))),
         Ok(Access::NoMap(page)) => Ok(Reply::Refused(Refusal::NoMap(page))),
         Ok(Access::ReadOnly(page)) => Ok(Reply::Refused(Refusal::ReadOnly(page))),
         Err(halt) => Err(halt),

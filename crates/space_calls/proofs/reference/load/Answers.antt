@@ -25,7 +25,7 @@ returns-in-Ok-Done-clause-carried g c =
     λ volume m r.
     let done = load_carried running_laws (whole_of c.args.core.now c.requires.size) r came c.args.address c.args.count _ c.load.new.into c.in-Ok-Done.field-0 access.Done
     c.load.ensures.width long c.in-Ok-Done.field-0-is c.in-Ok-Done.ensures.access c.in-Ok-Done.ensures.bytes in
-    record { allowed = subst (λ (b : List ℕ). Allows m (call.Load c.args.address c.args.count) (reply.Bytes b)) (sym c.piece_of.ensures) done.0; runs = done.1 }
+    record { allowed = subst (λ (b : List ℕ). Allows m (call.Load c.args.address c.args.count) (reply.Bytes b)) (sym c.of.ensures) done.0; runs = done.1 }
 
 pub returns-in-Ok-Done-clause-ready : goal.returns-in-Ok-Done-clause-ready
 returns-in-Ok-Done-clause-ready g c =

@@ -1,5 +1,4 @@
 use Rattle.std.proofs.Common.{◌≡◌, ◌<◌, ◌∙◌, sym, ap, length, arith, Ok}
-use Rattle.std.proofs.lemmas.List.{take_all}
 use Rattle.std.proofs.lemmas.List.Sums.{list_all-from_AllPass}
 use Rattle.hex.specs.Hex.{is_hex_digit}
 use Rattle.trace_io.proofs.LongLines.{none_unless}
@@ -24,5 +23,4 @@ returns-then-is_empty c = none_unless (bytes_of c.args.word.now) (λ x e.
 pub returns : goal.returns
 returns c =
     let some : 0 < length c.args.word.now = let empty = sym c.is_empty.ensures ∙ c.if-is_empty.false in grind arith in
-    let all : c.loop-b.piece ≡ c.read_digits.new.bytes = c.loop-b.invariant ∙ take_all c.loop-b.b-index c.read_digits.new.bytes c.loop-b-test.false in
-    bytes_of-decoded c.args.word.now c.loop-b.piece some c.if-word-gt128.false (c.read_digits.ensures.value ∙ ap Ok (sym all))
+    bytes_of-decoded c.args.word.now c.of.result some c.if-word-gt128.false (c.read_digits.ensures.value ∙ ap Ok (sym c.of.ensures))
