@@ -12,3 +12,4 @@ pub mod Few
 pub mod Trees
 pub mod Room
 pub mod Empty
+pub mod InForm

@@ -52,7 +52,8 @@ mod CountLaws
 mod IndexedLaws
 mod CountedLaws
 mod LeavesLaws
-mod Unbroken
+pub mod Unbroken
+pub mod Recorded
 mod Neighbours
 mod Evened
 mod Freed

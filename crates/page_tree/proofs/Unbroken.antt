@@ -71,7 +71,7 @@ module _ (e k pages : ℕ) (b : List ℕ) (xs : List (List ℕ)) (tree : IsTree 
       )
 
   -- a page that is met is one of its level
-  met_node : (l p : ℕ) → Meets k b l p → 1 ≤ l → Stands l p
+  pub met_node : (l p : ℕ) → Meets k b l p → 1 ≤ l → Stands l p
   met_node l p (Meets.root _ _ is named low behind fits) some =
       let same : l ≡ tree.levels = is ∙ tree.header.levels_is in
       let some_level : 0 < tree.levels = omega (arith, same, some) in (
