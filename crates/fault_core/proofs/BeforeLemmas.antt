@@ -88,7 +88,7 @@ module _ (v w : View) (is : IsLayout v.layout) {pages : Pages} (h : Touches page
   pub found_before : (home : Home) → IsReachedHome w home → IsReachedHome v home
   found_before home g = record {
     on_data = rw (← h.layout) g.on_data;
-    by_run = record { run = g.by_run.run; given = given_before g.by_run.run g.by_run.given; has = g.by_run.has; at = g.by_run.at };
+    by_run = record { run = g.by_run.run; given = given_before g.by_run.run g.by_run.given; form = rw (← h.layout) g.by_run.form; has = g.by_run.has; at = g.by_run.at };
   }
 
   pub came_before : (home : Home) → IsReached w home → IsReached v home

@@ -153,5 +153,5 @@ home_found v r id page is client given form held =
     let first = data_first v.layout is in
     record {
       on_data = record { id = inr client; from = omega (arith, from, first); below = omega (arith, inside, has.from, has.below) };
-      by_run = record { run = r; given = given; has = held; at = refl };
+      by_run = record { run = r; given = given; form = form; has = held; at = refl };
     }

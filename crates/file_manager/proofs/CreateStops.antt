@@ -1,7 +1,8 @@
--- Why a call that creates a file stops the session: the root is written, the map is cut, and then pages are made.
-use Rattle.std.proofs.Common.{◌≡◌, ◌≢◌, ◌⊎◌, inl, inr, ℕ, ◌+◌, Bool, true, false, not, ◌&&◌, List, [], ◌∷◌, refl, sym, ◌∙◌, ap, subst, arith, length-set}
+-- Why a call that makes a file anew stops the session: the root is written, or nothing, the map is cut, and then pages are made.
+use Rattle.std.proofs.Common.{◌≡◌, ◌≢◌, ◌⊎◌, inl, inr, ℕ, ◌+◌, Bool, true, false, not, ◌&&◌, List, [], ◌∷◌, ◌++◌, length, refl, sym, ◌∙◌, ap, subst, arith, length-set}
 use Rattle.std.specs.Prelude.{slice_get, slice_set, ◌==◌, nat_le}
 use Rattle.std.proofs.lemmas.Bool.{true≢false, and_parts, ne_eqb, cases_eq}
+use Rattle.labelled_disk.specs.declared.disk.DiskWrite.{DiskWrite}
 use Rattle.labelled_disk.specs.declared.evidence.Evidence.{Evidence}
 use Rattle.labelled_disk.specs.declared.evidence.Evidence.TheVariants.{Mismatch, Malformed, Missing}
 use Rattle.labelled_disk.specs.declared.evidence.Halt.{Halt}
@@ -17,7 +18,7 @@ use Rattle.file_map.specs.Cause.{IsToCut}
 use Rattle.file_map.specs.Entries.{Entry}
 use Rattle.file_map.specs.FileMap.{Triples, without_from}
 use Rattle.swapper_kernel.specs.declared.manager.Manager.TheVariants.{AllocationMap, FileMap}
-use Rattle.swapper_kernel.specs.Goes.{Goes, no_page}
+use Rattle.swapper_kernel.specs.Goes.{Goes, Makes, no_page}
 use Rattle.swapper_kernel.specs.GoesLaws.{makes_then, makes_wider}
 use Rattle.swapper_kernel.specs.HaltLaws.{rose_wider}
 use Rattle.swapper_kernel.specs.Homes.{IsLayout, home_at}
@@ -67,32 +68,47 @@ cut_filled layout id named c u nothing h = record {
   until = h.until;
 }
 
-module _ (layout : Layout) (is : IsLayout layout) (id : ℕ) (root : Root) {a b : DiskState} {s : Slots} (rooted : Goes (λ m n. n ≡ written (root_write root) m) no_page (root_write root ∷ []) a s b s) where
-  -- the memory with that root
-  after : (m : List Sector) → Stands a s m → Stands b s (slice_set m 0 (root_label, root_bytes root))
-  after m stands = let now = rooted.memory m stands in subst (Stands b s) now.2 now.1
+-- no sector of n but the root's is another than in m
+pub record IsSameBehind (m n : List Sector) : Type 0 where
+  pub long : length n ≡ length m
+  pub each : (k : ℕ) → k ≢ 0 → slice_get n k ≡ slice_get m k
 
-  behind : (m : List Sector) (k : ℕ) → k ≢ 0 → slice_get (slice_set m 0 (root_label, root_bytes root)) k ≡ slice_get m k
-  behind m k other = get_set_other m 0 k (root_label, root_bytes root) other
+-- where the root was written
+pub root_behind : (root : Root) {a b : DiskState} {s : Slots} → Goes (λ m n. n ≡ written (root_write root) m) no_page (root_write root ∷ []) a s b s
+    → (m : List Sector) → Stands a s m → (n : List Sector) × Stands b s n × IsSameBehind m n
+root_behind root {b = b} {s = s} rooted m stands =
+    let now = rooted.memory m stands in (
+      slice_set m 0 (root_label, root_bytes root),
+      subst (Stands b s) now.2 now.1,
+      record { long = length-set m 0 (root_label, root_bytes root); each = λ k other. get_set_other m 0 k (root_label, root_bytes root) other },
+    )
 
-  root_taken : (m : List Sector) → TakesSectors layout id m (slice_set m 0 (root_label, root_bytes root))
-  root_taken m = record {
+-- where nothing was
+pub nothing_behind : {a : DiskState} {s : Slots} (m : List Sector) → Stands a s m → (n : List Sector) × Stands a s n × IsSameBehind m n
+nothing_behind m stands = (m, stands, record { long = refl; each = λ k other. refl })
+
+module _ (layout : Layout) (is : IsLayout layout) (id : ℕ) {front : List DiskWrite} {a b : DiskState} {s : Slots} (first : Makes no_page front a s b s)
+    (behind : (m : List Sector) → Stands a s m → (n : List Sector) × Stands b s n × IsSameBehind m n) where
+  root_taken : (m n : List Sector) → IsSameBehind m n → TakesSectors layout id m n
+  root_taken m n same = record {
     labels = record {
-      long = length-set m 0 (root_label, root_bytes root);
-      each = λ k t from here. inl (t, behind m k (λ e. let f = first_is layout is in omega (arith, e, f, from)) ∙ here, refl);
+      long = same.long;
+      each = λ k t from here. inl (t, same.each k (λ e. let f = first_is layout is in omega (arith, e, f, from)) ∙ here, refl);
     };
     bits = λ marks bits. (
       marks,
-      record { bytes = bits.bytes; shows = shows_still AllocationMap layout m (slice_set m 0 (root_label, root_bytes root)) bits.bytes (λ k t below here. behind m (1 + k) (λ e. omega (arith, e)) ∙ here) bits.shows; are = bits.are },
+      record { bytes = bits.bytes; shows = shows_still AllocationMap layout m n bits.bytes (λ k t below here. same.each (1 + k) (λ e. omega (arith, e)) ∙ here) bits.shows; are = bits.are },
       λ k from. inl refl,
     );
   }
 
-  map_rooted : (m : List Sector) (bytes : List ℕ) → Shows FileMap m layout bytes → Shows FileMap (slice_set m 0 (root_label, root_bytes root)) layout bytes
-  map_rooted m bytes shows = shows_still FileMap layout m (slice_set m 0 (root_label, root_bytes root)) bytes (λ k t below here. behind m (1 + layout.vam + k) (λ e. omega (arith, e)) ∙ here) shows
+  map_behind : (m n : List Sector) → IsSameBehind m n → (bytes : List ℕ) → Shows FileMap m layout bytes → Shows FileMap n layout bytes
+  map_behind m n same bytes shows = shows_still FileMap layout m n bytes (λ k t below here. same.each (1 + layout.vam + k) (λ e. omega (arith, e)) ∙ here) shows
 
   root_told : (bytes : List ℕ) → Tells FileMap a s layout bytes → Tells FileMap b s layout bytes
-  root_told bytes tells = record { memory = slice_set tells.memory 0 (root_label, root_bytes root); stands = after tells.memory tells.stands; shows = map_rooted tells.memory bytes tells.shows; size = rooted.makes.went.sectors ∙ tells.size }
+  root_told bytes tells =
+      let now = behind tells.memory tells.stands in
+      record { memory = now.0; stands = now.1; shows = map_behind tells.memory now.0 now.2 bytes tells.shows; size = first.went.sectors ∙ tells.size }
 
   -- where the map is cut
   cut_evidence : (e : Evidence) (c : DiskState) (t : Slots) → MapHalts layout b s c (Damaged e) ⊎ IsToCut id 0 (MapShows layout b s) → CutHalts layout b s c t (Damaged e) → CreateEvidence layout id a s c t e
@@ -107,37 +123,39 @@ module _ (layout : Layout) (is : IsLayout layout) (id : ℕ) (root : Root) {a b 
   cut_evidence (Missing missing page) c t begun why = absurd why
 
   pub create_of_cut : (c : DiskState) (t : Slots) (halt : Halt) → MapHalts layout b s c halt ⊎ IsToCut id 0 (MapShows layout b s) → CutHalts layout b s c t halt → CreateHalts layout id a s c t halt
-  create_of_cut c t Disk begun why = rose_wider a.faults b.faults c.faults c.faults rooted.makes.went.faults (omega arith) why
+  create_of_cut c t Disk begun why = rose_wider a.faults b.faults c.faults c.faults first.went.faults (omega arith) why
   create_of_cut c t (Damaged e) begun why = cut_evidence e c t begun why
 
   -- and where pages are made
   module _ {c : DiskState} {t : Slots} {later : Layout} (beside : Beside FileMap b s layout c t later)
-      (cut : (m : List Sector) (named : Triples) → Stands b s m → MapIs layout named m → Becomes FileMap layout m (MapIs layout (without_from named id 0)) c t) (d : DiskState) (u : Slots) where
+      (cut : (m : List Sector) (named : Triples) → Stands b s m → MapIs layout named m → Becomes FileMap layout m (MapIs layout (without_from named id 0)) c t) (pages : ℕ → Type 0) (d : DiskState) (u : Slots) where
     since_cut : IsUnframed s 0 → (m : List Sector) → Stands a s m → (n : List Sector) × Stands c t n × TakesSectors layout id m n
     since_cut none m stands =
-        let now = beside.goes.memory (slice_set m 0 (root_label, root_bytes root)) (after m stands) in
-        (now.0, now.1, sectors_then (root_taken m) (file_map_alone layout id (slice_set m 0 (root_label, root_bytes root)) now.0 now.2))
+        let r = behind m stands in
+        let now = beside.goes.memory r.0 r.1 in
+        (now.0, now.1, sectors_then (root_taken m r.0 r.2) (file_map_alone layout id r.0 now.0 now.2))
 
-    form_behind : (page : ℕ) → StopsInForm layout id every_page page c t d u → StopsInForm layout id every_page page a s d u
+    form_behind : (page : ℕ) → StopsInForm layout id pages page c t d u → StopsInForm layout id every_page page a s d u
     form_behind page stops none m named stands map nothing =
-        let rooted_map : MapIs layout named (slice_set m 0 (root_label, root_bytes root)) = record { bytes = map.bytes; shows = map_rooted m map.bytes map.shows; names = map.names } in
-        let now = cut (slice_set m 0 (root_label, root_bytes root)) named (after m stands) rooted_map in
-        let e = stops (unframed_still (maps_come beside) none) now.memory (without_from named id 0) now.stands now.is (cut_none id named nothing) in
+        let r = behind m stands in
+        let rooted_map : MapIs layout named r.0 = record { bytes = map.bytes; shows = map_behind m r.0 r.2 map.bytes map.shows; names = map.names } in
+        let now = cut r.0 named r.1 rooted_map in
+        let e = stops (unframed_still (maps_come beside) none) now.memory (without_from named id 0) now.stands now.is (λ p sector own. cut_none id named nothing p sector tt) in
         (e.0, cut_filled layout id named d u nothing e.1)
 
-    make_evidence : (e : Evidence) → MakeEvidence layout id every_page c t d u e → CreateEvidence layout id a s d u e
+    make_evidence : (e : Evidence) → MakeEvidence layout id pages c t d u e → CreateEvidence layout id a s d u e
     make_evidence (Mismatch sector wanted found) is = label_home_before (maps_come beside) since_cut (home_at sector wanted) is
     make_evidence (Malformed window page) is = (
       is.0,
       inr (inr (record {
-        run = root_write root ∷ is.1.run;
-        makes = makes_then (makes_wider volume_page (λ id page none. absurd none) rooted.makes) (makes_then (map_makes beside) is.1.makes);
-        labelled = labels_behind id (root_write root ∷ []) is.1.run is.1.labelled;
+        run = front ++ is.1.run;
+        makes = makes_then (makes_wider volume_page (λ id page none. absurd none) first) (makes_then (map_makes beside) is.1.makes);
+        labelled = labels_behind id front is.1.run is.1.labelled;
         in_form = form_behind page is.1.in_form;
       })),
     )
     make_evidence (Missing missing page) is = (is.0, is.1, room_before (maps_come beside) since_cut d u is.2)
 
-    pub create_of_make : (halt : Halt) → MakeHalts layout id every_page c t d u halt → CreateHalts layout id a s d u halt
-    create_of_make Disk is = let first = rooted.makes.went.faults in let next = beside.goes.makes.went.faults in rose_wider a.faults c.faults d.faults d.faults (omega (arith, first, next)) (omega arith) is
+    pub create_of_make : (halt : Halt) → MakeHalts layout id pages c t d u halt → CreateHalts layout id a s d u halt
+    create_of_make Disk is = let before = first.went.faults in let next = beside.goes.makes.went.faults in rose_wider a.faults c.faults d.faults d.faults (omega (arith, before, next)) (omega arith) is
     create_of_make (Damaged e) is = make_evidence e is

@@ -229,26 +229,26 @@ freed_down_none {layout = layout} {named = named} {spaces = spaces} {id = id} {f
 }
 
 -- over any contents
-pub down_makes : {layout l1 l2 l3 : Layout} {a b c d : DiskState} {s t u v : Slots} (run : Run) → Beside FileMap a s layout b t l1 → u ≡ t → RelabelsRun run.sector run.pages (freeing (run_down run)) b t c → Beside AllocationMap c u l2 d v l3
+pub down_makes : {l2 l3 : Layout} {a b c d : DiskState} {s t u v : Slots} (run : Run) → Makes volume_page [] a s b t → u ≡ t → RelabelsRun run.sector run.pages (freeing (run_down run)) b t c → Beside AllocationMap c u l2 d v l3
     → MakesFree run.pages a s d v
 down_makes {a = a} {b = b} {c = c} {d = d} {s = s} {t = t} {u = u} {v = v} run first same made last = record {
   sectors = run_down run;
   long = down_long run;
   makes = subst (λ (ws : List DiskWrite). Makes volume_page ws a s d v) (append_none (freeing (run_down run)))
-      (makes_then (map_makes first) (makes_then (subst (Makes volume_page (freeing (run_down run)) b t c) (sym same) (makes_wider volume_page (λ id page none. absurd none) made.makes)) (map_makes last)));
+      (makes_then first (makes_then (subst (Makes volume_page (freeing (run_down run)) b t c) (sym same) (makes_wider volume_page (λ id page none. absurd none) made.makes)) (map_makes last)));
 }
 
 -- the first of the run's labels were written
-some_labels : {layout l1 : Layout} {a b c : DiskState} {s t u : Slots} (run : Run) → Beside FileMap a s layout b t l1 → u ≡ t → (some : MadeSome (freeing (run_down run)) b t c) → Makes volume_page (freeing (take some.count (run_down run))) a s c u
+some_labels : {a b c : DiskState} {s t u : Slots} (run : Run) → Makes volume_page [] a s b t → u ≡ t → (some : MadeSome (freeing (run_down run)) b t c) → Makes volume_page (freeing (take some.count (run_down run))) a s c u
 some_labels {a = a} {b = b} {c = c} {s = s} {t = t} {u = u} run first same some =
     subst (λ (ws : List DiskWrite). Makes volume_page ws a s c u) (take_freeing some.count (run_down run))
-    (makes_then (map_makes first) (subst (Makes volume_page (take some.count (freeing (run_down run))) b t c) (sym same) (makes_wider volume_page (λ id page none. absurd none) some.makes)))
+    (makes_then first (subst (Makes volume_page (take some.count (freeing (run_down run))) b t c) (sym same) (makes_wider volume_page (λ id page none. absurd none) some.makes)))
 
-pub down_stops : {layout l1 : Layout} {a b c : DiskState} {s t u : Slots} (run : Run) → Beside FileMap a s layout b t l1 → u ≡ t → MadeSome (freeing (run_down run)) b t c → MakesSomeFree a s c u
+pub down_stops : {a b c : DiskState} {s t u : Slots} (run : Run) → Makes volume_page [] a s b t → u ≡ t → MadeSome (freeing (run_down run)) b t c → MakesSomeFree a s c u
 down_stops run first same some = record { sectors = take some.count (run_down run); makes = some_labels run first same some }
 
 -- and where they are told, they are those of the last pages
-pub down_broken : {layout l1 : Layout} {a b c : DiskState} {s t u : Slots} {named : Triples} {id pages end : ℕ} (run : Run) → Beside FileMap a s layout b t l1 → u ≡ t → AreNamedDown named id end (run_down run) → run.pages ≤ pages
+pub down_broken : {a b c : DiskState} {s t u : Slots} {named : Triples} {id pages end : ℕ} (run : Run) → Makes volume_page [] a s b t → u ≡ t → AreNamedDown named id end (run_down run) → run.pages ≤ pages
     → MadeSome (freeing (run_down run)) b t c → StoppedDown named id pages end a s c u
 down_broken {named = named} {id = id} {end = end} run first same down few some = record {
   sectors = take some.count (run_down run);
@@ -262,7 +262,7 @@ pub none_broken : {layout l1 : Layout} {a b : DiskState} {s t : Slots} {named : 
 none_broken beside = record { sectors = []; few = omega arith; down = tt; makes = map_makes beside }
 
 -- all of them
-pub all_broken : {layout l1 l2 l3 : Layout} {a b c d : DiskState} {s t u v : Slots} {named : Triples} {id pages end : ℕ} (run : Run) → Beside FileMap a s layout b t l1 → u ≡ t → AreNamedDown named id end (run_down run) → run.pages ≤ pages
+pub all_broken : {l2 l3 : Layout} {a b c d : DiskState} {s t u v : Slots} {named : Triples} {id pages end : ℕ} (run : Run) → Makes volume_page [] a s b t → u ≡ t → AreNamedDown named id end (run_down run) → run.pages ≤ pages
     → RelabelsRun run.sector run.pages (freeing (run_down run)) b t c → Beside AllocationMap c u l2 d v l3 → StoppedDown named id pages end a s d v
 unfolding down_makes
 all_broken run first same down few made last =

@@ -16,6 +16,7 @@ use Rattle.session_words.specs.Volume.{volume_page}
 use Rattle.file_manager.specs.Freeing.{MayFree, MakesFree}
 use Rattle.file_manager.specs.Shrinking.{FreedDown, StoppedDown}
 use Rattle.file_manager.specs.Grounds.{IsUnframed, FreeHalts, KeepsMap}
+use Rattle.file_manager.specs.Reasons.{Outset, KeepsTo, ShowsReason}
 use Rattle.file_manager.proofs.FreedRun.{makes_free_then}
 use Rattle.file_manager.proofs.Keeping.{keeps_none, keeps_then, free_halts_before}
 use Rattle.file_manager.proofs.FreedUpTo.{cost_then}
@@ -32,6 +33,7 @@ pub record IsFreedDownTo (id from end page : ℕ) (d0 : DiskState) (s0 : Slots) 
   pub keeps : KeepsMap (IsUnframed s0 id) layout id d0 s0 (runs_of layout.sectors kept) d s (runs_of layout.sectors runs)
   pub told : (named : Triples) (spaces : List Space) (m : List Sector) → MayFree d0 s0 layout kept named spaces id from end m → FreedDown layout named spaces id from (end - page) end d0 s0 d s runs
   pub own : WroteOwn id d0 d
+  pub keeps_to : (o : Outset) (named : Triples) → KeepsTo o layout (runs_of layout.sectors kept) d0 s0 named → KeepsTo o later (runs_of later.sectors runs) d s named
 
 down_cost : (t0 t u from page end v : ℕ) → page ≤ end → from < page → t ≤ t0 + (end - page) * (16 + 4 * v) → u ≤ t + (14 + 2 * (page - from) + 4 * v) → u ≤ t0 + (end - from) * (16 + 4 * v)
 down_cost t0 t u from page end v above below before here =
@@ -52,6 +54,7 @@ down_none id from end d0 s0 layout kept order size =
       keeps = keeps_none (IsUnframed s0 id) layout id d0 s0 (runs_of layout.sectors kept) (λ none. none);
       told = λ named spaces m may. subst (λ (n : ℕ). FreedDown layout named spaces id from n end d0 s0 d0 s0 kept) z (freed_down_none m may);
       own = quiet_own id (makes_nothing volume_page d0 s0);
+      keeps_to = λ o named h. h;
     }
 
 -- and a run more
@@ -59,8 +62,9 @@ pub down_then : {id from end page pages : ℕ} {d0 d e : DiskState} {s0 s t : Sl
     → from < page → (1 ≤ pages) × (pages ≤ page - from) → last ≡ later → e.transfers ≤ d.transfers + (14 + 2 * pages + 4 * later.vam) → MakesFree pages d s e t
     → KeepsMap (IsUnframed s id) later id d s (runs_of later.sectors runs) e t (runs_of later.sectors more)
     → ((named : Triples) (spaces : List Space) (m : List Sector) → MayFree d s later runs named spaces id from page m → FreedDown later named spaces id from pages page d s e t more)
-    → RelabelsOwn id d e → IsFreedDownTo id from end (page - pages) d0 s0 layout kept e t last more
-down_then {id = id} {from = from} {end = end} {page = page} {pages = pages} {d0 = d0} {d = d} {e = e} {s0 = s0} {s = s} {t = t} {layout = layout} {later = later} {last = last} {kept = kept} {runs = runs} {more = more} h under some same cost makes keeps told own =
+    → RelabelsOwn id d e → ((o : Outset) (named : Triples) → KeepsTo o later (runs_of later.sectors runs) d s named → KeepsTo o last (runs_of last.sectors more) e t named)
+    → IsFreedDownTo id from end (page - pages) d0 s0 layout kept e t last more
+down_then {id = id} {from = from} {end = end} {page = page} {pages = pages} {d0 = d0} {d = d} {e = e} {s0 = s0} {s = s} {t = t} {layout = layout} {later = later} {last = last} {kept = kept} {runs = runs} {more = more} h under some same cost makes keeps told own keeps_to =
     let few = some.1 in
     let below = h.below in
     let z : end - page + pages ≡ end - (page - pages) = omega (arith, below, few) in
@@ -82,6 +86,7 @@ down_then {id = id} {from = from} {end = end} {page = page} {pages = pages} {d0 
           subst (λ (n : ℕ). FreedDown layout named spaces id from n end d0 s0 e t more) z
           (freed_down_then first (subst (λ (n : ℕ). FreedDown layout named spaces id from pages n d s e t more) (sym y) next_there));
       own = own_then h.own (freed_own makes own);
+      keeps_to = λ o named k. keeps_to o named (h.keeps_to o named k);
     }
 
 module _ {id from end page : ℕ} {d0 d : DiskState} {s0 s : Slots} {layout later : Layout} {kept runs : CachedRuns} (h : IsFreedDownTo id from end page d0 s0 layout kept d s later runs) where
@@ -129,3 +134,8 @@ module _ {id from end page : ℕ} {d0 d : DiskState} {s0 s : Slots} {layout late
       let below = h.below in
       free_halts_before h.keeps (λ p. p ≡ page - 1) (λ p. (from ≤ p) × (p < end)) (λ p same. (omega (arith, under, same), omega (arith, under, below, same))) size e halt
       (subst (λ (l : Layout). FreeHalts (IsUnframed s id) l (runs_of l.sectors runs) id (λ p. p ≡ page - 1) d s e halt) h.same_layout why)
+
+  -- and its reason
+  pub down_reason : (e : DiskState) (halt : Halt) → ((o : Outset) (named : Triples) → KeepsTo o later (runs_of later.sectors runs) d s named → ShowsReason o later e halt)
+      → (o : Outset) (named : Triples) → KeepsTo o layout (runs_of layout.sectors kept) d0 s0 named → ShowsReason o layout e halt
+  down_reason e halt why o named k = subst (λ (l : Layout). ShowsReason o l e halt) h.same_layout (why o named (h.keeps_to o named k))

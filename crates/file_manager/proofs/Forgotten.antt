@@ -10,6 +10,7 @@ use Rattle.labelled_disk.specs.Sectors.{Sector}
 use Rattle.labelled_disk.specs.State.{DiskState}
 use Rattle.frame_pool.specs.Frames.{Frame, Slots, Has, IsWithin}
 use Rattle.file_map.specs.declared.run.Run.{Run}
+use Rattle.file_map.specs.FileMap.{Triples}
 use Rattle.swapper_kernel.specs.declared.manager.Manager.{Manager}
 use Rattle.swapper_kernel.specs.declared.manager.Manager.TheVariants.{AllocationMap, FileMap}
 use Rattle.swapper_kernel.specs.Differs.{Differs, of_run}
@@ -19,7 +20,9 @@ use Rattle.swapper_kernel.specs.Homes.{IsLayout, ArePlaced, wanted_at}
 use Rattle.swapper_kernel.specs.Maps.{id_of}
 use Rattle.swapper_kernel.specs.Stands.{Stands}
 use Rattle.file_manager.specs.Grounds.{AreTables, KeepsMap}
+use Rattle.file_manager.specs.Reasons.{Outset, KeepsTo}
 use Rattle.file_manager.proofs.FreedRun.{shows_still, first_is}
+use Rattle.file_manager.proofs.KeepSteps.{keeps_front}
 
 -- a label that is that of a page of the space tables has their identifier
 of_tables : (k : ℕ) (l : Label) → of_run 3 0 96 k l ≡ true → l.id ≡ 3
@@ -70,3 +73,10 @@ module _ {layout : Layout} {a b : DiskState} {s t : Slots} (kept : List Run) (is
         };
     runs_given = λ tables r one. inl one;
   }
+
+  -- what keeps to an outset still does
+  pub forgotten_keeps : {o : Outset} {runs : List Run} {named : Triples} → KeepsTo o layout runs a s named → KeepsTo o layout runs b t named
+  forgotten_keeps k =
+      let now = goes.memory k.memory k.stands in
+      keeps_front is k goes.makes (λ home held. record { slot = held.slot; frame = held.frame; has = left held.slot held.frame held.has; at = held.at }) now.0 now.1
+      (λ i x low here. stays k.memory now.0 k.stands now.1 i low x here now.2 (of_run 3 0 96 i x.0) refl)

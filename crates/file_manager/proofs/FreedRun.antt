@@ -295,20 +295,20 @@ freed_none {layout = layout} {named = named} {spaces = spaces} {id = id} {from =
 }
 
 -- over any contents
-pub run_makes : {layout l1 l2 l3 : Layout} {a b c d : DiskState} {s t u v : Slots} (run : Run) → Beside FileMap a s layout b t l1 → u ≡ t → RelabelsRun run.sector run.pages (freeing (run_sectors run)) b t c → Beside AllocationMap c u l2 d v l3
+pub run_makes : {l2 l3 : Layout} {a b c d : DiskState} {s t u v : Slots} (run : Run) → Makes volume_page [] a s b t → u ≡ t → RelabelsRun run.sector run.pages (freeing (run_sectors run)) b t c → Beside AllocationMap c u l2 d v l3
     → MakesFree run.pages a s d v
 run_makes {a = a} {b = b} {c = c} {d = d} {s = s} {t = t} {u = u} {v = v} run first same made last = record {
   sectors = run_sectors run;
   long = length-range_with_len run.sector run.pages;
   makes = subst (λ (ws : List DiskWrite). Makes volume_page ws a s d v) (append_none (freeing (run_sectors run)))
-      (makes_then (map_makes first) (makes_then (subst (Makes volume_page (freeing (run_sectors run)) b t c) (sym same) (makes_wider volume_page (λ id page none. absurd none) made.makes)) (map_makes last)));
+      (makes_then first (makes_then (subst (Makes volume_page (freeing (run_sectors run)) b t c) (sym same) (makes_wider volume_page (λ id page none. absurd none) made.makes)) (map_makes last)));
 }
 
-pub run_stops : {layout l1 : Layout} {a b c : DiskState} {s t u : Slots} (run : Run) → Beside FileMap a s layout b t l1 → u ≡ t → MadeSome (freeing (run_sectors run)) b t c → MakesSomeFree a s c u
+pub run_stops : {a b c : DiskState} {s t u : Slots} (run : Run) → Makes volume_page [] a s b t → u ≡ t → MadeSome (freeing (run_sectors run)) b t c → MakesSomeFree a s c u
 run_stops {a = a} {b = b} {c = c} {s = s} {t = t} {u = u} run first same some = record {
   sectors = take some.count (run_sectors run);
   makes = subst (λ (ws : List DiskWrite). Makes volume_page ws a s c u) (take_freeing some.count (run_sectors run))
-      (makes_then (map_makes first) (subst (Makes volume_page (take some.count (freeing (run_sectors run))) b t c) (sym same) (makes_wider volume_page (λ id page none. absurd none) some.makes)));
+      (makes_then first (subst (Makes volume_page (take some.count (freeing (run_sectors run))) b t c) (sym same) (makes_wider volume_page (λ id page none. absurd none) some.makes)));
 }
 
 pub all_stop : {pages : ℕ} {a b : DiskState} {s t : Slots} → MakesFree pages a s b t → MakesSomeFree a s b t

@@ -15,6 +15,7 @@ use Rattle.filer_kernel.specs.Cached.{runs_of}
 use Rattle.session_words.specs.Volume.{volume_page}
 use Rattle.file_manager.specs.Freeing.{MayFree, Freed, MakesFree}
 use Rattle.file_manager.specs.Grounds.{IsUnframed, FreeHalts, KeepsMap}
+use Rattle.file_manager.specs.Reasons.{Outset, KeepsTo, ShowsReason}
 use Rattle.file_manager.proofs.FreedRun.{freed_then, freed_none, makes_free_then}
 use Rattle.file_manager.proofs.Keeping.{keeps_none, keeps_then, free_halts_before}
 use Rattle.file_manager.proofs.OwnSteps.{freed_own}
@@ -29,6 +30,7 @@ pub record IsFreedTo (id from end page : ℕ) (d0 : DiskState) (s0 : Slots) (lay
   pub keeps : KeepsMap (IsUnframed s0 id) layout id d0 s0 (runs_of layout.sectors kept) d s (runs_of layout.sectors runs)
   pub told : (named : Triples) (spaces : List Space) (m : List Sector) → MayFree d0 s0 layout kept named spaces id from end m → Freed layout named spaces id from (page - from) end d0 s0 d s runs
   pub own : WroteOwn id d0 d
+  pub keeps_to : (o : Outset) (named : Triples) → KeepsTo o layout (runs_of layout.sectors kept) d0 s0 named → KeepsTo o later (runs_of later.sectors runs) d s named
 
 -- what a run costs is at most so much a page
 pub per_page : (p v : ℕ) → 1 ≤ p → 14 + 2 * p + 4 * v ≤ p * (16 + 4 * v)
@@ -58,6 +60,7 @@ to_none id from end d0 s0 layout kept order size =
       keeps = keeps_none (IsUnframed s0 id) layout id d0 s0 (runs_of layout.sectors kept) (λ none. none);
       told = λ named spaces m may. subst (λ (n : ℕ). Freed layout named spaces id from n end d0 s0 d0 s0 kept) z (freed_none m may);
       own = quiet_own id (makes_nothing volume_page d0 s0);
+      keeps_to = λ o named h. h;
     }
 
 -- and a run more
@@ -65,8 +68,9 @@ pub to_then : {id from end page pages : ℕ} {d0 d e : DiskState} {s0 s t : Slot
     → page < end → (1 ≤ pages) × (pages ≤ end - page) → last ≡ later → e.transfers ≤ d.transfers + (14 + 2 * pages + 4 * later.vam) → MakesFree pages d s e t
     → KeepsMap (IsUnframed s id) later id d s (runs_of later.sectors runs) e t (runs_of later.sectors more)
     → ((named : Triples) (spaces : List Space) (m : List Sector) → MayFree d s later runs named spaces id page (page + (end - page)) m → Freed later named spaces id page pages (page + (end - page)) d s e t more)
-    → RelabelsOwn id d e → IsFreedTo id from end (page + pages) d0 s0 layout kept e t last more
-to_then {id = id} {from = from} {end = end} {page = page} {pages = pages} {d0 = d0} {d = d} {e = e} {s0 = s0} {s = s} {t = t} {layout = layout} {later = later} {last = last} {kept = kept} {runs = runs} {more = more} h under some same cost makes keeps told own =
+    → RelabelsOwn id d e → ((o : Outset) (named : Triples) → KeepsTo o later (runs_of later.sectors runs) d s named → KeepsTo o last (runs_of last.sectors more) e t named)
+    → IsFreedTo id from end (page + pages) d0 s0 layout kept e t last more
+to_then {id = id} {from = from} {end = end} {page = page} {pages = pages} {d0 = d0} {d = d} {e = e} {s0 = s0} {s = s} {t = t} {layout = layout} {later = later} {last = last} {kept = kept} {runs = runs} {more = more} h under some same cost makes keeps told own keeps_to =
     let few = some.1 in
     let whole : page + (end - page) ≡ end = omega (arith, under) in
     let above = h.above in
@@ -90,6 +94,7 @@ to_then {id = id} {from = from} {end = end} {page = page} {pages = pages} {d0 = 
           subst (λ (n : ℕ). Freed layout named spaces id from n end d0 s0 e t more) z
           (freed_then first (subst (λ (n : ℕ). Freed layout named spaces id n pages end d s e t more) (sym y) next_there));
       own = own_then h.own (freed_own makes own);
+      keeps_to = λ o named k. keeps_to o named (h.keeps_to o named k);
     }
 
 module _ {id from end page : ℕ} {d0 d : DiskState} {s0 s : Slots} {layout later : Layout} {kept runs : CachedRuns} (h : IsFreedTo id from end page d0 s0 layout kept d s later runs) where
@@ -126,3 +131,8 @@ module _ {id from end page : ℕ} {d0 d : DiskState} {s0 s : Slots} {layout late
       let above = h.above in
       free_halts_before h.keeps (λ p. p ≡ page) (λ p. (from ≤ p) × (p < end)) (λ p same. (omega (arith, above, same), omega (arith, under, same))) size e halt
       (subst (λ (l : Layout). FreeHalts (IsUnframed s id) l (runs_of l.sectors runs) id (λ p. p ≡ page) d s e halt) h.same_layout why)
+
+  -- and its reason
+  pub to_reason : (e : DiskState) (halt : Halt) → ((o : Outset) (named : Triples) → KeepsTo o later (runs_of later.sectors runs) d s named → ShowsReason o later e halt)
+      → (o : Outset) (named : Triples) → KeepsTo o layout (runs_of layout.sectors kept) d0 s0 named → ShowsReason o layout e halt
+  to_reason e halt why o named k = subst (λ (l : Layout). ShowsReason o l e halt) h.same_layout (why o named (h.keeps_to o named k))

@@ -77,7 +77,7 @@ module _ {given : Type 0} {layout : Layout} {id : ℕ} {a b : DiskState} {s t : 
   given_before g r (inr (page, shows)) = inr (page, shown g (Entry page (run_bytes r)) shows)
 
   home_before : given → (home : Home) → IsRunHome layout b t runs home → IsRunHome layout a s kept home
-  home_before g home is = record { run = is.run; given = given_before g is.run is.given; has = is.has; at = is.at }
+  home_before g home is = record { run = is.run; given = given_before g is.run is.given; form = is.form; has = is.has; at = is.at }
 
   none_before : given → a.sectors ≡ layout.sectors → (i page : ℕ) → NamesNone layout b t i page → NamesNone layout a s i page
   none_before g size i page none m named stands map =

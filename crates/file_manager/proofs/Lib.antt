@@ -9,6 +9,7 @@ pub mod RunLeads
 pub mod UpLemmas
 pub mod UpTo
 pub mod TablesMade
+pub mod TablesCut
 pub mod OpenedBooks
 pub mod LeaderLemmas
 pub mod FreedSectors
@@ -50,3 +51,13 @@ pub mod Forgotten
 pub mod OwnSteps
 pub mod RootSteps
 pub mod RootCalls
+pub mod MarkStands
+pub mod KeepSteps
+pub mod ReasonCauses
+pub mod KeepCut
+pub mod ForgetSteps
+pub mod ForgottenRun
+pub mod FreedReasons
+pub mod MadeReasons
+pub mod KeptUpTo
+pub mod RootKeeps

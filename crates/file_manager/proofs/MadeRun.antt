@@ -13,7 +13,6 @@ use Rattle.labelled_disk.specs.Sectors.{Sector}
 use Rattle.labelled_disk.specs.State.{DiskState}
 use Rattle.labelled_disk.specs.WriteRuns.{after_writes}
 use Rattle.labelled_disk.proofs.Finds.{get_set_same}
-use Rattle.frame_pool.specs.declared.home.Home.{Home}
 use Rattle.frame_pool.specs.Frames.{Slots}
 use Rattle.alloc_map.specs.Runs.{IsDataRun}
 use Rattle.file_map.specs.declared.run.Run.{Run}
@@ -35,6 +34,7 @@ use Rattle.filer_kernel.specs.Triples.{MapIs}
 use Rattle.filer_kernel.proofs.MapLemmas.{within_or_not}
 use Rattle.file_manager.specs.Grounds.{IsMapsHome, IsUnframed, MakesFor}
 use Rattle.file_manager.specs.Making.{sectors_of}
+pub use Rattle.file_manager.specs.ReasonLaws.{unframed_still}
 use Rattle.file_manager.specs.Taking.{IsTakenFor, TakesLabels, TakesBits, TakesSectors, NamesNoneOf, AddsPages, no_page_of}
 use Rattle.file_manager.proofs.FreedRun.{behind_map, first_is, one_memory, shows_still}
 use Rattle.file_manager.proofs.FreedSectors.{row_at}
@@ -48,17 +48,6 @@ use Rattle.file_manager.proofs.TakingLemmas.{takes_none, takes_then, takes_wider
 -- a call on a map brings pages of maps
 pub maps_come : {which : Manager} {layout later : Layout} {a b : DiskState} {s t : Slots} → Beside which a s layout b t later → Brings (IsMapsHome layout) s t
 maps_come {which = which} {layout = layout} beside = brings_wider (IsMapsHome layout) (λ home own. (which, own)) beside.brings
-
--- no page of a map is one that a free label would name
-map_no_free : (layout : Layout) (home : Home) → IsMapsHome layout home → home.id ≡ 0 → ⊥
-map_no_free layout home (AllocationMap, (page, below, at)) none = let own : home.id ≡ 1 = ap (λ (h : Home). h.id) at in omega (arith, own, none)
-map_no_free layout home (FileMap, (page, below, at)) none = let own : home.id ≡ 2 = ap (λ (h : Home). h.id) at in omega (arith, own, none)
-
-pub unframed_still : {layout : Layout} {s t : Slots} → Brings (IsMapsHome layout) s t → IsUnframed s 0 → IsUnframed t 0
-unframed_still {layout = layout} brings none page there = elim (brings.homes there.frame.home (record { slot = there.slot; frame = there.frame; has = there.has; at = refl })) [
-  | inl was ↦ none page (record { slot = was.slot; frame = was.frame; has = was.has; same_id = ap (λ (h : Home). h.id) was.at ∙ there.same_id; same_page = ap (λ (h : Home). h.page) was.at ∙ there.same_page })
-  | inr own ↦ map_no_free layout there.frame.home own there.same_id
-]
 
 -- ---- Calls in a row.
 
@@ -148,7 +137,7 @@ run_pages run id page held =
 pub new_run : (run : Run) (named : Triples) → NamesNoneOf run.id (λ page. (run.first ≤ page) × (page < run.first + run.pages)) named → IsNew named run
 new_run run named nothing page sector held = let own = run_pages run run.id page held in nothing page sector (own.1, own.2)
 
-run_adds : (run : Run) (named : Triples) → AddsPages run.id (λ page. (run.first ≤ page) × (page < run.first + run.pages)) named (with_run named run)
+pub run_adds : (run : Run) (named : Triples) → AddsPages run.id (λ page. (run.first ≤ page) × (page < run.first + run.pages)) named (with_run named run)
 run_adds run named = record {
   kept = λ i page sector is. ap (λ (b : Bool). b || run_names run i page sector) is;
   only = λ i page sector is. either i page sector (named i page sector) refl is;

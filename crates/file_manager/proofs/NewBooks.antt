@@ -42,7 +42,7 @@ use Rattle.file_manager.proofs.GrowSteps.{renamed}
 use Rattle.file_manager.proofs.RunStages.{shows_still, beside_map, maps_named, vam_is, in_bits, are_shown, shown_bits, mark_is, map_is}
 use Rattle.file_manager.proofs.UpLemmas.{count_same}
 
-not_cut : (b c d : Bool) → (d ≡ true → b ≡ false) → d ≡ (d && not (b && c))
+pub not_cut : (b c d : Bool) → (d ≡ true → b ≡ false) → d ≡ (d && not (b && c))
 not_cut b c false apart = refl
 not_cut b c true apart = sym (ap (λ (a : Bool). not (a && c)) (apart refl))
 

@@ -26,12 +26,12 @@ use Rattle.file_manager.proofs.Keeping.{keeps_then, keeps_labels, keeps_marks, r
 -- ---- Where runs have pages.
 
 -- a run that has a page has those from its first to its last
-pub run_home : (layout : Layout) (a : DiskState) (s : Slots) (kept : List Run) (r : Run) → IsGiven layout a s kept r → (id p q : ℕ) → holds r id p ≡ true → r.first ≤ q → q < r.first + r.pages
+pub run_home : (layout : Layout) (a : DiskState) (s : Slots) (kept : List Run) (r : Run) → IsGiven layout a s kept r → IsRun layout.sectors r → (id p q : ℕ) → holds r id p ≡ true → r.first ≤ q → q < r.first + r.pages
     → IsRunHome layout a s kept (home_at (r.sector + (q - r.first)) (record { id = id; page = q }))
-run_home layout a s kept r is_given id p q held from below =
+run_home layout a s kept r is_given form id p q held from below =
     let parts = and_parts (r.id == id) (nat_le r.first p && nat_lt p (r.first + r.pages)) held in
     let x : (nat_le r.first q && nat_lt q (r.first + r.pages)) ≡ true = within r.first q (r.first + r.pages) from below in
-    record { run = r; given = is_given; has = (λ i. parts.0 i && x i); at = refl }
+    record { run = r; given = is_given; form = form; has = (λ i. parts.0 i && x i); at = refl }
   where
     within : (m n o : ℕ) → m ≤ n → n < o → (nat_le m n && nat_lt n o) ≡ true
     within m n o first last = grind (arith, nat_tests)
@@ -42,7 +42,7 @@ held_from r id p held =
     let more = and_parts (nat_le r.first p) (nat_lt p (r.first + r.pages)) parts.1 in
     (leb-true r.first p more.0, ltb-true p (r.first + r.pages) more.1)
 
-module _ (layout : Layout) (a : DiskState) (s : Slots) (kept : List Run) (r : Run) (is_given : IsGiven layout a s kept r) (id : ℕ) where
+module _ (layout : Layout) (a : DiskState) (s : Slots) (kept : List Run) (r : Run) (is_given : IsGiven layout a s kept r) (form : IsRun layout.sectors r) (id : ℕ) where
   -- those of a part from a page on
   pub part_homes : (page count : ℕ) → holds r id page ≡ true → count ≤ r.pages - (page - r.first) → (k : ℕ) → k < count
       → IsRunHome layout a s kept (home_at (r.sector + (page - r.first) + k) (record { id = id; page = page + k }))
@@ -52,7 +52,7 @@ module _ (layout : Layout) (a : DiskState) (s : Slots) (kept : List Run) (r : Ru
       let last = bounds.1 in
       let z : r.sector + (page + k - r.first) ≡ r.sector + (page - r.first) + k = omega (arith, from) in
       subst (λ (n : ℕ). IsRunHome layout a s kept (home_at n (record { id = id; page = page + k }))) z
-      (run_home layout a s kept r is_given id page (page + k) held (omega (arith, from)) (omega (arith, from, last, few, below)))
+      (run_home layout a s kept r is_given form id page (page + k) held (omega (arith, from)) (omega (arith, from, last, few, below)))
 
   -- and of one up to a page
   pub last_homes : (end first : ℕ) → holds r id (end - 1) ≡ true → 1 ≤ end → r.first ≤ first → (k : ℕ) → k < end - first
@@ -62,7 +62,7 @@ module _ (layout : Layout) (a : DiskState) (s : Slots) (kept : List Run) (r : Ru
       let last = bounds.1 in
       let z : r.sector + (first + k - r.first) ≡ r.sector + (first - r.first) + k = omega (arith, from) in
       subst (λ (n : ℕ). IsRunHome layout a s kept (home_at n (record { id = id; page = first + k }))) z
-      (run_home layout a s kept r is_given id (end - 1) (first + k) held (omega (arith, from)) (omega (arith, some, from, last, below)))
+      (run_home layout a s kept r is_given form id (end - 1) (first + k) held (omega (arith, from)) (omega (arith, some, from, last, below)))
 
 -- ---- A run of a file that is freed: its labels, and then its sectors in the allocation map.
 

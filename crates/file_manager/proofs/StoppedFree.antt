@@ -12,7 +12,7 @@ use Rattle.frame_pool.specs.Frames.{Slots}
 use Rattle.file_map.specs.declared.run.Run.{Run}
 use Rattle.file_map.specs.FileMap.{Triples}
 use Rattle.flat_machine.specs.declared.space.Space.{Space}
-use Rattle.swapper_kernel.specs.declared.manager.Manager.TheVariants.{AllocationMap, FileMap}
+use Rattle.swapper_kernel.specs.declared.manager.Manager.TheVariants.{AllocationMap}
 use Rattle.swapper_kernel.specs.Goes.{Makes}
 use Rattle.swapper_kernel.specs.GoesLaws.{makes_then, makes_wider}
 use Rattle.swapper_kernel.specs.Window.{Beside}
@@ -48,10 +48,10 @@ row_up named id a b (suc n) each = (
       (subst (λ (x : ℕ). named id (a + suc k) x ≡ true) (let z : b + suc k ≡ b + 1 + k = omega arith in z) (each (suc k) (omega (arith, below))))),
 )
 
-module _ {layout l1 : Layout} {a b : DiskState} {s t : Slots} (named : Triples) (id page end : ℕ) (under : page ≤ end) (beside : Beside FileMap a s layout b t l1) where
+module _ {a b : DiskState} {s t : Slots} (named : Triples) (id page end : ℕ) (under : page ≤ end) (first : Makes volume_page [] a s b t) where
   -- none yet
   pub some_none : FreedSome named id page end a s b t
-  some_none = record { sectors = []; few = omega (arith, under); up = tt; makes = map_makes beside }
+  some_none = record { sectors = []; few = omega (arith, under); up = tt; makes = first }
 
   module _ (n : ℕ) (run : Run) (part : IsPartOf n id page end run) (all : NamesAll named run) where
     run_up : AreNamedUp named id page (run_sectors run)
@@ -64,7 +64,7 @@ module _ {layout l1 : Layout} {a b : DiskState} {s t : Slots} (named : Triples) 
       few = let fewer = take_few some.count (run_sectors run) in let long = length-range_with_len run.sector run.pages in let few = part.few in omega (arith, fewer, long, few);
       up = take_up named id page some.count (run_sectors run) run_up;
       makes = subst (λ (ws : List DiskWrite). Makes volume_page ws a s c u) (take_freeing some.count (run_sectors run))
-          (makes_then (map_makes beside) (subst (Makes volume_page (take some.count (freeing (run_sectors run))) b t c) (sym same) (makes_wider volume_page (λ id page none. absurd none) some.makes)));
+          (makes_then first (subst (Makes volume_page (take some.count (freeing (run_sectors run))) b t c) (sym same) (makes_wider volume_page (λ id page none. absurd none) some.makes)));
     }
 
     -- all of it
@@ -74,7 +74,7 @@ module _ {layout l1 : Layout} {a b : DiskState} {s t : Slots} (named : Triples) 
       few = let long = length-range_with_len run.sector run.pages in let few = part.few in omega (arith, long, few);
       up = run_up;
       makes = subst (λ (ws : List DiskWrite). Makes volume_page ws a s d v) (append_none (freeing (run_sectors run)))
-          (makes_then (map_makes beside) (makes_then (subst (Makes volume_page (freeing (run_sectors run)) b t _) (sym same) (makes_wider volume_page (λ id page none. absurd none) made.makes)) (map_makes last)));
+          (makes_then first (makes_then (subst (Makes volume_page (freeing (run_sectors run)) b t _) (sym same) (makes_wider volume_page (λ id page none. absurd none) made.makes)) (map_makes last)));
     }
 
 -- behind runs that were freed

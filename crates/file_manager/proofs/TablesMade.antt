@@ -45,6 +45,7 @@ use Rattle.file_manager.specs.Tables.{MayBegin, BegunBy}
 use Rattle.file_manager.specs.Grounds.{IsMapsHome, MakesFor}
 use Rattle.file_manager.proofs.BookLemmas.{root_label_grown}
 use Rattle.file_manager.proofs.GrowSteps.{growth_append, grows_then, grows_none, long_grown}
+use Rattle.file_manager.proofs.KeptUpTo.{RunKeeps}
 use Rattle.file_manager.proofs.RunLeads.{one_memory, own_known}
 use Rattle.file_manager.proofs.UpLemmas.{free_left, longer}
 use Rattle.file_manager.proofs.UpTo.{IsUpTo, up_none, up_more}
@@ -58,7 +59,7 @@ no_shape shapes are = either (shapes 3) refl
     either (Some f) e = absurd (false≢true (are.given 3 f e))
 
 -- so no page of them is owned but the first so many
-unowned_from : (n : ℕ) (shapes : Shapes) (page : ℕ) → shapes 3 ≡ None → n ≤ page → is_owned_upto n shapes 3 page ≡ false
+pub unowned_from : (n : ℕ) (shapes : Shapes) (page : ℕ) → shapes 3 ≡ None → n ≤ page → is_owned_upto n shapes 3 page ≡ false
 unowned_from n shapes page none above =
     ap (λ (b : Bool). b || option_map_or (λ (f : Shape). page == leader_page || nat_lt page f.size) (shapes 3) false) (let a : nat_lt page n ≡ false = grind (arith, above) in a)
     ∙ ap (λ (o : Option Shape). option_map_or (λ (f : Shape). page == leader_page || nat_lt page f.size) o false) none
@@ -209,9 +210,10 @@ module _ (page : ℕ) (d0 : DiskState) (s0 : Slots) (layout : Layout) (is_layout
   pub tables_more : (run : Run) (d2 : DiskState) (s2 : Slots) (l2 : Layout) (r2 : CachedRuns) → IsRunFor later.sectors 3 page (96 - page) run → Makes volume_page (growth 3 0 page (sectors_of run)) d s d2 s2
       → Asks page d s later runs (Leads (Grows 3 0 page (sectors_of run)) (growth 3 0 page (sectors_of run)) d s later d2 s2 r2)
       → l2 ≡ later → r2 ≡ runs → d2.transfers ≤ d.transfers + (8 * later.vam + 2 * run.pages + 98) → Brings (IsMapsHome later) s s2 → MakesFor later 3 (λ p. (page ≤ p) × (p < page + run.pages)) d s d2 s2
-      → (run.pages < 96 - page → (m : List Sector) (marks : Marks) → Stands d s m → BitsAre later marks m → run.sector + run.pages < later.sectors → marks (run.sector + run.pages) ≡ true) → AreTablesUpTo (page + run.pages) d0 s0 layout kept d2 s2 l2 r2
-  tables_more run d2 s2 l2 r2 for_it makes made same_layout same_runs cost come takes longest = record {
-    up = up_more 3 0 0 96 page d0 s0 layout is_layout kept d s later runs h.up (omega arith) run d2 s2 l2 r2 below for_it makes (made 96) same_layout same_runs cost come takes longest;
+      → (run.pages < 96 - page → (m : List Sector) (marks : Marks) → Stands d s m → BitsAre later marks m → run.sector + run.pages < later.sectors → marks (run.sector + run.pages) ≡ true)
+      → RunKeeps 3 page (96 - page) run d s later runs d2 s2 l2 r2 → AreTablesUpTo (page + run.pages) d0 s0 layout kept d2 s2 l2 r2
+  tables_more run d2 s2 l2 r2 for_it makes made same_layout same_runs cost come takes longest keeps = record {
+    up = up_more 3 0 0 96 page d0 s0 layout is_layout kept d s later runs h.up (omega arith) run d2 s2 l2 r2 below for_it makes (made 96) same_layout same_runs cost come takes longest keeps;
     begun = λ x shapes spaces may.
         let g = h.begun x shapes spaces may in
         let here = asked (Leads (Grows 3 0 page (sectors_of run)) (growth 3 0 page (sectors_of run)) d s later d2 s2 r2) made x shapes spaces may in

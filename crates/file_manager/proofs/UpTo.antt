@@ -30,6 +30,7 @@ use Rattle.file_manager.specs.Book.{Books, Leads, AreTrue}
 use Rattle.file_manager.specs.Making.{AreUnowned, ShowsNoFree, MayGrow, GrownBy, MakesAll, MakesSome, IsRunFor, free_count, sectors_of}
 use Rattle.file_manager.specs.Grounds.{IsMapsHome, IsUnframed, LabelsRun, EndsAt, MakesFor, MakeHalts}
 use Rattle.file_manager.proofs.GrowSteps.{growth_append, grows_none}
+use Rattle.file_manager.proofs.KeptUpTo.{RunKeeps, KeepsUpTo, keeps_more}
 use Rattle.file_manager.proofs.RunLeads.{one_memory}
 use Rattle.file_manager.proofs.UpLemmas.{after, books_then, unowned_then, some_then, run_then, longer}
 use Rattle.swapper_kernel.specs.Stands.{Stands, labels_of}
@@ -51,6 +52,7 @@ pub record IsUpTo (id kind from end page : ℕ) (d0 : DiskState) (s0 : Slots) (l
   pub untouched : page ≡ from → (bytes : List ℕ) → Tells FileMap d0 s0 layout bytes → Tells FileMap d s layout bytes
   pub last : from < page → page < end → LabelsRun layout id d0 s0 d s
   pub told : (x : List Sector) (shapes : Shapes) (spaces : List Space) (f : Shape) → MayGrow d0 s0 layout kept shapes spaces id f end x → f.size ≡ from → GrownBy id kind from (page - from) d0 s0 layout d s kept
+  pub keeps : KeepsUpTo id from end page d0 s0 layout kept d s later runs
 
 -- what a run costs is at most so much a page
 per_page : (p v : ℕ) → 1 ≤ p → 8 * v + 2 * p + 98 ≤ p * (8 * v + 100)
@@ -79,6 +81,7 @@ up_none id kind from end d0 s0 layout kept order size = record {
   takes = made_none layout id (λ p. (from ≤ p) × (p < from)) d0 s0;
   untouched = λ same bytes tells. tells;
   last = λ past below. absurd (omega (arith, past));
+  keeps = λ o named h none. (named, h, none);
   told = λ x shapes spaces f may is. record {
     sectors = [];
     long = omega arith;
@@ -100,8 +103,9 @@ module _ (id kind from end page : ℕ) (d0 : DiskState) (s0 : Slots) (layout : L
       → ((x : List Sector) (shapes : Shapes) (spaces : List Space) → Books d s later runs shapes spaces x → ShowsNoFree spaces → AreUnowned shapes id page (end - page) → 1 ≤ free_count later x
       → Leads (Grows id kind page (sectors_of run)) (growth id kind page (sectors_of run)) d s later d2 s2 r2)
       → l2 ≡ later → r2 ≡ runs → d2.transfers ≤ d.transfers + (8 * later.vam + 2 * run.pages + 98) → Brings (IsMapsHome later) s s2 → MakesFor later id (λ p. (page ≤ p) × (p < page + run.pages)) d s d2 s2
-      → (run.pages < end - page → (m : List Sector) (marks : Marks) → Stands d s m → BitsAre later marks m → run.sector + run.pages < later.sectors → marks (run.sector + run.pages) ≡ true) → IsUpTo id kind from end (page + run.pages) d0 s0 layout kept d2 s2 l2 r2
-  up_more run d2 s2 l2 r2 below for_it makes made same_layout same_runs cost come takes longest =
+      → (run.pages < end - page → (m : List Sector) (marks : Marks) → Stands d s m → BitsAre later marks m → run.sector + run.pages < later.sectors → marks (run.sector + run.pages) ≡ true)
+      → RunKeeps id page (end - page) run d s later runs d2 s2 l2 r2 → IsUpTo id kind from end (page + run.pages) d0 s0 layout kept d2 s2 l2 r2
+  up_more run d2 s2 l2 r2 below for_it makes made same_layout same_runs cost come takes longest keeps =
       let few = for_it.few in
       let above = up.above in
       let all = up.makes in
@@ -126,6 +130,7 @@ module _ (id kind from end page : ℕ) (d0 : DiskState) (s0 : Slots) (layout : L
         takes = made_then (λ p. (from ≤ p) × (p < page)) (λ p. (page ≤ p) × (p < page + run.pages)) (λ p. (from ≤ p) × (p < page + run.pages))
             (λ p own. (own.0, let below = own.1 in omega (arith, below))) (λ p own. (let after = own.0 in omega (arith, above, after), own.1)) (λ p own other. let after = own.0 in let before = other.1 in omega (arith, after, before))
             up.takes (subst (λ (l : Layout). MakesFor l id (λ p. (page ≤ p) × (p < page + run.pages)) d s d2 s2) up.same_layout takes);
+        keeps = keeps_more kept runs r2 run for_it.same_id for_it.same_first below up.keeps keeps;
         untouched = λ same. let some = for_it.form.some in absurd (omega (arith, same, above, some));
         last = λ past short. record {
           front = growth id kind from all.sectors;

@@ -16,3 +16,6 @@ pub mod Causes
 pub mod Taking
 pub mod Roots
 pub mod Grounds
+pub mod Reasons
+pub mod Forgetting
+pub mod ReasonLaws

@@ -4,7 +4,7 @@ ghost use Rattle.labelled_disk.specs.declared.evidence.Halt.TheVariants as halt;
 ghost use Rattle.labelled_disk.specs.Moment.{written};
 ghost use Rattle.labelled_disk.specs.Calls.{Rose};
 ghost use Rattle.labelled_disk.specs.Sectors.{Sector};
-ghost use Rattle.file_map.specs.FileMap.{most_records};
+ghost use Rattle.file_map.specs.FileMap.{Triples, most_records};
 ghost use Rattle.flat_machine.specs.declared.space.Space.{Space};
 ghost use Rattle.label_calls.specs.Labels.{MayHaveWritten};
 ghost use Rattle.session_words.specs.Parts.{Shapes};
@@ -16,6 +16,7 @@ ghost use Rattle.file_manager.specs.CreateBroken.{CreatedSome};
 ghost use Rattle.file_manager.specs.Creating.{next_id, counted, CreatedAs, NewMade, NewSome};
 ghost use Rattle.file_manager.specs.Making.{MayCreate};
 ghost use Rattle.file_manager.specs.Roots.{RootCounts};
+ghost use Rattle.file_manager.specs.Reasons.{Keeps, KeepsOn, Outset, ShowsReason};
 
 use crate::Volume;
 use crate::growth::frames_of;
@@ -55,6 +56,8 @@ pub fn write_over<D: Disk, A: Allocator>(
     ensures made { OnOk result (Goes (λ m n. n ≡ written (root_write root) m) no_page (root_write root ∷ []) (D.state filer.old.swapper.under) filer.old.swapper.pool (D.state filer.new.swapper.under) filer.old.swapper.pool) }
     ensures stopped { OnErr result (MayHaveWritten (root_write root) (D.state filer.old.swapper.under) filer.old.swapper.pool (D.state filer.new.swapper.under)) }
     ensures fault { IfErr result (λ e. e ≡ halt.Disk) }
+    ensures keeps_to { (o : Outset) (named : Triples) → Keeps o filer.old named → OnOk result (Keeps o filer.new named) }
+    ensures reasons { (o : Outset) (named : Triples) → Keeps o filer.old named → IfErr result (ShowsReason o filer.old.swapper.layout (D.state filer.new.swapper.under)) }
     ensures counted { OnErr result (Rose (D.state filer.old.swapper.under).faults (D.state filer.new.swapper.under).faults) }
     ensures frames { filer.new.swapper.pool ≡ filer.old.swapper.pool }
     ensures layout { filer.new.swapper.layout ≡ filer.old.swapper.layout }
@@ -88,6 +91,8 @@ pub fn create<D: Disk, A: Allocator>(
     ensures broken { (x : List Sector) (shapes : Shapes) (spaces : List Space) → MayCreate (D.state filer.old.swapper.under) filer.old.swapper.pool filer.old.swapper.layout filer.old.runs shapes spaces (next_id volume.old.root) pages x
         → OnErr result (CreatedSome (root_write (counted volume.old.root) ∷ []) (next_id volume.old.root) kind pages x (D.state filer.old.swapper.under) filer.old.swapper.pool (D.state filer.new.swapper.under) filer.new.swapper.pool) }
     ensures cause { IfErr result (CreateHalts filer.old.swapper.layout (next_id volume.old.root) (D.state filer.old.swapper.under) filer.old.swapper.pool (D.state filer.new.swapper.under) filer.new.swapper.pool) }
+    ensures keeps_to { (o : Outset) (named : Triples) → Keeps o filer.old named → OnOk result (KeepsOn o filer.new) }
+    ensures reasons { (o : Outset) (named : Triples) → Keeps o filer.old named → IfErr result (ShowsReason o filer.old.swapper.layout (D.state filer.new.swapper.under)) }
     ensures so { IfErr result (ShowsSo (D.state filer.new.swapper.under)) }
     ensures counted { result ≡ Err halt.Disk → Rose (D.state filer.old.swapper.under).faults (D.state filer.new.swapper.under).faults }
     ensures new_volume { OnOk result (volume.new ≡ record volume.old { root = counted volume.old.root; used = volume.old.used + pages + 1 }) }

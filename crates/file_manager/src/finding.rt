@@ -25,6 +25,7 @@ ghost use Rattle.file_map.specs.FileMap.{Triples, IsSize};
 ghost use Rattle.file_manager.specs.Finding.{IsFoundFile, FileHalts};
 ghost use Rattle.file_manager.specs.Book.{Books, BringsOwn};
 ghost use Rattle.file_manager.specs.Causes.{NamesNone};
+ghost use Rattle.file_manager.specs.Reasons.{Keeps, Outset, ShowsReason};
 
 use crate::leader::{LEADER, leader_of};
 use filer_kernel::FilerOver;
@@ -52,6 +53,8 @@ fn leader_label<D: Disk, A: Allocator>(
     ensures named { IfOk result (λ label. names label (record { id = id; page = leader_page }) ≡ true) }
     ensures sound { (m : List Sector) → Stands (D.state filer.old.swapper.under) filer.old.swapper.pool m → HasOne (ones_of (record { id = id; page = leader_page })) m sector → IfErr result (λ e. e ≡ halt.Disk) }
     ensures cause { IfErr result (HasCause (IsNotOf sector (record { id = id; page = leader_page }) (D.state filer.old.swapper.under)) (D.state filer.old.swapper.under) (D.state filer.new.swapper.under)) }
+    ensures keeps_to { (o : Outset) (named : Triples) → Keeps o filer.old named → OnOk result (Keeps o filer.new named) }
+    ensures reasons { (o : Outset) (named : Triples) → Keeps o filer.old named → named id leader_page sector ≡ true → IfErr result (ShowsReason o filer.old.swapper.layout (D.state filer.new.swapper.under)) }
     ensures so { MayBeIn (D.state filer.old.swapper.under).sectors sector (record { id = id; page = leader_page }) → IfErr result (ShowsSo (D.state filer.new.swapper.under)) }
     ensures same { TellsSame (D.state filer.old.swapper.under) (D.state filer.new.swapper.under) }
     ensures makes { Makes no_page [] (D.state filer.old.swapper.under) filer.old.swapper.pool (D.state filer.new.swapper.under) filer.new.swapper.pool }
@@ -89,6 +92,8 @@ pub(crate) fn find_file<D: Disk, A: Allocator>(
         → Books (D.state filer.new.swapper.under) filer.new.swapper.pool filer.old.swapper.layout filer.new.runs shapes spaces x }
     ensures place { IfOk result (λ found. IfSome found (λ file. (filer.old.swapper.layout.first ≤ file.sector) × (file.sector < filer.old.swapper.layout.sectors))) }
     ensures size { (m : List Sector) (named : Triples) → Stands (D.state filer.old.swapper.under) filer.old.swapper.pool m → MapIs filer.old.swapper.layout named m → IfOk result (λ found. IfSome found (λ file. IsSize named id file.pages)) }
+    ensures names { (m : List Sector) (named : Triples) → Stands (D.state filer.old.swapper.under) filer.old.swapper.pool m → MapIs filer.old.swapper.layout named m → AreOf named (runs_of filer.old.swapper.layout.sectors filer.old.runs)
+        → IfOk result (λ found. IfSome found (λ file. named id leader_page file.sector ≡ true)) }
     ensures missing { result ≡ Ok None → NamesNone filer.old.swapper.layout (D.state filer.old.swapper.under) filer.old.swapper.pool id leader_page }
     ensures same_bytes { (b : List ℕ) → Tells FileMap (D.state filer.old.swapper.under) filer.old.swapper.pool filer.old.swapper.layout b → Tells FileMap (D.state filer.new.swapper.under) filer.new.swapper.pool filer.old.swapper.layout b }
     ensures beside { Beside FileMap (D.state filer.old.swapper.under) filer.old.swapper.pool filer.old.swapper.layout (D.state filer.new.swapper.under) filer.new.swapper.pool filer.new.swapper.layout }
@@ -99,6 +104,8 @@ pub(crate) fn find_file<D: Disk, A: Allocator>(
     ensures makes { Makes volume_page [] (D.state filer.old.swapper.under) filer.old.swapper.pool (D.state filer.new.swapper.under) filer.new.swapper.pool }
     ensures brings { BringsOwn filer.old.swapper.pool filer.new.swapper.pool }
     ensures cause { IfErr result (FileHalts filer.old.swapper.layout (runs_of filer.old.swapper.layout.sectors filer.old.runs) id (D.state filer.old.swapper.under) filer.old.swapper.pool (D.state filer.new.swapper.under)) }
+    ensures keeps_to { (o : Outset) (named : Triples) → Keeps o filer.old named → OnOk result (Keeps o filer.new named) }
+    ensures reasons { (o : Outset) (named : Triples) → Keeps o filer.old named → IfErr result (ShowsReason o filer.old.swapper.layout (D.state filer.new.swapper.under)) }
     ensures keeps { KeepsMap (IsUnframed filer.old.swapper.pool id) filer.old.swapper.layout id (D.state filer.old.swapper.under) filer.old.swapper.pool (runs_of filer.old.swapper.layout.sectors filer.old.runs) (D.state filer.new.swapper.under) filer.new.swapper.pool (runs_of filer.old.swapper.layout.sectors filer.new.runs) }
     ensures so { IfErr result (ShowsSo (D.state filer.new.swapper.under)) }
     ensures layout { filer.new.swapper.layout ≡ filer.old.swapper.layout }

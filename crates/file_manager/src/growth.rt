@@ -6,6 +6,7 @@ ghost use Rattle.labelled_disk.specs.Label.{is_file_id};
 ghost use Rattle.labelled_disk.specs.Runs.{growth};
 ghost use Rattle.labelled_disk.specs.Sectors.{Sector};
 ghost use Rattle.alloc_map.specs.Runs.{IsDataRun};
+ghost use Rattle.file_map.specs.FileMap.{Triples, with_run};
 ghost use Rattle.flat_machine.specs.declared.space.Space.{Space};
 ghost use Rattle.swapper_kernel.specs.declared.manager.Manager.TheVariants.{AllocationMap};
 ghost use Rattle.swapper_kernel.specs.Maps.{IsMapHome};
@@ -27,6 +28,8 @@ ghost use Rattle.frame_pool.specs.Frames.{ArePages};
 ghost use Rattle.file_manager.specs.Book.{Books, BooksUpto, Leads};
 ghost use Rattle.file_manager.specs.Broken.{GrewSome};
 ghost use Rattle.file_manager.specs.Making.{AreUnowned, AreUnownedUpto, ShowsNoFree, free_count, sectors_of, IsRunFor, MayGrow, GrownBy, MakesAll, MakesSome};
+ghost use Rattle.file_manager.specs.Reasons.{Keeps, KeepsOn, Outset, ShowsReason};
+ghost use Rattle.file_manager.specs.Taking.{NamesNoneOf};
 
 use alloc_map::AllocError;
 use file_map::Run;
@@ -51,6 +54,8 @@ fn take_run<D: Disk, A: Allocator>(
     ensures sound { (m : List Sector) (marks : Marks) (k : ℕ) → Stands (D.state filer.old.swapper.under) filer.old.swapper.pool m → BitsAre filer.old.swapper.layout marks m → AreNamed m (IsMapHome AllocationMap filer.old.swapper.layout)
         → filer.old.swapper.layout.first ≤ k → k < filer.old.swapper.layout.sectors → marks k ≡ false → IfErr result (λ e. e ≡ halt.Disk) }
     ensures cause { IfErr result (TakeHalts filer.old.swapper.layout (D.state filer.old.swapper.under) filer.old.swapper.pool (D.state filer.new.swapper.under) filer.new.swapper.pool) }
+    ensures keeps_to { (o : Outset) (named : Triples) → Keeps o filer.old named → OnOk result (Keeps o filer.new named) }
+    ensures reasons { (o : Outset) (named : Triples) → Keeps o filer.old named → IfErr result (ShowsReason o filer.old.swapper.layout (D.state filer.new.swapper.under)) }
     ensures so { IfErr result (ShowsSo (D.state filer.new.swapper.under)) }
     ensures counted { result ≡ Err halt.Disk → Rose (D.state filer.old.swapper.under).faults (D.state filer.new.swapper.under).faults }
     ensures form { IfOk result (IsDataRun filer.old.swapper.layout.first filer.old.swapper.layout.sectors most) }
@@ -124,6 +129,8 @@ pub(crate) fn make_run<D: Disk, A: Allocator>(
         → AreUnownedUpto tables shapes id page most → 1 ≤ free_count filer.old.swapper.layout x
         → IfOk result (λ run. Leads (Grows id kind page (sectors_of run)) (growth id kind page (sectors_of run)) (D.state filer.old.swapper.under) filer.old.swapper.pool filer.old.swapper.layout (D.state filer.new.swapper.under) filer.new.swapper.pool filer.new.runs) }
     ensures cause { IfErr result (MakeHalts filer.old.swapper.layout id (λ p. (page ≤ p) × (p < page + most)) (D.state filer.old.swapper.under) filer.old.swapper.pool (D.state filer.new.swapper.under) filer.new.swapper.pool) }
+    ensures keeps_to { (o : Outset) (named : Triples) → Keeps o filer.old named → NamesNoneOf id (λ p. (page ≤ p) × (p < page + most)) named → IfOk result (λ run. Keeps o filer.new (with_run named run)) }
+    ensures reasons { (o : Outset) (named : Triples) → Keeps o filer.old named → NamesNoneOf id (λ p. (page ≤ p) × (p < page + most)) named → IfErr result (ShowsReason o filer.old.swapper.layout (D.state filer.new.swapper.under)) }
     ensures longest { IfOk result (λ run. run.pages < most → (m : List Sector) (marks : Marks) → Stands (D.state filer.old.swapper.under) filer.old.swapper.pool m → BitsAre filer.old.swapper.layout marks m
         → run.sector + run.pages < filer.old.swapper.layout.sectors → marks (run.sector + run.pages) ≡ true) }
     ensures takes { IfOk result (λ run. MakesFor filer.old.swapper.layout id (λ p. (page ≤ p) × (p < page + run.pages)) (D.state filer.old.swapper.under) filer.old.swapper.pool (D.state filer.new.swapper.under) filer.new.swapper.pool) }
@@ -185,6 +192,8 @@ pub(crate) fn make_up<D: Disk, A: Allocator>(
     ensures makes { OnOk result (MakesAll id kind from (end - from) (D.state filer.old.swapper.under) filer.old.swapper.pool (D.state filer.new.swapper.under) filer.new.swapper.pool) }
     ensures stopped { OnErr result (MakesSome id kind from (end - from) (D.state filer.old.swapper.under) filer.old.swapper.pool (D.state filer.new.swapper.under) filer.new.swapper.pool) }
     ensures cause { IfErr result (MakeHalts filer.old.swapper.layout id (λ p. (from ≤ p) × (p < end)) (D.state filer.old.swapper.under) filer.old.swapper.pool (D.state filer.new.swapper.under) filer.new.swapper.pool) }
+    ensures keeps_to { (o : Outset) (named : Triples) → Keeps o filer.old named → NamesNoneOf id (λ p. (from ≤ p) × (p < end)) named → OnOk result (KeepsOn o filer.new) }
+    ensures reasons { (o : Outset) (named : Triples) → Keeps o filer.old named → NamesNoneOf id (λ p. (from ≤ p) × (p < end)) named → IfErr result (ShowsReason o filer.old.swapper.layout (D.state filer.new.swapper.under)) }
     ensures takes { OnOk result (MakesFor filer.old.swapper.layout id (λ p. (from ≤ p) × (p < end)) (D.state filer.old.swapper.under) filer.old.swapper.pool (D.state filer.new.swapper.under) filer.new.swapper.pool) }
     ensures come { Brings (IsMapsHome filer.old.swapper.layout) filer.old.swapper.pool filer.new.swapper.pool }
     ensures so { IfErr result (ShowsSo (D.state filer.new.swapper.under)) }

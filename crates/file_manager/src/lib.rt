@@ -6,6 +6,7 @@ mod creating;
 mod cutting;
 mod deleting;
 mod finding;
+mod forgetting;
 mod free_all;
 mod freeing_laws;
 mod growing;

@@ -4,6 +4,7 @@ ghost use Rattle.labelled_disk.specs.declared.evidence.Halt.TheVariants as halt;
 ghost use Rattle.labelled_disk.specs.Calls.{Rose};
 ghost use Rattle.labelled_disk.specs.Label.{leader_page};
 ghost use Rattle.labelled_disk.specs.Sectors.{Sector};
+ghost use Rattle.file_map.specs.FileMap.{Triples};
 ghost use Rattle.flat_machine.specs.declared.space.Space.{Space};
 ghost use Rattle.session_words.specs.FrameLaws.{is_shown};
 ghost use Rattle.session_words.specs.Parts.{Shape, Shapes};
@@ -18,6 +19,7 @@ ghost use Rattle.file_manager.specs.Causes.{LeaderHalts};
 ghost use Rattle.filer_kernel.specs.Cached.{runs_of};
 ghost use Rattle.filer_kernel.specs.Evidence.{ShowsSo};
 ghost use Rattle.file_manager.specs.Roots.{RootStays};
+ghost use Rattle.file_manager.specs.Reasons.{Keeps, Outset, ShowsReason};
 
 use crate::leader::{LEADER, leader_of};
 use filer_kernel::FilerOver;
@@ -42,6 +44,8 @@ fn mark<D: Disk, A: Allocator>(
         → shapes id ≡ Some f → OnErr result (MarksFirst id (with_mark mark) x (D.state filer.old.swapper.under) filer.old.swapper.pool (D.state filer.new.swapper.under) filer.new.swapper.pool) }
     ensures makes { WritesMark mark (D.state filer.old.swapper.under) filer.old.swapper.pool (D.state filer.new.swapper.under) filer.new.swapper.pool }
     ensures cause { IfErr result (LeaderHalts filer.old.swapper.layout (runs_of filer.old.swapper.layout.sectors filer.old.runs) id (D.state filer.old.swapper.under) filer.old.swapper.pool (D.state filer.new.swapper.under)) }
+    ensures keeps_to { (o : Outset) (named : Triples) → Keeps o filer.old named → OnOk result (Keeps o filer.new named) }
+    ensures reasons { (o : Outset) (named : Triples) → Keeps o filer.old named → IfErr result (ShowsReason o filer.old.swapper.layout (D.state filer.new.swapper.under)) }
     ensures so { IfErr result (ShowsSo (D.state filer.new.swapper.under)) }
     ensures counted { result ≡ Err halt.Disk → Rose (D.state filer.old.swapper.under).faults (D.state filer.new.swapper.under).faults }
     ensures root { RootStays (D.state filer.old.swapper.under) (D.state filer.new.swapper.under) }
@@ -80,6 +84,8 @@ pub fn make_permanent<D: Disk, A: Allocator>(
         → shapes id ≡ Some f → OnErr result (MarksFirst id permanent_label x (D.state filer.old.swapper.under) filer.old.swapper.pool (D.state filer.new.swapper.under) filer.new.swapper.pool) }
     ensures makes { WritesMark Permanent (D.state filer.old.swapper.under) filer.old.swapper.pool (D.state filer.new.swapper.under) filer.new.swapper.pool }
     ensures cause { IfErr result (LeaderHalts filer.old.swapper.layout (runs_of filer.old.swapper.layout.sectors filer.old.runs) id (D.state filer.old.swapper.under) filer.old.swapper.pool (D.state filer.new.swapper.under)) }
+    ensures keeps_to { (o : Outset) (named : Triples) → Keeps o filer.old named → OnOk result (Keeps o filer.new named) }
+    ensures reasons { (o : Outset) (named : Triples) → Keeps o filer.old named → IfErr result (ShowsReason o filer.old.swapper.layout (D.state filer.new.swapper.under)) }
     ensures so { IfErr result (ShowsSo (D.state filer.new.swapper.under)) }
     ensures counted { result ≡ Err halt.Disk → Rose (D.state filer.old.swapper.under).faults (D.state filer.new.swapper.under).faults }
     ensures root { RootStays (D.state filer.old.swapper.under) (D.state filer.new.swapper.under) }
@@ -109,6 +115,8 @@ pub fn make_immutable<D: Disk, A: Allocator>(
         → shapes id ≡ Some f → OnErr result (MarksFirst id immutable_label x (D.state filer.old.swapper.under) filer.old.swapper.pool (D.state filer.new.swapper.under) filer.new.swapper.pool) }
     ensures makes { WritesMark Immutable (D.state filer.old.swapper.under) filer.old.swapper.pool (D.state filer.new.swapper.under) filer.new.swapper.pool }
     ensures cause { IfErr result (LeaderHalts filer.old.swapper.layout (runs_of filer.old.swapper.layout.sectors filer.old.runs) id (D.state filer.old.swapper.under) filer.old.swapper.pool (D.state filer.new.swapper.under)) }
+    ensures keeps_to { (o : Outset) (named : Triples) → Keeps o filer.old named → OnOk result (Keeps o filer.new named) }
+    ensures reasons { (o : Outset) (named : Triples) → Keeps o filer.old named → IfErr result (ShowsReason o filer.old.swapper.layout (D.state filer.new.swapper.under)) }
     ensures so { IfErr result (ShowsSo (D.state filer.new.swapper.under)) }
     ensures counted { result ≡ Err halt.Disk → Rose (D.state filer.old.swapper.under).faults (D.state filer.new.swapper.under).faults }
     ensures root { RootStays (D.state filer.old.swapper.under) (D.state filer.new.swapper.under) }

@@ -1,17 +1,17 @@
 //! The pages of the space tables, which a session makes at its start and frees at its close.
-ghost use Rattle.std.specs.Prelude.{◌≡◌, ℕ, ◌+◌, ◌*◌, ◌≤◌, List, [], IfErr, OnErr, OnOk, Err, ◌<◌};
+ghost use Rattle.std.specs.Prelude.{◌≡◌, ℕ, ◌+◌, ◌*◌, ◌≤◌, ◌==◌, not, List, [], filter, IfErr, OnErr, OnOk, Err, ◌<◌};
 ghost use Rattle.labelled_disk.specs.declared.evidence.Halt.TheVariants as halt;
 ghost use Rattle.labelled_disk.specs.Calls.{Rose};
 ghost use Rattle.labelled_disk.specs.Sectors.{Sector, AreSectors};
 ghost use Rattle.frame_pool.specs.Frames.{Frame, Has, IsWithin};
-ghost use Rattle.file_map.specs.FileMap.{most_records};
+ghost use Rattle.file_map.specs.FileMap.{Triples, most_records};
 ghost use Rattle.flat_machine.specs.declared.space.Space.{Space};
 ghost use Rattle.label_calls.specs.Own.{RelabelsOwn};
 ghost use Rattle.swapper_kernel.specs.Differs.{Differs, of_run};
 ghost use Rattle.swapper_kernel.specs.Goes.{Goes, no_page};
 ghost use Rattle.swapper_kernel.specs.Stands.{Stands};
 ghost use Rattle.session_words.specs.Parts.{Shapes};
-ghost use Rattle.file_manager.specs.Grounds.{AreTables, CutFileHalts, MakeHalts};
+ghost use Rattle.file_manager.specs.Grounds.{AreTables, CreateHalts, CutFileHalts, MakeHalts};
 ghost use Rattle.filer_kernel.specs.Cached.{runs_of};
 ghost use Rattle.filer_kernel.specs.Evidence.{ShowsSo};
 ghost use Rattle.file_manager.specs.Book.{Books};
@@ -19,6 +19,8 @@ ghost use Rattle.file_manager.specs.Freeing.{MakesFree, MakesSomeFree};
 ghost use Rattle.file_manager.specs.Making.{MakesAll, MakesSome};
 ghost use Rattle.file_manager.specs.Tables.{MayBegin, BegunBy, EndedBy, EndedSome};
 ghost use Rattle.file_manager.specs.Roots.{RootStays};
+ghost use Rattle.file_manager.specs.Reasons.{Keeps, KeepsOn, Outset, ShowsReason};
+ghost use Rattle.file_manager.specs.Taking.{NamesNoneOf};
 
 use crate::growth::{TABLES, frames_of, make_run};
 use crate::release::free_up;
@@ -30,8 +32,8 @@ use std::alloc::Allocator;
 /// How many pages the space tables have.
 const TABLE_PAGES: u32 = 96;
 
-/// Makes the pages of the space tables, in the lowest free data sectors: zeros, with labels of file 3, and in the file map.
-pub fn make_tables<D: Disk, A: Allocator>(filer: &mut FilerOver<D, A>) -> Result<(), Halt>
+// Makes these pages in the lowest free data sectors, where the file map names none of them.
+fn make_pages<D: Disk, A: Allocator>(filer: &mut FilerOver<D, A>) -> Result<(), Halt>
     requires size { (D.state filer.old.swapper.under).sectors ≡ filer.old.swapper.layout.sectors }
     ensures made { (x : List Sector) (shapes : Shapes) (spaces : List Space) → MayBegin (D.state filer.old.swapper.under) filer.old.swapper.pool filer.old.swapper.layout filer.old.runs shapes spaces x
         → OnOk result (BegunBy (D.state filer.old.swapper.under) filer.old.swapper.pool filer.old.swapper.layout (D.state filer.new.swapper.under) filer.new.swapper.pool filer.new.runs) }
@@ -40,6 +42,8 @@ pub fn make_tables<D: Disk, A: Allocator>(filer: &mut FilerOver<D, A>) -> Result
     ensures makes { OnOk result (MakesAll 3 0 0 96 (D.state filer.old.swapper.under) filer.old.swapper.pool (D.state filer.new.swapper.under) filer.new.swapper.pool) }
     ensures stopped { OnErr result (MakesSome 3 0 0 96 (D.state filer.old.swapper.under) filer.old.swapper.pool (D.state filer.new.swapper.under) filer.new.swapper.pool) }
     ensures cause { IfErr result (MakeHalts filer.old.swapper.layout 3 (λ p. p < 96) (D.state filer.old.swapper.under) filer.old.swapper.pool (D.state filer.new.swapper.under) filer.new.swapper.pool) }
+    ensures keeps_to { (o : Outset) (named : Triples) → Keeps o filer.old named → NamesNoneOf 3 (λ p. p < 96) named → OnOk result (KeepsOn o filer.new) }
+    ensures reasons { (o : Outset) (named : Triples) → Keeps o filer.old named → NamesNoneOf 3 (λ p. p < 96) named → IfErr result (ShowsReason o filer.old.swapper.layout (D.state filer.new.swapper.under)) }
     ensures so { IfErr result (ShowsSo (D.state filer.new.swapper.under)) }
     ensures counted { result ≡ Err halt.Disk → Rose (D.state filer.old.swapper.under).faults (D.state filer.new.swapper.under).faults }
     ensures root { RootStays (D.state filer.old.swapper.under) (D.state filer.new.swapper.under) }
@@ -53,6 +57,38 @@ pub fn make_tables<D: Disk, A: Allocator>(filer: &mut FilerOver<D, A>) -> Result
             Ok(run) => page += run.pages,
             Err(halt) => return Err(halt),
         }
+    }
+    Ok(())
+}
+
+/// Makes the pages of the space tables, in the lowest free data sectors: zeros, with labels of file 3, and in the file map. What
+/// that might have of file 3 goes first.
+pub fn make_tables<D: Disk, A: Allocator>(filer: &mut FilerOver<D, A>) -> Result<(), Halt>
+    requires size { (D.state filer.old.swapper.under).sectors ≡ filer.old.swapper.layout.sectors }
+    ensures made { (x : List Sector) (shapes : Shapes) (spaces : List Space) → MayBegin (D.state filer.old.swapper.under) filer.old.swapper.pool filer.old.swapper.layout filer.old.runs shapes spaces x
+        → OnOk result (BegunBy (D.state filer.old.swapper.under) filer.old.swapper.pool filer.old.swapper.layout (D.state filer.new.swapper.under) filer.new.swapper.pool filer.new.runs) }
+    ensures sound { (x : List Sector) (shapes : Shapes) (spaces : List Space) → MayBegin (D.state filer.old.swapper.under) filer.old.swapper.pool filer.old.swapper.layout filer.old.runs shapes spaces x
+        → IfErr result (λ e. e ≡ halt.Disk) }
+    ensures makes { OnOk result (MakesAll 3 0 0 96 (D.state filer.old.swapper.under) filer.old.swapper.pool (D.state filer.new.swapper.under) filer.new.swapper.pool) }
+    ensures stopped { OnErr result (MakesSome 3 0 0 96 (D.state filer.old.swapper.under) filer.old.swapper.pool (D.state filer.new.swapper.under) filer.new.swapper.pool) }
+    ensures cause { IfErr result (CreateHalts filer.old.swapper.layout 3 (D.state filer.old.swapper.under) filer.old.swapper.pool (D.state filer.new.swapper.under) filer.new.swapper.pool) }
+    ensures keeps_to { (o : Outset) (named : Triples) → Keeps o filer.old named → OnOk result (KeepsOn o filer.new) }
+    ensures reasons { (o : Outset) (named : Triples) → Keeps o filer.old named → IfErr result (ShowsReason o filer.old.swapper.layout (D.state filer.new.swapper.under)) }
+    ensures so { IfErr result (ShowsSo (D.state filer.new.swapper.under)) }
+    ensures counted { result ≡ Err halt.Disk → Rose (D.state filer.old.swapper.under).faults (D.state filer.new.swapper.under).faults }
+    ensures root { RootStays (D.state filer.old.swapper.under) (D.state filer.new.swapper.under) }
+    ensures layout { filer.new.swapper.layout ≡ filer.old.swapper.layout }
+    ensures runs { (n : ℕ) → runs_of n filer.new.runs ≡ filter (λ r. not (r.id == 3)) (runs_of n filer.old.runs) }
+    ensures cost { (D.state filer.new.swapper.under).transfers ≤ (D.state filer.old.swapper.under).transfers + (2 * (1 + 51 * most_records filer.old.swapper.layout.sectors) + 96 * (8 * filer.old.swapper.layout.vam + 100)) }
+{
+    match filer.cut(TABLES, 0) {
+        Ok(()) => (),
+        Err(halt) => return Err(halt),
+    }
+    frames_of(filer);
+    match make_pages(filer) {
+        Ok(()) => (),
+        Err(halt) => return Err(halt),
     }
     Ok(())
 }
@@ -85,6 +121,8 @@ pub fn free_tables<D: Disk, A: Allocator>(filer: &mut FilerOver<D, A>) -> Result
     ensures makes { OnOk result (MakesFree 96 (D.state filer.old.swapper.under) filer.old.swapper.pool (D.state filer.new.swapper.under) filer.new.swapper.pool) }
     ensures stopped { OnErr result (MakesSomeFree (D.state filer.old.swapper.under) filer.old.swapper.pool (D.state filer.new.swapper.under) filer.new.swapper.pool) }
     ensures cause { IfErr result (CutFileHalts (AreTables filer.old.swapper.pool) filer.old.swapper.layout (runs_of filer.old.swapper.layout.sectors filer.old.runs) 3 0 (λ page. page < 96) (D.state filer.old.swapper.under) filer.old.swapper.pool (D.state filer.new.swapper.under)) }
+    ensures keeps_to { (o : Outset) (named : Triples) → Keeps o filer.old named → OnOk result (KeepsOn o filer.new) }
+    ensures reasons { (o : Outset) (named : Triples) → Keeps o filer.old named → IfErr result (ShowsReason o filer.old.swapper.layout (D.state filer.new.swapper.under)) }
     ensures so { IfErr result (ShowsSo (D.state filer.new.swapper.under)) }
     ensures counted { result ≡ Err halt.Disk → Rose (D.state filer.old.swapper.under).faults (D.state filer.new.swapper.under).faults }
     ensures root { RootStays (D.state filer.old.swapper.under) (D.state filer.new.swapper.under) }

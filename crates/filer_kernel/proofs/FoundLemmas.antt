@@ -74,7 +74,7 @@ found_home x a s kept r page is given form held =
     let first = data_first x is in
     record {
       table = record { of_tables = refl; on_data = record { id = inl refl; from = omega (arith, from, first); below = omega (arith, inside, has.from, has.below) } };
-      by_run = record { run = r; given = given; has = held; at = refl };
+      by_run = record { run = r; given = given; form = form; has = held; at = refl };
     }
 
 -- its label names the page, where the tables are told

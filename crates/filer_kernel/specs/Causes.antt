@@ -10,7 +10,7 @@ use Rattle.frame_pool.specs.declared.home.Home.{Home}
 use Rattle.frame_pool.specs.Frames.{Slots}
 use Rattle.page_tree.specs.Page.{page_at, count_in}
 use Rattle.file_map.specs.declared.run.Run.{Run}
-use Rattle.file_map.specs.Run.{holds, sector_at, run_bytes}
+use Rattle.file_map.specs.Run.{IsRun, holds, sector_at, run_bytes}
 use Rattle.file_map.specs.FileMap.{most_records}
 use Rattle.file_map.specs.Entries.{Sight, Entry, Stops}
 use Rattle.file_map.specs.Cause.{IsBroken, IsMost}
@@ -29,10 +29,11 @@ MapShows layout disk slots sight = ShownBy (Tells FileMap disk slots layout) lay
 abbrev pub IsGiven : Layout → DiskState → Slots → List Run → Run → Type 0
 IsGiven layout disk slots kept r = IsOneOf r kept ⊎ ((page : ℕ) × MapShows layout disk slots (Entry page (run_bytes r)))
 
--- the home is that which such a run gives to its page
+-- the home is that which such a run gives to its page; it is a run of the volume, as each that is found
 pub record IsRunHome (layout : Layout) (disk : DiskState) (slots : Slots) (kept : List Run) (home : Home) : Type 0 where
   pub run : Run
   pub given : IsGiven layout disk slots kept run
+  pub form : IsRun layout.sectors run
   pub has : holds run home.id home.page ≡ true
   pub at : home.sector ≡ sector_at run home.page
 

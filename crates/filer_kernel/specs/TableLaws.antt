@@ -62,7 +62,7 @@ module _ (layout : Layout) (is : IsLayout layout) {a b : DiskState} {s t : Slots
   ]
 
   run_home_before : (home : Home) → IsRunHome layout b t now home → IsRunHome layout a s kept home
-  run_home_before home h = record { run = h.run; given = given_before h.run h.given; has = h.has; at = h.at }
+  run_home_before home h = record { run = h.run; given = given_before h.run h.given; form = h.form; has = h.has; at = h.at }
 
   found_home_before : (home : Home) → IsFoundHome layout b t now home → IsFoundHome layout a s kept home
   found_home_before home h = record { table = h.table; by_run = run_home_before home h.by_run }

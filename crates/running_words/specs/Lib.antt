@@ -3,3 +3,5 @@ pub mod Stages
 pub mod Bound
 pub mod Running
 pub mod RunningLaws
+pub mod Moving
+pub mod MovingLaws

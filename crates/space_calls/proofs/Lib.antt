@@ -18,6 +18,7 @@ mod StoreLemmas
 pub mod RangeLemmas
 mod WindowHalts
 mod ReshapeLemmas
+mod MovesLemmas
 pub mod HaltLemmas
 pub mod BareLemmas
 pub mod TakenMachine

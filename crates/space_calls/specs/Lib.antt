@@ -3,3 +3,4 @@ pub mod Unmapping
 pub mod Mapping
 pub mod Ranges
 pub mod Halts
+pub mod ReasonLaws

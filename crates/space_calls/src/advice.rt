@@ -17,6 +17,7 @@ ghost use Rattle.running_words.specs.Session.{WroteIn};
 ghost use Rattle.running_words.specs.Stages.{Passes};
 ghost use Rattle.filer_kernel.specs.Evidence.{ShowsSo};
 ghost use Rattle.space_calls.specs.Ranges.{BreaksRange};
+ghost use Rattle.running_words.specs.Moving.{Moves};
 
 use fault_core::CoreOver;
 use flat_machine::Reply;
@@ -34,6 +35,7 @@ pub fn activate<D: Disk, A: Allocator>(core: &mut CoreOver<D, A>, space: u32) ->
     ensures cause { IfErr result (ReachHalts (BreaksRange (state core.old) core.old.intervals space) (state core.old) (state core.new)) }
     ensures so { IfErr result (ShowsSo (D.state core.new.filer.swapper.under)) }
     ensures wrote { WroteIn (volume_page) (D.state core.old.filer.swapper.under) core.old.filer.swapper.pool (D.state core.new.filer.swapper.under) core.new.filer.swapper.pool }
+    ensures moves { Moves (state core.old) (state core.new) }
     ensures layout { core.new.filer.swapper.layout ≡ core.old.filer.swapper.layout }
     ensures cost { CostsOther (D.state core.old.filer.swapper.under) (D.state core.new.filer.swapper.under) }
     ensures whole { (volume : Volume) (m : Machine) (s : Space) → Runs core.old volume m → space_at m.spaces space ≡ Some s → OnOk result (IsActive m.spaces (kept core.new) core.new.filer.swapper.pool s.first (s.first + s.pages)) }

@@ -26,6 +26,7 @@ ghost use Rattle.filer_kernel.specs.Evidence.{ShowsSo};
 ghost use Rattle.fault_core.specs.Core.{state};
 ghost use Rattle.fault_core.specs.Reach.{Reaches};
 ghost use Rattle.space_calls.specs.Halts.{ChangeHalts, MapFileHalts};
+ghost use Rattle.running_words.specs.Moving.{Moves};
 
 use crate::framing::frame_count;
 use crate::naming::named_file;
@@ -52,6 +53,7 @@ pub fn give_window<D: Disk, A: Allocator>(
     ensures cause { IfErr result (ChangeHalts core.old.intervals (state core.old) (state core.new)) }
     ensures so { IfErr result (ShowsSo (D.state core.new.filer.swapper.under)) }
     ensures makes { Makes volume_page [] (D.state core.old.filer.swapper.under) core.old.filer.swapper.pool (D.state core.new.filer.swapper.under) core.new.filer.swapper.pool }
+    ensures moves { Moves (state core.old) (state core.new) }
     ensures layout { core.new.filer.swapper.layout ≡ core.old.filer.swapper.layout }
     ensures cost { (D.state core.new.filer.swapper.under).transfers ≤ (D.state core.old.filer.swapper.under).transfers + 57344 }
 {
@@ -137,6 +139,7 @@ pub fn map<D: Disk, A: Allocator>(
     ensures cause { IfErr result (MapFileHalts space id core.old.intervals (state core.old) (state core.new)) }
     ensures so { IfErr result (ShowsSo (D.state core.new.filer.swapper.under)) }
     ensures wrote { WroteIn (volume_page) (D.state core.old.filer.swapper.under) core.old.filer.swapper.pool (D.state core.new.filer.swapper.under) core.new.filer.swapper.pool }
+    ensures moves { Moves (state core.old) (state core.new) }
     ensures layout { core.new.filer.swapper.layout ≡ core.old.filer.swapper.layout }
     ensures cost { CostsOther (D.state core.old.filer.swapper.under) (D.state core.new.filer.swapper.under) }
 {

@@ -16,6 +16,7 @@ ghost use Rattle.fault_core.specs.Reach.{ReachHalts};
 ghost use Rattle.fault_core.specs.Unit.{IsReady};
 ghost use Rattle.running_words.specs.Stages.{client_or_own};
 ghost use Rattle.filer_kernel.specs.Evidence.{ShowsSo};
+ghost use Rattle.running_words.specs.Moving.{Moves};
 
 use fault_core::{Access, CoreOver};
 use flat_machine::{Piece, Refusal, Reply};
@@ -36,6 +37,7 @@ pub fn load<D: Disk, A: Allocator>(
     ensures passes { (volume : Volume) (m : Machine) → Runs core.old volume m → Passes m (call.Load address count) (D.state core.old.filer.swapper.under) (D.state core.new.filer.swapper.under) }
     ensures counted { result ≡ Err halt.Disk → Rose (D.state core.old.filer.swapper.under).faults (D.state core.new.filer.swapper.under).faults }
     ensures wrote { WroteIn (volume_page) (D.state core.old.filer.swapper.under) core.old.filer.swapper.pool (D.state core.new.filer.swapper.under) core.new.filer.swapper.pool }
+    ensures moves { Moves (state core.old) (state core.new) }
     ensures layout { core.new.filer.swapper.layout ≡ core.old.filer.swapper.layout }
     ensures cost { (D.state core.new.filer.swapper.under).transfers ≤ (D.state core.old.filer.swapper.under).transfers + 1680 }
     ensures ready { (volume : Volume) (m : Machine) → Runs core.old volume m → refusal m (call.Load address count) ≡ None → OnOk result (IsReady (kept core.new) core.new.filer.swapper.pool (last_page address count)) }
@@ -68,6 +70,7 @@ pub fn store<D: Disk, A: Allocator>(
     ensures passes { (volume : Volume) (m : Machine) → Runs core.old volume m → Passes m (call.Store address bytes.now) (D.state core.old.filer.swapper.under) (D.state core.new.filer.swapper.under) }
     ensures counted { result ≡ Err halt.Disk → Rose (D.state core.old.filer.swapper.under).faults (D.state core.new.filer.swapper.under).faults }
     ensures wrote { WroteIn (client_or_own) (D.state core.old.filer.swapper.under) core.old.filer.swapper.pool (D.state core.new.filer.swapper.under) core.new.filer.swapper.pool }
+    ensures moves { Moves (state core.old) (state core.new) }
     ensures layout { core.new.filer.swapper.layout ≡ core.old.filer.swapper.layout }
     ensures cost { (D.state core.new.filer.swapper.under).transfers ≤ (D.state core.old.filer.swapper.under).transfers + 1680 }
     ensures ready { (volume : Volume) (m : Machine) → Runs core.old volume m → refusal m (call.Store address bytes.now) ≡ None → OnOk result (IsReady (kept core.new) core.new.filer.swapper.pool (last_page address (length bytes.now))) }

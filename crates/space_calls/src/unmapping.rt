@@ -26,6 +26,7 @@ ghost use Rattle.filer_kernel.specs.Evidence.{ShowsSo};
 ghost use Rattle.fault_core.specs.Core.{state};
 ghost use Rattle.fault_core.specs.Reach.{ReachHalts};
 ghost use Rattle.space_calls.specs.Ranges.{BreaksPart};
+ghost use Rattle.running_words.specs.Moving.{Moves};
 
 use crate::settle::settle;
 use crate::windows::{change_window, find_window, force_range, let_range_go, shows_immutable};
@@ -87,6 +88,7 @@ fn protect_writable<D: Disk, A: Allocator>(
     ensures cause { IfErr result (WritableHalts shown.id core.old.intervals (state core.old) (state core.new)) }
     ensures so { IfErr result (ShowsSo (D.state core.new.filer.swapper.under)) }
     ensures makes { Makes volume_page [] (D.state core.old.filer.swapper.under) core.old.filer.swapper.pool (D.state core.new.filer.swapper.under) core.new.filer.swapper.pool }
+    ensures moves { Moves (state core.old) (state core.new) }
     ensures layout { core.new.filer.swapper.layout ≡ core.old.filer.swapper.layout }
     ensures cost { (D.state core.new.filer.swapper.under).transfers ≤ (D.state core.old.filer.swapper.under).transfers + 57373 }
 {
@@ -123,6 +125,7 @@ fn protect_read_only<D: Disk, A: Allocator>(
     ensures cause { IfErr result (ReachHalts (BreaksPart (state core.old) core.old.intervals first (first + pages)) (state core.old) (state core.new)) }
     ensures so { IfErr result (ShowsSo (D.state core.new.filer.swapper.under)) }
     ensures makes { Makes volume_page [] (D.state core.old.filer.swapper.under) core.old.filer.swapper.pool (D.state core.new.filer.swapper.under) core.new.filer.swapper.pool }
+    ensures moves { Moves (state core.old) (state core.new) }
     ensures layout { core.new.filer.swapper.layout ≡ core.old.filer.swapper.layout }
     ensures cost { (D.state core.new.filer.swapper.under).transfers ≤ (D.state core.old.filer.swapper.under).transfers + 4452352 }
 {
@@ -159,6 +162,7 @@ pub fn protect<D: Disk, A: Allocator>(
     ensures cause { IfErr result (ProtectHalts space writable core.old.intervals (state core.old) (state core.new)) }
     ensures so { IfErr result (ShowsSo (D.state core.new.filer.swapper.under)) }
     ensures wrote { WroteIn (volume_page) (D.state core.old.filer.swapper.under) core.old.filer.swapper.pool (D.state core.new.filer.swapper.under) core.new.filer.swapper.pool }
+    ensures moves { Moves (state core.old) (state core.new) }
     ensures layout { core.new.filer.swapper.layout ≡ core.old.filer.swapper.layout }
     ensures cost { CostsOther (D.state core.old.filer.swapper.under) (D.state core.new.filer.swapper.under) }
     ensures synced { (volume : Volume) (m : Machine) → Runs core.old volume m → writable ≡ false → refusal m (call.Protect space writable) ≡ None → OnOk result ((D.state core.new.filer.swapper.under).synced ≡ true) }

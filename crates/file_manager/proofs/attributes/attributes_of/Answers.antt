@@ -58,3 +58,14 @@ returns-in-Err-clause-looks g c =
     rw (← c.frames_of.ensures.same)
     (looks_searched {kept = runs_of f.swapper.layout.sectors f.runs} {runs = runs_of f.swapper.layout.sectors c.find_file.new.filer.runs} f.swapper.accepted (rw c.frames_of.ensures.same c.requires.size) (g.met.D.Disk.whole f.swapper.under) (g.met.D.Disk.in_form f.swapper.under) (rw c.frames_of.ensures.same c.frames_of.ensures.pages)
     found.beside found.same_bytes found.runs_given found.runs_are)
+
+-- ---- What it keeps to, and the reasons of its halts.
+
+pub returns-in-Ok-Some-clause-keeps_to : goal.returns-in-Ok-Some-clause-keeps_to
+returns-in-Ok-Some-clause-keeps_to g c = rw (← c.frames_of.ensures.same) c.in-Ok-Some.ensures.keeps_to
+
+pub returns-in-Ok-None-clause-keeps_to : goal.returns-in-Ok-None-clause-keeps_to
+returns-in-Ok-None-clause-keeps_to g c = rw (← c.frames_of.ensures.same) c.in-Ok-None.ensures.keeps_to
+
+pub returns-in-Err-clause-reasons : goal.returns-in-Err-clause-reasons
+returns-in-Err-clause-reasons g c = rw (← c.frames_of.ensures.same) c.in-Err.ensures.reasons

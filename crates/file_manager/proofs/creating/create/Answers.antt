@@ -18,10 +18,16 @@ use Rattle.file_manager.proofs.creating.create.Given as given
 use Rattle.file_manager.proofs.creating.create.Goals.{After-frames_of}
 use Rattle.filer_kernel.specs.EvidenceLaws.{fits, so_of_cut}
 use Rattle.file_manager.proofs.SoLemmas.{fault_shows}
-use Rattle.file_manager.proofs.CreateStops.{create_of_cut, create_of_make}
+use Rattle.file_manager.proofs.CreateStops.{create_of_cut, create_of_make, root_behind}
 use Rattle.labelled_disk.specs.declared.evidence.Halt.{Halt}
 use Rattle.file_manager.specs.Grounds.{CreateHalts}
+use Rattle.file_manager.specs.Taking.{every_page}
 use Rattle.file_manager.proofs.RootCalls.{created_root, created_some_root}
+use Rattle.file_map.specs.FileMap.{without_from}
+use Rattle.file_manager.proofs.KeepCut.{keeps_cut}
+use Rattle.file_manager.proofs.KeepSteps.{keeps_at}
+use Rattle.file_manager.proofs.ReasonCauses.{cut_reasons}
+use Rattle.file_manager.proofs.RootKeeps.{none_left}
 use Rattle.file_manager.proofs.creating.create.Goals as goal
 
 pub returns-in-Err-clause-sound : goal.returns-in-Err-clause-sound
@@ -152,7 +158,7 @@ returns-in-Err-cut-clause-cause g c =
     let id : c.next_id-id.result ≡ next_id root = c.next_id-id.ensures.next in
     let begun = rw (c.in-Ok.ensures.frames, c.in-Ok.ensures.layout, id) at c.in-Err-cut.ensures.begun in
     let why = rw (c.in-Ok.ensures.frames, c.in-Ok.ensures.layout) at c.in-Err-cut.ensures.cause in
-    create_of_cut layout c.args.filer.now.swapper.accepted (next_id root) (counted root) c.in-Ok.ensures.made (g.D.Disk.state c.cut.new.self.swapper.under) c.cut.new.self.swapper.pool c.in-Err-cut.halt begun why
+    create_of_cut layout c.args.filer.now.swapper.accepted (next_id root) c.in-Ok.ensures.made.makes (root_behind (counted root) c.in-Ok.ensures.made) (g.D.Disk.state c.cut.new.self.swapper.under) c.cut.new.self.swapper.pool c.in-Err-cut.halt begun why
 
 pub returns-in-Err-make_file-clause-cause : goal.returns-in-Err-make_file-clause-cause
 returns-in-Err-make_file-clause-cause g c =
@@ -162,7 +168,7 @@ returns-in-Err-make_file-clause-cause g c =
     let lay : c.cut.new.self.swapper.layout ≡ layout = c.in-Ok-cut.ensures.beside.layout ∙ c.in-Ok.ensures.layout in
     let beside = rw (c.in-Ok.ensures.frames, c.in-Ok.ensures.layout) at c.in-Ok-cut.ensures.beside in
     let cut = rw (c.in-Ok.ensures.frames, c.in-Ok.ensures.layout, id) at c.in-Ok-cut.ensures.cut in
-    create_of_make layout c.args.filer.now.swapper.accepted (next_id root) (counted root) c.in-Ok.ensures.made beside cut (g.D.Disk.state c.make_file.new.filer.swapper.under) c.make_file.new.filer.swapper.pool c.in-Err-make_file.halt
+    create_of_make layout c.args.filer.now.swapper.accepted (next_id root) c.in-Ok.ensures.made.makes (root_behind (counted root) c.in-Ok.ensures.made) beside cut every_page (g.D.Disk.state c.make_file.new.filer.swapper.under) c.make_file.new.filer.swapper.pool c.in-Err-make_file.halt
     (rw (c.frames_of.ensures.same, lay, id) at c.in-Err-make_file.ensures.cause)
 
 pub returns-in-Err-clause-root : goal.returns-in-Err-clause-root
@@ -176,3 +182,27 @@ returns-in-Err-make_file-clause-root g c = created_some_root c.args.volume.now.r
 
 pub returns-clause-root : goal.returns-clause-root
 returns-clause-root g c = created_root c.args.volume.now.root c.next_id-id.ensures.serial c.requires.valid.serial c.requires.counter c.args.filer.now.swapper.layout c.args.filer.now.swapper.accepted (λ d told. g.met.D.Disk.whole c.args.filer.now.swapper.under d told ∙ c.requires.size) c.args.kind c.args.pages (returns-clause-makes g c)
+
+pub returns-in-Err-clause-reasons : goal.returns-in-Err-clause-reasons
+returns-in-Err-clause-reasons g c = λ o named h. c.in-Err.ensures.reasons o named h
+
+pub returns-in-Err-cut-clause-reasons : goal.returns-in-Err-cut-clause-reasons
+returns-in-Err-cut-clause-reasons g c = λ o named h.
+    let rooted = c.in-Ok.ensures.keeps_to o named h in
+    rw c.in-Ok.ensures.layout at
+    (cut_reasons rooted c.cut.ensures.beside.goes.makes c.in-Err-cut.halt c.in-Err-cut.ensures.cause (c.in-Err-cut.ensures.right rooted.memory named rooted.stands rooted.map))
+
+pub returns-in-Err-make_file-clause-reasons : goal.returns-in-Err-make_file-clause-reasons
+returns-in-Err-make_file-clause-reasons g c = λ o named h.
+    let rooted = c.in-Ok.ensures.keeps_to o named h in
+    let lay : c.cut.new.self.swapper.layout ≡ c.args.filer.now.swapper.layout = c.in-Ok-cut.ensures.beside.layout ∙ c.in-Ok.ensures.layout in
+    let id = c.next_id-id.result in
+    let cut = keeps_at c.cut.new.self.runs c.in-Ok-cut.ensures.beside.layout (keeps_cut rooted c.in-Ok-cut.ensures.beside id 0 (c.in-Ok-cut.ensures.runs c.write_over.new.filer.swapper.layout.sectors) c.in-Ok-cut.ensures.cut) in
+    (rw (c.frames_of.ensures.same, lay) at c.in-Err-make_file.ensures.reasons) o (without_from named id 0) (rw lay at cut) (none_left named id)
+
+pub returns-clause-keeps_to : goal.returns-clause-keeps_to
+returns-clause-keeps_to g c = λ o named h.
+    let rooted = c.in-Ok.ensures.keeps_to o named h in
+    let id = c.next_id-id.result in
+    let cut = keeps_at c.cut.new.self.runs c.in-Ok-cut.ensures.beside.layout (keeps_cut rooted c.in-Ok-cut.ensures.beside id 0 (c.in-Ok-cut.ensures.runs c.write_over.new.filer.swapper.layout.sectors) c.in-Ok-cut.ensures.cut) in
+    (rw c.frames_of.ensures.same at c.in-Ok-make_file.ensures.keeps_to) o (without_from named id 0) cut (none_left named id)

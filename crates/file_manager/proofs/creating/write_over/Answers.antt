@@ -2,6 +2,7 @@ use Rattle.std.proofs.Common.{◌⊎◌, ◌∙◌, rules}
 use Rattle.labelled_disk.specs.Calls.{Moves, TellsSame, TellsWrite}
 use Rattle.volume_root.specs.RootPage.{root_write}
 use Rattle.file_manager.proofs.RootForm.{root_goes, root_may}
+use Rattle.file_manager.proofs.RootKeeps.{root_keeps}
 use Rattle.file_manager.proofs.creating.write_over.Goals as goal
 
 pub returns-in-Ok-clause-made : goal.returns-in-Ok-clause-made
@@ -21,3 +22,6 @@ returns-in-Err-clause-stopped g c =
     let moves : Moves old new = search rules in
     root_may old new c.args.filer.now.swapper.pool c.args.filer.now.swapper.layout c.args.root c.args.filer.now.swapper.accepted c.args.filer.now.swapper.placed c.requires.valid c.requires.serial c.requires.counter
     (λ d told. g.met.D.Disk.whole c.args.filer.now.swapper.under d told ∙ c.requires.size) moves either
+
+pub returns-in-Ok-clause-keeps_to : goal.returns-in-Ok-clause-keeps_to
+returns-in-Ok-clause-keeps_to g c = λ o named h. root_keeps c.args.root h (returns-in-Ok-clause-made g c)

@@ -18,6 +18,10 @@ use Rattle.file_manager.proofs.Keeping.{keeps_none}
 use Rattle.file_manager.proofs.CutCauses.{cut_halts_behind, shrink_of_cut, shrink_of_add}
 use Rattle.filer_kernel.specs.Cached.{runs_of}
 use Rattle.file_manager.specs.Grounds.{IsUnframed}
+use Rattle.file_manager.proofs.KeepSteps.{keeps_at}
+use Rattle.file_manager.proofs.KeepCut.{keeps_cut, keeps_led}
+use Rattle.file_manager.proofs.ReasonCauses.{cut_reasons, add_reasons}
+use Rattle.file_manager.specs.Reasons.{ShowsReason}
 use Rattle.file_manager.proofs.cutting.cut_to.Goals as goal
 
 pub returns-in-Err-clause-sound : goal.returns-in-Err-clause-sound
@@ -99,3 +103,22 @@ returns-in-Err-add-clause-cause g c =
     (λ m named stands map.
     let b = c.in-Ok.ensures.cut m named stands map in
     (b.memory, b.stands, b.is, right b.memory (without_from named c.args.id c.args.from) b.stands b.is (leader_new named c.args.id c.args.from c.args.leader few)))
+
+-- ---- What it keeps to, and the reasons of its halts.
+
+pub returns-in-Err-clause-reasons : goal.returns-in-Err-clause-reasons
+returns-in-Err-clause-reasons g c = λ o named k led. cut_reasons k c.cut.ensures.beside.goes.makes c.in-Err.halt c.in-Err.ensures.cause (c.in-Err.ensures.right k.memory named k.stands k.map)
+
+pub returns-in-Err-add-clause-reasons : goal.returns-in-Err-add-clause-reasons
+returns-in-Err-add-clause-reasons g c = λ o named k led.
+    let fits = c.ranges.from.fits in
+    let few : c.args.from ≤ leader_page = omega (arith, fits) in
+    let layout = c.args.filer.now.swapper.layout in
+    let now = keeps_at c.cut.new.self.runs c.cut.ensures.beside.layout (keeps_cut k c.cut.ensures.beside c.args.id c.args.from (c.cut.ensures.runs layout.sectors) c.in-Ok.ensures.cut) in
+    subst (λ (l : Layout). ShowsReason o l (g.D.Disk.state c.add.new.self.swapper.under) c.in-Err-add.halt) c.cut.ensures.beside.layout
+    (add_reasons now c.add.ensures.beside.goes.makes c.in-Err-add.halt c.in-Err-add.ensures.cause (c.in-Err-add.ensures.right now.memory _ now.stands now.map (leader_new named c.args.id c.args.from c.args.leader few)))
+
+pub returns-clause-keeps_to : goal.returns-clause-keeps_to
+returns-clause-keeps_to g c = λ o named k led.
+    let layout = c.args.filer.now.swapper.layout in
+    (_, keeps_at c.frames_of.new.filer.runs (returns-clause-beside g c).layout (keeps_led k (returns-clause-beside g c) c.args.id c.args.from (returns-clause-runs g c layout.sectors) c.args.leader led (returns-clause-cut g c)))

@@ -5,8 +5,10 @@ use Rattle.file_manager.proofs.ShrinkLemmas.{may_free, leader_is_alone, named_ap
 use Rattle.file_manager.proofs.CutCauses.{shrink_of_free, shrink_halts_behind}
 use Rattle.filer_kernel.specs.Cached.{runs_of}
 use Rattle.file_manager.specs.Grounds.{IsUnframed}
-use Rattle.std.proofs.Common.{◌≤◌, ◌<◌}
+use Rattle.std.proofs.Common.{◌≤◌, ◌<◌, subst}
 use Rattle.file_manager.proofs.OwnSteps.{map_own, freed_own, own_after}
+use Rattle.labelled_disk.specs.declared.layout.Layout.{Layout}
+use Rattle.file_manager.specs.Reasons.{ShowsReason}
 use Rattle.file_manager.proofs.cutting.shrink.Goals as goal
 
 pub returns-in-Err-clause-sound : goal.returns-in-Err-clause-sound
@@ -81,3 +83,15 @@ returns-in-Err-cut_to-clause-own g c = own_after (freed_own c.in-Ok.ensures.make
 
 pub returns-clause-own : goal.returns-clause-own
 returns-clause-own g c = own_after (freed_own c.in-Ok.ensures.makes c.in-Ok.ensures.own) (map_own c.args.id c.cut_to.ensures.beside)
+
+-- ---- What it keeps to, and the reasons of its halts.
+
+pub returns-in-Err-clause-reasons : goal.returns-in-Err-clause-reasons
+returns-in-Err-clause-reasons g c = λ o named k led. c.in-Err.ensures.reasons o named k
+
+pub returns-in-Err-cut_to-clause-reasons : goal.returns-in-Err-cut_to-clause-reasons
+returns-in-Err-cut_to-clause-reasons g c = λ o named k led.
+    subst (λ (l : Layout). ShowsReason o l (g.D.Disk.state c.cut_to.new.filer.swapper.under) c.in-Err-cut_to.halt) c.in-Ok.ensures.layout (c.in-Err-cut_to.ensures.reasons o named (c.in-Ok.ensures.keeps_to o named k) led)
+
+pub returns-clause-keeps_to : goal.returns-clause-keeps_to
+returns-clause-keeps_to g c = λ o named k led. c.in-Ok-cut_to.ensures.keeps_to o named (c.in-Ok.ensures.keeps_to o named k) led

@@ -16,6 +16,12 @@ use Rattle.file_manager.specs.Grounds.{IsUnframed, IsPageOf}
 use Rattle.label_calls.specs.OwnLaws.{relabels_own, own_then}
 use Rattle.file_manager.proofs.OwnSteps.{map_own, freed_own, some_own, own_after}
 use Rattle.file_manager.proofs.RootCalls.{freed_some_root, deleted_root}
+use Rattle.labelled_disk.specs.declared.layout.Layout.{Layout}
+use Rattle.file_manager.proofs.KeepSteps.{keeps_at, keeps_asked}
+use Rattle.file_manager.proofs.KeepCut.{keeps_cut}
+use Rattle.file_manager.proofs.ReasonCauses.{cut_reasons}
+use Rattle.file_manager.specs.ReasonLaws.{map_reasons}
+use Rattle.file_manager.specs.Reasons.{ShowsReason}
 use Rattle.file_manager.proofs.deleting.delete.Goals as goal
 
 pub returns-in-Err-clause-sound : goal.returns-in-Err-clause-sound
@@ -278,3 +284,24 @@ returns-in-Err-cut-clause-root g c = freed_some_root (returns-in-Err-cut-clause-
 
 pub returns-clause-root : goal.returns-clause-root
 returns-clause-root g c = deleted_root (returns-clause-makes g c)
+
+-- ---- What it keeps to, and the reasons of its halts.
+
+pub returns-in-Err-clause-reasons : goal.returns-in-Err-clause-reasons
+returns-in-Err-clause-reasons g c = λ o named k. map_reasons k c.size.ensures.beside.goes.makes c.args.filer.now.swapper.accepted c.in-Err.halt c.in-Err.ensures.cause
+
+pub returns-in-Err-free_all-clause-reasons : goal.returns-in-Err-free_all-clause-reasons
+returns-in-Err-free_all-clause-reasons g c = λ o named k.
+    subst (λ (l : Layout). ShowsReason o l (g.D.Disk.state c.free_all.new.filer.swapper.under) c.in-Err-free_all.halt) c.size.ensures.beside.layout
+    (c.in-Err-free_all.ensures.reasons o named (keeps_asked c.args.filer.now.runs c.size.new.self.runs c.size.ensures.runs k c.size.ensures.beside c.size.ensures.same))
+
+pub returns-in-Err-cut-clause-reasons : goal.returns-in-Err-cut-clause-reasons
+returns-in-Err-cut-clause-reasons g c = λ o named k.
+    let now = c.in-Ok-free_all.ensures.keeps_to o named (keeps_asked c.args.filer.now.runs c.size.new.self.runs c.size.ensures.runs k c.size.ensures.beside c.size.ensures.same) in
+    subst (λ (l : Layout). ShowsReason o l (g.D.Disk.state c.cut.new.self.swapper.under) c.in-Err-cut.halt) (c.in-Ok-free_all.ensures.layout ∙ c.size.ensures.beside.layout)
+    (cut_reasons now c.cut.ensures.beside.goes.makes c.in-Err-cut.halt c.in-Err-cut.ensures.cause (c.in-Err-cut.ensures.right now.memory named now.stands now.map))
+
+pub returns-clause-keeps_to : goal.returns-clause-keeps_to
+returns-clause-keeps_to g c = λ o named k.
+    let now = c.in-Ok-free_all.ensures.keeps_to o named (keeps_asked c.args.filer.now.runs c.size.new.self.runs c.size.ensures.runs k c.size.ensures.beside c.size.ensures.same) in
+    rw c.frames_of-volume.ensures.same (_, keeps_at c.cut.new.self.runs c.cut.ensures.beside.layout (keeps_cut now c.cut.ensures.beside c.args.id 0 (c.cut.ensures.runs c.free_all.new.filer.swapper.layout.sectors) c.in-Ok-cut.ensures.cut))

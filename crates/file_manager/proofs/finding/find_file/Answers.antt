@@ -1,4 +1,4 @@
-use Rattle.std.proofs.Common.{◌≡◌, ◌≤◌, ◌<◌, ℕ, Option, refl, sym, ◌∙◌, ap, subst, rules, arith, inl, inr}
+use Rattle.std.proofs.Common.{◌≡◌, ◌≤◌, ◌<◌, true, ℕ, Option, refl, sym, ◌∙◌, ap, subst, rules, arith, inl, inr}
 use Rattle.std.specs.Prelude.{IfSome}
 use Rattle.labelled_disk.specs.declared.layout.Layout.{Layout}
 use Rattle.swapper_kernel.specs.declared.manager.Manager.TheVariants.{FileMap}
@@ -22,6 +22,9 @@ use Rattle.file_manager.proofs.MadeRun.{made_read, made_look, reads_then}
 use Rattle.swapper_kernel.specs.WindowLaws.{beside_then}
 use Rattle.file_manager.proofs.LookLemmas.{beside_read}
 use Rattle.file_manager.proofs.Keeping.{keeps_read, keeps_look, keeps_then}
+use Rattle.file_manager.proofs.KeepSteps.{keeps_asked}
+use Rattle.file_manager.specs.ReasonLaws.{map_reasons}
+use Rattle.file_manager.specs.Reasons.{ShowsReason}
 use Rattle.file_manager.proofs.finding.find_file.Goals as goal
 
 pub returns-in-Ok-None-clause-told : goal.returns-in-Ok-None-clause-told
@@ -245,3 +248,36 @@ returns-in-Err-size-clause-runs_given g c = rw (c.size.ensures.runs, c.leader_la
 
 pub returns-in-Err-size-clause-runs_are : goal.returns-in-Err-size-clause-runs_are
 returns-in-Err-size-clause-runs_are g c = rw (c.size.ensures.runs, c.leader_label.ensures.runs) c.leader_of.ensures.runs_are
+
+-- ---- What it keeps to, and the reasons of its halts.
+
+pub returns-in-Ok-None-clause-keeps_to : goal.returns-in-Ok-None-clause-keeps_to
+returns-in-Ok-None-clause-keeps_to g c = c.in-Ok-None.ensures.keeps_to
+
+pub returns-in-Err-clause-reasons : goal.returns-in-Err-clause-reasons
+returns-in-Err-clause-reasons g c = c.in-Err.ensures.reasons
+
+pub returns-in-Err-leader_label-clause-reasons : goal.returns-in-Err-leader_label-clause-reasons
+returns-in-Err-leader_label-clause-reasons g c =
+    let led = c.in-Ok-Some.ensures.names in
+    λ o named k.
+    let now = c.in-Ok-Some.ensures.keeps_to o named k in
+    let named_there = subst (λ (o : Option ℕ). IfSome o (λ sector. named c.args.id leader_page sector ≡ true)) c.in-Ok-Some.field-0-is (led k.memory named k.stands k.map k.kept) in
+    subst (λ (l : Layout). ShowsReason o l (g.D.Disk.state c.leader_label.new.filer.swapper.under) c.in-Err-leader_label.halt) c.leader_of.ensures.layout (c.in-Err-leader_label.ensures.reasons o named now named_there)
+
+pub returns-in-Err-size-clause-reasons : goal.returns-in-Err-size-clause-reasons
+returns-in-Err-size-clause-reasons g c = λ o named k.
+    let found = c.in-Ok-Some.ensures.keeps_to o named k in
+    let now = c.in-Ok.ensures.keeps_to o named found in
+    subst (λ (l : Layout). ShowsReason o l (g.D.Disk.state c.size.new.self.swapper.under) c.in-Err-size.halt) (c.leader_label.ensures.layout ∙ c.leader_of.ensures.layout)
+    (map_reasons {k = runs_of c.leader_label.new.filer.swapper.layout.sectors c.leader_label.new.filer.runs} now c.size.ensures.beside.goes.makes c.leader_label.new.filer.swapper.accepted c.in-Err-size.halt c.in-Err-size.ensures.cause)
+
+pub returns-in-Ok-size-clause-keeps_to : goal.returns-in-Ok-size-clause-keeps_to
+returns-in-Ok-size-clause-keeps_to g c = λ o named k.
+    let found = c.in-Ok-Some.ensures.keeps_to o named k in
+    let now = c.in-Ok.ensures.keeps_to o named found in
+    keeps_asked c.leader_label.new.filer.runs c.size.new.self.runs c.size.ensures.runs now c.size.ensures.beside c.size.ensures.same
+
+pub returns-in-Ok-size-clause-names : goal.returns-in-Ok-size-clause-names
+returns-in-Ok-size-clause-names g c = λ m named stands map are.
+    subst (λ (o : Option ℕ). IfSome o (λ sector. named c.args.id leader_page sector ≡ true)) c.in-Ok-Some.field-0-is (c.in-Ok-Some.ensures.names m named stands map are)

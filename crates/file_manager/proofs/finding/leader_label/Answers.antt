@@ -1,4 +1,4 @@
-use Rattle.std.proofs.Common.{◌≡◌, inr, ℕ, true, false, sym, ◌∙◌, subst, rules}
+use Rattle.std.proofs.Common.{◌≡◌, inl, inr, ℕ, true, false, sym, ◌∙◌, subst, rules}
 use Rattle.std.proofs.lemmas.Bool.{true≢false}
 use Rattle.labelled_disk.specs.Label.{names, leader_page}
 use Rattle.label_calls.specs.Labels.{ones_of}
@@ -6,6 +6,10 @@ use Rattle.label_calls.proofs.RelabelLemmas.{in_memory}
 use Rattle.filer_kernel.specs.Evidence.{MayBeIn}
 use Rattle.filer_kernel.specs.EvidenceLaws.{label_after}
 use Rattle.file_manager.proofs.SoLemmas.{fault_shows}
+use Rattle.swapper_kernel.specs.Homes.{home_at}
+use Rattle.file_manager.specs.ReasonLaws.{at_home_later}
+use Rattle.file_manager.proofs.KeepSteps.{keeps_at, keeps_told}
+use Rattle.file_manager.proofs.ReasonCauses.{fault_reason}
 use Rattle.file_manager.proofs.finding.leader_label.Goals as goal
 
 pub returns-then-not-names-clause-sound : goal.returns-then-not-names-clause-sound
@@ -24,3 +28,23 @@ returns-then-not-names-clause-so g c = λ may.
     let makes = rw c.swapper_over-swapper.ensures.value at c.read_label.ensures.makes in
     let other : names c.in-Ok.found (record { id = c.args.id; page = leader_page }) ≡ false = search rules in
     (label_after makes.wrote c.args.sector c.in-Ok.found found, inr other, subst (λ (n : ℕ). MayBeIn n c.args.sector (record { id = c.args.id; page = leader_page })) (sym makes.went.sectors) may)
+
+-- ---- What it keeps to, and the reasons of its halts.
+
+pub returns-clause-keeps_to : goal.returns-clause-keeps_to
+returns-clause-keeps_to g c = λ o named k.
+    let same = rw c.swapper_over-swapper.ensures.value at c.read_label.ensures.same in
+    let makes = rw c.swapper_over-swapper.ensures.value at c.read_label.ensures.makes in
+    let frames = rw c.swapper_over-swapper.ensures.value at c.read_label.ensures.frames in
+    let lay = rw c.swapper_over-swapper.ensures.value at c.read_label.ensures.layout in
+    keeps_at c.args.filer.now.runs lay (keeps_told c.args.filer.now.swapper.accepted k same makes frames)
+
+pub returns-in-Err-clause-reasons : goal.returns-in-Err-clause-reasons
+returns-in-Err-clause-reasons g c = λ o named k led.
+    fault_reason o c.args.filer.now.swapper.layout (g.D.Disk.state c.read_label.new.swapper.under) c.in-Err.halt ((rw c.swapper_over-swapper.ensures.value at c.in-Err.ensures.cause).0)
+
+pub returns-then-not-names-clause-reasons : goal.returns-then-not-names-clause-reasons
+returns-then-not-names-clause-reasons g c = λ o named k led.
+    let makes = rw c.swapper_over-swapper.ensures.value at c.read_label.ensures.makes in
+    let home = home_at c.args.sector (record { id = c.args.id; page = leader_page }) in
+    inr (inl (at_home_later o makes home (k.homes home led)))

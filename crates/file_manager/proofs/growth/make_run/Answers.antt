@@ -19,6 +19,8 @@ use Rattle.swapper_kernel.specs.Homes.{Brings}
 use Rattle.frame_pool.specs.Frames.{Slots}
 use Rattle.swapper_kernel.specs.GoesLaws.{makes_then}
 use Rattle.file_manager.specs.Grounds.{IsMapsHome}
+use Rattle.file_manager.specs.ReasonLaws.{keeps_as}
+use Rattle.file_manager.proofs.MadeReasons.{label_reasons_taken, run_keeps, add_reasons, few_none}
 use Rattle.file_manager.proofs.growth.make_run.Goals as goal
 
 pub returns-in-Err-clause-sound : goal.returns-in-Err-clause-sound
@@ -230,3 +232,43 @@ returns-clause-come g c =
     let lay : c.label_run.new.filer.swapper.layout ≡ layout = c.in-Ok-label_run.ensures.layout ∙ c.in-Ok.ensures.kept.layout in
     rw c.frames_of.ensures.same
     (brings_then (subst (λ (s : Slots). Brings (IsMapsHome layout) c.args.filer.now.swapper.pool s) (sym c.in-Ok-label_run.ensures.frames) (maps_come c.in-Ok.ensures.kept)) (maps_come (rw lay at c.in-Ok-add.ensures.beside)))
+
+pub returns-in-Err-clause-reasons : goal.returns-in-Err-clause-reasons
+returns-in-Err-clause-reasons g c = λ o named h nothing. c.in-Err.ensures.reasons o named h
+
+pub returns-in-Err-label_run-clause-reasons : goal.returns-in-Err-label_run-clause-reasons
+returns-in-Err-label_run-clause-reasons g c = λ o named h nothing.
+    let kept = c.in-Ok.ensures.kept in
+    let form = c.in-Ok.ensures.form in
+    let run = row_run c.args.id c.args.page c.in-Ok.taken.0 c.in-Ok.taken.1 in
+    label_reasons_taken h kept run.sector run.pages form.above form.inside (λ m marks stands bits. (c.in-Ok.ensures.lowest m marks stands bits).free) (stopped_labels run c.args.kind kept c.in-Err-label_run.ensures.frames c.args.most form.few c.in-Err-label_run.ensures.stopped).makes
+    c.in-Err-label_run.halt c.in-Err-label_run.ensures.cause
+
+pub returns-in-Err-add-clause-reasons : goal.returns-in-Err-add-clause-reasons
+returns-in-Err-add-clause-reasons g c = λ o named h nothing.
+    let layout = c.args.filer.now.swapper.layout in
+    let is = c.args.filer.now.swapper.accepted in
+    let run = row_run c.args.id c.args.page c.in-Ok.taken.0 c.in-Ok.taken.1 in
+    let kept = c.in-Ok.ensures.kept in
+    let form = c.in-Ok.ensures.form in
+    let lay : c.label_run.new.filer.swapper.layout ≡ layout = c.in-Ok-label_run.ensures.layout ∙ kept.layout in
+    let frames = c.in-Ok-label_run.ensures.frames in
+    let made = c.in-Ok-label_run.ensures.made in
+    let beside = rw (frames, lay) at c.add.ensures.beside in
+    add_reasons h is run c.args.kind c.args.most form kept c.in-Ok.ensures.taken made c.in-Ok-label_run.ensures.were beside (added_makes run c.args.kind kept refl made beside) (few_none run named c.args.most form.few nothing)
+    c.in-Err-add.halt (rw (frames, lay) at c.in-Err-add.ensures.cause) (rw (frames, lay) at c.in-Err-add.ensures.right)
+
+pub returns-clause-keeps_to : goal.returns-clause-keeps_to
+returns-clause-keeps_to g c = λ o named h nothing.
+    let layout = c.args.filer.now.swapper.layout in
+    let is = c.args.filer.now.swapper.accepted in
+    let run = row_run c.args.id c.args.page c.in-Ok.taken.0 c.in-Ok.taken.1 in
+    let kept = c.in-Ok.ensures.kept in
+    let form = c.in-Ok.ensures.form in
+    let lay : c.label_run.new.filer.swapper.layout ≡ layout = c.in-Ok-label_run.ensures.layout ∙ kept.layout in
+    let frames = c.in-Ok-label_run.ensures.frames in
+    let made = c.in-Ok-label_run.ensures.made in
+    let beside = rw (frames, lay) at c.in-Ok-add.ensures.beside in
+    let added = rw (frames, lay) at c.in-Ok-add.ensures.added in
+    rw c.frames_of.ensures.same (keeps_as (c.in-Ok-add.ensures.beside.layout ∙ lay) (c.in-Ok-add.ensures.runs ∙ c.in-Ok-label_run.ensures.runs ∙ c.in-Ok.ensures.runs)
+    (run_keeps h is run c.args.kind c.args.most form kept c.in-Ok.ensures.taken made c.in-Ok-label_run.ensures.were beside (added_makes run c.args.kind kept refl made beside) (few_none run named c.args.most form.few nothing) added))

@@ -1,4 +1,4 @@
-use Rattle.std.proofs.Common.{rules, ◌≡◌, ◌<◌, ◌≤◌}
+use Rattle.std.proofs.Common.{rules, ◌≡◌, ◌<◌, ◌≤◌, arith}
 use Rattle.file_manager.proofs.UpTo.{up_all, up_cause, up_cost, up_none, up_more, up_sound, up_stopped}
 use Rattle.file_manager.proofs.GrowBroken.{up_broken}
 use Rattle.file_manager.proofs.Faults.{counted_then}
@@ -11,7 +11,7 @@ loop-page-init g c = up_none _ _ _ _ _ _ _ _ c.requires.order c.requires.size
 pub loop-page-preserved : goal.loop-page-preserved
 loop-page-preserved g c =
     let below : c.loop-page.page < c.args.end = search rules in
-    up_more _ _ _ _ c.loop-page.page _ _ _ c.args.filer.now.swapper.accepted _ _ _ _ _ c.loop-page.invariant c.requires.numbers c.in-Ok.run' _ _ _ _ below c.in-Ok.ensures.form c.in-Ok.ensures.makes (c.in-Ok.ensures.made 96) c.in-Ok.ensures.layout c.in-Ok.ensures.runs c.in-Ok.ensures.cost_made c.make_run.ensures.come c.in-Ok.ensures.takes c.in-Ok.ensures.longest
+    up_more _ _ _ _ c.loop-page.page _ _ _ c.args.filer.now.swapper.accepted _ _ _ _ _ c.loop-page.invariant c.requires.numbers c.in-Ok.run' _ _ _ _ below c.in-Ok.ensures.form c.in-Ok.ensures.makes (c.in-Ok.ensures.made 96) c.in-Ok.ensures.layout c.in-Ok.ensures.runs c.in-Ok.ensures.cost_made c.make_run.ensures.come c.in-Ok.ensures.takes c.in-Ok.ensures.longest c.in-Ok.ensures.keeps_to
 
 pub returns-in-Err-clause-sound : goal.returns-in-Err-clause-sound
 returns-in-Err-clause-sound g c =
@@ -55,3 +55,12 @@ pub returns-clause-takes : goal.returns-clause-takes
 returns-clause-takes g c =
     let all : c.loop-page.page ≡ c.args.end = search rules in
     rw all at c.loop-page.invariant.takes
+
+pub returns-clause-keeps_to : goal.returns-clause-keeps_to
+returns-clause-keeps_to g c = λ o named h none. let now = c.loop-page.invariant.keeps o named h none in (now.0, now.1)
+
+pub returns-in-Err-clause-reasons : goal.returns-in-Err-clause-reasons
+returns-in-Err-clause-reasons g c = λ o named h none.
+    let below : c.loop-page.page < c.args.end = search rules in
+    let now = c.loop-page.invariant.keeps o named h none in
+    rw c.loop-page.invariant.same_layout at (c.in-Err.ensures.reasons o now.0 now.1 (λ p sector own. let last = own.1 in now.2 p sector (own.0, omega (arith, last, below))))

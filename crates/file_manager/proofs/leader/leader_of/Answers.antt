@@ -12,6 +12,8 @@ use Rattle.file_manager.proofs.BookLemmas.{map_is, kept_are, map_named, own_maps
 use Rattle.file_manager.proofs.Faults.{counted}
 use Rattle.filer_kernel.specs.EvidenceLaws.{fits, so_of_map}
 use Rattle.file_manager.proofs.Keeping.{keeps_read}
+use Rattle.file_manager.proofs.FreedReasons.{found_keeps}
+use Rattle.file_manager.specs.ReasonLaws.{map_reasons}
 use Rattle.file_manager.proofs.leader.leader_of.Goals as goal
 
 pub returns-in-Ok-Some-clause-told : goal.returns-in-Ok-Some-clause-told
@@ -75,6 +77,7 @@ returns-in-Ok-Some-clause-given g c =
     record {
       run = c.in-Ok-Some.run';
       given = subst (λ (o : Option Run). IfSome o (λ run. IsGiven layout old c.args.filer.now.swapper.pool kept run)) c.in-Ok-Some.field-0-is c.in-Ok-Some.ensures.given;
+      form = subst (λ (o : Option Run). IfSome o (λ run. IsRun layout.sectors run)) c.in-Ok-Some.field-0-is c.in-Ok-Some.ensures.form;
       has = subst (λ (o : Option Run). IfSome o (λ run. holds run c.args.id leader_page ≡ true)) c.in-Ok-Some.field-0-is c.in-Ok-Some.ensures.holds;
       at = refl;
     }
@@ -93,3 +96,19 @@ returns-in-Ok-None-clause-keeps g c = keeps_read (inr c.requires.client) c.find.
 
 pub returns-in-Ok-Some-clause-keeps : goal.returns-in-Ok-Some-clause-keeps
 returns-in-Ok-Some-clause-keeps g c = keeps_read (inr c.requires.client) c.find.ensures.beside c.find.ensures.same_bytes c.find.ensures.runs_given
+
+-- ---- What it keeps to, and the reasons of its halts.
+
+pub returns-in-Ok-Some-clause-keeps_to : goal.returns-in-Ok-Some-clause-keeps_to
+returns-in-Ok-Some-clause-keeps_to g c = λ o named k. found_keeps c.args.filer.now.runs c.find.new.self.runs c.find.ensures.beside c.find.ensures.same c.find.ensures.runs_are k
+
+pub returns-in-Ok-None-clause-keeps_to : goal.returns-in-Ok-None-clause-keeps_to
+returns-in-Ok-None-clause-keeps_to g c = λ o named k. found_keeps c.args.filer.now.runs c.find.new.self.runs c.find.ensures.beside c.find.ensures.same c.find.ensures.runs_are k
+
+pub returns-in-Err-clause-reasons : goal.returns-in-Err-clause-reasons
+returns-in-Err-clause-reasons g c = λ o named k. map_reasons k c.find.ensures.beside.goes.makes c.args.filer.now.swapper.accepted c.in-Err.halt c.in-Err.ensures.cause
+
+pub returns-in-Ok-Some-clause-names : goal.returns-in-Ok-Some-clause-names
+returns-in-Ok-Some-clause-names g c = λ m named stands map are.
+    let found = subst (IsFound named c.args.id leader_page) c.in-Ok-Some.field-0-is (c.in-Ok-Some.ensures.found m named stands map are) in
+    found.1 leader_page found.0

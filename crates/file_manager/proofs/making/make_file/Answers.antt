@@ -11,7 +11,9 @@ use Rattle.filer_kernel.specs.PlaceLaws.{data_first}
 use Rattle.swapper_kernel.specs.Goes.{Makes}
 use Rattle.session_words.specs.Volume.{volume_page}
 use Rattle.labelled_disk.specs.Runs.{growth}
+use Rattle.file_map.specs.FileMap.{with_run}
 use Rattle.file_manager.specs.Taking.{every_page}
+use Rattle.file_manager.proofs.MadeReasons.{none_with_run}
 use Rattle.file_manager.proofs.making.make_file.Goals as goal
 
 pub returns-in-Err-clause-sound : goal.returns-in-Err-clause-sound
@@ -90,3 +92,24 @@ pub returns-in-Err-clause-cause : goal.returns-in-Err-clause-cause
 returns-in-Err-clause-cause g c =
     let leader = λ (p : ℕ). (4294967295 ≤ p) × (p < 4294967295 + 1) in
     make_halts_wider c.args.filer.now.swapper.layout c.args.id leader every_page (λ p own. tt) (g.D.Disk.state c.args.filer.now.swapper.under) (g.D.Disk.state c.make_run.new.filer.swapper.under) c.args.filer.now.swapper.pool c.make_run.new.filer.swapper.pool c.in-Err.halt c.in-Err.ensures.cause
+
+pub returns-in-Err-clause-reasons : goal.returns-in-Err-clause-reasons
+returns-in-Err-clause-reasons g c = λ o named h none. c.in-Err.ensures.reasons o named h (λ p sector own. none p sector tt)
+
+pub returns-in-Err-make_up-clause-reasons : goal.returns-in-Err-make_up-clause-reasons
+returns-in-Err-make_up-clause-reasons g c = λ o named h none.
+    let run = c.in-Ok._run in
+    let form = c.in-Ok.ensures.form in
+    let below = c.requires.numbers in
+    let now = c.in-Ok.ensures.keeps_to o named h (λ p sector own. none p sector tt) in
+    rw c.in-Ok.ensures.layout at (c.in-Err-make_up.ensures.reasons o (with_run named run) now
+    (none_with_run run named c.args.id 4294967295 (λ p. (0 ≤ p) × (p < c.args.pages)) form.same_id form.same_first (λ p own other. let last = own.1 in let from = other.0 in omega (arith, last, from, below)) (λ p sector own. none p sector tt)))
+
+pub returns-clause-keeps_to : goal.returns-clause-keeps_to
+returns-clause-keeps_to g c = λ o named h none.
+    let run = c.in-Ok._run in
+    let form = c.in-Ok.ensures.form in
+    let below = c.requires.numbers in
+    let now = c.in-Ok.ensures.keeps_to o named h (λ p sector own. none p sector tt) in
+    c.in-Ok-make_up.ensures.keeps_to o (with_run named run) now
+    (none_with_run run named c.args.id 4294967295 (λ p. (0 ≤ p) × (p < c.args.pages)) form.same_id form.same_first (λ p own other. let last = own.1 in let from = other.0 in omega (arith, last, from, below)) (λ p sector own. none p sector tt))

@@ -1,4 +1,4 @@
-use Rattle.std.proofs.Common.{rules, inl, inr, ◌≡◌, ℕ, ◌≤◌, ◌<◌, Option, Some, refl, sym, ◌∙◌, ap, subst}
+use Rattle.std.proofs.Common.{rules, inl, inr, ◌≡◌, true, ℕ, ◌≤◌, ◌<◌, Option, Some, refl, sym, ◌∙◌, ap, subst}
 use Rattle.std.specs.Prelude.{option_map, IfSome}
 use Rattle.std.proofs.lemmas.Option.{none-some}
 use Rattle.labelled_disk.specs.declared.label.Label.{Label}
@@ -18,6 +18,11 @@ use Rattle.file_manager.proofs.SoLemmas.{file_may, so_of_other}
 use Rattle.label_calls.specs.OwnLaws.{relabels_own, wrote_own, quiet_own}
 use Rattle.file_manager.proofs.OwnSteps.{leader_own, own_after}
 use Rattle.file_manager.proofs.RootCalls.{quiet_root, marked_root}
+use Rattle.labelled_disk.specs.declared.layout.Layout.{Layout}
+use Rattle.file_manager.specs.Reasons.{ShowsReason}
+use Rattle.file_manager.proofs.KeepSteps.{keeps_at}
+use Rattle.file_manager.proofs.KeepCut.{keeps_marked}
+use Rattle.file_manager.proofs.ReasonCauses.{mark_reasons}
 use Rattle.file_manager.proofs.marks.mark.Goals as goal
 
 pub returns-in-Ok-None-clause-sound : goal.returns-in-Ok-None-clause-sound
@@ -123,3 +128,27 @@ returns-in-Err-mark_leader-clause-root g c = marked_root c.args.mark (returns-in
 
 pub returns-clause-root : goal.returns-clause-root
 returns-clause-root g c = marked_root c.args.mark (returns-clause-makes g c)
+
+-- ---- What it keeps to, and the reasons of its halts.
+
+pub returns-in-Err-clause-reasons : goal.returns-in-Err-clause-reasons
+returns-in-Err-clause-reasons g c = c.in-Err.ensures.reasons
+
+pub returns-in-Err-mark_leader-clause-reasons : goal.returns-in-Err-mark_leader-clause-reasons
+returns-in-Err-mark_leader-clause-reasons g c = λ o named k.
+    let led = subst (λ (o : Option ℕ). IfSome o (λ sector. named c.args.id leader_page sector ≡ true)) c.in-Ok-Some.field-0-is (c.in-Ok-Some.ensures.names k.memory named k.stands k.map k.kept) in
+    let now = c.in-Ok-Some.ensures.keeps_to o named k in
+    let stopped = rw c.swapper_over-swapper.ensures.value at c.in-Err-mark_leader.ensures.stopped in
+    let cause = rw c.swapper_over-swapper.ensures.value at c.in-Err-mark_leader.ensures.cause in
+    subst (λ (l : Layout). ShowsReason o l (g.D.Disk.state c.mark_leader.new.swapper.under) c.in-Err-mark_leader.halt) c.leader_of.ensures.layout
+    (mark_reasons now (record { id = c.args.id; page = leader_page }) c.in-Ok-Some.sector c.args.mark led stopped c.in-Err-mark_leader.halt cause)
+
+pub returns-clause-keeps_to : goal.returns-clause-keeps_to
+returns-clause-keeps_to g c = λ o named k.
+    let f = c.leader_of.new.filer in
+    let place = subst (λ (o : Option ℕ). IfSome o (λ sector. (c.args.filer.now.swapper.layout.first ≤ sector) × (sector < c.args.filer.now.swapper.layout.sectors))) c.in-Ok-Some.field-0-is c.in-Ok-Some.ensures.place in
+    let above = subst (λ (l : Layout). l.first ≤ c.in-Ok-Some.sector) (sym c.leader_of.ensures.layout) place.0 in
+    let marked = rw c.swapper_over-swapper.ensures.value at c.in-Ok.ensures.marked in
+    let frames = rw c.swapper_over-swapper.ensures.value at c.mark_leader.ensures.frames in
+    let lay = rw c.swapper_over-swapper.ensures.value at c.mark_leader.ensures.layout in
+    keeps_at f.runs lay (keeps_marked f.swapper.accepted (c.in-Ok-Some.ensures.keeps_to o named k) (record { id = c.args.id; page = leader_page }) c.in-Ok-Some.sector c.args.mark above marked frames)

@@ -9,6 +9,8 @@ use Rattle.file_manager.proofs.NextLemmas.{next_is}
 use Rattle.file_manager.proofs.Faults.{counted}
 use Rattle.filer_kernel.specs.EvidenceLaws.{fits, so_of_map}
 use Rattle.file_manager.proofs.LookLemmas.{looks_searched}
+use Rattle.file_manager.proofs.KeepSteps.{keeps_asked}
+use Rattle.file_manager.specs.ReasonLaws.{map_reasons}
 use Rattle.file_manager.proofs.order.next.Goals as goal
 
 pub returns-in-Ok-clause-told : goal.returns-in-Ok-clause-told
@@ -62,3 +64,11 @@ returns-in-Err-clause-looks g c =
     rw (← c.frames_of.ensures.same)
     (looks_searched {kept = runs_of f.swapper.layout.sectors f.runs} {runs = runs_of f.swapper.layout.sectors c.next_file.new.self.runs} f.swapper.accepted (rw c.frames_of.ensures.same c.requires.size) (g.met.D.Disk.whole f.swapper.under) (g.met.D.Disk.in_form f.swapper.under) (rw c.frames_of.ensures.same c.frames_of.ensures.pages)
     found.beside found.same_bytes (λ r one. inl (subst (IsOneOf r) kept one)) (λ m named stands map are. subst (AreOf named) (sym kept) are))
+
+-- ---- What it keeps to, and the reasons of its halts.
+
+pub returns-in-Ok-clause-keeps_to : goal.returns-in-Ok-clause-keeps_to
+returns-in-Ok-clause-keeps_to g c = rw (← c.frames_of.ensures.same) (λ o named k. keeps_asked c.frames_of.new.filer.runs c.next_file.new.self.runs c.next_file.ensures.runs k c.next_file.ensures.beside c.next_file.ensures.same)
+
+pub returns-in-Err-clause-reasons : goal.returns-in-Err-clause-reasons
+returns-in-Err-clause-reasons g c = rw (← c.frames_of.ensures.same) (λ o named k. map_reasons k c.next_file.ensures.beside.goes.makes c.frames_of.new.filer.swapper.accepted c.in-Err.halt c.in-Err.ensures.cause)

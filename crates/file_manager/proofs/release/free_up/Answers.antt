@@ -1,6 +1,6 @@
 use Rattle.std.proofs.Common.{rules, ◌≡◌, ◌<◌}
 use Rattle.file_manager.proofs.FreedRun.{stops_then}
-use Rattle.file_manager.proofs.FreedUpTo.{to_none, to_then, to_rest, to_all, to_made, to_spent, to_stopped_cost, to_halts}
+use Rattle.file_manager.proofs.FreedUpTo.{to_reason, to_none, to_then, to_rest, to_all, to_made, to_spent, to_stopped_cost, to_halts}
 use Rattle.file_manager.proofs.StoppedFree.{some_then}
 use Rattle.file_manager.proofs.Faults.{counted_then}
 use Rattle.label_calls.specs.OwnLaws.{relabels_own}
@@ -13,7 +13,7 @@ loop-page-init g c = to_none _ _ _ _ _ _ _ c.requires.order c.requires.size
 pub loop-page-preserved : goal.loop-page-preserved
 loop-page-preserved g c =
     let below : c.loop-page.page < c.args.end = search rules in
-    to_then c.loop-page.invariant below c.in-Ok.ensures.some c.in-Ok.ensures.layout c.in-Ok.ensures.spent c.in-Ok.ensures.makes c.in-Ok.ensures.keeps c.in-Ok.ensures.freed c.in-Ok.ensures.own
+    to_then c.loop-page.invariant below c.in-Ok.ensures.some c.in-Ok.ensures.layout c.in-Ok.ensures.spent c.in-Ok.ensures.makes c.in-Ok.ensures.keeps c.in-Ok.ensures.freed c.in-Ok.ensures.own c.in-Ok.ensures.keeps_to
 
 pub returns-in-Err-clause-sound : goal.returns-in-Err-clause-sound
 returns-in-Err-clause-sound g c = λ named spaces m may.
@@ -71,3 +71,9 @@ pub returns-in-Err-clause-so : goal.returns-in-Err-clause-so
 returns-in-Err-clause-so g c = λ there.
     let below : c.loop-page.page < c.args.end = search rules in
     c.in-Err.ensures.so (there c.loop-page.page below)
+
+pub returns-in-Err-clause-reasons : goal.returns-in-Err-clause-reasons
+returns-in-Err-clause-reasons g c = to_reason c.loop-page.invariant (g.D.Disk.state c.free_run.new.filer.swapper.under) c.in-Err.halt c.in-Err.ensures.reasons
+
+pub returns-clause-keeps_to : goal.returns-clause-keeps_to
+returns-clause-keeps_to g c = c.loop-page.invariant.keeps_to

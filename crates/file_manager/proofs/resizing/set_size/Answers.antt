@@ -1,4 +1,4 @@
-use Rattle.std.proofs.Common.{◌≡◌, inr, ℕ, List, Option, ◌+◌, ◌-◌, ◌*◌, ◌<◌, ◌≤◌, sym, ◌∙◌, ap, subst, arith, rules, inl, refl}
+use Rattle.std.proofs.Common.{◌≡◌, inr, true, ℕ, List, Option, ◌+◌, ◌-◌, ◌*◌, ◌<◌, ◌≤◌, sym, ◌∙◌, ap, subst, arith, rules, inl, refl}
 use Rattle.std.specs.Prelude.{IfSome}
 use Rattle.std.proofs.lemmas.Option.{none-some}
 use Rattle.labelled_disk.specs.Sectors.{Sector}
@@ -20,6 +20,10 @@ use Rattle.file_manager.proofs.OwnSteps.{grown_own, grew_own, freed_own, some_ow
 use Rattle.filer_kernel.specs.Triples.{MapIs}
 use Rattle.file_manager.specs.declared.finding.FoundFile.{FoundFile}
 use Rattle.file_manager.proofs.RootCalls.{quiet_root, file_no_root, resized_root, resized_some_root}
+use Rattle.labelled_disk.specs.declared.layout.Layout.{Layout}
+use Rattle.labelled_disk.specs.Label.{leader_page}
+use Rattle.file_manager.specs.Reasons.{ShowsReason}
+use Rattle.file_manager.proofs.KeepCut.{none_above}
 use Rattle.file_manager.proofs.resizing.set_size.Goals as goal
 
 pub find_file-requires-clause-client : goal.find_file-requires-clause-client
@@ -369,3 +373,30 @@ returns-in-Ok-shrink-clause-root g c = resized_root (file_no_root c.args.id (fil
 
 pub returns-in-Err-shrink-clause-root : goal.returns-in-Err-shrink-clause-root
 returns-in-Err-shrink-clause-root g c = resized_some_root c.args.pages (file_no_root c.args.id (file_id c.args.id c.requires.of_file)) (returns-in-Err-shrink-clause-stopped g c)
+
+-- ---- What it keeps to, and the reasons of its halts.
+
+pub returns-in-Err-clause-reasons : goal.returns-in-Err-clause-reasons
+returns-in-Err-clause-reasons g c = c.in-Err.ensures.reasons
+
+pub returns-in-Ok-clause-keeps_to : goal.returns-in-Ok-clause-keeps_to
+returns-in-Ok-clause-keeps_to g c = λ o named k.
+    let sized = subst (λ (o : Option FoundFile). IfSome o (λ file. IsSize named c.args.id file.pages)) c.in-Ok-Some.field-0-is (c.in-Ok-Some.ensures.size k.memory named k.stands k.map) in
+    let none = none_above named c.args.id c.in-Ok-Some.file.pages c.args.pages c.requires.numbers sized in
+    c.in-Ok.ensures.keeps_to o named (c.in-Ok-Some.ensures.keeps_to o named k) none
+
+pub returns-in-Err-grow-clause-reasons : goal.returns-in-Err-grow-clause-reasons
+returns-in-Err-grow-clause-reasons g c = λ o named k.
+    let sized = subst (λ (o : Option FoundFile). IfSome o (λ file. IsSize named c.args.id file.pages)) c.in-Ok-Some.field-0-is (c.in-Ok-Some.ensures.size k.memory named k.stands k.map) in
+    let none = none_above named c.args.id c.in-Ok-Some.file.pages c.args.pages c.requires.numbers sized in
+    subst (λ (l : Layout). ShowsReason o l (g.D.Disk.state c.grow.new.filer.swapper.under) c.in-Err-grow.halt) c.find_file.ensures.layout (c.in-Err-grow.ensures.reasons o named (c.in-Ok-Some.ensures.keeps_to o named k) none)
+
+pub returns-in-Ok-shrink-clause-keeps_to : goal.returns-in-Ok-shrink-clause-keeps_to
+returns-in-Ok-shrink-clause-keeps_to g c = λ o named k.
+    let led = subst (λ (o : Option FoundFile). IfSome o (λ file. named c.args.id leader_page file.sector ≡ true)) c.in-Ok-Some.field-0-is (c.in-Ok-Some.ensures.names k.memory named k.stands k.map k.kept) in
+    c.in-Ok-shrink.ensures.keeps_to o named (c.in-Ok-Some.ensures.keeps_to o named k) led
+
+pub returns-in-Err-shrink-clause-reasons : goal.returns-in-Err-shrink-clause-reasons
+returns-in-Err-shrink-clause-reasons g c = λ o named k.
+    let led = subst (λ (o : Option FoundFile). IfSome o (λ file. named c.args.id leader_page file.sector ≡ true)) c.in-Ok-Some.field-0-is (c.in-Ok-Some.ensures.names k.memory named k.stands k.map k.kept) in
+    subst (λ (l : Layout). ShowsReason o l (g.D.Disk.state c.shrink.new.filer.swapper.under) c.in-Err-shrink.halt) c.find_file.ensures.layout (c.in-Err-shrink.ensures.reasons o named (c.in-Ok-Some.ensures.keeps_to o named k) led)

@@ -1,6 +1,6 @@
 use Rattle.std.proofs.Common.{rules, ◌≡◌, ◌<◌}
 use Rattle.file_manager.proofs.FreedRun.{stops_then}
-use Rattle.file_manager.proofs.DownTo.{down_none, down_then, down_rest, down_freed, down_made, down_spent, down_stopped_cost, down_broken_off, down_halts}
+use Rattle.file_manager.proofs.DownTo.{down_reason, down_none, down_then, down_rest, down_freed, down_made, down_spent, down_stopped_cost, down_broken_off, down_halts}
 use Rattle.label_calls.specs.OwnLaws.{relabels_own}
 use Rattle.file_manager.proofs.OwnSteps.{some_own, own_after}
 use Rattle.file_manager.proofs.shrinking.free_down.Goals as goal
@@ -11,7 +11,7 @@ loop-page-init g c = down_none _ _ _ _ _ _ _ c.requires.order c.requires.size
 pub loop-page-preserved : goal.loop-page-preserved
 loop-page-preserved g c =
     let below : c.args.from < c.loop-page.page = search rules in
-    down_then c.loop-page.invariant below c.in-Ok.ensures.some c.in-Ok.ensures.layout c.in-Ok.ensures.spent c.in-Ok.ensures.makes c.in-Ok.ensures.keeps c.in-Ok.ensures.freed c.in-Ok.ensures.own
+    down_then c.loop-page.invariant below c.in-Ok.ensures.some c.in-Ok.ensures.layout c.in-Ok.ensures.spent c.in-Ok.ensures.makes c.in-Ok.ensures.keeps c.in-Ok.ensures.freed c.in-Ok.ensures.own c.in-Ok.ensures.keeps_to
 
 pub returns-in-Err-clause-sound : goal.returns-in-Err-clause-sound
 returns-in-Err-clause-sound g c = λ named spaces m may.
@@ -57,3 +57,9 @@ returns-in-Err-clause-own g c = own_after c.loop-page.invariant.own (some_own c.
 
 pub returns-clause-own : goal.returns-clause-own
 returns-clause-own g c = relabels_own c.loop-page.invariant.own
+
+pub returns-in-Err-clause-reasons : goal.returns-in-Err-clause-reasons
+returns-in-Err-clause-reasons g c = down_reason c.loop-page.invariant (g.D.Disk.state c.free_last.new.filer.swapper.under) c.in-Err.halt c.in-Err.ensures.reasons
+
+pub returns-clause-keeps_to : goal.returns-clause-keeps_to
+returns-clause-keeps_to g c = c.loop-page.invariant.keeps_to

@@ -8,9 +8,11 @@ use Rattle.file_manager.proofs.Keeping.{keeps_none, keeps_read, search_halts_beh
 use Rattle.file_manager.proofs.RunCauses.{last_homes}
 use Rattle.std.specs.Prelude.{IfSome}
 use Rattle.file_map.specs.declared.run.Run.{Run}
-use Rattle.file_map.specs.Run.{holds}
+use Rattle.file_map.specs.Run.{IsRun, holds}
 use Rattle.filer_kernel.specs.Causes.{IsGiven}
 use Rattle.file_manager.specs.Grounds.{IsUnframed}
+use Rattle.file_manager.specs.ReasonLaws.{map_reasons}
+use Rattle.file_manager.proofs.FreedReasons.{found_keeps}
 use Rattle.file_manager.proofs.shrinking.last_part.Goals as goal
 
 pub returns-in-Ok-Some-clause-named : goal.returns-in-Ok-Some-clause-named
@@ -54,7 +56,8 @@ returns-in-Ok-Some-clause-homes g c =
     let is_given = subst (λ (o : Option Run). IfSome o (λ run. IsGiven layout old pool kept run)) c.in-Ok-Some.field-0-is c.in-Ok-Some.ensures.given in
     let held = subst (λ (o : Option Run). IfSome o (λ run. holds run c.args.id (c.args.end - 1) ≡ true)) c.in-Ok-Some.field-0-is c.in-Ok-Some.ensures.holds in
     let from : c.in-Ok-Some.run'.first ≤ c.max-first.result = search rules in
-    last_homes layout old pool kept c.in-Ok-Some.run' is_given c.args.id c.args.end c.max-first.result held (let some = c.requires.some in omega (arith, some)) from
+    let form = subst (λ (o : Option Run). IfSome o (λ run. IsRun layout.sectors run)) c.in-Ok-Some.field-0-is c.in-Ok-Some.ensures.form in
+    last_homes layout old pool kept c.in-Ok-Some.run' is_given form c.args.id c.args.end c.max-first.result held (let some = c.requires.some in omega (arith, some)) from
 
 pub returns-in-Err-clause-keeps : goal.returns-in-Err-clause-keeps
 returns-in-Err-clause-keeps g c = λ of_file. keeps_read of_file c.find.ensures.beside c.find.ensures.same_bytes c.find.ensures.runs_given
@@ -64,3 +67,12 @@ returns-in-Ok-None-clause-keeps g c = λ of_file. keeps_read of_file c.find.ensu
 
 pub returns-in-Ok-Some-clause-keeps : goal.returns-in-Ok-Some-clause-keeps
 returns-in-Ok-Some-clause-keeps g c = λ of_file. keeps_read of_file c.find.ensures.beside c.find.ensures.same_bytes c.find.ensures.runs_given
+
+pub returns-in-Ok-Some-clause-keeps_to : goal.returns-in-Ok-Some-clause-keeps_to
+returns-in-Ok-Some-clause-keeps_to g c = λ o named h. found_keeps c.args.filer.now.runs c.find.new.self.runs c.find.ensures.beside c.find.ensures.same c.find.ensures.runs_are h
+
+pub returns-in-Err-clause-reasons : goal.returns-in-Err-clause-reasons
+returns-in-Err-clause-reasons g c = λ o named h. map_reasons h c.find.ensures.beside.goes.makes c.args.filer.now.swapper.accepted c.in-Err.halt c.in-Err.ensures.cause
+
+pub returns-in-Ok-None-clause-reasons : goal.returns-in-Ok-None-clause-reasons
+returns-in-Ok-None-clause-reasons g c = λ o named h. tt

@@ -1,11 +1,11 @@
-use Rattle.std.proofs.Common.{◌≡◌, inl, refl, ◌∙◌, arith, ap, rules, ◌≤◌, ◌<◌}
+use Rattle.std.proofs.Common.{◌≡◌, inl, [], refl, sym, ◌∙◌, arith, ap, subst, rules, ◌≤◌, ◌<◌}
 use Rattle.swapper_kernel.specs.FormLaws.{memory_in_form}
 use Rattle.swapper_kernel.specs.declared.manager.Manager.TheVariants.{FileMap}
 use Rattle.file_manager.proofs.FreedRun.{all_stop}
 use Rattle.file_manager.proofs.TablesFreed.{bare, tables_all, tables_may, tables_some, tables_ended, forgot_freed, forgot_some, freed_cut}
 use Rattle.file_manager.proofs.Faults.{counted, counted_then}
 use Rattle.filer_kernel.specs.EvidenceLaws.{fits, so_of_cut}
-use Rattle.file_manager.proofs.Forgotten.{keeps_forgotten}
+use Rattle.file_manager.proofs.Forgotten.{keeps_forgotten, forgotten_keeps}
 use Rattle.file_manager.proofs.Keeping.{keeps_then, free_halts_before}
 use Rattle.file_manager.proofs.CutCauses.{cut_of_free, cut_halts_behind}
 use Rattle.filer_kernel.specs.Cached.{runs_of}
@@ -13,6 +13,12 @@ use Rattle.file_manager.specs.Grounds.{AreTables}
 use Rattle.label_calls.specs.OwnLaws.{own_then, quiet_own}
 use Rattle.file_manager.proofs.OwnSteps.{map_own, freed_own, some_own, own_after}
 use Rattle.file_manager.proofs.RootCalls.{freed_some_root, freed_root}
+use Rattle.labelled_disk.specs.declared.layout.Layout.{Layout}
+use Rattle.filer_kernel.specs.declared.cached.CachedRuns.{CachedRuns}
+use Rattle.file_manager.proofs.KeepSteps.{keeps_at}
+use Rattle.file_manager.proofs.KeepCut.{keeps_cut}
+use Rattle.file_manager.proofs.ReasonCauses.{cut_reasons}
+use Rattle.file_manager.specs.Reasons.{KeepsTo, ShowsReason}
 use Rattle.file_manager.proofs.tables.free_tables.Goals as goal
 
 pub returns-in-Err-clause-sound : goal.returns-in-Err-clause-sound
@@ -134,3 +140,29 @@ returns-in-Err-cut-clause-root g c = freed_some_root (returns-in-Err-cut-clause-
 
 pub returns-clause-root : goal.returns-clause-root
 returns-clause-root g c = freed_root (returns-clause-makes g c)
+
+-- ---- What it keeps to, and the reasons of its halts.
+
+pub returns-in-Err-clause-reasons : goal.returns-in-Err-clause-reasons
+returns-in-Err-clause-reasons g c = λ o named k.
+    let f = c.forget_tables.ensures in
+    let forgot = keeps_at c.forget_tables.new.filer.runs f.layout (subst (λ (r : CachedRuns). KeepsTo o c.args.filer.now.swapper.layout (runs_of c.args.filer.now.swapper.layout.sectors r) (g.D.Disk.state c.forget_tables.new.filer.swapper.under) c.forget_tables.new.filer.swapper.pool named) (sym f.runs)
+    (forgotten_keeps [] c.args.filer.now.swapper.accepted c.args.filer.now.swapper.placed f.gone f.left f.goes (ap g.D.Disk.state f.under) k)) in
+    subst (λ (l : Layout). ShowsReason o l (g.D.Disk.state c.free_up.new.filer.swapper.under) c.in-Err.halt) f.layout (c.in-Err.ensures.reasons o named forgot)
+
+pub returns-in-Err-cut-clause-reasons : goal.returns-in-Err-cut-clause-reasons
+returns-in-Err-cut-clause-reasons g c = λ o named k.
+    let f = c.forget_tables.ensures in
+    let forgot = keeps_at c.forget_tables.new.filer.runs f.layout (subst (λ (r : CachedRuns). KeepsTo o c.args.filer.now.swapper.layout (runs_of c.args.filer.now.swapper.layout.sectors r) (g.D.Disk.state c.forget_tables.new.filer.swapper.under) c.forget_tables.new.filer.swapper.pool named) (sym f.runs)
+    (forgotten_keeps [] c.args.filer.now.swapper.accepted c.args.filer.now.swapper.placed f.gone f.left f.goes (ap g.D.Disk.state f.under) k)) in
+    let now = c.in-Ok.ensures.keeps_to o named forgot in
+    subst (λ (l : Layout). ShowsReason o l (g.D.Disk.state c.cut.new.self.swapper.under) c.in-Err-cut.halt) (c.in-Ok.ensures.layout ∙ f.layout)
+    (cut_reasons now c.cut.ensures.beside.goes.makes c.in-Err-cut.halt c.in-Err-cut.ensures.cause (c.in-Err-cut.ensures.right now.memory named now.stands now.map))
+
+pub returns-clause-keeps_to : goal.returns-clause-keeps_to
+returns-clause-keeps_to g c = λ o named k.
+    let f = c.forget_tables.ensures in
+    let forgot = keeps_at c.forget_tables.new.filer.runs f.layout (subst (λ (r : CachedRuns). KeepsTo o c.args.filer.now.swapper.layout (runs_of c.args.filer.now.swapper.layout.sectors r) (g.D.Disk.state c.forget_tables.new.filer.swapper.under) c.forget_tables.new.filer.swapper.pool named) (sym f.runs)
+    (forgotten_keeps [] c.args.filer.now.swapper.accepted c.args.filer.now.swapper.placed f.gone f.left f.goes (ap g.D.Disk.state f.under) k)) in
+    let now = c.in-Ok.ensures.keeps_to o named forgot in
+    rw c.frames_of.ensures.same (_, keeps_at c.cut.new.self.runs c.cut.ensures.beside.layout (keeps_cut now c.cut.ensures.beside 3 0 (c.cut.ensures.runs c.free_up.new.filer.swapper.layout.sectors) c.in-Ok-cut.ensures.cut))

@@ -1,60 +1,126 @@
-use Rattle.std.proofs.Common.{rules, refl, inl, ◌≡◌, ◌<◌, arith}
-use Rattle.file_manager.proofs.TablesMade.{tables_none, tables_more, tables_sound, tables_all, tables_made, tables_cost}
-use Rattle.file_manager.proofs.UpTo.{up_cause, up_cost, up_stopped}
-use Rattle.file_manager.proofs.Faults.{counted_then}
+use Rattle.std.proofs.Common.{◌<◌, arith, rules}
+use Rattle.std.specs.Prelude.{List}
+use Rattle.labelled_disk.specs.Sectors.{Sector, AreSectors}
+use Rattle.flat_machine.specs.declared.space.Space.{Space}
+use Rattle.file_map.specs.FileMap.{without_from}
+use Rattle.swapper_kernel.specs.declared.manager.Manager.TheVariants.{FileMap}
+use Rattle.swapper_kernel.specs.FormLaws.{memory_in_form}
+use Rattle.swapper_kernel.specs.Goes.{no_page}
+use Rattle.swapper_kernel.specs.GoesLaws.{makes_nothing}
+use Rattle.swapper_kernel.specs.Stands.{Stands}
+use Rattle.filer_kernel.specs.Cached.{runs_of}
+use Rattle.filer_kernel.specs.EvidenceLaws.{fits, so_of_cut}
+use Rattle.session_words.specs.Parts.{Shapes}
+use Rattle.file_manager.specs.Tables.{MayBegin}
+use Rattle.file_manager.proofs.CreateStops.{create_of_cut, create_of_make, nothing_behind}
+use Rattle.file_manager.proofs.Faults.{counted, counted_then}
+use Rattle.file_manager.proofs.KeepCut.{keeps_cut}
+use Rattle.file_manager.proofs.KeepSteps.{keeps_at}
+use Rattle.file_manager.proofs.ReasonCauses.{cut_reasons}
 use Rattle.file_manager.proofs.RootCalls.{grew_root, grown_root}
+use Rattle.file_manager.proofs.RootKeeps.{none_left}
+use Rattle.file_manager.proofs.RunStages.{map_is, maps_named}
+use Rattle.file_manager.proofs.TablesCut.{may_begin_cut, begun_behind, tables_unmade, tables_some_behind, tables_made_behind}
+use Rattle.file_manager.proofs.tables.make_tables.Given as given
+use Rattle.file_manager.proofs.tables.make_tables.Goals.{After-frames_of}
 use Rattle.file_manager.proofs.tables.make_tables.Goals as goal
 
-pub loop-page-init : goal.loop-page-init
-loop-page-init g c = tables_none _ _ _ _ c.requires.size
+-- after the cut each memory is in form
+formed : (g : given.Over) (c : After-frames_of g) (y : List Sector) → Stands (g.D.Disk.state c.cut.new.self.swapper.under) c.cut.new.self.swapper.pool y → AreSectors y
+formed g c y stood = memory_in_form _ _ y stood (g.met.D.Disk.in_form c.cut.new.self.swapper.under stood.sectors stood.told) c.frames_of.ensures.pages
 
-pub loop-page-preserved : goal.loop-page-preserved
-loop-page-preserved g c =
-    let below : c.loop-page.page < 96 = search rules in
-    tables_more c.loop-page.page _ _ _ c.args.filer.now.swapper.accepted _ _ _ _ _ c.loop-page.invariant below c.in-Ok.run' _ _ _ _ c.in-Ok.ensures.form c.in-Ok.ensures.makes c.in-Ok.ensures.made c.in-Ok.ensures.layout c.in-Ok.ensures.runs c.in-Ok.ensures.cost_made c.make_run.ensures.come c.in-Ok.ensures.takes c.in-Ok.ensures.longest
-
-pub make_run-requires-clause-of_file : goal.make_run-requires-clause-of_file
-make_run-requires-clause-of_file g c = let below = c.loop-page.invariant.up.below in inl (refl, refl, omega (arith, below))
+-- and the pages may still be made
+behind : (g : given.Over) (c : After-frames_of g) (x : List Sector) (shapes : Shapes) (spaces : List Space)
+    → MayBegin (g.D.Disk.state c.args.filer.now.swapper.under) c.args.filer.now.swapper.pool c.args.filer.now.swapper.layout c.args.filer.now.runs shapes spaces x
+    → (y : List Sector) × MayBegin (g.D.Disk.state c.cut.new.self.swapper.under) c.cut.new.self.swapper.pool c.args.filer.now.swapper.layout c.cut.new.self.runs shapes spaces y
+behind g c x shapes spaces may =
+    let layout = c.args.filer.now.swapper.layout in
+    let is = c.args.filer.now.swapper.accepted in
+    let kept = c.args.filer.now.runs in
+    let b = may.books.booked in
+    let cut = c.in-Ok.ensures.cut x b.named may.books.stands (map_is layout is (runs_of layout.sectors kept) shapes x b b.named b.map) in
+    (cut.memory, may_begin_cut layout is kept shapes spaces x _ _ may _ _ _ c.in-Ok.ensures.beside c.cut.new.self.runs cut (c.in-Ok.ensures.runs layout.sectors) (formed g c))
 
 pub returns-in-Err-clause-sound : goal.returns-in-Err-clause-sound
-returns-in-Err-clause-sound g c =
-    let below : c.loop-page.page < 96 = search rules in
-    tables_sound c.loop-page.page _ _ _ c.args.filer.now.swapper.accepted _ _ _ _ _ c.loop-page.invariant below c.in-Err.halt c.in-Err.ensures.sound
+returns-in-Err-clause-sound g c = λ x shapes spaces may.
+    let layout = c.args.filer.now.swapper.layout in
+    let is = c.args.filer.now.swapper.accepted in
+    let runs = runs_of layout.sectors c.args.filer.now.runs in
+    let b = may.books.booked in
+    c.in-Err.ensures.sound x b.named may.books.stands (map_is layout is runs shapes x b b.named b.map) (maps_named layout is runs shapes x b FileMap)
 
 pub returns-in-Err-clause-stopped : goal.returns-in-Err-clause-stopped
-returns-in-Err-clause-stopped g c =
-    up_stopped 3 0 0 96 c.loop-page.page _ _ _ c.args.filer.now.swapper.accepted _ _ _ _ _ c.loop-page.invariant.up (omega arith) _ _ c.loop-page.invariant.up.below c.in-Err.ensures.stopped
-
-pub returns-in-Err-clause-cost : goal.returns-in-Err-clause-cost
-returns-in-Err-clause-cost g c =
-    let below : c.loop-page.page < 96 = search rules in
-    up_cost 3 0 0 96 c.loop-page.page _ _ _ c.args.filer.now.swapper.accepted _ _ _ _ _ c.loop-page.invariant.up (omega arith) (g.D.Disk.state c.make_run.new.filer.swapper.under) below c.in-Err.ensures.cost
-
-pub returns-clause-made : goal.returns-clause-made
-returns-clause-made g c =
-    let all : c.loop-page.page ≡ 96 = search rules in
-    tables_all c.loop-page.page _ _ _ _ _ _ _ _ all c.loop-page.invariant
-
-pub returns-clause-makes : goal.returns-clause-makes
-returns-clause-makes g c =
-    let all : c.loop-page.page ≡ 96 = search rules in
-    tables_made c.loop-page.page _ _ _ _ _ _ _ _ all c.loop-page.invariant
-
-pub returns-clause-cost : goal.returns-clause-cost
-returns-clause-cost g c =
-    let all : c.loop-page.page ≡ 96 = search rules in
-    tables_cost c.loop-page.page _ _ _ _ _ _ _ _ all c.loop-page.invariant
-
-pub returns-in-Err-clause-counted : goal.returns-in-Err-clause-counted
-returns-in-Err-clause-counted g c = counted_then _ _ _ c.loop-page.invariant.up.makes.makes.went.faults c.in-Err.ensures.counted
+returns-in-Err-clause-stopped g c = tables_unmade c.in-Err.ensures.beside
 
 pub returns-in-Err-clause-cause : goal.returns-in-Err-clause-cause
 returns-in-Err-clause-cause g c =
-    let below : c.loop-page.page < 96 = search rules in
-    up_cause 3 0 0 96 c.loop-page.page _ _ _ c.args.filer.now.swapper.accepted _ _ _ _ _ c.loop-page.invariant.up (omega arith) (λ p. p < 96) (λ p own. own.1) (g.D.Disk.state c.make_run.new.filer.swapper.under) c.make_run.new.filer.swapper.pool c.in-Err.halt below (rw c.loop-page.invariant.up.same_layout at c.in-Err.ensures.cause)
+    let old = g.D.Disk.state c.args.filer.now.swapper.under in
+    let pool = c.args.filer.now.swapper.pool in
+    create_of_cut c.args.filer.now.swapper.layout c.args.filer.now.swapper.accepted 3 (makes_nothing no_page old pool) nothing_behind (g.D.Disk.state c.cut.new.self.swapper.under) c.cut.new.self.swapper.pool c.in-Err.halt
+    c.in-Err.ensures.begun c.in-Err.ensures.cause
+
+pub returns-in-Err-clause-reasons : goal.returns-in-Err-clause-reasons
+returns-in-Err-clause-reasons g c = λ o named h.
+    cut_reasons h c.cut.ensures.beside.goes.makes c.in-Err.halt c.in-Err.ensures.cause (c.in-Err.ensures.right h.memory named h.stands h.map)
+
+pub returns-in-Err-clause-so : goal.returns-in-Err-clause-so
+returns-in-Err-clause-so g c = so_of_cut (fits c.args.filer.now.swapper (search rules)) c.cut.ensures.beside.goes.makes c.in-Err.halt c.in-Err.ensures.cause
+
+pub returns-in-Err-clause-counted : goal.returns-in-Err-clause-counted
+returns-in-Err-clause-counted g c =
+    let old = g.D.Disk.state c.args.filer.now.swapper.under in
+    counted _ old.faults old (g.D.Disk.state c.cut.new.self.swapper.under) _ (omega arith) c.in-Err.ensures.cause
 
 pub returns-in-Err-clause-root : goal.returns-in-Err-clause-root
 returns-in-Err-clause-root g c = grew_root {id = 3} (λ same. omega (arith, same)) (returns-in-Err-clause-stopped g c)
+
+pub returns-in-Err-make_pages-clause-sound : goal.returns-in-Err-make_pages-clause-sound
+returns-in-Err-make_pages-clause-sound g c = λ x shapes spaces may.
+    let now = behind g (goal.at.returns-in-Err-make_pages-clause-sound g c).After-frames_of x shapes spaces may in
+    (rw (c.frames_of.ensures.same, c.in-Ok.ensures.beside.layout) at c.in-Err-make_pages.ensures.sound) now.0 shapes spaces now.1
+
+pub returns-in-Err-make_pages-clause-stopped : goal.returns-in-Err-make_pages-clause-stopped
+returns-in-Err-make_pages-clause-stopped g c = tables_some_behind c.in-Ok.ensures.beside (rw c.frames_of.ensures.same at c.in-Err-make_pages.ensures.stopped)
+
+pub returns-in-Err-make_pages-clause-cause : goal.returns-in-Err-make_pages-clause-cause
+returns-in-Err-make_pages-clause-cause g c =
+    let layout = c.args.filer.now.swapper.layout in
+    let old = g.D.Disk.state c.args.filer.now.swapper.under in
+    let pool = c.args.filer.now.swapper.pool in
+    create_of_make layout c.args.filer.now.swapper.accepted 3 (makes_nothing no_page old pool) nothing_behind c.in-Ok.ensures.beside c.in-Ok.ensures.cut (λ p. p < 96)
+    (g.D.Disk.state c.make_pages.new.filer.swapper.under) c.make_pages.new.filer.swapper.pool c.in-Err-make_pages.halt
+    (rw (c.frames_of.ensures.same, c.in-Ok.ensures.beside.layout) at c.in-Err-make_pages.ensures.cause)
+
+pub returns-in-Err-make_pages-clause-reasons : goal.returns-in-Err-make_pages-clause-reasons
+returns-in-Err-make_pages-clause-reasons g c = λ o named h.
+    let cut = keeps_at c.cut.new.self.runs c.in-Ok.ensures.beside.layout (keeps_cut h c.in-Ok.ensures.beside 3 0 (c.in-Ok.ensures.runs c.args.filer.now.swapper.layout.sectors) c.in-Ok.ensures.cut) in
+    (rw (c.frames_of.ensures.same, c.in-Ok.ensures.beside.layout) at c.in-Err-make_pages.ensures.reasons) o (without_from named 3 0) (rw c.in-Ok.ensures.beside.layout at cut) (λ page sector own. none_left named 3 page sector tt)
+
+pub returns-in-Err-make_pages-clause-counted : goal.returns-in-Err-make_pages-clause-counted
+returns-in-Err-make_pages-clause-counted g c = counted_then _ _ _ c.in-Ok.ensures.beside.goes.makes.went.faults (rw c.frames_of.ensures.same at c.in-Err-make_pages.ensures.counted)
+
+pub returns-in-Err-make_pages-clause-root : goal.returns-in-Err-make_pages-clause-root
+returns-in-Err-make_pages-clause-root g c = grew_root {id = 3} (λ same. omega (arith, same)) (returns-in-Err-make_pages-clause-stopped g c)
+
+pub returns-clause-made : goal.returns-clause-made
+returns-clause-made g c = λ x shapes spaces may.
+    let layout = c.args.filer.now.swapper.layout in
+    let is = c.args.filer.now.swapper.accepted in
+    let kept = c.args.filer.now.runs in
+    let b = may.books.booked in
+    let at = (goal.at.returns-clause-made g c).After-frames_of in
+    let cut = c.in-Ok.ensures.cut x b.named may.books.stands (map_is layout is (runs_of layout.sectors kept) shapes x b b.named b.map) in
+    let now = may_begin_cut layout is kept shapes spaces x _ _ may _ _ _ c.in-Ok.ensures.beside c.cut.new.self.runs cut (c.in-Ok.ensures.runs layout.sectors) (formed g at) in
+    let begun = (rw (c.frames_of.ensures.same, c.in-Ok.ensures.beside.layout) at c.in-Ok-make_pages.ensures.made) cut.memory shapes spaces now in
+    begun_behind layout is kept shapes spaces x _ _ may _ _ _ c.in-Ok.ensures.beside c.cut.new.self.runs cut (c.in-Ok.ensures.runs layout.sectors) (formed g at) _ _ _ begun
+
+pub returns-clause-makes : goal.returns-clause-makes
+returns-clause-makes g c = tables_made_behind c.in-Ok.ensures.beside (rw c.frames_of.ensures.same at c.in-Ok-make_pages.ensures.makes)
+
+pub returns-clause-keeps_to : goal.returns-clause-keeps_to
+returns-clause-keeps_to g c = λ o named h.
+    let cut = keeps_at c.cut.new.self.runs c.in-Ok.ensures.beside.layout (keeps_cut h c.in-Ok.ensures.beside 3 0 (c.in-Ok.ensures.runs c.args.filer.now.swapper.layout.sectors) c.in-Ok.ensures.cut) in
+    (rw c.frames_of.ensures.same at c.in-Ok-make_pages.ensures.keeps_to) o (without_from named 3 0) cut (λ page sector own. none_left named 3 page sector tt)
 
 pub returns-clause-root : goal.returns-clause-root
 returns-clause-root g c = grown_root {id = 3} (λ same. omega (arith, same)) (returns-clause-makes g c)

@@ -15,6 +15,8 @@ use Rattle.fault_core.proofs.EvidenceLemmas.{shows_so}
 use Rattle.space_tables.specs.Shows.{IsRunAt}
 use Rattle.table_calls.specs.Answers.{TablesSay}
 use Rattle.space_calls.proofs.RangeLemmas.{asked_halt, given_so, within_halt}
+use Rattle.running_words.specs.MovingLaws.{moves_of_reaches}
+use Rattle.space_calls.proofs.MovesLemmas.{moves_twice}
 use Rattle.space_calls.proofs.advice.activate.Goals as goal
 
 -- ---- It is refused.
@@ -139,3 +141,17 @@ returns-in-Err-clause-so g c = shows_so _ (state c.args.core.now) (state c.bound
 
 pub returns-in-Err-activate-clause-so : goal.returns-in-Err-activate-clause-so
 returns-in-Err-activate-clause-so g c = shows_so _ (state c.bounds.new.core) (state c.activate.new.self) (fits c.bounds.new.core.filer.swapper (search rules)) c.activate.ensures.reaches.goes.makes c.in-Err-activate.halt c.in-Err-activate.ensures.cause
+
+-- ---- No label was written.
+
+pub returns-in-Ok-Err-clause-moves : goal.returns-in-Ok-Err-clause-moves
+returns-in-Ok-Err-clause-moves g c = moves_of_reaches (state c.args.core.now) (state c.bounds.new.core) c.bounds.ensures.asked.reaches
+
+pub returns-in-Err-clause-moves : goal.returns-in-Err-clause-moves
+returns-in-Err-clause-moves g c = moves_of_reaches (state c.args.core.now) (state c.bounds.new.core) c.bounds.ensures.asked.reaches
+
+pub returns-in-Ok-clause-moves : goal.returns-in-Ok-clause-moves
+returns-in-Ok-clause-moves g c = moves_twice (state c.args.core.now) (state c.bounds.new.core) (state c.activate.new.self) c.args.core.now.filer.swapper.accepted c.bounds.ensures.asked.reaches c.activate.ensures.reaches
+
+pub returns-in-Err-activate-clause-moves : goal.returns-in-Err-activate-clause-moves
+returns-in-Err-activate-clause-moves g c = moves_twice (state c.args.core.now) (state c.bounds.new.core) (state c.activate.new.self) c.args.core.now.filer.swapper.accepted c.bounds.ensures.asked.reaches c.activate.ensures.reaches

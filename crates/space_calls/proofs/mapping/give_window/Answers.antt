@@ -4,6 +4,7 @@ use Rattle.space_calls.proofs.WindowLemmas.{window_given}
 use Rattle.fault_core.specs.Core.{state}
 use Rattle.filer_kernel.specs.EvidenceLaws.{fits}
 use Rattle.fault_core.proofs.EvidenceLemmas.{shows_so}
+use Rattle.space_calls.proofs.MovesLemmas.{moves_tables}
 use Rattle.space_calls.proofs.mapping.give_window.Goals as goal
 
 pub returns-in-Err-clause-sound : goal.returns-in-Err-clause-sound
@@ -27,3 +28,14 @@ returns-in-Err-answer-clause-given g c = λ volume m x r may named bare fits is.
 
 pub returns-in-Err-clause-so : goal.returns-in-Err-clause-so
 returns-in-Err-clause-so g c = shows_so _ (state c.args.core.now) (state c.set_window.new.core) (fits c.args.core.now.filer.swapper c.requires.size) c.set_window.ensures.retabled.beside.goes.makes c.in-Err.halt c.in-Err.ensures.cause
+
+-- ---- No label was written.
+
+pub returns-in-Err-clause-moves : goal.returns-in-Err-clause-moves
+returns-in-Err-clause-moves g c = moves_tables (state c.args.core.now) (state c.set_window.new.core) c.set_window.ensures.retabled.beside
+
+pub returns-in-Ok-answer-clause-moves : goal.returns-in-Ok-answer-clause-moves
+returns-in-Ok-answer-clause-moves g c = rw c.frame_count-frames.ensures.same (moves_tables (state c.args.core.now) (state c.set_window.new.core) c.set_window.ensures.retabled.beside)
+
+pub returns-in-Err-answer-clause-moves : goal.returns-in-Err-answer-clause-moves
+returns-in-Err-answer-clause-moves g c = rw c.frame_count-frames.ensures.same (moves_tables (state c.args.core.now) (state c.set_window.new.core) c.set_window.ensures.retabled.beside)

@@ -8,6 +8,8 @@ use Rattle.space_calls.proofs.WindowLemmas.{window_carried}
 use Rattle.fault_core.specs.Core.{state}
 use Rattle.space_calls.specs.Halts.{ChangeHalts, MapFileHalts}
 use Rattle.space_calls.proofs.HaltLemmas.{given_map}
+use Rattle.running_words.specs.MovingLaws.{moves_of_reaches}
+use Rattle.space_calls.proofs.MovesLemmas.{moves_behind}
 use Rattle.space_calls.proofs.mapping.map.Goals as goal
 
 pub returns-in-Ok-Err-clause-carried : goal.returns-in-Ok-Err-clause-carried
@@ -51,3 +53,14 @@ returns-clause-cause g c =
     let count = c.args.core.now.intervals in
     err_wider c.give_window.result (ChangeHalts x.intervals (state x) w) (MapFileHalts c.args.space c.args.id count v w)
     (given_map v (state x) w c.args.space c.args.id count c.may_map.ensures.reaches x.intervals c.may_map.ensures.intervals) c.give_window.ensures.cause
+
+-- ---- No label was written.
+
+pub returns-in-Ok-Err-clause-moves : goal.returns-in-Ok-Err-clause-moves
+returns-in-Ok-Err-clause-moves g c = moves_of_reaches (state c.args.core.now) (state c.may_map.new.core) c.may_map.ensures.reaches
+
+pub returns-in-Err-clause-moves : goal.returns-in-Err-clause-moves
+returns-in-Err-clause-moves g c = moves_of_reaches (state c.args.core.now) (state c.may_map.new.core) c.may_map.ensures.reaches
+
+pub returns-clause-moves : goal.returns-clause-moves
+returns-clause-moves g c = moves_behind (state c.args.core.now) (state c.may_map.new.core) (state c.give_window.new.core) c.args.core.now.filer.swapper.accepted c.may_map.ensures.reaches c.give_window.ensures.moves

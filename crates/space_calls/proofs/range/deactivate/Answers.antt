@@ -16,6 +16,8 @@ use Rattle.space_calls.proofs.RefusedCalls.{deactivate_refused, deactivate_there
 use Rattle.fault_core.specs.Range.{AreGone}
 use Rattle.filer_kernel.specs.EvidenceLaws.{fits}
 use Rattle.fault_core.proofs.EvidenceLemmas.{shows_so}
+use Rattle.running_words.specs.MovingLaws.{moves_of_reaches}
+use Rattle.space_calls.proofs.MovesLemmas.{moves_twice}
 use Rattle.space_calls.proofs.range.deactivate.Goals as goal
 
 -- ---- There is no such space.
@@ -125,3 +127,17 @@ returns-in-Err-let_go-clause-cause g c =
 
 pub returns-in-Err-let_go-clause-so : goal.returns-in-Err-let_go-clause-so
 returns-in-Err-let_go-clause-so g c = shows_so _ (state c.range_of.new.core) (state c.let_go.new.self) (fits c.range_of.new.core.filer.swapper (search rules)) c.let_go.ensures.reaches.goes.makes c.in-Err-let_go.halt c.in-Err-let_go.ensures.cause
+
+-- ---- No label was written.
+
+pub returns-in-Ok-Err-clause-moves : goal.returns-in-Ok-Err-clause-moves
+returns-in-Ok-Err-clause-moves g c = moves_of_reaches (state c.args.core.now) (state c.range_of.new.core) c.range_of.ensures.asked.reaches
+
+pub returns-in-Err-clause-moves : goal.returns-in-Err-clause-moves
+returns-in-Err-clause-moves g c = moves_of_reaches (state c.args.core.now) (state c.range_of.new.core) c.range_of.ensures.asked.reaches
+
+pub returns-in-Err-let_go-clause-moves : goal.returns-in-Err-let_go-clause-moves
+returns-in-Err-let_go-clause-moves g c = moves_twice (state c.args.core.now) (state c.range_of.new.core) (state c.let_go.new.self) c.args.core.now.filer.swapper.accepted c.range_of.ensures.asked.reaches c.let_go.ensures.reaches
+
+pub returns-clause-moves : goal.returns-clause-moves
+returns-clause-moves g c = moves_twice (state c.args.core.now) (state c.range_of.new.core) (state c.let_go.new.self) c.args.core.now.filer.swapper.accepted c.range_of.ensures.asked.reaches c.let_go.ensures.reaches

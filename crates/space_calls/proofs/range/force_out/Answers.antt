@@ -21,6 +21,8 @@ use Rattle.frame_pool.specs.Frames.{Slots}
 use Rattle.filer_kernel.specs.EvidenceLaws.{fits}
 use Rattle.fault_core.proofs.EvidenceLemmas.{shows_so}
 use Rattle.fault_core.proofs.YieldLemmas.{yield_same, yield_then}
+use Rattle.running_words.specs.MovingLaws.{moves_of_reaches}
+use Rattle.space_calls.proofs.MovesLemmas.{moves_twice, moves_before}
 use Rattle.space_calls.proofs.range.force_out.Goals as goal
 
 -- ---- There is no such space.
@@ -175,3 +177,20 @@ returns-in-Ok-settle-clause-stay g c = yield_then (yield_then c.range_of.ensures
 
 pub returns-in-Err-settle-clause-stay : goal.returns-in-Err-settle-clause-stay
 returns-in-Err-settle-clause-stay g c = yield_then (yield_then c.range_of.ensures.asked.stay c.force.ensures.stay) (yield_same c.force.new.self.filer.swapper.pool c.settle.new.core.filer.swapper.pool c.settle.ensures.frames)
+
+-- ---- No label was written.
+
+pub returns-in-Ok-Err-clause-moves : goal.returns-in-Ok-Err-clause-moves
+returns-in-Ok-Err-clause-moves g c = moves_of_reaches (state c.args.core.now) (state c.range_of.new.core) c.range_of.ensures.asked.reaches
+
+pub returns-in-Err-clause-moves : goal.returns-in-Err-clause-moves
+returns-in-Err-clause-moves g c = moves_of_reaches (state c.args.core.now) (state c.range_of.new.core) c.range_of.ensures.asked.reaches
+
+pub returns-in-Err-force-clause-moves : goal.returns-in-Err-force-clause-moves
+returns-in-Err-force-clause-moves g c = moves_twice (state c.args.core.now) (state c.range_of.new.core) (state c.force.new.self) c.args.core.now.filer.swapper.accepted c.range_of.ensures.asked.reaches c.force.ensures.reaches
+
+pub returns-in-Err-settle-clause-moves : goal.returns-in-Err-settle-clause-moves
+returns-in-Err-settle-clause-moves g c = moves_before (state c.args.core.now) (state c.force.new.self) (state c.settle.new.core) c.args.core.now.filer.swapper.accepted (moves_twice (state c.args.core.now) (state c.range_of.new.core) (state c.force.new.self) c.args.core.now.filer.swapper.accepted c.range_of.ensures.asked.reaches c.force.ensures.reaches) c.settle.ensures.reaches
+
+pub returns-in-Ok-settle-clause-moves : goal.returns-in-Ok-settle-clause-moves
+returns-in-Ok-settle-clause-moves g c = moves_before (state c.args.core.now) (state c.force.new.self) (state c.settle.new.core) c.args.core.now.filer.swapper.accepted (moves_twice (state c.args.core.now) (state c.range_of.new.core) (state c.force.new.self) c.args.core.now.filer.swapper.accepted c.range_of.ensures.asked.reaches c.force.ensures.reaches) c.settle.ensures.reaches

@@ -19,6 +19,9 @@ use Rattle.filer_kernel.specs.EvidenceLaws.{fits}
 use Rattle.fault_core.proofs.EvidenceLemmas.{shows_so}
 use Rattle.fault_core.specs.Kept.{AreFound}
 use Rattle.swap_units.specs.declared.interval.Interval.{Interval}
+use Rattle.running_words.specs.MovingLaws.{moves_of_reaches, moves_of_touches}
+use Rattle.space_calls.proofs.MovesLemmas.{moves_behind}
+use Rattle.swapper_kernel.specs.Goes.{no_page}
 use Rattle.space_calls.proofs.range.kill.Goals as goal
 
 -- ---- There is no such space.
@@ -166,3 +169,17 @@ returns-clause-idle g c = λ volume m s r there found.
     let same : (g.D.Disk.state c.kill.new.self.filer.swapper.under).transfers ≡ (g.D.Disk.state c.range_of.new.core.filer.swapper.under).transfers = λ i. (e.1 i).transfers in
     let cost = c.range_of.ensures.cost in
     omega (arith, same, cost)
+
+-- ---- No label was written.
+
+pub returns-in-Ok-Err-clause-moves : goal.returns-in-Ok-Err-clause-moves
+returns-in-Ok-Err-clause-moves g c = moves_of_reaches (state c.args.core.now) (state c.range_of.new.core) c.range_of.ensures.asked.reaches
+
+pub returns-in-Err-clause-moves : goal.returns-in-Err-clause-moves
+returns-in-Err-clause-moves g c = moves_of_reaches (state c.args.core.now) (state c.range_of.new.core) c.range_of.ensures.asked.reaches
+
+pub returns-in-Err-kill-clause-moves : goal.returns-in-Err-kill-clause-moves
+returns-in-Err-kill-clause-moves g c = moves_behind (state c.args.core.now) (state c.range_of.new.core) (state c.kill.new.self) c.args.core.now.filer.swapper.accepted c.range_of.ensures.asked.reaches (moves_of_touches (state c.range_of.new.core) (state c.kill.new.self) no_page c.kill.ensures.touches)
+
+pub returns-clause-moves : goal.returns-clause-moves
+returns-clause-moves g c = moves_behind (state c.args.core.now) (state c.range_of.new.core) (state c.kill.new.self) c.args.core.now.filer.swapper.accepted c.range_of.ensures.asked.reaches (moves_of_touches (state c.range_of.new.core) (state c.kill.new.self) no_page c.kill.ensures.touches)

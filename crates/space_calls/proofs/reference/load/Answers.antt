@@ -13,6 +13,7 @@ use Rattle.space_calls.proofs.CameLemmas.{Came, knows, still_tells, whole_of, wr
 use Rattle.space_calls.proofs.LoadLemmas.{load_carried, load_not_refused}
 use Rattle.filer_kernel.specs.EvidenceLaws.{fits}
 use Rattle.fault_core.proofs.EvidenceLemmas.{shows_so}
+use Rattle.running_words.specs.MovingLaws.{moves_of_reaches}
 use Rattle.space_calls.proofs.reference.load.Goals as goal
 
 -- ---- The bytes were loaded.
@@ -144,3 +145,17 @@ returns-in-Err-clause-cause g c =
 
 pub returns-in-Err-clause-so : goal.returns-in-Err-clause-so
 returns-in-Err-clause-so g c = shows_so _ (state c.args.core.now) (state c.load.new.self) (fits c.args.core.now.filer.swapper c.requires.size) c.load.ensures.reaches.goes.makes c.in-Err.halt c.in-Err.ensures.cause
+
+-- ---- No label was written.
+
+pub returns-in-Ok-Done-clause-moves : goal.returns-in-Ok-Done-clause-moves
+returns-in-Ok-Done-clause-moves g c = moves_of_reaches (state c.args.core.now) (state c.load.new.self) c.load.ensures.reaches
+
+pub returns-in-Ok-NoMap-clause-moves : goal.returns-in-Ok-NoMap-clause-moves
+returns-in-Ok-NoMap-clause-moves g c = moves_of_reaches (state c.args.core.now) (state c.load.new.self) c.load.ensures.reaches
+
+pub returns-in-Ok-ReadOnly-clause-moves : goal.returns-in-Ok-ReadOnly-clause-moves
+returns-in-Ok-ReadOnly-clause-moves g c = moves_of_reaches (state c.args.core.now) (state c.load.new.self) c.load.ensures.reaches
+
+pub returns-in-Err-clause-moves : goal.returns-in-Err-clause-moves
+returns-in-Err-clause-moves g c = moves_of_reaches (state c.args.core.now) (state c.load.new.self) c.load.ensures.reaches

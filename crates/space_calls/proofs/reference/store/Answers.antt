@@ -4,7 +4,7 @@ use Rattle.flat_machine.specs.Bytes.{AreBytes}
 use Rattle.fault_core.specs.declared.reference.Access.{Access}
 use Rattle.fault_core.specs.declared.reference.Access.TheVariants as access
 use Rattle.fault_core.specs.Core.{kept, state}
-use Rattle.fault_core.specs.Moves.{StoresAs}
+use Rattle.fault_core.specs.Moves.{StoresAs, client_page}
 use Rattle.session_words.specs.CellLaws.{IsTouchedOrOwn}
 use Rattle.swapper_kernel.specs.Goes.{Goes}
 use Rattle.running_words.proofs.RunningLemmas.{running_laws}
@@ -13,6 +13,7 @@ use Rattle.space_calls.proofs.MovedLemmas.{store_runs}
 use Rattle.space_calls.proofs.StoreLemmas.{are_bytes, other_than_done, refused_came, stays_where, store_allowed, store_not_refused, store_stays, store_tells, store_word}
 use Rattle.filer_kernel.specs.EvidenceLaws.{fits}
 use Rattle.fault_core.proofs.EvidenceLemmas.{shows_so}
+use Rattle.running_words.specs.MovingLaws.{moves_of_touches}
 use Rattle.space_calls.proofs.reference.store.Goals as goal
 
 -- ---- The bytes were stored.
@@ -160,3 +161,17 @@ returns-in-Err-clause-idle g c = λ volume m r first last.
     let apart = running_laws.apart (state c.args.core.now) (kept c.args.core.now) c.args.core.now.intervals volume m r in
     let two = c.in-Err.ensures.idle first last apart in
     (two.0, two.1, two.2)
+
+-- ---- No label was written.
+
+pub returns-in-Ok-Done-clause-moves : goal.returns-in-Ok-Done-clause-moves
+returns-in-Ok-Done-clause-moves g c = moves_of_touches (state c.args.core.now) (state c.store.new.self) client_page c.store.ensures.touches
+
+pub returns-in-Ok-NoMap-clause-moves : goal.returns-in-Ok-NoMap-clause-moves
+returns-in-Ok-NoMap-clause-moves g c = moves_of_touches (state c.args.core.now) (state c.store.new.self) client_page c.store.ensures.touches
+
+pub returns-in-Ok-ReadOnly-clause-moves : goal.returns-in-Ok-ReadOnly-clause-moves
+returns-in-Ok-ReadOnly-clause-moves g c = moves_of_touches (state c.args.core.now) (state c.store.new.self) client_page c.store.ensures.touches
+
+pub returns-in-Err-clause-moves : goal.returns-in-Err-clause-moves
+returns-in-Err-clause-moves g c = moves_of_touches (state c.args.core.now) (state c.store.new.self) client_page c.store.ensures.touches

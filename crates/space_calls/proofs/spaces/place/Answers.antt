@@ -3,6 +3,7 @@ use Rattle.space_calls.proofs.SpaceLemmas.{place_refused, space_placed}
 use Rattle.fault_core.specs.Core.{state}
 use Rattle.filer_kernel.specs.EvidenceLaws.{fits}
 use Rattle.fault_core.proofs.EvidenceLemmas.{shows_so}
+use Rattle.running_words.specs.MovingLaws.{moves_of_reaches}
 use Rattle.space_calls.proofs.spaces.place.Goals as goal
 
 pub returns-in-Ok-Ok-clause-carried : goal.returns-in-Ok-Ok-clause-carried
@@ -42,3 +43,14 @@ returns-in-Err-clause-wrote g c = nothing_labelled (asked_makes _ _ c.place.ensu
 
 pub returns-in-Err-clause-so : goal.returns-in-Err-clause-so
 returns-in-Err-clause-so g c = shows_so _ (state c.args.core.now) (state c.place.new.core) (fits c.args.core.now.filer.swapper c.requires.size) c.place.ensures.asked.reaches.goes.makes c.in-Err.halt c.in-Err.ensures.cause
+
+-- ---- No label was written.
+
+pub returns-in-Ok-Ok-clause-moves : goal.returns-in-Ok-Ok-clause-moves
+returns-in-Ok-Ok-clause-moves g c = moves_of_reaches (state c.args.core.now) (state c.place.new.core) c.place.ensures.asked.reaches
+
+pub returns-in-Ok-Err-clause-moves : goal.returns-in-Ok-Err-clause-moves
+returns-in-Ok-Err-clause-moves g c = moves_of_reaches (state c.args.core.now) (state c.place.new.core) c.place.ensures.asked.reaches
+
+pub returns-in-Err-clause-moves : goal.returns-in-Err-clause-moves
+returns-in-Err-clause-moves g c = moves_of_reaches (state c.args.core.now) (state c.place.new.core) c.place.ensures.asked.reaches

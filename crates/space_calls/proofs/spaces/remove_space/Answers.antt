@@ -3,6 +3,7 @@ use Rattle.space_calls.proofs.SpaceLemmas.{remove_refused, space_removed}
 use Rattle.fault_core.specs.Core.{state}
 use Rattle.filer_kernel.specs.EvidenceLaws.{fits}
 use Rattle.fault_core.proofs.EvidenceLemmas.{shows_so}
+use Rattle.space_calls.proofs.MovesLemmas.{moves_tables}
 use Rattle.space_calls.proofs.spaces.remove_space.Goals as goal
 
 pub returns-in-Err-clause-sound : goal.returns-in-Err-clause-sound
@@ -46,3 +47,14 @@ returns-in-Err-answer-clause-wrote g c = nothing_labelled (retabled_then _ _ _ c
 
 pub returns-in-Err-clause-so : goal.returns-in-Err-clause-so
 returns-in-Err-clause-so g c = shows_so _ (state c.args.core.now) (state c.remove.new.core) (fits c.args.core.now.filer.swapper c.requires.size) c.remove.ensures.retabled.beside.goes.makes c.in-Err.halt c.in-Err.ensures.cause
+
+-- ---- No label was written.
+
+pub returns-in-Err-clause-moves : goal.returns-in-Err-clause-moves
+returns-in-Err-clause-moves g c = moves_tables (state c.args.core.now) (state c.remove.new.core) c.remove.ensures.retabled.beside
+
+pub returns-in-Ok-answer-clause-moves : goal.returns-in-Ok-answer-clause-moves
+returns-in-Ok-answer-clause-moves g c = rw c.frame_count-frames.ensures.same (moves_tables (state c.args.core.now) (state c.remove.new.core) c.remove.ensures.retabled.beside)
+
+pub returns-in-Err-answer-clause-moves : goal.returns-in-Err-answer-clause-moves
+returns-in-Err-answer-clause-moves g c = rw c.frame_count-frames.ensures.same (moves_tables (state c.args.core.now) (state c.remove.new.core) c.remove.ensures.retabled.beside)

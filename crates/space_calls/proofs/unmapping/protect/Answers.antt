@@ -18,6 +18,8 @@ use Rattle.space_calls.proofs.WindowHalts.{if_window_halt}
 use Rattle.space_calls.specs.Halts.{ProtectHalts, WritableHalts}
 use Rattle.filer_kernel.proofs.Outcomes.{err_wider}
 use Rattle.space_calls.proofs.HaltLemmas.{slot_protect, writable_protect}
+use Rattle.running_words.specs.MovingLaws.{moves_of_reaches}
+use Rattle.space_calls.proofs.MovesLemmas.{moves_behind}
 use Rattle.space_calls.proofs.unmapping.protect.Goals as goal
 
 pub returns-in-Ok-Err-clause-carried : goal.returns-in-Ok-Err-clause-carried
@@ -111,3 +113,17 @@ returns-clause-cause g c =
     rw c.if-writable.false
     (if_window_halt (state c.args.core.now) (state w) c.args.core.now.filer.swapper.accepted c.args.space c.find_window.ensures.reaches c.args.core.now.intervals w.intervals c.find_window.ensures.intervals (state c.protect_read_only.new.core) (found.1, found.2)
     (given_so (λ (f : Shown × ℕ × ℕ). TablesSay (state c.args.core.now) (λ b. IsRunAt b c.args.space) (f.1, f.2)) found c.in-Ok-Ok.field-0 c.in-Ok-Ok.field-0-is c.in-Ok-Ok.ensures.range) c.protect_read_only.result c.protect_read_only.ensures.cause)
+
+-- ---- No label was written.
+
+pub returns-in-Ok-Err-clause-moves : goal.returns-in-Ok-Err-clause-moves
+returns-in-Ok-Err-clause-moves g c = moves_of_reaches (state c.args.core.now) (state c.find_window.new.core) c.find_window.ensures.reaches
+
+pub returns-in-Err-clause-moves : goal.returns-in-Err-clause-moves
+returns-in-Err-clause-moves g c = moves_of_reaches (state c.args.core.now) (state c.find_window.new.core) c.find_window.ensures.reaches
+
+pub returns-then-writable-clause-moves : goal.returns-then-writable-clause-moves
+returns-then-writable-clause-moves g c = moves_behind (state c.args.core.now) (state c.find_window.new.core) (state c.protect_writable.new.core) c.args.core.now.filer.swapper.accepted c.find_window.ensures.reaches c.protect_writable.ensures.moves
+
+pub returns-clause-moves : goal.returns-clause-moves
+returns-clause-moves g c = moves_behind (state c.args.core.now) (state c.find_window.new.core) (state c.protect_read_only.new.core) c.args.core.now.filer.swapper.accepted c.find_window.ensures.reaches c.protect_read_only.ensures.moves

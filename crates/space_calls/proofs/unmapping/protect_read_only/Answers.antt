@@ -8,6 +8,9 @@ use Rattle.fault_core.specs.Core.{state}
 use Rattle.space_calls.specs.Ranges.{BreaksPart}
 use Rattle.space_calls.proofs.RangeLemmas.{fault_halt}
 use Rattle.space_calls.proofs.WindowHalts.{part_change, part_halt}
+use Rattle.running_words.specs.MovingLaws.{moves_of_reaches}
+use Rattle.space_calls.proofs.MovesLemmas.{moves_behind, moves_before}
+use Rattle.space_calls.specs.ReasonLaws.{moves_of_reshapes}
 use Rattle.space_calls.proofs.unmapping.protect_read_only.Goals as goal
 
 pub returns-in-Err-clause-sound : goal.returns-in-Err-clause-sound
@@ -80,3 +83,20 @@ pub returns-in-Err-settle-clause-cause : goal.returns-in-Err-settle-clause-cause
 returns-in-Err-settle-clause-cause g c =
     fault_halt (BreaksPart (state c.args.core.now) c.args.core.now.intervals c.args.first (c.args.first + c.args.pages)) (state c.args.core.now) (state c.change_window.new.core) (state c.settle.new.core) c.in-Err-settle.halt
     (makes_then c.force_range.ensures.makes c.change_window.ensures.makes).went.faults c.in-Err-settle.ensures.fault c.in-Err-settle.ensures.counted
+
+-- ---- No label was written.
+
+pub returns-in-Err-clause-moves : goal.returns-in-Err-clause-moves
+returns-in-Err-clause-moves g c = moves_of_reaches (state c.args.core.now) (state c.force_range.new.core) c.force_range.ensures.reaches
+
+pub returns-in-Ok-Err-clause-moves : goal.returns-in-Ok-Err-clause-moves
+returns-in-Ok-Err-clause-moves g c = moves_behind (state c.args.core.now) (state c.force_range.new.core) (state c.change_window.new.core) c.args.core.now.filer.swapper.accepted c.force_range.ensures.reaches (moves_of_reshapes (state c.force_range.new.core) (state c.change_window.new.core) c.change_window.ensures.reshapes)
+
+pub returns-in-Err-change_window-clause-moves : goal.returns-in-Err-change_window-clause-moves
+returns-in-Err-change_window-clause-moves g c = moves_behind (state c.args.core.now) (state c.force_range.new.core) (state c.change_window.new.core) c.args.core.now.filer.swapper.accepted c.force_range.ensures.reaches (moves_of_reshapes (state c.force_range.new.core) (state c.change_window.new.core) c.change_window.ensures.reshapes)
+
+pub returns-in-Ok-settle-clause-moves : goal.returns-in-Ok-settle-clause-moves
+returns-in-Ok-settle-clause-moves g c = moves_before (state c.args.core.now) (state c.change_window.new.core) (state c.settle.new.core) c.args.core.now.filer.swapper.accepted (moves_behind (state c.args.core.now) (state c.force_range.new.core) (state c.change_window.new.core) c.args.core.now.filer.swapper.accepted c.force_range.ensures.reaches (moves_of_reshapes (state c.force_range.new.core) (state c.change_window.new.core) c.change_window.ensures.reshapes)) c.settle.ensures.reaches
+
+pub returns-in-Err-settle-clause-moves : goal.returns-in-Err-settle-clause-moves
+returns-in-Err-settle-clause-moves g c = moves_before (state c.args.core.now) (state c.change_window.new.core) (state c.settle.new.core) c.args.core.now.filer.swapper.accepted (moves_behind (state c.args.core.now) (state c.force_range.new.core) (state c.change_window.new.core) c.args.core.now.filer.swapper.accepted c.force_range.ensures.reaches (moves_of_reshapes (state c.force_range.new.core) (state c.change_window.new.core) c.change_window.ensures.reshapes)) c.settle.ensures.reaches

@@ -9,6 +9,9 @@ use Rattle.space_calls.proofs.TableAnswers.{not_refused, was_done}
 use Rattle.space_calls.proofs.TakeLemmas.{handle_is, may, mode_carried, mode_fits, mode_frames, mode_machine, mode_refused}
 use Rattle.fault_core.specs.Core.{state}
 use Rattle.space_calls.proofs.HaltLemmas.{counted_change}
+use Rattle.running_words.specs.MovingLaws.{moves_of_reaches}
+use Rattle.space_calls.proofs.MovesLemmas.{moves_behind}
+use Rattle.space_calls.specs.ReasonLaws.{moves_of_reshapes}
 use Rattle.space_calls.proofs.unmapping.protect_writable.Goals as goal
 
 pub returns-in-Ok-true-clause-carried : goal.returns-in-Ok-true-clause-carried
@@ -70,3 +73,20 @@ returns-in-Err-change_window-clause-cause g c =
       c.shows_immutable.ensures.reaches,
       counted_change (state x) (state c.change_window.new.core) c.args.core.now.intervals x.intervals c.shows_immutable.ensures.intervals c.in-Err-change_window.halt c.in-Err-change_window.ensures.cause,
     )
+
+-- ---- No label was written.
+
+pub returns-in-Ok-true-clause-moves : goal.returns-in-Ok-true-clause-moves
+returns-in-Ok-true-clause-moves g c = moves_of_reaches (state c.args.core.now) (state c.shows_immutable.new.core) c.shows_immutable.ensures.reaches
+
+pub returns-in-Err-clause-moves : goal.returns-in-Err-clause-moves
+returns-in-Err-clause-moves g c = moves_of_reaches (state c.args.core.now) (state c.shows_immutable.new.core) c.shows_immutable.ensures.reaches
+
+pub returns-in-Ok-Ok-clause-moves : goal.returns-in-Ok-Ok-clause-moves
+returns-in-Ok-Ok-clause-moves g c = moves_behind (state c.args.core.now) (state c.shows_immutable.new.core) (state c.change_window.new.core) c.args.core.now.filer.swapper.accepted c.shows_immutable.ensures.reaches (moves_of_reshapes (state c.shows_immutable.new.core) (state c.change_window.new.core) c.change_window.ensures.reshapes)
+
+pub returns-in-Ok-Err-clause-moves : goal.returns-in-Ok-Err-clause-moves
+returns-in-Ok-Err-clause-moves g c = moves_behind (state c.args.core.now) (state c.shows_immutable.new.core) (state c.change_window.new.core) c.args.core.now.filer.swapper.accepted c.shows_immutable.ensures.reaches (moves_of_reshapes (state c.shows_immutable.new.core) (state c.change_window.new.core) c.change_window.ensures.reshapes)
+
+pub returns-in-Err-change_window-clause-moves : goal.returns-in-Err-change_window-clause-moves
+returns-in-Err-change_window-clause-moves g c = moves_behind (state c.args.core.now) (state c.shows_immutable.new.core) (state c.change_window.new.core) c.args.core.now.filer.swapper.accepted c.shows_immutable.ensures.reaches (moves_of_reshapes (state c.shows_immutable.new.core) (state c.change_window.new.core) c.change_window.ensures.reshapes)

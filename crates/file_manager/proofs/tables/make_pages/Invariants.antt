@@ -1,6 +1,6 @@
 use Rattle.std.proofs.Common.{◌-◌}
 use Rattle.file_manager.proofs.TablesMade.{AreTablesUpTo}
-use Rattle.file_manager.proofs.tables.make_tables.Given as goal
+use Rattle.file_manager.proofs.tables.make_pages.Given as goal
 
 -- the pages below this one are made
 abbrev pub invariant-loop-page : goal.invariant-loop-page

@@ -1,0 +1,141 @@
+-- The freeing of a run keeps to an outset, and what it tells as evidence has its reason.
+use Rattle.std.proofs.Common.{◌≡◌, ◌⊎◌, inl, inr, ℕ, zero, suc, ◌+◌, ◌-◌, ◌<◌, ◌≤◌, Bool, true, false, List, [], ◌∷◌, Some, refl, sym, ◌∙◌, ap, subst, arith}
+use Rattle.std.specs.Prelude.{slice_get, nat_le, nat_lt, ◌&&◌, if◌then◌else◌}
+use Rattle.std.proofs.lemmas.Bool.{and_parts, leb-true, ltb-true}
+use Rattle.std.proofs.lemmas.Option.{same_Some, none-some}
+use Rattle.labelled_disk.specs.declared.disk.DiskWrite.{DiskWrite}
+use Rattle.labelled_disk.specs.declared.disk.DiskWrite.TheVariants as write
+use Rattle.labelled_disk.specs.declared.evidence.Evidence.TheVariants.{Mismatch, Malformed, Missing}
+use Rattle.labelled_disk.specs.declared.evidence.Halt.{Halt}
+use Rattle.labelled_disk.specs.declared.evidence.Halt.TheVariants.{Disk, Damaged}
+use Rattle.labelled_disk.specs.declared.label.Label.{Label}
+use Rattle.labelled_disk.specs.declared.layout.Layout.{Layout}
+use Rattle.labelled_disk.specs.Runs.{freeing}
+use Rattle.labelled_disk.specs.Sectors.{Sector, free_label}
+use Rattle.labelled_disk.specs.State.{DiskState}
+use Rattle.frame_pool.specs.Frames.{Frame, Slots, Has, IsWithin}
+use Rattle.file_map.specs.declared.run.Run.{Run}
+use Rattle.file_map.specs.FileMap.{Triples}
+use Rattle.file_map.specs.Run.{IsRun}
+use Rattle.swapper_kernel.specs.declared.manager.Manager.TheVariants.{AllocationMap, FileMap}
+use Rattle.swapper_kernel.specs.DiffersLaws.{names_id, names_page, other_sector}
+use Rattle.swapper_kernel.specs.Goes.{Makes, Pages}
+use Rattle.swapper_kernel.specs.HaltLaws.{brings_wider}
+use Rattle.swapper_kernel.specs.Halts.{HasCause, Halts}
+use Rattle.swapper_kernel.specs.Homes.{IsLayout, home_at, wanted_at}
+use Rattle.swapper_kernel.specs.Maps.{IsMapHome}
+use Rattle.swapper_kernel.specs.Stands.{Stands}
+use Rattle.swapper_kernel.specs.Window.{Beside}
+use Rattle.label_calls.specs.Labels.{ones_of}
+use Rattle.label_calls.specs.Runs.{AreUncovered, HaveOnes, RelabelsRun, IsOneNotOf}
+use Rattle.filer_kernel.specs.declared.cached.CachedRuns.{CachedRuns}
+use Rattle.filer_kernel.specs.Becomes.{Becomes}
+use Rattle.filer_kernel.specs.Cached.{runs_of}
+use Rattle.filer_kernel.specs.Marks.{Marks, BitsAre, marked}
+use Rattle.filer_kernel.specs.PlaceLaws.{data_first}
+use Rattle.filer_kernel.specs.Triples.{MapIs, AreOf}
+use Rattle.file_manager.specs.Freeing.{NamesAll}
+use Rattle.file_manager.specs.Grounds.{IsMapsHome}
+use Rattle.file_manager.specs.Reasons.{Outset, WasGivenUp, KeepsTo, ShowsReason}
+use Rattle.file_manager.specs.ReasonLaws.{at_home_later, made_later, made_now, keeps_after, unframed_still, label_reasons, beside_keeps}
+use Rattle.file_manager.proofs.FreedRun.{shows_still, behind_map}
+use Rattle.file_manager.proofs.FreedSectors.{freed_elsewhere}
+use Rattle.file_manager.proofs.ForgottenRun.{SameFront, map_stays, bits_stay}
+
+-- ---- A search of the map.
+
+pub found_keeps : {layout later : Layout} {a b : DiskState} {s t : Slots} (kept runs : CachedRuns) {o : Outset} {named : Triples} → Beside FileMap a s layout b t later
+    → ((m : List Sector) (named : Triples) → Stands a s m → MapIs layout named m → Stands b t m)
+    → ((m : List Sector) (named : Triples) → Stands a s m → MapIs layout named m → AreOf named (runs_of layout.sectors kept) → AreOf named (runs_of layout.sectors runs))
+    → KeepsTo o layout (runs_of layout.sectors kept) a s named → KeepsTo o later (runs_of later.sectors runs) b t named
+found_keeps {layout = layout} {b = b} {t = t} kept runs {o = o} {named = named} beside same are h =
+    subst (λ (l : Layout). KeepsTo o l (runs_of l.sectors runs) b t named) (sym beside.layout)
+    (beside_keeps h FileMap beside (same h.memory named h.stands h.map) (runs_of layout.sectors runs) (are h.memory named h.stands h.map h.kept))
+
+-- ---- A run that is freed.
+
+-- the write of a turn
+freeing_at : (sectors : List ℕ) (j k : ℕ) → slice_get sectors j ≡ Some k → slice_get (freeing sectors) j ≡ Some (write.LabelOnly k free_label)
+freeing_at [] j k at = absurd (none-some k at)
+freeing_at (i ∷ is) zero k at = ap (λ (n : ℕ). Some (write.LabelOnly n free_label)) (same_Some i k at)
+freeing_at (i ∷ is) (suc j) k at = freeing_at is j k at
+
+-- the sector is one of a row, or the bits say of it what they said
+one_of_row : (first count : ℕ) (marks : Marks) (sector : ℕ) → marked false first count marks sector ≡ false → ((i : ℕ) × (i < count) × (sector ≡ first + i)) ⊎ (marks sector ≡ false)
+one_of_row first count marks sector is = either (nat_le first sector && nat_lt sector (first + count)) refl
+  where
+    either : (b : Bool) → (nat_le first sector && nat_lt sector (first + count)) ≡ b → ((i : ℕ) × (i < count) × (sector ≡ first + i)) ⊎ (marks sector ≡ false)
+    either true within =
+        let parts = and_parts (nat_le first sector) (nat_lt sector (first + count)) within in
+        let from : first ≤ sector = leb-true first sector parts.0 in
+        let below : sector < first + count = ltb-true sector (first + count) parts.1 in
+        inl (sector - first, omega (arith, from, below), omega (arith, from))
+    either false out = inr (sym (ap (λ (b : Bool). if b then false else marks sector) out) ∙ is)
+
+module _ {o : Outset} {layout : Layout} {runs : List Run} {b : DiskState} {t : Slots} {named : Triples} (h : KeepsTo o layout runs b t named) (is : IsLayout layout) (run : Run) (form : IsRun layout.sectors run) where
+  on_data : layout.first ≤ run.sector
+  on_data = let first = data_first layout is in let from = form.from_data in omega (arith, first, from)
+
+  -- where it stops at a label, the map names the page there
+  pub labels_reason : NamesAll named run → {pages : Pages} {writes : List DiskWrite} {c : DiskState} {u : Slots} → Makes pages writes b t c u → (halt : Halt)
+      → HasCause (IsOneNotOf run.sector run.pages (λ k. record { id = run.id; page = run.first + k }) b) b c halt → ShowsReason o layout c halt
+  labels_reason all makes Disk why = tt
+  labels_reason all makes (Damaged (Mismatch place wanted found)) (k, below, (at, page, has, other)) =
+      let there : named wanted.id wanted.page place ≡ true = (λ i. named (page i).id (page i).page (at i)) ∙ all k below in
+      inr (inl (at_home_later o makes (home_at place wanted) (h.homes (home_at place wanted) there)))
+  labels_reason all makes (Damaged (Malformed window page)) (k, below, why) = absurd why
+  labels_reason all makes (Damaged (Missing id page)) (k, below, why) = absurd why
+
+  module _ (sectors : List ℕ) (has : (j k : ℕ) → slice_get sectors j ≡ Some k → (i : ℕ) × (i < run.pages) × (k ≡ run.sector + i)) (each : (i : ℕ) → i < run.pages → (j : ℕ) × (slice_get sectors j ≡ Some (run.sector + i)))
+      {c : DiskState} (made : RelabelsRun run.sector run.pages (freeing sectors) b t c)
+      (were : (d : List Sector) → b.contents ≡ Some d → HaveOnes (λ k. ones_of (record { id = run.id; page = run.first + k })) d run.sector run.pages)
+      (gone : (i : ℕ) (f : Frame) → Has t i f → IsWithin run.id run.first run.pages f.home → ⊥) where
+    -- no frame is over the run's sectors: its page would be one of the run's
+    uncovered : AreUncovered t run.sector run.pages
+    uncovered k below i f in_slot at =
+        let stands = h.stands in
+        let disk = were stands.sectors stands.told k below in
+        let one = other_sector h.memory stands.sectors (sym stands.merged.labels) (run.sector + k) disk.0 disk.1 in
+        let home = stands.merged.frames i f in_slot in
+        let label : home.label ≡ disk.0.0 = ap (λ (x : Sector). x.0) (same_Some {A = Sector} (home.label, f.bytes) one.0 (sym home.keeps ∙ ap (slice_get h.memory) at ∙ one.1)) ∙ one.2 in
+        let ids : f.home.id ≡ run.id = sym (names_id home.label (wanted_at f.home) home.named) ∙ ap (λ (l : Label). l.id) label ∙ names_id disk.0.0 (record { id = run.id; page = run.first + k }) disk.2 in
+        let pages : f.home.page ≡ run.first + k = sym (names_page home.label (wanted_at f.home) home.named) ∙ ap (λ (l : Label). l.page) label ∙ names_page disk.0.0 (record { id = run.id; page = run.first + k }) disk.2 in
+        gone i f in_slot (ids, omega (arith, pages), omega (arith, pages, below))
+
+    pub labels_keep : KeepsTo o layout runs c t named
+    labels_keep =
+        let now = (made.goes uncovered).memory h.memory h.stands in
+        let stays : SameFront layout h.memory now.0 = λ k x low here.
+        ap (λ (l : List Sector). slice_get l k) now.2
+        ∙ freed_elsewhere sectors h.memory k (λ j at. let r = has j k at in let same = r.2 in let above = on_data in omega (arith, low, same, above)) ∙ here in
+        keeps_after h made.makes now.0 now.1 named (map_stays is stays h.map) (λ home is. inl is) runs h.kept (λ home held. inl held) h.unframed h.marks (bits_stay is stays h.bits) (λ sector from below free. inl free)
+
+    -- each sector was given up
+    given_up : (i : ℕ) → i < run.pages → WasGivenUp o c (run.sector + i)
+    given_up i below = let turn = each i below in made_now o made.makes h.since turn.0 (write.LabelOnly (run.sector + i) free_label) (freeing_at sectors turn.0 (run.sector + i) turn.1)
+
+    pub marks_keep : {d : DiskState} {u : Slots} {later : Layout} → Beside AllocationMap c t layout d u later
+        → ((m : List Sector) (marks : Marks) → Stands c t m → BitsAre layout marks m → Becomes AllocationMap layout m (BitsAre layout (marked false run.sector run.pages marks)) d u)
+        → KeepsTo o layout runs d u named
+    marks_keep {d = d} beside given =
+        let k = labels_keep in
+        let now = given k.memory k.marks k.stands k.bits in
+        let was = k.map in
+        keeps_after k beside.goes.makes now.memory now.stands named
+        (record {
+          bytes = was.bytes;
+          shows = shows_still FileMap layout k.memory now.memory was.bytes (λ j x below here. now.differs.pages (1 + layout.vam + j) x here (behind_map AllocationMap layout (1 + layout.vam + j) x.0 (omega arith))) was.shows;
+          names = was.names;
+        })
+        (λ home is. inl is) runs k.kept
+        (λ home held. elim (beside.brings.homes home held) [ inl before ↦ inl before | inr own ↦ inr (inl (AllocationMap, own)) ])
+        (unframed_still (brings_wider (IsMapsHome layout) (λ home own. (AllocationMap, own)) beside.brings) k.unframed)
+        (marked false run.sector run.pages k.marks) now.is
+        (λ sector from below free. elim (one_of_row run.sector run.pages k.marks sector free) [
+          | inl (i, inside, at) ↦ inr (made_later o beside.goes.makes (subst (λ (n : ℕ). WasGivenUp o c n) (sym at) (given_up i inside)))
+          | inr before ↦ inl before
+        ])
+
+    -- where it stops at the allocation map
+    pub marks_reason : {pages : Pages} {writes : List DiskWrite} {d : DiskState} {u : Slots} → Makes pages writes c t d u → (halt : Halt) → Halts (IsMapHome AllocationMap layout) c t d halt → ShowsReason o layout d halt
+    marks_reason makes halt why = label_reasons labels_keep makes (IsMapHome AllocationMap layout) (λ home own. inl (AllocationMap, own)) halt why

@@ -1,0 +1,174 @@
+-- A run that is taken, labelled and added keeps to an outset, and what the calls tell as evidence has its reason.
+use Rattle.std.proofs.Common.{◌≡◌, ◌⊎◌, inl, inr, ℕ, zero, suc, ◌+◌, ◌-◌, ◌<◌, ◌≤◌, Bool, true, false, ◌&&◌, ◌||◌, List, Some, refl, sym, ◌∙◌, ap, subst, arith}
+use Rattle.std.specs.Prelude.{slice_get, nat_le, nat_lt, ◌==◌, if◌then◌else◌}
+use Rattle.std.specs.List.{range_with_len}
+use Rattle.std.proofs.lemmas.Bool.{and_parts, leb-true, ltb-true, eqb-true, true≢false}
+use Rattle.labelled_disk.specs.declared.disk.DiskWrite.{DiskWrite}
+use Rattle.labelled_disk.specs.declared.disk.DiskWrite.TheVariants.{Whole}
+use Rattle.labelled_disk.specs.declared.evidence.Evidence.TheVariants.{Mismatch, Malformed, Missing}
+use Rattle.labelled_disk.specs.declared.evidence.Halt.{Halt}
+use Rattle.labelled_disk.specs.declared.evidence.Halt.TheVariants.{Disk, Damaged}
+use Rattle.labelled_disk.specs.declared.layout.Layout.{Layout}
+use Rattle.labelled_disk.specs.Label.{page_label}
+use Rattle.labelled_disk.specs.Runs.{growth, zero_bytes}
+use Rattle.labelled_disk.specs.Sectors.{Sector}
+use Rattle.labelled_disk.specs.State.{DiskState}
+use Rattle.frame_pool.specs.declared.home.Home.{Home}
+use Rattle.frame_pool.specs.Frames.{Slots}
+use Rattle.alloc_map.specs.Runs.{IsDataRun}
+use Rattle.file_map.specs.declared.run.Run.{Run}
+use Rattle.file_map.specs.Run.{holds, sector_at}
+use Rattle.file_map.specs.FileMap.{Triples, IsNew, with_run, run_names}
+use Rattle.swapper_kernel.specs.declared.manager.Manager.TheVariants.{AllocationMap, FileMap}
+use Rattle.swapper_kernel.specs.Goes.{Makes, Pages}
+use Rattle.swapper_kernel.specs.HaltLaws.{brings_then}
+use Rattle.swapper_kernel.specs.Halts.{Halts, HasCause}
+use Rattle.swapper_kernel.specs.Homes.{IsLayout, IsHeld, Brings, home_at}
+use Rattle.swapper_kernel.specs.Maps.{IsMapHome}
+use Rattle.swapper_kernel.specs.Stands.{Stands}
+use Rattle.swapper_kernel.specs.Window.{Beside}
+use Rattle.label_calls.specs.Labels.{free_ones}
+use Rattle.label_calls.specs.Runs.{HaveOnes, RelabelsRun, IsOneTaken}
+use Rattle.filer_kernel.specs.Becomes.{Becomes}
+use Rattle.filer_kernel.specs.Causes.{AddHalts, IsFaultOrMost}
+use Rattle.filer_kernel.specs.Marks.{Marks, BitsAre, marked}
+use Rattle.filer_kernel.specs.Triples.{MapIs, AreOf}
+use Rattle.session_words.specs.Volume.{volume_page}
+use Rattle.file_manager.specs.Grounds.{IsMapsHome}
+use Rattle.file_manager.specs.Making.{sectors_of}
+use Rattle.file_manager.specs.Reasons.{Outset, IsAtHome, KeepsTo, ShowsReason}
+use Rattle.file_manager.specs.ReasonLaws.{made_now, may_be_free_later, keeps_after, home_later, label_reasons, unframed_still}
+use Rattle.file_manager.specs.Taking.{NamesNoneOf}
+use Rattle.file_manager.proofs.FreedRun.{behind_map, shows_still}
+use Rattle.file_manager.proofs.MadeRun.{IsLabelledFor, maps_come, labelled, map_then, new_run, run_adds, file_map_alone}
+use Rattle.file_manager.proofs.MakeStops.{page_in}
+use Rattle.file_manager.proofs.TakingLemmas.{sectors_then, none_later}
+
+-- ---- What is named with a run more.
+
+-- the writes of a growth, page by page
+growth_at : (id kind page first n j : ℕ) → j < n → slice_get (growth id kind page (range_with_len first n)) j ≡ Some (Whole (first + j) (page_label id kind (page + j)) zero_bytes)
+growth_at id kind page first zero j below = absurd (omega (arith, below))
+growth_at id kind page first (suc n) zero below =
+    let at : first ≡ first + 0 = omega arith in
+    let of : page ≡ page + 0 = omega arith in
+    λ i. Some (Whole (at i) (page_label id kind (of i)) zero_bytes)
+growth_at id kind page first (suc n) (suc j) below =
+    let rest = growth_at id kind (page + 1) (first + 1) n j (omega (arith, below)) in
+    let at : first + 1 + j ≡ first + suc j = omega arith in
+    let of : page + 1 + j ≡ page + suc j = omega arith in
+    rest ∙ (λ i. Some (Whole (at i) (page_label id kind (of i)) zero_bytes))
+
+pub either_named : (a b : Bool) → (a || b) ≡ true → (a ≡ true) ⊎ (b ≡ true)
+either_named true b is = inl refl
+either_named false b is = inr is
+
+-- what a run names
+pub run_parts : (run : Run) (id page sector : ℕ) → run_names run id page sector ≡ true → (run.id ≡ id) × (run.first ≤ page) × (page < run.first + run.pages) × (sector ≡ run.sector + (page - run.first))
+run_parts run id page sector is =
+    let both = and_parts (holds run id page) (sector == sector_at run page) is in
+    let parts = and_parts (run.id == id) (nat_le run.first page && nat_lt page (run.first + run.pages)) both.0 in
+    let more = and_parts (nat_le run.first page) (nat_lt page (run.first + run.pages)) parts.1 in
+    (eqb-true run.id id parts.0, leb-true run.first page more.0, ltb-true page (run.first + run.pages) more.1, eqb-true sector (sector_at run page) both.1)
+
+are_more : (named : Triples) (run : Run) (k : List Run) → AreOf named k → AreOf (with_run named run) k
+are_more named run k are j r at page held = ap (λ (b : Bool). b || run_names run r.id page (sector_at r page)) (are j r at page held)
+
+-- other pages are named no more than before
+pub none_with_run : (run : Run) (named : Triples) (id first : ℕ) (q : ℕ → Type 0) → run.id ≡ id → run.first ≡ first → ((page : ℕ) → q page → (first ≤ page) × (page < first + run.pages) → ⊥) → NamesNoneOf id q named → NamesNoneOf id q (with_run named run)
+none_with_run run named id first q same_id same_first apart none =
+    subst (λ (i : ℕ). NamesNoneOf i q (with_run named run)) same_id
+    (none_later run.id (λ page. (run.first ≤ page) × (page < run.first + run.pages)) q named (with_run named run) (run_adds run named) (subst (λ (i : ℕ). NamesNoneOf i q named) (sym same_id) none)
+    (λ page own other. apart page own (let from = other.0 in omega (arith, from, same_first), let below = other.1 in omega (arith, below, same_first))))
+
+-- of a run of at most so many pages, where none of as many was named
+pub few_none : (run : Run) (named : Triples) (most : ℕ) → run.pages ≤ most → NamesNoneOf run.id (λ page. (run.first ≤ page) × (page < run.first + most)) named → NamesNoneOf run.id (λ page. (run.first ≤ page) × (page < run.first + run.pages)) named
+few_none run named most few none page sector (from, below) = none page sector (from, omega (arith, below, few))
+
+-- ---- Sectors are taken.
+
+-- a sector that is free then was free
+free_before : (first count k : ℕ) (marks : Marks) → marked true first count marks k ≡ false → marks k ≡ false
+free_before first count k marks is = either (nat_le first k && nat_lt k (first + count)) is
+  where
+    either : (b : Bool) → (if b then true else marks k) ≡ false → marks k ≡ false
+    either true e = absurd (true≢false e)
+    either false e = e
+
+module _ {o : Outset} {x l1 : Layout} {k : List Run} {a b : DiskState} {s t : Slots} {named : Triples} (h : KeepsTo o x k a s named) (taken : Beside AllocationMap a s x b t l1) where
+  pub take_reasons : (e : Halt) → Halts (IsMapHome AllocationMap x) a s b e → ShowsReason o x b e
+  take_reasons e why = label_reasons h taken.goes.makes (IsMapHome AllocationMap x) (λ home own. inl (AllocationMap, own)) e why
+
+  pub take_keeps : (sector count : ℕ) → ((m : List Sector) (marks : Marks) → Stands a s m → BitsAre x marks m → Becomes AllocationMap x m (BitsAre x (marked true sector count marks)) b t) → KeepsTo o x k b t named
+  take_keeps sector count becomes =
+      let now = becomes h.memory h.marks h.stands h.bits in
+      let map : MapIs x named now.memory = record {
+        bytes = h.map.bytes;
+        shows = shows_still FileMap x h.memory now.memory h.map.bytes (λ j y below here. now.differs.pages (1 + x.vam + j) y here (behind_map AllocationMap x (1 + x.vam + j) y.0 (omega arith))) h.map.shows;
+        names = h.map.names;
+      } in
+      keeps_after h taken.goes.makes now.memory now.stands named map (λ home is. inl is) k h.kept (λ home held. elim ((maps_come taken).homes home held) [ inl was ↦ inl was | inr own ↦ inr (inl own) ])
+      (unframed_still (maps_come taken) h.unframed) (marked true sector count h.marks) now.is (λ j from below free. inl (free_before sector count j h.marks free))
+
+  -- ---- Labels are written.
+
+  pub label_reasons_taken : {run : List DiskWrite} {pages : Pages} {c : DiskState} {u : Slots} (sector count : ℕ) → x.first ≤ sector → sector + count ≤ x.sectors
+      → ((m : List Sector) (marks : Marks) → Stands a s m → BitsAre x marks m → (j : ℕ) → sector ≤ j → j < sector + count → marks j ≡ false) → Makes pages run a s c u → (e : Halt) → HasCause (IsOneTaken sector count b) b c e → ShowsReason o x c e
+  label_reasons_taken sector count from inside free makes Disk is = tt
+  label_reasons_taken sector count from inside free makes (Damaged (Mismatch place wanted found)) (j, below, (at, nobody, has, other)) =
+      let first : sector ≤ place = omega (arith, at) in
+      let last : place < sector + count = omega (arith, at, below) in
+      inr (inr (nobody, may_be_free_later o makes place (h.free place (omega (arith, from, first)) (omega (arith, inside, last)) (free h.memory h.marks h.stands h.bits place first last))))
+  label_reasons_taken sector count from inside free makes (Damaged (Malformed window page)) (j, below, is) = absurd is
+  label_reasons_taken sector count from inside free makes (Damaged (Missing id page)) (j, below, is) = absurd is
+
+-- ---- And a run of them is added.
+
+module _ {o : Outset} {x l1 l3 : Layout} {k : List Run} {a b c d : DiskState} {s t u : Slots} {named : Triples} (h : KeepsTo o x k a s named) (is : IsLayout x) (run : Run) (kind most : ℕ) (form : IsDataRun x.first x.sectors most (run.sector, run.pages))
+    (taken : Beside AllocationMap a s x b t l1) (marked_so : (m : List Sector) (marks : Marks) → Stands a s m → BitsAre x marks m → Becomes AllocationMap x m (BitsAre x (marked true run.sector run.pages marks)) b t)
+    (made : RelabelsRun run.sector run.pages (growth run.id kind run.first (sectors_of run)) b t c) (were : (d : List Sector) → b.contents ≡ Some d → HaveOnes (λ k. free_ones) d run.sector run.pages)
+    (beside : Beside FileMap c t x d u l3) (makes : Makes volume_page (growth run.id kind run.first (sectors_of run)) a s d u) (nothing : NamesNoneOf run.id (λ page. (run.first ≤ page) × (page < run.first + run.pages)) named) where
+  mid : (n : List Sector) × Stands c t n × IsLabelledFor x run.id h.memory n
+  mid = labelled is run kind most form taken marked_so made were h.unframed h.memory h.stands
+
+  map_mid : MapIs x named mid.0
+  map_mid = map_then is run kind most form taken marked_so made were h.memory mid.0 named mid.2 h.map
+
+  come : Brings (IsMapsHome x) s u
+  come = brings_then (maps_come taken) (maps_come beside)
+
+  -- each page of the run was given its sector
+  given : (home : Home) → with_run named run home.id home.page home.sector ≡ true → (named home.id home.page home.sector ≡ true) ⊎ IsAtHome o d home
+  given home one = elim (either_named (named home.id home.page home.sector) (run_names run home.id home.page home.sector) one) [
+    | inl was ↦ inl was
+    | inr own ↦
+        let p = run_parts run home.id home.page home.sector own in
+        let j = home.page - run.first in
+        let from = p.1 in
+        let below = p.2 in
+        let of : run.first + j ≡ home.page = omega (arith, from) in
+        let at = growth_at run.id kind run.first run.sector run.pages j (omega (arith, from, below)) in
+        inr (inr (kind, made_now o makes h.since j (Whole home.sector (page_label home.id kind home.page) zero_bytes) (at ∙ (λ i. Some (Whole (sym p.3 i) (page_label (p.0 i) kind (of i)) zero_bytes)))))
+  ]
+
+  pub run_keeps : ((m : List Sector) (named : Triples) → Stands c t m → MapIs x named m → IsNew named run → Becomes FileMap x m (MapIs x (with_run named run)) d u) → KeepsTo o x k d u (with_run named run)
+  run_keeps added =
+      let more = added mid.0 named mid.1 map_mid (new_run run named nothing) in
+      let later = (sectors_then mid.2.taken (file_map_alone x run.id mid.0 more.memory more.differs)).bits h.marks h.bits in
+      keeps_after h makes more.memory more.stands (with_run named run) more.is given k (are_more named run k h.kept) (λ home held. elim (come.homes home held) [ inl was ↦ inl was | inr own ↦ inr (inl own) ])
+      (unframed_still come h.unframed) later.0 later.1 (λ sector from below free. elim (later.2 sector from) [ inl same ↦ inl (sym same ∙ free) | inr (used, _) ↦ absurd (true≢false (sym used ∙ free)) ])
+
+  held_home : (home : Home) → IsHeld t home → IsMapsHome x home ⊎ IsAtHome o d home
+  held_home home held = elim ((maps_come taken).homes home held) [ inl was ↦ home_later h makes home was | inr own ↦ inl own ]
+
+  pub add_reasons : (e : Halt) → AddHalts x c t d e → ((m : List Sector) (named : Triples) → Stands c t m → MapIs x named m → IsNew named run → IsFaultOrMost x c t e) → ShowsReason o x d e
+  add_reasons Disk cause right = tt
+  add_reasons (Damaged (Mismatch sector wanted found)) cause right = elim cause.reason [
+    | inl held ↦ elim (held_home (home_at sector wanted) held) [ inl own ↦ inl own | inr here ↦ inr (inl here) ]
+    | inr own ↦ inl (FileMap, own)
+  ]
+  add_reasons (Damaged (Malformed window page)) cause right = elim (right mid.0 named mid.1 map_mid (new_run run named nothing)) [
+    | inl not ↦ absurd not
+    | inr (same, counts) ↦ inl (cause.0, ap page_in same)
+  ]
+  add_reasons (Damaged (Missing id page)) cause right = absurd cause
