@@ -82,6 +82,16 @@ small layout is =
     within : (n : ℕ) → 256 ≤ n → most_records n ≤ n
     within n least = omega (arith, least)
 
+-- A start, whose root was read first.
+pub start_bounded : (layout : Layout) → IsLayout layout → (t0 t1 t2 : ℕ) → t1 ≤ t0 + 1 → t2 ≤ t1 + (14393 + 2 * layout.vam + 2 * (1 + 51 * most_records layout.sectors) + 96 * (8 * layout.vam + 100)) → t2 ≤ t0 + other_bound layout.sectors
+start_bounded layout is t0 t1 t2 read paid =
+    let s = small layout is in
+    let bits = s.bits in
+    let records = s.records in
+    let all : 14394 + 2 * layout.vam + 2 * (1 + 51 * most_records layout.sectors) + 96 * (8 * layout.vam + 100) ≤ 16384 * layout.sectors + 2 ^ 30 = omega (arith, bits, records) in
+    let most = linear layout.sectors _ s.least all in
+    omega (arith, read, paid, most)
+
 -- Calls.
 
 -- a file that is made

@@ -11,7 +11,10 @@ use Rattle.frame_pool.specs.Frames.{Slots}
 use Rattle.flat_machine.specs.Machine.{Machine, IsFileId, used}
 use Rattle.filer_kernel.specs.declared.cached.CachedRuns.{CachedRuns}
 use Rattle.session_words.specs.Parts.{TablesMeaning}
+use Rattle.filer_kernel.specs.Cached.{runs_of}
+use Rattle.file_map.specs.FileMap.{Triples}
 use Rattle.file_manager.specs.declared.volume.Volume.{Volume}
+use Rattle.file_manager.specs.Reasons.{KeepsTo, Outset}
 use Rattle.running_words.specs.Bound.{room_above, visit_cost}
 use Rattle.pilot_engine.specs.Closing.{IsOpenStop, Shed, Throughout, up_to_next}
 use Rattle.running_words.specs.Session.{IsOpen, IsAlone, Wrote}
@@ -23,12 +26,17 @@ use Rattle.pilot_engine.proofs.StopLemmas.{stops_quiet, stop_less, throughout_le
 use Rattle.pilot_engine.proofs.ShedLemmas.{shed_nothing, shed_then}
 use Rattle.pilot_engine.proofs.WroteLemmas.{wrote_nothing, wrote_then}
 
+-- disk, frames and runs keep to the outset, whatever the file map names
+abbrev pub KeepsSome : Outset → DiskState → Slots → Layout → CachedRuns → Type 0
+KeepsSome o disk slots layout runs = (named : Triples) × KeepsTo o layout (runs_of layout.sectors runs) disk slots named
+
 pub record ClearedUpTo (cursor : ℕ) (d0 : DiskState) (s0 : Slots) (l0 : Layout) (r0 : CachedRuns) (v0 : Volume) (d : DiskState) (s : Slots) (layout : Layout) (runs : CachedRuns) (volume : Volume) : Type 0 where
   pub above : 15 ≤ cursor
   pub size : d.sectors ≡ layout.sectors
   pub opened : IsOpen layout volume
   pub same_layout : layout ≡ l0
   pub wrote : Wrote d0 s0 d s
+  pub keeps : (o : Outset) → KeepsSome o d0 s0 l0 r0 → KeepsSome o d s layout runs
   pub told : (spaces_of : TablesMeaning) (m : Machine) → IsAlone spaces_of d0 s0 l0 r0 v0 m → Shed spaces_of (λ id. id ≤ cursor) m d s layout runs volume
   pub stops : (spaces_of : TablesMeaning) (m : Machine) → IsAlone spaces_of d0 s0 l0 r0 v0 m → Throughout (IsOpenStop m) d0 d
   pub paid : (spaces_of : TablesMeaning) (m : Machine) (session : IsAlone spaces_of d0 s0 l0 r0 v0 m) → d.transfers + visit_cost * room_above cursor (told spaces_of m session).left.files ≤ d0.transfers + visit_cost * used m
@@ -42,6 +50,7 @@ cleared_none d0 s0 l0 r0 v0 size opened form = record {
   opened = opened;
   same_layout = refl;
   wrote = wrote_nothing d0 s0;
+  keeps = λ o keeps. keeps;
   told = λ spaces_of m s. shed_nothing spaces_of d0 s0 l0 r0 v0 m (λ id. id ≤ 15) s (λ id f low found.
       let high = (each_at (λ w. IsFileId m.serial m.counter w.id) m.files s.session.stands.is.by.machine.ids_given id f found).above_reserved in
       let same = at_id m.files id f found in
@@ -60,16 +69,17 @@ module _ (cursor : ℕ) (d0 : DiskState) (s0 : Slots) (l0 : Layout) (r0 : Cached
 
   -- a file more
   pub cleared_more : (next : Option ℕ) (id : ℕ) → next ≡ Some id → ((spaces_of : TablesMeaning) (m : Machine) → IsAlone spaces_of d s layout runs volume m → Shed spaces_of (up_to_next cursor next) m d2 s2 l2 r2 v2)
-      → ((spaces_of : TablesMeaning) (m : Machine) → IsAlone spaces_of d s layout runs volume m → Throughout (IsOpenStop m) d d2) → IfSome next (λ j. cursor < j) → Wrote d s d2 s2 → IsOpen l2 v2 → l2 ≡ layout
+      → ((spaces_of : TablesMeaning) (m : Machine) → IsAlone spaces_of d s layout runs volume m → Throughout (IsOpenStop m) d d2) → IfSome next (λ j. cursor < j) → Wrote d s d2 s2 → ((o : Outset) → KeepsSome o d s layout runs → KeepsSome o d2 s2 l2 r2) → IsOpen l2 v2 → l2 ≡ layout
       → ((spaces_of : TablesMeaning) (m : Machine) → IsAlone spaces_of d s layout runs volume m → IfSome next (λ j. d2.transfers + visit_cost * room_above j m.files ≤ d.transfers + visit_cost * room_above cursor m.files))
       → ClearedUpTo id d0 s0 l0 r0 v0 d2 s2 l2 r2 v2
-  cleared_more next id is shed quiet rises wrote opened same visit = record {
+  cleared_more next id is shed quiet rises wrote keeps opened same visit = record {
     stops = cleared_stops quiet;
     above = let was = up.above in let above : cursor < id = subst (λ (o : Option ℕ). IfSome o (λ j. cursor < j)) is rises in omega (arith, was, above);
     size = wrote.makes.went.sectors ∙ up.size ∙ ap (λ (l : Layout). l.sectors) (sym same);
     opened = opened;
     same_layout = same ∙ up.same_layout;
     wrote = wrote_then up.wrote wrote;
+    keeps = λ o was. keeps o (up.keeps o was);
     told = λ spaces_of m session.
         let h = up.told spaces_of m session in
         shed_then spaces_of (λ j. j ≤ cursor) (up_to_next cursor (Some id)) (λ j. j ≤ id) m d s layout runs volume d2 s2 l2 r2 v2 h (subst (λ (o : Option ℕ). Shed spaces_of (up_to_next cursor o) h.left d2 s2 l2 r2 v2) is (shed spaces_of h.left h.stands))

@@ -11,10 +11,12 @@ pub mod StartStands
 pub mod StartWrites
 pub mod StartRuns
 pub mod StartFaults
+pub mod OutsetLemmas
 pub mod BeginLemmas
 pub mod FreshLemmas
 pub mod StepLemmas
 pub mod CauseLemmas
+pub mod ReasonSteps
 pub mod SpaceLeft
 pub mod AloneLemmas
 pub mod ShedLemmas

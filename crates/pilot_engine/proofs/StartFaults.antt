@@ -5,6 +5,7 @@ use Rattle.std.specs.Option.{option_map_or}
 use Rattle.std.proofs.lemmas.Bool.{true≢false, le-leb, leb-true}
 use Rattle.std.proofs.lemmas.List.{length-replicate}
 use Rattle.std.proofs.lemmas.Option.{same_Some, none-some}
+use Rattle.labelled_disk.specs.declared.layout.Layout.{Layout}
 use Rattle.labelled_disk.specs.declared.layout.RootFault.{RootFault}
 use Rattle.labelled_disk.specs.declared.layout.RootFault.TheVariants as fault
 use Rattle.labelled_disk.specs.Layout.{IsCount}
@@ -17,11 +18,13 @@ use Rattle.volume_root.specs.Flag.{IsRefused}
 use Rattle.volume_root.specs.RootPage.{first_of, judged, root_in, tests, IsUnlessFault, Test}
 use Rattle.volume_root.specs.Sound.{Sound}
 use Rattle.volume_root.proofs.FlagLemmas.{sound_is_opened}
+use Rattle.file_manager.specs.Reasons.{Outset}
 use Rattle.file_manager.proofs.RunStages.{there_is}
 use Rattle.pilot_engine.specs.declared.fault.StartFault.{StartFault}
 use Rattle.pilot_engine.specs.declared.fault.StartFault.TheVariants.{Root as NoRoot, NoMemory, Halt as Halted}
 use Rattle.pilot_engine.specs.Beginning.{HasStartCause}
 use Rattle.pilot_engine.specs.Opening.{IsBare, IsEarly, IsOutside, IsRightRefusal, IsSoAtStart, LeavesOpenAtStart}
+use Rattle.pilot_engine.specs.Reasons.{ShowsReasonAtStart}
 
 -- empty slots have no frame
 pub bare_slots : (n : ℕ) (slots : Slots) → slots ≡ replicate n None → IsBare slots
@@ -114,6 +117,12 @@ pub early_left : (disk : DiskState) (f : StartFault) → IsEarly f → LeavesOpe
 early_left disk (NoRoot why) early = tt
 early_left disk NoMemory early = tt
 early_left disk (Halted why) early = absurd early
+
+-- no evidence is told
+pub early_reason : (o : Outset) (layout : Layout) (disk : DiskState) (f : StartFault) → IsEarly f → ShowsReasonAtStart o layout disk f
+early_reason o layout disk (NoRoot why) early = tt
+early_reason o layout disk NoMemory early = tt
+early_reason o layout disk (Halted why) early = absurd early
 
 -- nor is there a halt
 pub early_cause : (old new : DiskState) (f : StartFault) → IsEarly f → HasStartCause old new f

@@ -1,5 +1,5 @@
 -- Why no session starts on a volume that was closed: step by step, from right after its root was read.
-use Rattle.std.specs.Prelude.{◌≡◌, ◌⊎◌, ◌<◌, List, [], ◌∷◌, Some}
+use Rattle.std.specs.Prelude.{◌≡◌, ◌⊎◌, List, [], ◌∷◌, Some}
 use Rattle.labelled_disk.specs.declared.evidence.Halt.{Halt}
 use Rattle.labelled_disk.specs.declared.evidence.Halt.TheVariants as halt
 use Rattle.labelled_disk.specs.Calls.{ReadsAtMost, Rose}
@@ -15,7 +15,7 @@ use Rattle.swapper_kernel.specs.Maps.{IsMapHome}
 use Rattle.swapper_kernel.specs.Window.{Beside}
 use Rattle.volume_root.specs.declared.root.Root.{Root}
 use Rattle.volume_root.specs.RootPage.{root_in, root_write}
-use Rattle.file_manager.specs.Grounds.{MakeHalts}
+use Rattle.file_manager.specs.Grounds.{CreateHalts}
 use Rattle.file_manager.specs.Making.{MakesAll}
 use Rattle.fault_core.specs.Reach.{ReachHalts, no_break}
 use Rattle.fault_core.specs.View.{View, kept_by}
@@ -36,9 +36,9 @@ Counted v w = Beside AllocationMap v.disk v.slots v.layout w.disk w.slots w.layo
 abbrev pub CountHalts : View → View → Halt → Type 0
 CountHalts v w e = Halts (IsMapHome AllocationMap v.layout) v.disk v.slots w.disk e
 
--- the pages of the space tables are made
+-- the pages of the space tables are made, and what the file map had of them goes first
 abbrev pub MakeTablesHalts : View → View → Halt → Type 0
-MakeTablesHalts v w e = MakeHalts v.layout 3 (λ page. page < 96) v.disk v.slots w.disk w.slots e
+MakeTablesHalts v w e = CreateHalts v.layout 3 v.disk v.slots w.disk w.slots e
 
 -- they were made
 abbrev pub TablesMade : View → View → Type 0

@@ -9,3 +9,4 @@ pub mod Stepping
 pub mod Advised
 pub mod Beginning
 pub mod NewMoments
+pub mod Reasons

@@ -13,6 +13,7 @@ use Rattle.labelled_disk.specs.Sectors.{Sector}
 use Rattle.labelled_disk.specs.State.{DiskState}
 use Rattle.labelled_disk.specs.WriteRuns.{Appended}
 use Rattle.frame_pool.specs.Frames.{Slots, Frame, Has}
+use Rattle.file_map.specs.FileMap.{most_records}
 use Rattle.flat_machine.specs.Space.{root}
 use Rattle.swapper_kernel.specs.Goes.{Went, Wrote, Makes}
 use Rattle.filer_kernel.specs.Evidence.{ShowsSo}
@@ -79,7 +80,7 @@ pub record KeepsFiles (d : List Sector) (old new : DiskState) : Type 0 where
 
 -- so many transfers at most
 abbrev pub CostsStart : DiskState → DiskState → Type 0
-CostsStart old new = new.transfers ≤ old.transfers + (14394 + 2 * vam old.sectors + 96 * (8 * vam old.sectors + 100))
+CostsStart old new = new.transfers ≤ old.transfers + (14394 + 2 * vam old.sectors + 2 * (1 + 51 * most_records old.sectors) + 96 * (8 * vam old.sectors + 100))
 
 -- the disk failed
 abbrev pub IsDiskFault : StartFault → Type 0

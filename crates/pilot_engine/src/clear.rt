@@ -12,6 +12,7 @@ ghost use Rattle.pilot_engine.specs.Closing.{IsOpenStop, Shed, Throughout, up_to
 ghost use Rattle.fault_core.specs.Core.{state};
 ghost use Rattle.space_calls.specs.Halts.{After, OnFileHalts};
 ghost use Rattle.pilot_engine.specs.Halting.{ClearHalts, Made, RemoveHalts};
+ghost use Rattle.file_manager.specs.Reasons.{KeepsOn, Outset, ShowsReason};
 
 use crate::SessionOver;
 use file_manager::{attributes_of, delete, next};
@@ -35,6 +36,8 @@ impl<D: Disk, A: Allocator> SessionOver<D, A> {
             → Throughout (IsOpenStop m) (D.state self.old.core.filer.swapper.under) (D.state self.new.core.filer.swapper.under) }
         ensures counted { result ≡ Err halt.Disk → Rose (D.state self.old.core.filer.swapper.under).faults (D.state self.new.core.filer.swapper.under).faults }
         ensures cause { IfErr result (OnFileHalts id (RemoveHalts id) (state self.old.core) (state self.new.core)) }
+        ensures keeps_to { (o : Outset) → KeepsOn o self.old.core.filer → OnOk result (KeepsOn o self.new.core.filer) }
+        ensures reasons { (o : Outset) → KeepsOn o self.old.core.filer → IfErr result (ShowsReason o self.old.core.filer.swapper.layout (D.state self.new.core.filer.swapper.under)) }
         ensures so { IfErr result (ShowsSo (D.state self.new.core.filer.swapper.under)) }
         ensures wrote { Wrote (D.state self.old.core.filer.swapper.under) self.old.core.filer.swapper.pool (D.state self.new.core.filer.swapper.under) self.new.core.filer.swapper.pool }
         ensures open_still { IsOpen self.new.core.filer.swapper.layout self.new.volume }
@@ -70,6 +73,8 @@ impl<D: Disk, A: Allocator> SessionOver<D, A> {
             → Throughout (IsOpenStop m) (D.state self.old.core.filer.swapper.under) (D.state self.new.core.filer.swapper.under) }
         ensures counted { result ≡ Err halt.Disk → Rose (D.state self.old.core.filer.swapper.under).faults (D.state self.new.core.filer.swapper.under).faults }
         ensures cause { IfErr result (ClearHalts (state self.old.core) (state self.new.core)) }
+        ensures keeps_to { (o : Outset) → KeepsOn o self.old.core.filer → OnOk result (KeepsOn o self.new.core.filer) }
+        ensures reasons { (o : Outset) → KeepsOn o self.old.core.filer → IfErr result (ShowsReason o self.old.core.filer.swapper.layout (D.state self.new.core.filer.swapper.under)) }
         ensures so { IfErr result (ShowsSo (D.state self.new.core.filer.swapper.under)) }
         ensures wrote { Wrote (D.state self.old.core.filer.swapper.under) self.old.core.filer.swapper.pool (D.state self.new.core.filer.swapper.under) self.new.core.filer.swapper.pool }
         ensures open_still { IsOpen self.new.core.filer.swapper.layout self.new.volume }
@@ -102,6 +107,8 @@ impl<D: Disk, A: Allocator> SessionOver<D, A> {
             → Throughout (IsOpenStop m) (D.state self.old.core.filer.swapper.under) (D.state self.new.core.filer.swapper.under) }
         ensures counted { result ≡ Err halt.Disk → Rose (D.state self.old.core.filer.swapper.under).faults (D.state self.new.core.filer.swapper.under).faults }
         ensures cause { IfErr result (After Made ClearHalts (state self.old.core) (state self.new.core)) }
+        ensures keeps_to { (o : Outset) → KeepsOn o self.old.core.filer → OnOk result (KeepsOn o self.new.core.filer) }
+        ensures reasons { (o : Outset) → KeepsOn o self.old.core.filer → IfErr result (ShowsReason o self.old.core.filer.swapper.layout (D.state self.new.core.filer.swapper.under)) }
         ensures so { IfErr result (ShowsSo (D.state self.new.core.filer.swapper.under)) }
         ensures wrote { Wrote (D.state self.old.core.filer.swapper.under) self.old.core.filer.swapper.pool (D.state self.new.core.filer.swapper.under) self.new.core.filer.swapper.pool }
         ensures open_still { IsOpen self.new.core.filer.swapper.layout self.new.volume }

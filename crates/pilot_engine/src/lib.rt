@@ -21,5 +21,5 @@ mod start;
 mod step;
 
 pub use fault::StartFault;
-pub use laws::sessions_have_room;
+pub use laws::{sessions_have_room, sound_volumes_are_begun};
 pub use session::{Session, SessionOver};

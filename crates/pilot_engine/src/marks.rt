@@ -1,5 +1,5 @@
 //! Marks that a file gets for good.
-ghost use Rattle.std.specs.Prelude.{◌≡◌, ◌+◌, ◌≤◌, false, IfOk, IfErr, Err, None};
+ghost use Rattle.std.specs.Prelude.{◌≡◌, ◌+◌, ◌≤◌, false, IfOk, IfErr, OnOk, Err, None};
 ghost use Rattle.labelled_disk.specs.Calls.{Rose};
 ghost use Rattle.labelled_disk.specs.declared.evidence.Halt.TheVariants as halt;
 ghost use Rattle.filer_kernel.specs.Evidence.{ShowsSo};
@@ -15,6 +15,7 @@ ghost use Rattle.running_words.specs.Bound.{CostsOther};
 ghost use Rattle.running_words.specs.Running.{Carried, Runs};
 ghost use Rattle.space_calls.specs.Halts.{OnFileHalts, OnNamedHalts};
 ghost use Rattle.pilot_engine.specs.Halting.{MarkHalts};
+ghost use Rattle.file_manager.specs.Reasons.{KeepsOn, Outset, ShowsReason};
 
 use crate::SessionOver;
 use crate::sight::Sight;
@@ -39,6 +40,8 @@ impl<D: Disk, A: Allocator> SessionOver<D, A> {
             → Passes m (call.MakePermanent id) (D.state self.old.core.filer.swapper.under) (D.state self.new.core.filer.swapper.under) }
         ensures counted { result ≡ Err halt.Disk → Rose (D.state self.old.core.filer.swapper.under).faults (D.state self.new.core.filer.swapper.under).faults }
         ensures cause { IfErr result (OnFileHalts id (MarkHalts id) (state self.old.core) (state self.new.core)) }
+        ensures keeps_to { (o : Outset) → KeepsOn o self.old.core.filer → OnOk result (KeepsOn o self.new.core.filer) }
+        ensures reasons { (o : Outset) → KeepsOn o self.old.core.filer → IfErr result (ShowsReason o self.old.core.filer.swapper.layout (D.state self.new.core.filer.swapper.under)) }
         ensures so { IfErr result (ShowsSo (D.state self.new.core.filer.swapper.under)) }
         ensures wrote { Wrote (D.state self.old.core.filer.swapper.under) self.old.core.filer.swapper.pool (D.state self.new.core.filer.swapper.under) self.new.core.filer.swapper.pool }
         ensures open_still { IsOpen self.new.core.filer.swapper.layout self.new.volume }
@@ -74,6 +77,8 @@ impl<D: Disk, A: Allocator> SessionOver<D, A> {
             → Passes m (call.MakeImmutable id) (D.state self.old.core.filer.swapper.under) (D.state self.new.core.filer.swapper.under) }
         ensures counted { result ≡ Err halt.Disk → Rose (D.state self.old.core.filer.swapper.under).faults (D.state self.new.core.filer.swapper.under).faults }
         ensures cause { IfErr result (OnFileHalts id (MarkHalts id) (state self.old.core) (state self.new.core)) }
+        ensures keeps_to { (o : Outset) → KeepsOn o self.old.core.filer → OnOk result (KeepsOn o self.new.core.filer) }
+        ensures reasons { (o : Outset) → KeepsOn o self.old.core.filer → IfErr result (ShowsReason o self.old.core.filer.swapper.layout (D.state self.new.core.filer.swapper.under)) }
         ensures so { IfErr result (ShowsSo (D.state self.new.core.filer.swapper.under)) }
         ensures wrote { Wrote (D.state self.old.core.filer.swapper.under) self.old.core.filer.swapper.pool (D.state self.new.core.filer.swapper.under) self.new.core.filer.swapper.pool }
         ensures open_still { IsOpen self.new.core.filer.swapper.layout self.new.volume }
@@ -104,6 +109,8 @@ impl<D: Disk, A: Allocator> SessionOver<D, A> {
         ensures passes { (m : Machine) → Runs self.old.core self.old.volume m → Passes m (call.MakePermanent id) (D.state self.old.core.filer.swapper.under) (D.state self.new.core.filer.swapper.under) }
         ensures counted { result ≡ Err halt.Disk → Rose (D.state self.old.core.filer.swapper.under).faults (D.state self.new.core.filer.swapper.under).faults }
         ensures cause { IfErr result (OnNamedHalts id self.old.core.intervals (MarkHalts id) (state self.old.core) (state self.new.core)) }
+        ensures keeps_to { (o : Outset) → KeepsOn o self.old.core.filer → OnOk result (KeepsOn o self.new.core.filer) }
+        ensures reasons { (o : Outset) → KeepsOn o self.old.core.filer → IfErr result (ShowsReason o self.old.core.filer.swapper.layout (D.state self.new.core.filer.swapper.under)) }
         ensures so { IfErr result (ShowsSo (D.state self.new.core.filer.swapper.under)) }
         ensures wrote { Wrote (D.state self.old.core.filer.swapper.under) self.old.core.filer.swapper.pool (D.state self.new.core.filer.swapper.under) self.new.core.filer.swapper.pool }
         ensures open_still { IsOpen self.new.core.filer.swapper.layout self.new.volume }
@@ -128,6 +135,8 @@ impl<D: Disk, A: Allocator> SessionOver<D, A> {
         ensures passes { (m : Machine) → Runs self.old.core self.old.volume m → Passes m (call.MakeImmutable id) (D.state self.old.core.filer.swapper.under) (D.state self.new.core.filer.swapper.under) }
         ensures counted { result ≡ Err halt.Disk → Rose (D.state self.old.core.filer.swapper.under).faults (D.state self.new.core.filer.swapper.under).faults }
         ensures cause { IfErr result (OnNamedHalts id self.old.core.intervals (MarkHalts id) (state self.old.core) (state self.new.core)) }
+        ensures keeps_to { (o : Outset) → KeepsOn o self.old.core.filer → OnOk result (KeepsOn o self.new.core.filer) }
+        ensures reasons { (o : Outset) → KeepsOn o self.old.core.filer → IfErr result (ShowsReason o self.old.core.filer.swapper.layout (D.state self.new.core.filer.swapper.under)) }
         ensures so { IfErr result (ShowsSo (D.state self.new.core.filer.swapper.under)) }
         ensures wrote { Wrote (D.state self.old.core.filer.swapper.under) self.old.core.filer.swapper.pool (D.state self.new.core.filer.swapper.under) self.new.core.filer.swapper.pool }
         ensures open_still { IsOpen self.new.core.filer.swapper.layout self.new.volume }

@@ -3,7 +3,9 @@ ghost use Rattle.std.specs.Prelude.{◌≡◌, ◌⊎◌, ℕ, ◌+◌, ◌-◌,
 ghost use Rattle.labelled_disk.specs.declared.evidence.Halt.TheVariants as halt;
 ghost use Rattle.labelled_disk.specs.declared.layout.RootFault.TheVariants as fault;
 ghost use Rattle.labelled_disk.specs.Calls.{OnlyReads, ReadsAtMost, Rose};
-ghost use Rattle.labelled_disk.specs.Layout.{IsCount};
+ghost use Rattle.labelled_disk.specs.declared.disk.DiskWrite.{DiskWrite};
+ghost use Rattle.labelled_disk.specs.Layout.{IsCount, layout_of};
+ghost use Rattle.file_map.specs.FileMap.{Triples, most_records};
 ghost use Rattle.labelled_disk.specs.Root.{LabelsRight, root_page};
 ghost use Rattle.labelled_disk.specs.Sectors.{Sector};
 ghost use Rattle.filer_kernel.specs.Evidence.{ShowsSo};
@@ -21,6 +23,8 @@ ghost use Rattle.pilot_engine.specs.Opening.{root_alone, in_use, IsBare, StartsS
 ghost use Rattle.running_words.specs.Running.{IsRunning, Runs};
 ghost use Rattle.running_words.specs.Session.{IsOpen, IsSession};
 ghost use Rattle.pilot_engine.specs.Beginning.{HasStartCause, StartHalts, TablesHalts};
+ghost use Rattle.file_manager.specs.Reasons.{KeepsOn, Outset, ShowsReason, outset};
+ghost use Rattle.pilot_engine.specs.Reasons.{IsBegun, ShowsReasonAtStart};
 
 use crate::frames::look_at_frames;
 use crate::{SessionOver, StartFault};
@@ -64,6 +68,8 @@ fn write_tables<D: Disk, A: Allocator>(filer: &mut FilerOver<D, A>) -> Result<()
     ensures makes { Makes volume_page [] (D.state filer.old.swapper.under) filer.old.swapper.pool (D.state filer.new.swapper.under) filer.new.swapper.pool }
     ensures counted { result ≡ Err halt.Disk → Rose (D.state filer.old.swapper.under).faults (D.state filer.new.swapper.under).faults }
     ensures cause { IfErr result (TablesHalts (view_of filer.old) (view_of filer.new)) }
+    ensures keeps_to { (o : Outset) → KeepsOn o filer.old → OnOk result (KeepsOn o filer.new) }
+    ensures reasons { (o : Outset) → KeepsOn o filer.old → IfErr result (ShowsReason o filer.old.swapper.layout (D.state filer.new.swapper.under)) }
     ensures so { IfErr result (ShowsSo (D.state filer.new.swapper.under)) }
     ensures layout { filer.new.swapper.layout ≡ filer.old.swapper.layout }
     ensures cost { (D.state filer.new.swapper.under).transfers ≤ (D.state filer.old.swapper.under).transfers + 14392 }
@@ -95,12 +101,16 @@ pub(crate) fn begin<D: Disk, A: Allocator>(
     ensures starts { StartsSome root (D.state filer.old.swapper.under) filer.old.swapper.pool (D.state filer.new.swapper.under) filer.new.swapper.pool }
     ensures counted { result ≡ Err halt.Disk → Rose (D.state filer.old.swapper.under).faults (D.state filer.new.swapper.under).faults }
     ensures cause { IfErr result (StartHalts root (view_of filer.old) (view_of filer.new)) }
+    ensures keeps_to { (d : List Sector) (named : Triples) (ws : List DiskWrite) → IsBegun d named ws (D.state filer.old.swapper.under)
+        → IfOk result (λ volume. KeepsOn (outset d named ws) filer.new) }
+    ensures reasons { (d : List Sector) (named : Triples) (ws : List DiskWrite) → IsBegun d named ws (D.state filer.old.swapper.under)
+        → IfErr result (ShowsReason (outset d named ws) filer.old.swapper.layout (D.state filer.new.swapper.under)) }
     ensures so { IfErr result (ShowsSo (D.state filer.new.swapper.under)) }
     ensures left_open { MatchResult result (λ volume. IsUnset (D.state filer.new.swapper.under)) (LeavesOpen (D.state filer.new.swapper.under)) }
     ensures serial { root.serial < 2 ^ 32 }
     ensures counter { root.counter < 2 ^ 32 }
     ensures layout { filer.new.swapper.layout ≡ filer.old.swapper.layout }
-    ensures cost { (D.state filer.new.swapper.under).transfers ≤ (D.state filer.old.swapper.under).transfers + (14393 + 2 * filer.old.swapper.layout.vam + 96 * (8 * filer.old.swapper.layout.vam + 100)) }
+    ensures cost { (D.state filer.new.swapper.under).transfers ≤ (D.state filer.old.swapper.under).transfers + (14393 + 2 * filer.old.swapper.layout.vam + 2 * (1 + 51 * most_records filer.old.swapper.layout.sectors) + 96 * (8 * filer.old.swapper.layout.vam + 100)) }
 {
     let root = in_use(root);
     match write_over(filer, root) {
@@ -188,6 +198,10 @@ impl<D: Disk, A: Allocator> SessionOver<D, A> {
         ensures unwritten { IfErr result (λ e. IsEarly e.0 → OnlyReads (D.state disk) (D.state e.1)) }
         ensures counted { IfErr result (λ e. IsDiskFault e.0 → Rose (D.state disk).faults (D.state e.1).faults) }
         ensures cause { IfErr result (λ e. HasStartCause (D.state disk) (D.state e.1) e.0) }
+        ensures keeps_to { (d : List Sector) (named : Triples) (ws : List DiskWrite) → IsBegun d named ws (D.state disk)
+            → IfOk result (λ s. KeepsOn (outset d named ws) s.core.filer) }
+        ensures reasons { (d : List Sector) (named : Triples) (ws : List DiskWrite) → IsBegun d named ws (D.state disk)
+            → IfErr result (λ e. ShowsReasonAtStart (outset d named ws) (layout_of (length d)) (D.state e.1) e.0) }
         ensures so { IfErr result (λ e. IsSoAtStart (D.state e.1) e.0) }
 
         // What was written, whether or not one starts.

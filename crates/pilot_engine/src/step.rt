@@ -17,6 +17,7 @@ ghost use Rattle.fault_core.specs.Core.{kept, state};
 ghost use Rattle.pilot_engine.specs.Advised.{IsAdvised};
 ghost use Rattle.pilot_engine.specs.Stepping.{IsResident, StepHalts, relabels, waits};
 ghost use Rattle.file_manager.specs.Creating.{next_id};
+ghost use Rattle.file_manager.specs.Reasons.{KeepsOn, Outset, ShowsReason};
 
 use crate::SessionOver;
 use flat_machine::{Call, Reply};
@@ -51,6 +52,8 @@ impl<D: Disk, A: Allocator> SessionOver<D, A> {
             → OnOk result (IsAdvised m.spaces call.now (kept self.new.core) self.new.core.filer.swapper.pool) }
         ensures counted { result ≡ Err halt.Disk → Rose (D.state self.old.core.filer.swapper.under).faults (D.state self.new.core.filer.swapper.under).faults }
         ensures cause { IfErr result (StepHalts (next_id self.old.volume.root) call.now self.old.core.intervals (state self.old.core) (state self.new.core)) }
+        ensures keeps_to { (o : Outset) → KeepsOn o self.old.core.filer → OnOk result (KeepsOn o self.new.core.filer) }
+        ensures reasons { (o : Outset) → KeepsOn o self.old.core.filer → IfErr result (ShowsReason o self.old.core.filer.swapper.layout (D.state self.new.core.filer.swapper.under)) }
         ensures so { IfErr result (ShowsSo (D.state self.new.core.filer.swapper.under)) }
         ensures wrote { WroteIn (may_dirty call.now) (D.state self.old.core.filer.swapper.under) self.old.core.filer.swapper.pool (D.state self.new.core.filer.swapper.under) self.new.core.filer.swapper.pool }
         ensures open_still { IsOpen self.new.core.filer.swapper.layout self.new.volume }
@@ -88,6 +91,8 @@ impl<D: Disk, A: Allocator> SessionOver<D, A> {
             → OnOk result (IsAdvised m.spaces call.now (kept self.new.core) self.new.core.filer.swapper.pool) }
         ensures counted { result ≡ Err halt.Disk → Rose (D.state self.old.core.filer.swapper.under).faults (D.state self.new.core.filer.swapper.under).faults }
         ensures cause { IfErr result (StepHalts (next_id self.old.volume.root) call.now self.old.core.intervals (state self.old.core) (state self.new.core)) }
+        ensures keeps_to { (o : Outset) → KeepsOn o self.old.core.filer → OnOk result (KeepsOn o self.new.core.filer) }
+        ensures reasons { (o : Outset) → KeepsOn o self.old.core.filer → IfErr result (ShowsReason o self.old.core.filer.swapper.layout (D.state self.new.core.filer.swapper.under)) }
         ensures so { IfErr result (ShowsSo (D.state self.new.core.filer.swapper.under)) }
         ensures wrote { WroteIn (may_dirty call.now) (D.state self.old.core.filer.swapper.under) self.old.core.filer.swapper.pool (D.state self.new.core.filer.swapper.under) self.new.core.filer.swapper.pool }
         ensures open_still { IsOpen self.new.core.filer.swapper.layout self.new.volume }

@@ -1,4 +1,4 @@
-use Rattle.std.proofs.Common.{◌≡◌, ◌-◌, min, [], ◌∷◌, refl, ◌∙◌, inl, inr, rules}
+use Rattle.std.proofs.Common.{◌≡◌, ◌-◌, min, [], ◌∷◌, refl, ◌∙◌, subst, inl, inr, rules}
 use Rattle.labelled_disk.specs.FilesOn.{files_on}
 use Rattle.flat_machine.specs.Space.{root}
 use Rattle.session_words.specs.Parts.{shapes_of}
@@ -15,6 +15,9 @@ use Rattle.running_words.proofs.FlagLemmas.{growth_open, take_open}
 use Rattle.labelled_disk.specs.Runs.{growth}
 use Rattle.fault_core.specs.View.{view_of}
 use Rattle.pilot_engine.proofs.BeginLemmas.{rooted}
+use Rattle.labelled_disk.specs.declared.layout.Layout.{Layout}
+use Rattle.file_manager.specs.Reasons.{ShowsReason, outset}
+use Rattle.pilot_engine.proofs.OutsetLemmas.{begun_keeps, counted_reasons, keeps_counted}
 use Rattle.pilot_engine.proofs.start.begin.Goals as goal
 
 pub used_of-requires-clause-first : goal.used_of-requires-clause-first
@@ -187,3 +190,53 @@ returns-in-Err-write_tables-clause-cause g c =
     let begun = rooted c.args.root c.in_use-root.result (view_of c.args.filer.now) u c.in_use-root.ensures.root c.in-Ok.ensures.made c.in-Ok.ensures.frames c.in-Ok.ensures.layout in
     let made = c.in-Ok-make_tables.ensures in
     inr (u, begun, inr (view_of c.free_count.new.self, c.in-Ok-free_count.ensures.kept, inr (view_of c.make_tables.new.filer, (made.makes, made.layout), c.in-Err-write_tables.ensures.cause)))
+
+-- ---- What began is a reason.
+
+pub returns-in-Err-clause-reasons : goal.returns-in-Err-clause-reasons
+returns-in-Err-clause-reasons g c = λ d named ws begun. rw c.in-Err.ensures.fault tt
+
+pub returns-in-Err-free_count-clause-reasons : goal.returns-in-Err-free_count-clause-reasons
+returns-in-Err-free_count-clause-reasons g c = λ d named ws begun.
+    let filer = c.args.filer.now in
+    let o = outset d named ws in
+    let first = begun_keeps filer.swapper.layout d named ws (g.D.Disk.state filer.swapper.under) filer.swapper.pool filer.runs filer.swapper.accepted c.requires.size (g.met.D.Disk.in_form filer.swapper.under d begun.contents)
+    (g.met.D.Disk.whole filer.swapper.under d begun.contents ∙ c.requires.size) c.requires.bare (c.requires.no_runs filer.swapper.layout.sectors) begun in
+    let rooted_keeps = c.in-Ok.ensures.keeps_to o named first in
+    let v = view_of c.write_over.new.filer in
+    let w = view_of c.free_count.new.self in
+    subst (λ (l : Layout). ShowsReason o l w.disk c.in-Err-free_count.halt) c.in-Ok.ensures.layout (counted_reasons o v w named rooted_keeps c.in-Err-free_count.ensures.kept c.in-Err-free_count.halt c.in-Err-free_count.ensures.cause)
+
+pub returns-in-Err-make_tables-clause-reasons : goal.returns-in-Err-make_tables-clause-reasons
+returns-in-Err-make_tables-clause-reasons g c = λ d named ws begun.
+    let filer = c.args.filer.now in
+    let o = outset d named ws in
+    let first = begun_keeps filer.swapper.layout d named ws (g.D.Disk.state filer.swapper.under) filer.swapper.pool filer.runs filer.swapper.accepted c.requires.size (g.met.D.Disk.in_form filer.swapper.under d begun.contents)
+    (g.met.D.Disk.whole filer.swapper.under d begun.contents ∙ c.requires.size) c.requires.bare (c.requires.no_runs filer.swapper.layout.sectors) begun in
+    let rooted_keeps = c.in-Ok.ensures.keeps_to o named first in
+    let counted = keeps_counted o (view_of c.write_over.new.filer) (view_of c.free_count.new.self) named rooted_keeps c.in-Ok-free_count.ensures.kept c.in-Ok-free_count.ensures.same c.in-Ok-free_count.ensures.runs in
+    subst (λ (l : Layout). ShowsReason o l (g.D.Disk.state c.make_tables.new.filer.swapper.under) c.in-Err-make_tables.halt) (c.in-Ok-free_count.ensures.kept.layout ∙ c.in-Ok.ensures.layout)
+    (c.in-Err-make_tables.ensures.reasons o named counted)
+
+pub returns-in-Err-write_tables-clause-reasons : goal.returns-in-Err-write_tables-clause-reasons
+returns-in-Err-write_tables-clause-reasons g c = λ d named ws begun.
+    let filer = c.args.filer.now in
+    let o = outset d named ws in
+    let first = begun_keeps filer.swapper.layout d named ws (g.D.Disk.state filer.swapper.under) filer.swapper.pool filer.runs filer.swapper.accepted c.requires.size (g.met.D.Disk.in_form filer.swapper.under d begun.contents)
+    (g.met.D.Disk.whole filer.swapper.under d begun.contents ∙ c.requires.size) c.requires.bare (c.requires.no_runs filer.swapper.layout.sectors) begun in
+    let rooted_keeps = c.in-Ok.ensures.keeps_to o named first in
+    let counted = keeps_counted o (view_of c.write_over.new.filer) (view_of c.free_count.new.self) named rooted_keeps c.in-Ok-free_count.ensures.kept c.in-Ok-free_count.ensures.same c.in-Ok-free_count.ensures.runs in
+    let made = c.in-Ok-make_tables.ensures.keeps_to o named counted in
+    subst (λ (l : Layout). ShowsReason o l (g.D.Disk.state c.write_tables.new.filer.swapper.under) c.in-Err-write_tables.halt) (c.in-Ok-make_tables.ensures.layout ∙ c.in-Ok-free_count.ensures.kept.layout ∙ c.in-Ok.ensures.layout)
+    (c.in-Err-write_tables.ensures.reasons o made)
+
+pub returns-clause-keeps_to : goal.returns-clause-keeps_to
+returns-clause-keeps_to g c = λ d named ws begun.
+    let filer = c.args.filer.now in
+    let o = outset d named ws in
+    let first = begun_keeps filer.swapper.layout d named ws (g.D.Disk.state filer.swapper.under) filer.swapper.pool filer.runs filer.swapper.accepted c.requires.size (g.met.D.Disk.in_form filer.swapper.under d begun.contents)
+    (g.met.D.Disk.whole filer.swapper.under d begun.contents ∙ c.requires.size) c.requires.bare (c.requires.no_runs filer.swapper.layout.sectors) begun in
+    let rooted_keeps = c.in-Ok.ensures.keeps_to o named first in
+    let counted = keeps_counted o (view_of c.write_over.new.filer) (view_of c.free_count.new.self) named rooted_keeps c.in-Ok-free_count.ensures.kept c.in-Ok-free_count.ensures.same c.in-Ok-free_count.ensures.runs in
+    let made = c.in-Ok-make_tables.ensures.keeps_to o named counted in
+    c.in-Ok-write_tables.ensures.keeps_to o made

@@ -4,6 +4,8 @@ use Rattle.pilot_engine.proofs.AloneLemmas.{own_makes}
 use Rattle.pilot_engine.proofs.StartRuns.{begun_runs, bytes, known_before, tables_before}
 use Rattle.filer_kernel.specs.EvidenceLaws.{fits}
 use Rattle.fault_core.proofs.EvidenceLemmas.{shows_so}
+use Rattle.running_words.specs.MovingLaws.{keeps_moved, reach_reasons}
+use Rattle.pilot_engine.proofs.OutsetLemmas.{moves_of_tables}
 use Rattle.pilot_engine.proofs.start.write_tables.Goals as goal
 
 pub returns-clause-runs : goal.returns-clause-runs
@@ -28,3 +30,15 @@ returns-in-Err-clause-makes g c = own_makes c.begin.ensures.kept.goes.makes
 
 pub returns-in-Err-clause-so : goal.returns-in-Err-clause-so
 returns-in-Err-clause-so g c = shows_so _ (view_of c.args.filer.now) (view_of c.begin.new.filer) (fits c.args.filer.now.swapper c.requires.size) c.begin.ensures.kept.goes.makes c.in-Err.halt c.in-Err.ensures.cause
+
+-- ---- What began stays a reason.
+
+pub returns-clause-keeps_to : goal.returns-clause-keeps_to
+returns-clause-keeps_to g c = λ o keeps.
+    let v = view_of c.args.filer.now in
+    let w = view_of c.begin.new.filer in
+    rw c.look_at_frames.ensures.same (keeps.0, keeps_moved o v w keeps.0 c.args.filer.now.swapper.accepted keeps.1 (moves_of_tables v w c.begin.ensures.kept))
+
+pub returns-in-Err-clause-reasons : goal.returns-in-Err-clause-reasons
+returns-in-Err-clause-reasons g c = λ o keeps.
+    reach_reasons o (view_of c.args.filer.now) (view_of c.begin.new.filer) keeps.0 _ c.args.filer.now.swapper.accepted keeps.1 c.begin.ensures.kept.goes.makes c.in-Err.halt c.in-Err.ensures.cause

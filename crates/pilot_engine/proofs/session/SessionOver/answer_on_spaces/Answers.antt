@@ -6,7 +6,7 @@ use Rattle.pilot_engine.proofs.BoundLemmas.{asked_inside}
 use Rattle.pilot_engine.proofs.LiftLemmas.{still_open}
 use Rattle.pilot_engine.proofs.StepLemmas.{none_on_spaces, nothing_told, of_pages}
 use Rattle.pilot_engine.proofs.AnonymousLemmas.{done_then, unset}
-use Rattle.fault_core.specs.Access.{last_page}
+use Rattle.fault_core.specs.Access.{last_page, BreaksFor}
 use Rattle.fault_core.specs.Activate.{IsActive}
 use Rattle.fault_core.specs.Core.{kept, state}
 use Rattle.fault_core.specs.Kill.{AreWritableSo, is_absent}
@@ -19,6 +19,10 @@ use Rattle.flat_machine.specs.Form.{IsInForm}
 use Rattle.flat_machine.specs.Refusal.{refusal}
 use Rattle.flat_machine.specs.declared.call.Call.{Call}
 use Rattle.flat_machine.specs.declared.call.Call.TheVariants as call
+use Rattle.space_calls.specs.Ranges.{BreaksRange}
+use Rattle.space_calls.specs.Halts.{ChangeHalts, MakeSpaceHalts, MapFileHalts, PlaceHalts, ProtectHalts, RemoveSpaceHalts}
+use Rattle.space_calls.specs.ReasonLaws.{change_reasons, make_space_reasons, map_file_reasons, place_reasons, protect_reasons, remove_space_reasons}
+use Rattle.pilot_engine.proofs.ReasonSteps.{moving_keeps, moving_reasons, reaching_reasons}
 use Rattle.pilot_engine.proofs.session.SessionOver.answer_on_spaces.Goals as goal
 
 pub returns-in-MakeSpace-clause-carried : goal.returns-in-MakeSpace-clause-carried
@@ -495,3 +499,136 @@ returns-in-Kill-clause-cause g c = rw c.in-Kill.is c.kill.ensures.cause
 
 pub returns-in-ForceOut-clause-cause : goal.returns-in-ForceOut-clause-cause
 returns-in-ForceOut-clause-cause g c = rw c.in-ForceOut.is c.force_out.ensures.cause
+
+-- ---- The outset.
+
+pub returns-in-MakeSpace-clause-keeps_to : goal.returns-in-MakeSpace-clause-keeps_to
+returns-in-MakeSpace-clause-keeps_to g c =
+    let old = c.args.self.now.core in
+    moving_keeps (state old) (state c.make_space.new.core) c.make_space.result old.filer.swapper.accepted c.make_space.ensures.moves
+
+pub returns-in-MakeSpace-clause-reasons : goal.returns-in-MakeSpace-clause-reasons
+returns-in-MakeSpace-clause-reasons g c =
+    let old = c.args.self.now.core in
+    let count = old.intervals in
+    moving_reasons (MakeSpaceHalts c.in-MakeSpace.parent c.in-MakeSpace.pages c.in-MakeSpace.first count) (make_space_reasons c.in-MakeSpace.parent c.in-MakeSpace.pages c.in-MakeSpace.first count)
+    (state old) (state c.make_space.new.core) c.make_space.result old.filer.swapper.accepted c.make_space.ensures.moves c.make_space.ensures.cause
+
+pub returns-in-RemoveSpace-clause-keeps_to : goal.returns-in-RemoveSpace-clause-keeps_to
+returns-in-RemoveSpace-clause-keeps_to g c =
+    let old = c.args.self.now.core in
+    moving_keeps (state old) (state c.remove_space.new.core) c.remove_space.result old.filer.swapper.accepted c.remove_space.ensures.moves
+
+pub returns-in-RemoveSpace-clause-reasons : goal.returns-in-RemoveSpace-clause-reasons
+returns-in-RemoveSpace-clause-reasons g c =
+    let old = c.args.self.now.core in
+    let count = old.intervals in
+    moving_reasons (RemoveSpaceHalts c.in-RemoveSpace.space count) (remove_space_reasons c.in-RemoveSpace.space count)
+    (state old) (state c.remove_space.new.core) c.remove_space.result old.filer.swapper.accepted c.remove_space.ensures.moves c.remove_space.ensures.cause
+
+pub returns-in-Place-clause-keeps_to : goal.returns-in-Place-clause-keeps_to
+returns-in-Place-clause-keeps_to g c = moving_keeps (state c.args.self.now.core) (state c.place.new.core) c.place.result c.args.self.now.core.filer.swapper.accepted c.place.ensures.moves
+
+pub returns-in-Place-clause-reasons : goal.returns-in-Place-clause-reasons
+returns-in-Place-clause-reasons g c =
+    let old = c.args.self.now.core in
+    let count = old.intervals in
+    moving_reasons (PlaceHalts c.in-Place.page count) (place_reasons c.in-Place.page count)
+    (state old) (state c.place.new.core) c.place.result old.filer.swapper.accepted c.place.ensures.moves c.place.ensures.cause
+
+pub returns-in-Units-clause-keeps_to : goal.returns-in-Units-clause-keeps_to
+returns-in-Units-clause-keeps_to g c =
+    let old = c.args.self.now.core in
+    moving_keeps (state old) (state c.set_units.new.core) c.set_units.result old.filer.swapper.accepted c.set_units.ensures.moves
+
+pub returns-in-Units-clause-reasons : goal.returns-in-Units-clause-reasons
+returns-in-Units-clause-reasons g c =
+    let old = c.args.self.now.core in
+    let count = old.intervals in
+    moving_reasons (ChangeHalts count) (change_reasons count) (state old) (state c.set_units.new.core) c.set_units.result old.filer.swapper.accepted c.set_units.ensures.moves c.set_units.ensures.cause
+
+pub returns-in-Map-clause-keeps_to : goal.returns-in-Map-clause-keeps_to
+returns-in-Map-clause-keeps_to g c = moving_keeps (state c.args.self.now.core) (state c.map.new.core) c.map.result c.args.self.now.core.filer.swapper.accepted c.map.ensures.moves
+
+pub returns-in-Map-clause-reasons : goal.returns-in-Map-clause-reasons
+returns-in-Map-clause-reasons g c =
+    let old = c.args.self.now.core in
+    let count = old.intervals in
+    moving_reasons (MapFileHalts c.in-Map.space c.in-Map.id count) (map_file_reasons c.in-Map.space c.in-Map.id count)
+    (state old) (state c.map.new.core) c.map.result old.filer.swapper.accepted c.map.ensures.moves c.map.ensures.cause
+
+pub returns-in-Protect-clause-keeps_to : goal.returns-in-Protect-clause-keeps_to
+returns-in-Protect-clause-keeps_to g c =
+    let old = c.args.self.now.core in
+    moving_keeps (state old) (state c.protect.new.core) c.protect.result old.filer.swapper.accepted c.protect.ensures.moves
+
+pub returns-in-Protect-clause-reasons : goal.returns-in-Protect-clause-reasons
+returns-in-Protect-clause-reasons g c =
+    let old = c.args.self.now.core in
+    let count = old.intervals in
+    moving_reasons (ProtectHalts c.in-Protect.space c.in-Protect.writable count) (protect_reasons c.in-Protect.space c.in-Protect.writable count)
+    (state old) (state c.protect.new.core) c.protect.result old.filer.swapper.accepted c.protect.ensures.moves c.protect.ensures.cause
+
+pub returns-in-Load-clause-keeps_to : goal.returns-in-Load-clause-keeps_to
+returns-in-Load-clause-keeps_to g c = moving_keeps (state c.args.self.now.core) (state c.load.new.core) c.load.result c.args.self.now.core.filer.swapper.accepted c.load.ensures.moves
+
+pub returns-in-Load-clause-reasons : goal.returns-in-Load-clause-reasons
+returns-in-Load-clause-reasons g c =
+    let old = c.args.self.now.core in
+    let count = old.intervals in
+    reaching_reasons (λ v. BreaksFor v count c.in-Load.address c.in-Load.count) (state old) (state c.load.new.core) c.load.result old.filer.swapper.accepted c.load.ensures.moves c.load.ensures.cause
+
+pub returns-in-Store-clause-keeps_to : goal.returns-in-Store-clause-keeps_to
+returns-in-Store-clause-keeps_to g c = moving_keeps (state c.args.self.now.core) (state c.store.new.core) c.store.result c.args.self.now.core.filer.swapper.accepted c.store.ensures.moves
+
+pub returns-in-Store-clause-reasons : goal.returns-in-Store-clause-reasons
+returns-in-Store-clause-reasons g c =
+    let old = c.args.self.now.core in
+    let count = old.intervals in
+    reaching_reasons (λ v. BreaksFor v count c.in-Store.address (length c.as_slice.result.now))
+    (state old) (state c.store.new.core) c.store.result old.filer.swapper.accepted c.store.ensures.moves c.store.ensures.cause
+
+pub returns-in-Activate-clause-keeps_to : goal.returns-in-Activate-clause-keeps_to
+returns-in-Activate-clause-keeps_to g c =
+    let old = c.args.self.now.core in
+    moving_keeps (state old) (state c.activate.new.core) c.activate.result old.filer.swapper.accepted c.activate.ensures.moves
+
+pub returns-in-Activate-clause-reasons : goal.returns-in-Activate-clause-reasons
+returns-in-Activate-clause-reasons g c =
+    let old = c.args.self.now.core in
+    let count = old.intervals in
+    reaching_reasons (λ v. BreaksRange v count c.in-Activate.space)
+    (state old) (state c.activate.new.core) c.activate.result old.filer.swapper.accepted c.activate.ensures.moves c.activate.ensures.cause
+
+pub returns-in-Deactivate-clause-keeps_to : goal.returns-in-Deactivate-clause-keeps_to
+returns-in-Deactivate-clause-keeps_to g c =
+    let old = c.args.self.now.core in
+    moving_keeps (state old) (state c.deactivate.new.core) c.deactivate.result old.filer.swapper.accepted c.deactivate.ensures.moves
+
+pub returns-in-Deactivate-clause-reasons : goal.returns-in-Deactivate-clause-reasons
+returns-in-Deactivate-clause-reasons g c =
+    let old = c.args.self.now.core in
+    let count = old.intervals in
+    reaching_reasons (λ v. BreaksRange v count c.in-Deactivate.space)
+    (state old) (state c.deactivate.new.core) c.deactivate.result old.filer.swapper.accepted c.deactivate.ensures.moves c.deactivate.ensures.cause
+
+pub returns-in-Kill-clause-keeps_to : goal.returns-in-Kill-clause-keeps_to
+returns-in-Kill-clause-keeps_to g c = moving_keeps (state c.args.self.now.core) (state c.kill.new.core) c.kill.result c.args.self.now.core.filer.swapper.accepted c.kill.ensures.moves
+
+pub returns-in-Kill-clause-reasons : goal.returns-in-Kill-clause-reasons
+returns-in-Kill-clause-reasons g c =
+    let old = c.args.self.now.core in
+    let count = old.intervals in
+    reaching_reasons (λ v. BreaksRange v count c.in-Kill.space) (state old) (state c.kill.new.core) c.kill.result old.filer.swapper.accepted c.kill.ensures.moves c.kill.ensures.cause
+
+pub returns-in-ForceOut-clause-keeps_to : goal.returns-in-ForceOut-clause-keeps_to
+returns-in-ForceOut-clause-keeps_to g c =
+    let old = c.args.self.now.core in
+    moving_keeps (state old) (state c.force_out.new.core) c.force_out.result old.filer.swapper.accepted c.force_out.ensures.moves
+
+pub returns-in-ForceOut-clause-reasons : goal.returns-in-ForceOut-clause-reasons
+returns-in-ForceOut-clause-reasons g c =
+    let old = c.args.self.now.core in
+    let count = old.intervals in
+    reaching_reasons (λ v. BreaksRange v count c.in-ForceOut.space)
+    (state old) (state c.force_out.new.core) c.force_out.result old.filer.swapper.accepted c.force_out.ensures.moves c.force_out.ensures.cause

@@ -7,6 +7,10 @@ use Rattle.pilot_engine.proofs.AttributeLemmas.{attributes_running, nameless_run
 use Rattle.pilot_engine.proofs.BoundLemmas.{asked_inside}
 use Rattle.pilot_engine.proofs.LiftLemmas.{asked_passes}
 use Rattle.pilot_engine.proofs.WroteLemmas.{wrote_by}
+use Rattle.fault_core.specs.Core.{state}
+use Rattle.space_calls.specs.ReasonLaws.{named_reasons}
+use Rattle.space_calls.specs.Halts.{NamedHalts}
+use Rattle.pilot_engine.proofs.ReasonSteps.{reached_on, shows_after}
 use Rattle.pilot_engine.proofs.session.SessionOver.attributes.Goals as goal
 
 pub returns-in-Ok-None-clause-carried : goal.returns-in-Ok-None-clause-carried
@@ -44,3 +48,20 @@ returns-clause-cost g c = λ m r. asked_inside (g.D.Disk.state c.args.self.now.c
 
 pub returns-in-Err-clause-sound : goal.returns-in-Err-clause-sound
 returns-in-Err-clause-sound g c = λ m r. c.in-Err.ensures.sound c.args.self.now.volume m r
+
+-- ---- The outset.
+
+pub returns-clause-keeps_to : goal.returns-clause-keeps_to
+returns-clause-keeps_to g c = λ o k. reached_on o (state c.args.self.now.core) (state c.named_file.new.core) c.args.self.now.core.filer.swapper.accepted c.named_file.ensures.reaches k
+
+pub returns-in-Ok-None-clause-keeps_to : goal.returns-in-Ok-None-clause-keeps_to
+returns-in-Ok-None-clause-keeps_to g c = λ o k.
+    let old = c.args.self.now.core in
+    reached_on o (state old) (state c.named_file.new.core) old.filer.swapper.accepted c.named_file.ensures.reaches k
+
+pub returns-in-Err-clause-reasons : goal.returns-in-Err-clause-reasons
+returns-in-Err-clause-reasons g c = λ o k.
+    let old = c.args.self.now.core in
+    let count = old.intervals in
+    shows_after (NamedHalts c.args.id count) (named_reasons c.args.id count)
+    o (state old) (state c.named_file.new.core) old.filer.swapper.accepted c.named_file.ensures.reaches.goes.makes k c.in-Err.halt c.in-Err.ensures.cause

@@ -1,4 +1,4 @@
-use Rattle.std.proofs.Common.{subst, sym, arith, inl, inr}
+use Rattle.std.proofs.Common.{subst, sym, ◌∙◌, arith, inl, inr}
 use Rattle.file_manager.specs.declared.volume.Volume.{Volume}
 use Rattle.file_manager.proofs.Faults.{counted_then}
 use Rattle.space_calls.proofs.RunLemmas.{reached_makes}
@@ -18,6 +18,8 @@ use Rattle.flat_machine.specs.Space.{root_pages}
 use Rattle.fault_core.specs.Kill.{BreaksWithin}
 use Rattle.space_calls.proofs.RangeLemmas.{fault_halt}
 use Rattle.pilot_engine.proofs.CauseLemmas.{made_then}
+use Rattle.labelled_disk.specs.declared.layout.Layout.{Layout}
+use Rattle.file_manager.specs.Reasons.{ShowsReason}
 use Rattle.pilot_engine.proofs.session.SessionOver.close.Goals as goal
 
 pub returns-in-Err-empty-clause-sound : goal.returns-in-Err-empty-clause-sound
@@ -227,3 +229,20 @@ returns-in-Err-wait-clause-cause g c =
     let x = state c.write_clean.new.self.core in
     let w = state c.settle.new.core in
     inl (fault_halt (BreaksWithin v c.args.self.now.core.intervals 0 root_pages) v x w c.in-Err-wait.halt (shut_then (wrote_then (wrote_then c.let_all_go.ensures.wrote c.empty.ensures.wrote) (wrote_swapping c.write_maps.ensures.swaps)) c.write_clean.ensures.wrote).makes.went.faults c.in-Err-wait.ensures.fault c.in-Err-wait.ensures.counted)
+
+-- ---- What began stays a reason.
+
+pub returns-in-Err-empty-clause-reasons : goal.returns-in-Err-empty-clause-reasons
+returns-in-Err-empty-clause-reasons g c = λ o keeps.
+    subst (λ (l : Layout). ShowsReason o l (g.D.Disk.state c.empty.new.self.core.filer.swapper.under) c.in-Err-empty.halt) c.let_all_go.ensures.layout (c.in-Err-empty.ensures.reasons o (c.in-Ok.ensures.keeps_to o keeps))
+
+pub returns-in-Err-write_maps-clause-reasons : goal.returns-in-Err-write_maps-clause-reasons
+returns-in-Err-write_maps-clause-reasons g c = λ o keeps.
+    subst (λ (l : Layout). ShowsReason o l (g.D.Disk.state c.write_maps.new.self.core.filer.swapper.under) c.in-Err-write_maps.halt) (c.empty.ensures.layout ∙ c.let_all_go.ensures.layout)
+    (c.in-Err-write_maps.ensures.reasons o (c.in-Ok-empty.ensures.keeps_to o (c.in-Ok.ensures.keeps_to o keeps)))
+
+pub returns-in-Err-write_clean-clause-reasons : goal.returns-in-Err-write_clean-clause-reasons
+returns-in-Err-write_clean-clause-reasons g c = λ o keeps. rw c.in-Err-write_clean.ensures.fault tt
+
+pub returns-in-Err-wait-clause-reasons : goal.returns-in-Err-wait-clause-reasons
+returns-in-Err-wait-clause-reasons g c = λ o keeps. rw c.in-Err-wait.ensures.fault tt

@@ -110,3 +110,11 @@ returns-in-Err-clause-bounded g c =
     let under = c.if-pages-free.false in
     inside_layout layout (g.D.Disk.state c.args.self.now.core.filer.swapper.under) (g.D.Disk.state c.create.new.filer.swapper.under) c.requires.size
     (create_bounded layout c.args.self.now.core.filer.swapper.accepted _ _ c.args.pages (omega (arith, under, same_room)) c.create.ensures.cost)
+
+-- ---- The outset.
+
+pub returns-in-Ok-clause-keeps_to : goal.returns-in-Ok-clause-keeps_to
+returns-in-Ok-clause-keeps_to g c = λ o k. c.in-Ok.ensures.keeps_to o k.0 k.1
+
+pub returns-in-Err-clause-reasons : goal.returns-in-Err-clause-reasons
+returns-in-Err-clause-reasons g c = λ o k. c.in-Err.ensures.reasons o k.0 k.1

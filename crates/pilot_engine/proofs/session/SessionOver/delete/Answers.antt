@@ -17,6 +17,7 @@ use Rattle.file_manager.proofs.OwnSteps.{own_after}
 use Rattle.fault_core.specs.Core.{state}
 use Rattle.pilot_engine.proofs.CauseLemmas.{named_halt}
 use Rattle.pilot_engine.specs.Halting.{RemoveHalts}
+use Rattle.pilot_engine.proofs.ReasonSteps.{reasons_since}
 use Rattle.pilot_engine.proofs.session.SessionOver.delete.Goals as goal
 
 pub returns-in-Ok-Hidden-clause-carried : goal.returns-in-Ok-Hidden-clause-carried
@@ -106,3 +107,13 @@ returns-in-Err-clause-cause g c = inl c.in-Err.ensures.cause
 
 pub returns-clause-cause : goal.returns-clause-cause
 returns-clause-cause g c = named_halt (state c.args.self.now.core) (state c.sight.new.self.core) (state c.delete_unseen.new.self.core) c.args.id c.args.self.now.core.intervals (RemoveHalts c.args.id) c.delete_unseen.result c.sight.ensures.reaches c.delete_unseen.ensures.cause
+
+-- ---- The outset.
+
+pub returns-clause-keeps_to : goal.returns-clause-keeps_to
+returns-clause-keeps_to g c = λ o k. c.delete_unseen.ensures.keeps_to o (c.in-Ok-By.ensures.keeps_to o k)
+
+pub returns-clause-reasons : goal.returns-clause-reasons
+returns-clause-reasons g c = λ o k.
+    reasons_since c.delete_unseen.result o (g.D.Disk.state c.delete_unseen.new.self.core.filer.swapper.under) c.sight.ensures.layout
+    (c.delete_unseen.ensures.reasons o (c.in-Ok-By.ensures.keeps_to o k))

@@ -12,6 +12,8 @@ use Rattle.pilot_engine.proofs.StopLemmas.{stops_quiet, throughout_then}
 use Rattle.file_manager.proofs.Faults.{counted_then}
 use Rattle.fault_core.specs.Core.{state}
 use Rattle.space_calls.proofs.HaltLemmas.{look_reaches}
+use Rattle.labelled_disk.specs.declared.layout.Layout.{Layout}
+use Rattle.file_manager.specs.Reasons.{ShowsReason}
 use Rattle.pilot_engine.proofs.session.SessionOver.delete_next.Goals as goal
 
 pub returns-in-Ok-None-clause-shed : goal.returns-in-Ok-None-clause-shed
@@ -121,3 +123,19 @@ returns-in-Err-clause-cause g c = inl c.in-Err.ensures.cause
 
 pub returns-in-Err-delete_unless_permanent-clause-cause : goal.returns-in-Err-delete_unless_permanent-clause-cause
 returns-in-Err-delete_unless_permanent-clause-cause g c = inr (state (record c.args.self.now.core { filer = c.next.new.filer }), look_reaches (state c.args.self.now.core) (state (record c.args.self.now.core { filer = c.next.new.filer })) c.next.ensures.looks c.next.ensures.layout, (c.in-Ok-Some.id, c.in-Err-delete_unless_permanent.ensures.cause))
+
+-- ---- What began stays a reason.
+
+pub returns-in-Ok-None-clause-keeps_to : goal.returns-in-Ok-None-clause-keeps_to
+returns-in-Ok-None-clause-keeps_to g c = λ o keeps. (keeps.0, c.in-Ok-None.ensures.keeps_to o keeps.0 keeps.1)
+
+pub returns-in-Err-clause-reasons : goal.returns-in-Err-clause-reasons
+returns-in-Err-clause-reasons g c = λ o keeps. c.in-Err.ensures.reasons o keeps.0 keeps.1
+
+pub returns-in-Ok-clause-keeps_to : goal.returns-in-Ok-clause-keeps_to
+returns-in-Ok-clause-keeps_to g c = λ o keeps. c.in-Ok.ensures.keeps_to o (keeps.0, c.in-Ok-Some.ensures.keeps_to o keeps.0 keeps.1)
+
+pub returns-in-Err-delete_unless_permanent-clause-reasons : goal.returns-in-Err-delete_unless_permanent-clause-reasons
+returns-in-Err-delete_unless_permanent-clause-reasons g c = λ o keeps.
+    subst (λ (l : Layout). ShowsReason o l (g.D.Disk.state c.delete_unless_permanent.new.self.core.filer.swapper.under) c.in-Err-delete_unless_permanent.halt) c.next.ensures.layout
+    (c.in-Err-delete_unless_permanent.ensures.reasons o (keeps.0, c.in-Ok-Some.ensures.keeps_to o keeps.0 keeps.1))

@@ -4,6 +4,8 @@ use Rattle.pilot_engine.proofs.ClearedUpTo.{cleared_all, cleared_more, cleared_n
 use Rattle.pilot_engine.proofs.WroteLemmas.{wrote_then}
 use Rattle.file_manager.proofs.Faults.{counted_then}
 use Rattle.fault_core.specs.Core.{state}
+use Rattle.labelled_disk.specs.declared.layout.Layout.{Layout}
+use Rattle.file_manager.specs.Reasons.{ShowsReason}
 use Rattle.pilot_engine.proofs.session.SessionOver.delete_temporary.Goals as goal
 
 pub files-init : goal.files-init
@@ -25,7 +27,7 @@ files-smaller g c =
     omega (arith, above, fits)
 
 pub files-preserved : goal.files-preserved
-files-preserved g c = cleared_more _ _ _ _ _ _ _ _ _ _ _ c.files.invariant _ _ _ _ _ _ _ c.in-Ok-Some.field-0-is c.in-Ok-Some.ensures.shed c.delete_next.ensures.stops c.in-Ok-Some.ensures.above c.delete_next.ensures.wrote c.delete_next.ensures.open_still c.delete_next.ensures.layout c.in-Ok-Some.ensures.paid
+files-preserved g c = cleared_more _ _ _ _ _ _ _ _ _ _ _ c.files.invariant _ _ _ _ _ _ _ c.in-Ok-Some.field-0-is c.in-Ok-Some.ensures.shed c.delete_next.ensures.stops c.in-Ok-Some.ensures.above c.delete_next.ensures.wrote c.in-Ok-Some.ensures.keeps_to c.delete_next.ensures.open_still c.delete_next.ensures.layout c.in-Ok-Some.ensures.paid
 
 pub returns-in-Ok-None-clause-shed : goal.returns-in-Ok-None-clause-shed
 returns-in-Ok-None-clause-shed g c = cleared_all _ _ _ _ _ _ _ _ _ _ _ c.files.invariant _ _ _ _ _ _ c.in-Ok-None.field-0-is c.in-Ok-None.ensures.shed
@@ -64,3 +66,12 @@ returns-in-Err-clause-cost g c = cleared_paid _ _ _ _ _ _ _ _ _ _ _ c.files.inva
 
 pub returns-in-Err-clause-cause : goal.returns-in-Err-clause-cause
 returns-in-Err-clause-cause g c = (state c.files.self.core, (c.files.invariant.wrote, c.files.invariant.same_layout), c.in-Err.ensures.cause)
+
+-- ---- What began stays a reason.
+
+pub returns-in-Ok-None-clause-keeps_to : goal.returns-in-Ok-None-clause-keeps_to
+returns-in-Ok-None-clause-keeps_to g c = λ o keeps. c.in-Ok-None.ensures.keeps_to o (c.files.invariant.keeps o keeps)
+
+pub returns-in-Err-clause-reasons : goal.returns-in-Err-clause-reasons
+returns-in-Err-clause-reasons g c = λ o keeps.
+    subst (λ (l : Layout). ShowsReason o l (g.D.Disk.state c.delete_next.new.self.core.filer.swapper.under) c.in-Err.halt) c.files.invariant.same_layout (c.in-Err.ensures.reasons o (c.files.invariant.keeps o keeps))

@@ -11,6 +11,8 @@ use Rattle.pilot_engine.proofs.StopLemmas.{stops_deleted, stops_quiet}
 use Rattle.file_manager.proofs.Faults.{counted_then}
 use Rattle.fault_core.specs.Core.{state}
 use Rattle.space_calls.proofs.HaltLemmas.{look_reaches}
+use Rattle.labelled_disk.specs.declared.layout.Layout.{Layout}
+use Rattle.file_manager.specs.Reasons.{ShowsReason}
 use Rattle.pilot_engine.proofs.session.SessionOver.delete_unless_permanent.Goals as goal
 
 pub returns-in-Ok-None-clause-shed : goal.returns-in-Ok-None-clause-shed
@@ -126,3 +128,22 @@ returns-in-Err-clause-cause g c = inl c.in-Err.ensures.cause
 
 pub returns-in-Err-delete-clause-cause : goal.returns-in-Err-delete-clause-cause
 returns-in-Err-delete-clause-cause g c = inr (state (record c.args.self.now.core { filer = c.attributes_of.new.filer }), look_reaches (state c.args.self.now.core) (state (record c.args.self.now.core { filer = c.attributes_of.new.filer })) c.attributes_of.ensures.looks c.attributes_of.ensures.layout, c.in-Err-delete.ensures.cause)
+
+-- ---- What began stays a reason.
+
+pub returns-in-Ok-None-clause-keeps_to : goal.returns-in-Ok-None-clause-keeps_to
+returns-in-Ok-None-clause-keeps_to g c = λ o keeps. (keeps.0, c.in-Ok-None.ensures.keeps_to o keeps.0 keeps.1)
+
+pub returns-then-found-clause-keeps_to : goal.returns-then-found-clause-keeps_to
+returns-then-found-clause-keeps_to g c = λ o keeps. (keeps.0, c.in-Ok-Some.ensures.keeps_to o keeps.0 keeps.1)
+
+pub returns-in-Err-clause-reasons : goal.returns-in-Err-clause-reasons
+returns-in-Err-clause-reasons g c = λ o keeps. c.in-Err.ensures.reasons o keeps.0 keeps.1
+
+pub returns-in-Ok-clause-keeps_to : goal.returns-in-Ok-clause-keeps_to
+returns-in-Ok-clause-keeps_to g c = λ o keeps. c.in-Ok.ensures.keeps_to o keeps.0 (c.in-Ok-Some.ensures.keeps_to o keeps.0 keeps.1)
+
+pub returns-in-Err-delete-clause-reasons : goal.returns-in-Err-delete-clause-reasons
+returns-in-Err-delete-clause-reasons g c = λ o keeps.
+    subst (λ (l : Layout). ShowsReason o l (g.D.Disk.state c.delete.new.filer.swapper.under) c.in-Err-delete.halt) c.attributes_of.ensures.layout
+    (c.in-Err-delete.ensures.reasons o keeps.0 (c.in-Ok-Some.ensures.keeps_to o keeps.0 keeps.1))

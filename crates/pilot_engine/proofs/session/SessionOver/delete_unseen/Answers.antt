@@ -14,6 +14,7 @@ use Rattle.label_calls.specs.OwnLaws.{relabels_own, quiet_own}
 use Rattle.file_manager.proofs.OwnSteps.{freed_own, some_own, own_after}
 use Rattle.fault_core.specs.Core.{state}
 use Rattle.space_calls.proofs.HaltLemmas.{look_reaches}
+use Rattle.pilot_engine.proofs.ReasonSteps.{shows_since}
 use Rattle.pilot_engine.proofs.session.SessionOver.delete_unseen.Goals as goal
 
 pub returns-in-Ok-None-clause-carried : goal.returns-in-Ok-None-clause-carried
@@ -123,3 +124,19 @@ returns-in-Err-clause-cause g c = inl c.in-Err.ensures.cause
 
 pub returns-in-Err-delete-clause-cause : goal.returns-in-Err-delete-clause-cause
 returns-in-Err-delete-clause-cause g c = inr (state (record c.args.self.now.core { filer = c.attributes_of.new.filer }), look_reaches (state c.args.self.now.core) (state (record c.args.self.now.core { filer = c.attributes_of.new.filer })) c.attributes_of.ensures.looks c.attributes_of.ensures.layout, c.in-Err-delete.ensures.cause)
+
+-- ---- The outset.
+
+pub returns-in-Ok-None-clause-keeps_to : goal.returns-in-Ok-None-clause-keeps_to
+returns-in-Ok-None-clause-keeps_to g c = λ o k. (k.0, c.in-Ok-None.ensures.keeps_to o k.0 k.1)
+
+pub returns-in-Ok-clause-keeps_to : goal.returns-in-Ok-clause-keeps_to
+returns-in-Ok-clause-keeps_to g c = λ o k. c.in-Ok.ensures.keeps_to o k.0 (c.in-Ok-Some.ensures.keeps_to o k.0 k.1)
+
+pub returns-in-Err-clause-reasons : goal.returns-in-Err-clause-reasons
+returns-in-Err-clause-reasons g c = λ o k. c.in-Err.ensures.reasons o k.0 k.1
+
+pub returns-in-Err-delete-clause-reasons : goal.returns-in-Err-delete-clause-reasons
+returns-in-Err-delete-clause-reasons g c = λ o k.
+    shows_since o (g.D.Disk.state c.delete.new.filer.swapper.under) c.in-Err-delete.halt c.attributes_of.ensures.layout
+    (c.in-Err-delete.ensures.reasons o k.0 (c.in-Ok-Some.ensures.keeps_to o k.0 k.1))

@@ -18,3 +18,6 @@ returns-clause-wrote g c = rw c.into_disk.ensures (on_of c.close-closed.ensures.
 
 pub returns-clause-cause : goal.returns-clause-cause
 returns-clause-cause g c = rw c.into_disk.ensures c.close-closed.ensures.cause
+
+pub returns-clause-reasons : goal.returns-clause-reasons
+returns-clause-reasons g c = λ o keeps. rw c.into_disk.ensures (c.close-closed.ensures.reasons o keeps)

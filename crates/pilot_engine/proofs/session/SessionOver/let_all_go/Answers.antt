@@ -29,3 +29,11 @@ returns-in-Err-clause-cost g c = few_gone _ _ _ c.look_at_frames.ensures.few (rw
 
 pub returns-in-Err-clause-cause : goal.returns-in-Err-clause-cause
 returns-in-Err-clause-cause g c = rw c.look_at_frames.ensures.same at c.in-Err.ensures.cause
+
+-- ---- What began stays a reason.
+
+pub returns-in-Ok-clause-keeps_to : goal.returns-in-Ok-clause-keeps_to
+returns-in-Ok-clause-keeps_to g c = rw c.look_at_frames.ensures.same at c.in-Ok.ensures.keeps_to
+
+pub returns-in-Err-clause-reasons : goal.returns-in-Err-clause-reasons
+returns-in-Err-clause-reasons g c = rw c.look_at_frames.ensures.same at c.in-Err.ensures.reasons

@@ -11,6 +11,7 @@ use Rattle.pilot_engine.proofs.WroteLemmas.{wrote_by}
 use Rattle.running_words.specs.Running.{exactly}
 use Rattle.filer_kernel.specs.EvidenceLaws.{fits}
 use Rattle.fault_core.proofs.EvidenceLemmas.{shows_so}
+use Rattle.running_words.specs.MovingLaws.{keeps_moved, moves_of_reaches, reach_reasons}
 use Rattle.pilot_engine.proofs.session.SessionOver.let_root_go.Goals as goal
 
 pub returns-in-Ok-clause-alone : goal.returns-in-Ok-clause-alone
@@ -60,3 +61,15 @@ returns-in-Err-clause-cost g c =
 
 pub returns-in-Err-clause-so : goal.returns-in-Err-clause-so
 returns-in-Err-clause-so g c = shows_so _ (state c.args.self.now.core) (state c.let_go.new.self) (fits c.args.self.now.core.filer.swapper c.requires.size) c.let_go.ensures.reaches.goes.makes c.in-Err.halt c.in-Err.ensures.cause
+
+-- ---- What began stays a reason.
+
+pub returns-in-Ok-clause-keeps_to : goal.returns-in-Ok-clause-keeps_to
+returns-in-Ok-clause-keeps_to g c = λ o keeps.
+    let v = state c.args.self.now.core in
+    let w = state c.let_go.new.self in
+    (keeps.0, keeps_moved o v w keeps.0 c.args.self.now.core.filer.swapper.accepted keeps.1 (moves_of_reaches v w c.let_go.ensures.reaches))
+
+pub returns-in-Err-clause-reasons : goal.returns-in-Err-clause-reasons
+returns-in-Err-clause-reasons g c = λ o keeps.
+    reach_reasons o (state c.args.self.now.core) (state c.let_go.new.self) keeps.0 _ c.args.self.now.core.filer.swapper.accepted keeps.1 c.let_go.ensures.reaches.goes.makes c.in-Err.halt c.in-Err.ensures.cause

@@ -21,6 +21,9 @@ use Rattle.pilot_engine.proofs.CauseLemmas.{named_halt}
 use Rattle.pilot_engine.specs.Halting.{MarkHalts}
 use Rattle.space_calls.proofs.HaltLemmas.{later_sight}
 use Rattle.fault_core.proofs.ReachLemmas.{reaches_then}
+use Rattle.space_calls.specs.ReasonLaws.{sight_reasons}
+use Rattle.space_calls.specs.Halts.{SightHalts}
+use Rattle.pilot_engine.proofs.ReasonSteps.{reached_on, reasons_since, shows_after, shows_since}
 use Rattle.pilot_engine.proofs.session.SessionOver.make_immutable.Goals as goal
 
 pub returns-in-Ok-Hidden-clause-carried : goal.returns-in-Ok-Hidden-clause-carried
@@ -139,3 +142,28 @@ returns-clause-cause g c =
     let x = state c.window_on.new.core in
     named_halt v x (state c.mark_immutable.new.self.core) c.args.id c.args.self.now.core.intervals (MarkHalts c.args.id) c.mark_immutable.result
     (reaches_then v u c.args.self.now.core.filer.swapper.accepted c.sight.ensures.reaches x c.window_on.ensures.reaches) c.mark_immutable.ensures.cause
+
+-- ---- The outset.
+
+pub returns-in-Ok-Some-clause-keeps_to : goal.returns-in-Ok-Some-clause-keeps_to
+returns-in-Ok-Some-clause-keeps_to g c = λ o k.
+    let u = c.sight.new.self.core in
+    reached_on o (state u) (state c.window_on.new.core) u.filer.swapper.accepted c.window_on.ensures.reaches (c.in-Ok-By.ensures.keeps_to o k)
+
+pub returns-clause-keeps_to : goal.returns-clause-keeps_to
+returns-clause-keeps_to g c = λ o k.
+    let u = c.sight.new.self.core in
+    c.mark_immutable.ensures.keeps_to o (reached_on o (state u) (state c.window_on.new.core) u.filer.swapper.accepted c.window_on.ensures.reaches (c.in-Ok-By.ensures.keeps_to o k))
+
+pub returns-in-Err-window_on-clause-reasons : goal.returns-in-Err-window_on-clause-reasons
+returns-in-Err-window_on-clause-reasons g c = λ o k.
+    let u = c.sight.new.self.core in
+    shows_since o (g.D.Disk.state c.window_on.new.core.filer.swapper.under) c.in-Err-window_on.halt c.sight.ensures.layout
+    (shows_after (SightHalts u.intervals) (sight_reasons u.intervals) o (state u) (state c.window_on.new.core) u.filer.swapper.accepted c.window_on.ensures.reaches.goes.makes
+    (c.in-Ok-By.ensures.keeps_to o k) c.in-Err-window_on.halt c.in-Err-window_on.ensures.cause)
+
+pub returns-clause-reasons : goal.returns-clause-reasons
+returns-clause-reasons g c = λ o k.
+    let u = c.sight.new.self.core in
+    reasons_since c.mark_immutable.result o (g.D.Disk.state c.mark_immutable.new.self.core.filer.swapper.under) (c.window_on.ensures.layout ∙ c.sight.ensures.layout)
+    (c.mark_immutable.ensures.reasons o (reached_on o (state u) (state c.window_on.new.core) u.filer.swapper.accepted c.window_on.ensures.reaches (c.in-Ok-By.ensures.keeps_to o k)))

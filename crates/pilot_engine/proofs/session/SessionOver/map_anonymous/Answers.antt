@@ -19,10 +19,12 @@ use Rattle.filer_kernel.specs.EvidenceLaws.{fits}
 use Rattle.fault_core.proofs.EvidenceLemmas.{shows_so}
 use Rattle.fault_core.specs.Core.{state}
 use Rattle.filer_kernel.proofs.Outcomes.{err_wider}
-use Rattle.space_calls.specs.Halts.{ChangeHalts}
+use Rattle.space_calls.specs.Halts.{ChangeHalts, PathHalts}
 use Rattle.space_calls.proofs.HaltLemmas.{counted_change}
 use Rattle.file_manager.specs.Creating.{next_id}
 use Rattle.pilot_engine.specs.Halting.{MapNewHalts}
+use Rattle.space_calls.specs.ReasonLaws.{change_reasons, path_reasons}
+use Rattle.pilot_engine.proofs.ReasonSteps.{moving_keeps, moving_reasons, reached_on, reasons_since, shows_after, shows_since}
 use Rattle.pilot_engine.proofs.session.SessionOver.map_anonymous.Goals as goal
 
 pub returns-in-Ok-Err-clause-passes : goal.returns-in-Ok-Err-clause-passes
@@ -167,3 +169,39 @@ returns-clause-cause g c =
     let asked = c.can_map.ensures.asked in
     err_wider c.give_window.result (ChangeHalts x.intervals (state x) w) (MapNewHalts (next_id c.args.self.now.volume.root) old.intervals (state old) w)
     (λ e halts. inr (state u, asked.reaches, inr (state x, (c.create.ensures.wrote, c.create.ensures.layout), counted_change (state x) w old.intervals x.intervals (c.create.ensures.intervals ∙ asked.intervals) e halts))) c.give_window.ensures.cause
+
+-- ---- The outset.
+
+pub returns-in-Ok-Err-clause-keeps_to : goal.returns-in-Ok-Err-clause-keeps_to
+returns-in-Ok-Err-clause-keeps_to g c = λ o k.
+    let old = c.args.self.now.core in
+    reached_on o (state old) (state c.can_map.new.core) old.filer.swapper.accepted c.can_map.ensures.asked.reaches k
+
+pub returns-in_default-clause-keeps_to : goal.returns-in_default-clause-keeps_to
+returns-in_default-clause-keeps_to g c = λ o k.
+    let old = c.args.self.now.core in
+    c.in-Ok.ensures.keeps_to o (reached_on o (state old) (state c.can_map.new.core) old.filer.swapper.accepted c.can_map.ensures.asked.reaches k)
+
+pub returns-clause-keeps_to : goal.returns-clause-keeps_to
+returns-clause-keeps_to g c = λ o k.
+    moving_keeps (state c.create.new.self.core) (state c.give_window.new.core) c.give_window.result c.create.new.self.core.filer.swapper.accepted c.give_window.ensures.moves o
+    (c.in-Ok.ensures.keeps_to o (reached_on o (state c.args.self.now.core) (state c.can_map.new.core) c.args.self.now.core.filer.swapper.accepted c.can_map.ensures.asked.reaches k))
+
+pub returns-in-Err-clause-reasons : goal.returns-in-Err-clause-reasons
+returns-in-Err-clause-reasons g c = λ o k.
+    let old = c.args.self.now.core in
+    shows_after PathHalts path_reasons o (state old) (state c.can_map.new.core) old.filer.swapper.accepted c.can_map.ensures.asked.reaches.goes.makes k c.in-Err.halt c.in-Err.ensures.cause
+
+pub returns-in-Err-create-clause-reasons : goal.returns-in-Err-create-clause-reasons
+returns-in-Err-create-clause-reasons g c = λ o k.
+    shows_since o (g.D.Disk.state c.create.new.self.core.filer.swapper.under) c.in-Err-create.halt c.can_map.ensures.asked.reaches.layout
+    (c.in-Err-create.ensures.reasons o (reached_on o (state c.args.self.now.core) (state c.can_map.new.core) c.args.self.now.core.filer.swapper.accepted c.can_map.ensures.asked.reaches k))
+
+pub returns-clause-reasons : goal.returns-clause-reasons
+returns-clause-reasons g c = λ o k.
+    let old = c.args.self.now.core in
+    let count = c.create.new.self.core.intervals in
+    reasons_since c.give_window.result o (g.D.Disk.state c.give_window.new.core.filer.swapper.under) (c.create.ensures.layout ∙ c.can_map.ensures.asked.reaches.layout)
+    (moving_reasons (ChangeHalts count) (change_reasons count)
+    (state c.create.new.self.core) (state c.give_window.new.core) c.give_window.result c.create.new.self.core.filer.swapper.accepted c.give_window.ensures.moves c.give_window.ensures.cause o
+    (c.in-Ok.ensures.keeps_to o (reached_on o (state old) (state c.can_map.new.core) old.filer.swapper.accepted c.can_map.ensures.asked.reaches k)))

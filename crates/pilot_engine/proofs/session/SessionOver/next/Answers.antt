@@ -12,6 +12,7 @@ use Rattle.pilot_engine.proofs.WroteLemmas.{wrote_by}
 use Rattle.fault_core.specs.Core.{state}
 use Rattle.fault_core.proofs.ReachLemmas.{reaches_itself, reaches_then}
 use Rattle.pilot_engine.specs.Halting.{TurnHalts}
+use Rattle.pilot_engine.proofs.ReasonSteps.{reached_on, shows_since}
 use Rattle.pilot_engine.proofs.session.SessionOver.next.Goals as goal
 
 pub files-init : goal.files-init
@@ -102,3 +103,20 @@ pub returns-in-Err-clause-cause : goal.returns-in-Err-clause-cause
 returns-in-Err-clause-cause g c =
     let u = state c.files.self.core in
     (u, c.files.invariant.1, subst (λ (j : ℕ). TurnHalts j u (state c.next_passed.new.self.core) c.in-Err.halt) c.files.invariant.2 c.in-Err.ensures.cause)
+
+-- ---- The outset.
+
+pub returns-then-passed-clause-keeps_to : goal.returns-then-passed-clause-keeps_to
+returns-then-passed-clause-keeps_to g c = λ o k.
+    let old = c.args.self.now.core in
+    c.in-Ok-Some.ensures.keeps_to o (reached_on o (state old) (state c.files.self.core) old.filer.swapper.accepted c.files.invariant.1 k)
+
+pub returns-in-Ok-None-clause-keeps_to : goal.returns-in-Ok-None-clause-keeps_to
+returns-in-Ok-None-clause-keeps_to g c = λ o k.
+    let old = c.args.self.now.core in
+    c.in-Ok-None.ensures.keeps_to o (reached_on o (state old) (state c.files.self.core) old.filer.swapper.accepted c.files.invariant.1 k)
+
+pub returns-in-Err-clause-reasons : goal.returns-in-Err-clause-reasons
+returns-in-Err-clause-reasons g c = λ o k.
+    shows_since o (g.D.Disk.state c.next_passed.new.self.core.filer.swapper.under) c.in-Err.halt c.files.invariant.0.same_layout
+    (c.in-Err.ensures.reasons o (reached_on o (state c.args.self.now.core) (state c.files.self.core) c.args.self.now.core.filer.swapper.accepted c.files.invariant.1 k))

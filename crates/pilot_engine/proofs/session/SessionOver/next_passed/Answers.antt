@@ -11,6 +11,7 @@ use Rattle.pilot_engine.proofs.LiftLemmas.{searched_running}
 use Rattle.fault_core.specs.Core.{state}
 use Rattle.fault_core.proofs.ReachLemmas.{reaches_then}
 use Rattle.space_calls.proofs.HaltLemmas.{look_reaches}
+use Rattle.pilot_engine.proofs.ReasonSteps.{shows_since}
 use Rattle.pilot_engine.proofs.session.SessionOver.next_passed.Goals as goal
 
 pub returns-in-Ok-None-clause-runs : goal.returns-in-Ok-None-clause-runs
@@ -116,3 +117,22 @@ returns-in-Err-sight-clause-reaches g c =
     let v = state c.args.self.now.core in
     let u = state (record c.args.self.now.core { filer = c.next.new.filer }) in
     reaches_then v u c.args.self.now.core.filer.swapper.accepted (look_reaches v u c.next.ensures.looks c.next.ensures.layout) (state c.sight.new.self.core) c.sight.ensures.reaches
+
+-- ---- The outset.
+
+pub returns-in-Ok-None-clause-keeps_to : goal.returns-in-Ok-None-clause-keeps_to
+returns-in-Ok-None-clause-keeps_to g c = λ o k. (k.0, c.in-Ok-None.ensures.keeps_to o k.0 k.1)
+
+pub returns-in-Ok-Hidden-clause-keeps_to : goal.returns-in-Ok-Hidden-clause-keeps_to
+returns-in-Ok-Hidden-clause-keeps_to g c = λ o k. c.in-Ok-Hidden.ensures.keeps_to o (k.0, c.in-Ok-Some.ensures.keeps_to o k.0 k.1)
+
+pub returns-in-Ok-By-clause-keeps_to : goal.returns-in-Ok-By-clause-keeps_to
+returns-in-Ok-By-clause-keeps_to g c = λ o k. c.in-Ok-By.ensures.keeps_to o (k.0, c.in-Ok-Some.ensures.keeps_to o k.0 k.1)
+
+pub returns-in-Err-clause-reasons : goal.returns-in-Err-clause-reasons
+returns-in-Err-clause-reasons g c = λ o k. c.in-Err.ensures.reasons o k.0 k.1
+
+pub returns-in-Err-sight-clause-reasons : goal.returns-in-Err-sight-clause-reasons
+returns-in-Err-sight-clause-reasons g c = λ o k.
+    shows_since o (g.D.Disk.state c.sight.new.self.core.filer.swapper.under) c.in-Err-sight.halt c.next.ensures.layout
+    (c.in-Err-sight.ensures.reasons o (k.0, c.in-Ok-Some.ensures.keeps_to o k.0 k.1))

@@ -1,9 +1,14 @@
-use Rattle.std.proofs.Common.{sym, ◌∙◌, refl}
+use Rattle.std.proofs.Common.{◌≡◌, ap, length, subst, sym, ◌∙◌, refl}
 use Rattle.flat_machine.specs.Start.{start}
-use Rattle.pilot_engine.proofs.StartFaults.{early_left, early_outside, early_so, early_cause}
+use Rattle.pilot_engine.proofs.StartFaults.{early_left, early_outside, early_so, early_cause, early_reason}
 use Rattle.pilot_engine.proofs.StartRuns.{runs_over}
 use Rattle.pilot_engine.proofs.StartWrites.{read_wrote, read_keeps, start_wrote, start_keeps}
 use Rattle.fault_core.specs.View.{view_of}
+use Rattle.labelled_disk.specs.declared.layout.Layout.{Layout}
+use Rattle.labelled_disk.specs.Layout.{layout_of}
+use Rattle.file_manager.specs.Reasons.{ShowsReason, outset}
+use Rattle.pilot_engine.proofs.BoundLemmas.{on_layout, start_bounded}
+use Rattle.pilot_engine.proofs.OutsetLemmas.{begun_read}
 use Rattle.pilot_engine.proofs.session.SessionOver.over.Goals as goal
 
 pub returns-in-Err-clause-sound : goal.returns-in-Err-clause-sound
@@ -78,3 +83,39 @@ returns-in-Err-begin-clause-cause g c =
       left = refl;
       halts = c.in-Err-begin.ensures.cause;
     })
+
+-- ---- What the disk had before is a reason.
+
+pub returns-in-Err-clause-reasons : goal.returns-in-Err-clause-reasons
+returns-in-Err-clause-reasons g c = λ d named ws begun. early_reason (outset d named ws) (layout_of (length d)) (g.D.Disk.state c.in-Err.fault.1) c.in-Err.fault.0 c.in-Err.ensures.early
+
+pub returns-in-Err-begin-clause-reasons : goal.returns-in-Err-begin-clause-reasons
+returns-in-Err-begin-clause-reasons g c = λ d named ws begun.
+    let layout = c.in-Ok.opened.0.swapper.layout in
+    let long = g.met.D.Disk.whole c.args.disk d begun.contents ∙ sym c.in-Ok.ensures.reads.only.sectors ∙ c.in-Ok.ensures.size in
+    let same : layout ≡ layout_of (length d) = c.in-Ok.opened.0.swapper.accepted.1 ∙ ap layout_of (sym long) in
+    rw c.into_disk.ensures (subst (λ (l : Layout). ShowsReason (outset d named ws) l (g.D.Disk.state c.begin.new.filer.swapper.under) c.in-Err-begin.halt) same
+    (c.in-Err-begin.ensures.reasons d named ws (begun_read c.in-Ok.ensures.reads.only begun)))
+
+pub returns-in-Ok-begin-clause-keeps_to : goal.returns-in-Ok-begin-clause-keeps_to
+returns-in-Ok-begin-clause-keeps_to g c = λ d named ws begun. rw c.over.ensures.filer (c.in-Ok-begin.ensures.keeps_to d named ws (begun_read c.in-Ok.ensures.reads.only begun))
+
+-- ---- What it spends.
+
+pub returns-in-Ok-begin-clause-bounded : goal.returns-in-Ok-begin-clause-bounded
+returns-in-Ok-begin-clause-bounded g c =
+    let layout = c.in-Ok.opened.0.swapper.layout in
+    let old = g.D.Disk.state c.args.disk in
+    let read = g.D.Disk.state c.in-Ok.opened.0.swapper.under in
+    let new = g.D.Disk.state c.begin.new.filer.swapper.under in
+    rw c.over.ensures.filer (on_layout layout old new (sym c.in-Ok.ensures.reads.only.sectors ∙ c.in-Ok.ensures.size)
+    (start_bounded layout c.in-Ok.opened.0.swapper.accepted old.transfers read.transfers new.transfers c.in-Ok.ensures.reads.moved c.begin.ensures.cost))
+
+pub returns-in-Err-begin-clause-bounded : goal.returns-in-Err-begin-clause-bounded
+returns-in-Err-begin-clause-bounded g c =
+    let layout = c.in-Ok.opened.0.swapper.layout in
+    let old = g.D.Disk.state c.args.disk in
+    let read = g.D.Disk.state c.in-Ok.opened.0.swapper.under in
+    let new = g.D.Disk.state c.begin.new.filer.swapper.under in
+    rw c.into_disk.ensures (on_layout layout old new (sym c.in-Ok.ensures.reads.only.sectors ∙ c.in-Ok.ensures.size)
+    (start_bounded layout c.in-Ok.opened.0.swapper.accepted old.transfers read.transfers new.transfers c.in-Ok.ensures.reads.moved c.begin.ensures.cost))

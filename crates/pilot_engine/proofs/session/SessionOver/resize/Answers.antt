@@ -18,6 +18,7 @@ use Rattle.label_calls.specs.OwnLaws.{relabels_own, quiet_own, same_own}
 use Rattle.file_manager.proofs.OwnSteps.{resized_own, resizing_own, own_after}
 use Rattle.fault_core.specs.Core.{state}
 use Rattle.space_calls.proofs.HaltLemmas.{look_reaches}
+use Rattle.pilot_engine.proofs.ReasonSteps.{shows_since}
 use Rattle.pilot_engine.proofs.session.SessionOver.resize.Goals as goal
 
 pub returns-then-not-may_be_file-clause-carried : goal.returns-then-not-may_be_file-clause-carried
@@ -186,3 +187,28 @@ returns-in-Err-clause-cause g c = inl c.in-Err.ensures.cause
 
 pub returns-in-Err-set_size-clause-cause : goal.returns-in-Err-set_size-clause-cause
 returns-in-Err-set_size-clause-cause g c = inr (state (record c.args.self.now.core { filer = c.attributes_of.new.filer }), look_reaches (state c.args.self.now.core) (state (record c.args.self.now.core { filer = c.attributes_of.new.filer })) c.attributes_of.ensures.looks c.attributes_of.ensures.layout, c.in-Err-set_size.ensures.cause)
+
+-- ---- The outset.
+
+pub returns-in-Ok-None-clause-keeps_to : goal.returns-in-Ok-None-clause-keeps_to
+returns-in-Ok-None-clause-keeps_to g c = λ o k. (k.0, c.in-Ok-None.ensures.keeps_to o k.0 k.1)
+
+pub returns-then-found-clause-keeps_to : goal.returns-then-found-clause-keeps_to
+returns-then-found-clause-keeps_to g c = λ o k. (k.0, c.in-Ok-Some.ensures.keeps_to o k.0 k.1)
+
+pub returns-in-Some-clause-keeps_to : goal.returns-in-Some-clause-keeps_to
+returns-in-Some-clause-keeps_to g c = λ o k. (k.0, c.in-Ok-Some.ensures.keeps_to o k.0 k.1)
+
+pub returns-then-not-has_room-clause-keeps_to : goal.returns-then-not-has_room-clause-keeps_to
+returns-then-not-has_room-clause-keeps_to g c = λ o k. (k.0, c.in-Ok-Some.ensures.keeps_to o k.0 k.1)
+
+pub returns-in-Ok-clause-keeps_to : goal.returns-in-Ok-clause-keeps_to
+returns-in-Ok-clause-keeps_to g c = λ o k. c.in-Ok.ensures.keeps_to o k.0 (c.in-Ok-Some.ensures.keeps_to o k.0 k.1)
+
+pub returns-in-Err-clause-reasons : goal.returns-in-Err-clause-reasons
+returns-in-Err-clause-reasons g c = λ o k. c.in-Err.ensures.reasons o k.0 k.1
+
+pub returns-in-Err-set_size-clause-reasons : goal.returns-in-Err-set_size-clause-reasons
+returns-in-Err-set_size-clause-reasons g c = λ o k.
+    shows_since o (g.D.Disk.state c.set_size.new.filer.swapper.under) c.in-Err-set_size.halt c.attributes_of.ensures.layout
+    (c.in-Err-set_size.ensures.reasons o k.0 (c.in-Ok-Some.ensures.keeps_to o k.0 k.1))

@@ -14,6 +14,7 @@ use Rattle.file_manager.proofs.OwnSteps.{own_after}
 use Rattle.fault_core.specs.Core.{state}
 use Rattle.pilot_engine.proofs.CauseLemmas.{named_halt}
 use Rattle.pilot_engine.specs.Halting.{SizeHalts}
+use Rattle.pilot_engine.proofs.ReasonSteps.{reasons_since}
 use Rattle.pilot_engine.proofs.session.SessionOver.set_size.Goals as goal
 
 pub returns-in-Ok-Hidden-clause-carried : goal.returns-in-Ok-Hidden-clause-carried
@@ -87,3 +88,13 @@ returns-in-Err-clause-cause g c = inl c.in-Err.ensures.cause
 
 pub returns-in-Ok-By-clause-cause : goal.returns-in-Ok-By-clause-cause
 returns-in-Ok-By-clause-cause g c = named_halt (state c.args.self.now.core) (state c.sight.new.self.core) (state c.resize.new.self.core) c.args.id c.args.self.now.core.intervals (SizeHalts c.args.id c.args.pages) c.resize.result c.sight.ensures.reaches c.resize.ensures.cause
+
+-- ---- The outset.
+
+pub returns-in-Ok-By-clause-keeps_to : goal.returns-in-Ok-By-clause-keeps_to
+returns-in-Ok-By-clause-keeps_to g c = λ o k. c.resize.ensures.keeps_to o (c.in-Ok-By.ensures.keeps_to o k)
+
+pub returns-in-Ok-By-clause-reasons : goal.returns-in-Ok-By-clause-reasons
+returns-in-Ok-By-clause-reasons g c = λ o k.
+    reasons_since c.resize.result o (g.D.Disk.state c.resize.new.self.core.filer.swapper.under) c.sight.ensures.layout
+    (c.resize.ensures.reasons o (c.in-Ok-By.ensures.keeps_to o k))

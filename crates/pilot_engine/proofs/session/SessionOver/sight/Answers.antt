@@ -2,6 +2,10 @@ use Rattle.std.proofs.Common.{ℕ, Option, false, subst}
 use Rattle.space_tables.specs.Shows.{IsFirstWith, shows}
 use Rattle.space_tables.specs.declared.shown.Shown.{Shown}
 use Rattle.pilot_engine.proofs.SeenLemmas.{hidden_by, seen_by, seen_by_none}
+use Rattle.fault_core.specs.Core.{state}
+use Rattle.space_calls.specs.ReasonLaws.{sight_reasons}
+use Rattle.space_calls.specs.Halts.{SightHalts}
+use Rattle.pilot_engine.proofs.ReasonSteps.{reached_on, shows_after}
 use Rattle.pilot_engine.proofs.session.SessionOver.sight.Goals as goal
 
 pub returns-then-shown-clause-answer : goal.returns-then-shown-clause-answer
@@ -27,3 +31,27 @@ returns-in-Err-clause-runs g c = λ m r. c.window_on.ensures.runs c.args.self.no
 
 pub returns-in-Err-clause-sound : goal.returns-in-Err-clause-sound
 returns-in-Err-clause-sound g c = λ m r. c.in-Err.ensures.sound c.args.self.now.volume m r
+
+-- ---- The outset.
+
+pub returns-then-shown-clause-keeps_to : goal.returns-then-shown-clause-keeps_to
+returns-then-shown-clause-keeps_to g c = λ o k.
+    let old = c.args.self.now.core in
+    reached_on o (state old) (state c.window_on.new.core) old.filer.swapper.accepted c.window_on.ensures.reaches k
+
+pub returns-else-shown-clause-keeps_to : goal.returns-else-shown-clause-keeps_to
+returns-else-shown-clause-keeps_to g c = λ o k.
+    let old = c.args.self.now.core in
+    reached_on o (state old) (state c.window_on.new.core) old.filer.swapper.accepted c.window_on.ensures.reaches k
+
+pub returns-in-Ok-None-clause-keeps_to : goal.returns-in-Ok-None-clause-keeps_to
+returns-in-Ok-None-clause-keeps_to g c = λ o k.
+    let old = c.args.self.now.core in
+    reached_on o (state old) (state c.window_on.new.core) old.filer.swapper.accepted c.window_on.ensures.reaches k
+
+pub returns-in-Err-clause-reasons : goal.returns-in-Err-clause-reasons
+returns-in-Err-clause-reasons g c = λ o k.
+    let old = c.args.self.now.core in
+    let count = old.intervals in
+    shows_after (SightHalts count) (sight_reasons count)
+    o (state old) (state c.window_on.new.core) old.filer.swapper.accepted c.window_on.ensures.reaches.goes.makes k c.in-Err.halt c.in-Err.ensures.cause

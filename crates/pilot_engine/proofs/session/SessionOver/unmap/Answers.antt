@@ -18,6 +18,9 @@ use Rattle.pilot_engine.proofs.WroteLemmas.{rose_behind, wrote_by, wrote_then}
 use Rattle.fault_core.specs.Core.{state}
 use Rattle.space_calls.proofs.RangeLemmas.{fault_halt, given_so}
 use Rattle.space_calls.specs.Ranges.{BreaksWindow}
+use Rattle.space_calls.specs.ReasonLaws.{take_window_reasons}
+use Rattle.space_calls.specs.Halts.{TakeWindowHalts}
+use Rattle.pilot_engine.proofs.ReasonSteps.{fault_shows, reached_on, reshaped_on, shows_after, shows_since}
 use Rattle.pilot_engine.proofs.session.SessionOver.unmap.Goals as goal
 
 pub returns-in-Ok-Err-clause-passes : goal.returns-in-Ok-Err-clause-passes
@@ -188,3 +191,37 @@ returns-in-Err-wait-clause-cause g c =
     let first = c.take_window.ensures.makes.went.faults in
     let later = c.delete_unseen.ensures.wrote.makes.went.faults in
     inl (fault_halt (BreaksWindow v c.args.self.now.core.intervals c.args.space) v x w c.in-Err-wait.halt (omega (arith, first, later)) c.in-Err-wait.ensures.fault c.in-Err-wait.ensures.counted)
+
+-- ---- The outset.
+
+pub returns-in-Ok-Err-clause-keeps_to : goal.returns-in-Ok-Err-clause-keeps_to
+returns-in-Ok-Err-clause-keeps_to g c = λ o k.
+    let old = c.args.self.now.core in
+    reshaped_on o (state old) (state c.take_window.new.core) old.filer.swapper.accepted c.take_window.ensures.reshapes k
+
+pub returns-then-not-shown-clause-keeps_to : goal.returns-then-not-shown-clause-keeps_to
+returns-then-not-shown-clause-keeps_to g c = λ o k.
+    let old = c.args.self.now.core in
+    reshaped_on o (state old) (state c.take_window.new.core) old.filer.swapper.accepted c.take_window.ensures.reshapes k
+
+pub returns-in-Ok-wait-clause-keeps_to : goal.returns-in-Ok-wait-clause-keeps_to
+returns-in-Ok-wait-clause-keeps_to g c = λ o k.
+    let old = c.args.self.now.core in
+    reached_on o (state c.delete_unseen.new.self.core) (state c.settle.new.core) c.delete_unseen.new.self.core.filer.swapper.accepted c.settle.ensures.reaches
+    (c.in-Ok.ensures.keeps_to o (reshaped_on o (state old) (state c.take_window.new.core) old.filer.swapper.accepted c.take_window.ensures.reshapes k))
+
+pub returns-in-Err-clause-reasons : goal.returns-in-Err-clause-reasons
+returns-in-Err-clause-reasons g c = λ o k.
+    let old = c.args.self.now.core in
+    let count = old.intervals in
+    shows_after (TakeWindowHalts c.args.space count) (take_window_reasons c.args.space count)
+    o (state old) (state c.take_window.new.core) old.filer.swapper.accepted c.take_window.ensures.makes k c.in-Err.halt c.in-Err.ensures.cause
+
+pub returns-in-Err-delete_unseen-clause-reasons : goal.returns-in-Err-delete_unseen-clause-reasons
+returns-in-Err-delete_unseen-clause-reasons g c = λ o k.
+    let old = c.args.self.now.core in
+    shows_since o (g.D.Disk.state c.delete_unseen.new.self.core.filer.swapper.under) c.in-Err-delete_unseen.halt c.take_window.ensures.layout
+    (c.in-Err-delete_unseen.ensures.reasons o (reshaped_on o (state old) (state c.take_window.new.core) old.filer.swapper.accepted c.take_window.ensures.reshapes k))
+
+pub returns-in-Err-wait-clause-reasons : goal.returns-in-Err-wait-clause-reasons
+returns-in-Err-wait-clause-reasons g c = λ o k. fault_shows o c.args.self.now.core.filer.swapper.layout (g.D.Disk.state c.settle.new.core.filer.swapper.under) c.in-Err-wait.halt c.in-Err-wait.ensures.fault

@@ -1,0 +1,69 @@
+-- What a call leaves of the outset, and why it stops, where other calls are made in it.
+use Rattle.std.proofs.Common.{◌≡◌, ℕ, List, Result, Ok, Err, sym, subst}
+use Rattle.std.specs.Prelude.{IfErr, OnOk}
+use Rattle.labelled_disk.specs.declared.disk.DiskWrite.{DiskWrite}
+use Rattle.labelled_disk.specs.declared.evidence.Halt.{Halt}
+use Rattle.labelled_disk.specs.declared.evidence.Halt.TheVariants as halt
+use Rattle.labelled_disk.specs.declared.layout.Layout.{Layout}
+use Rattle.labelled_disk.specs.State.{DiskState}
+use Rattle.file_map.specs.FileMap.{Triples}
+use Rattle.swapper_kernel.specs.Goes.{Makes, Pages}
+use Rattle.swapper_kernel.specs.Homes.{IsLayout}
+use Rattle.file_manager.specs.Reasons.{Outset, ShowsReason}
+use Rattle.fault_core.specs.Reach.{Reaches, ReachHalts}
+use Rattle.fault_core.specs.View.{View}
+use Rattle.running_words.specs.Moving.{Moves, ViewKeepsTo}
+use Rattle.running_words.specs.MovingLaws.{moves_of_reaches, keeps_moved}
+use Rattle.space_calls.specs.ReasonLaws.{HasReasonAfter, after_it, moves_of_reshapes, reach_before}
+use Rattle.space_calls.specs.Unmapping.{Reshapes}
+
+-- what is seen keeps to the outset, whatever the file map names
+abbrev pub ViewKeepsOn : Outset → View → Type 0
+ViewKeepsOn o v = (named : Triples) × ViewKeepsTo o v named
+
+-- it does so after a call that writes no label
+pub moved_on : (o : Outset) (v w : View) → IsLayout v.layout → Moves v w → ViewKeepsOn o v → ViewKeepsOn o w
+moved_on o v w is moves k = (k.0, keeps_moved o v w k.0 is k.1 moves)
+
+-- and after pages were found
+pub reached_on : (o : Outset) (v w : View) → IsLayout v.layout → Reaches v w → ViewKeepsOn o v → ViewKeepsOn o w
+reached_on o v w is reaches k = moved_on o v w is (moves_of_reaches v w reaches) k
+
+-- and after pages of the space tables changed
+pub reshaped_on : (o : Outset) (v w : View) → IsLayout v.layout → Reshapes v w → ViewKeepsOn o v → ViewKeepsOn o w
+reshaped_on o v w is reshapes k = moved_on o v w is (moves_of_reshapes v w reshapes) k
+
+-- why a call stopped shows its reason
+pub shows_after : (P : View → View → Halt → Type 0) → HasReasonAfter P → (o : Outset) (v w : View) {pages : Pages} {run : List DiskWrite} → IsLayout v.layout → Makes pages run v.disk v.slots w.disk w.slots → ViewKeepsOn o v
+    → (e : Halt) → P v w e → ShowsReason o v.layout w.disk e
+shows_after P reasons o v w {pages = pages} {run = run} is makes k e halts = reasons o v w k.0 pages run is k.1 makes e halts
+
+-- ---- The last call, which writes no label.
+
+-- what is seen keeps to the outset where it went well
+pub moving_keeps : {X : Type 0} (v w : View) (r : Result X Halt) → IsLayout v.layout → Moves v w → (o : Outset) → ViewKeepsOn o v → OnOk r (ViewKeepsOn o w)
+moving_keeps v w (Ok x) is moves o k = moved_on o v w is moves k
+moving_keeps v w (Err e) is moves o k = tt
+
+-- where it stopped, its evidence has a reason
+pub moving_reasons : {X : Type 0} (P : View → View → Halt → Type 0) → HasReasonAfter P → (v w : View) (r : Result X Halt) → IsLayout v.layout → Moves v w → IfErr r (P v w) → (o : Outset) → ViewKeepsOn o v → IfErr r (ShowsReason o v.layout w.disk)
+moving_reasons P reasons v w (Ok x) is moves halts o k = tt
+moving_reasons P reasons v w (Err e) is moves halts o k = shows_after P reasons o v w is moves.goes.makes k e halts
+
+-- so it is where pages of the space tables broke their form
+pub reaching_reasons : {X : Type 0} (breaks : View → ℕ → Type 0) (v w : View) (r : Result X Halt) → IsLayout v.layout → Moves v w → IfErr r (ReachHalts (breaks v) v w) → (o : Outset) → ViewKeepsOn o v → IfErr r (ShowsReason o v.layout w.disk)
+reaching_reasons breaks v w r is moves halts = moving_reasons (λ v w e. ReachHalts (breaks v) v w e) (after_it (λ v w e. ReachHalts (breaks v) v w e) (reach_before breaks)) v w r is moves halts
+
+-- ---- After an earlier call.
+
+-- a reason is one with the layout of the state before
+pub shows_since : (o : Outset) (disk : DiskState) (e : Halt) {before layout : Layout} → layout ≡ before → ShowsReason o layout disk e → ShowsReason o before disk e
+shows_since o disk e same shows = subst (λ (l : Layout). ShowsReason o l disk e) same shows
+
+-- so it is where a call stopped
+pub reasons_since : {X : Type 0} (r : Result X Halt) (o : Outset) (disk : DiskState) {before layout : Layout} → layout ≡ before → IfErr r (ShowsReason o layout disk) → IfErr r (ShowsReason o before disk)
+reasons_since r o disk same shows = subst (λ (l : Layout). IfErr r (ShowsReason o l disk)) same shows
+
+-- a fault of the disk needs none
+pub fault_shows : (o : Outset) (layout : Layout) (disk : DiskState) (e : Halt) → e ≡ halt.Disk → ShowsReason o layout disk e
+fault_shows o layout disk e is = subst (λ (x : Halt). ShowsReason o layout disk x) (sym is) tt
