@@ -1,17 +1,24 @@
 -- What holds of the state behind a reference holds of the state.
-use Rattle.std.proofs.Common.{◌≡◌, inl, inr, ℕ, ◌≤◌, List, ◌∷◌, Option, sym, ap, subst, drop}
+use Rattle.std.proofs.Common.{◌≡◌, inl, inr, ℕ, ◌≤◌, List, ◌∷◌, length, Option, sym, ap, ◌∙◌, subst, drop}
+use Rattle.labelled_disk.specs.declared.disk.DiskWrite.{DiskWrite}
 use Rattle.labelled_disk.specs.declared.evidence.Evidence.{Evidence}
 use Rattle.labelled_disk.specs.declared.evidence.Evidence.TheVariants.{Mismatch, Malformed, Missing}
+use Rattle.labelled_disk.specs.declared.layout.Layout.{Layout}
 use Rattle.labelled_disk.specs.Calls.{OnlyReads, Rose}
+use Rattle.labelled_disk.specs.Layout.{layout_of}
 use Rattle.labelled_disk.specs.State.{DiskState, lent_state}
 use Rattle.labelled_disk.specs.Sectors.{Sector}
 use Rattle.flat_machine.specs.After.{TraceLine}
 use Rattle.flat_machine.specs.Machine.{Machine}
 use Rattle.trace_io.specs.Reading.{reading}
 use Rattle.pilot_engine.specs.Closing.{HasShut}
+use Rattle.frame_pool.specs.declared.home.Home.{Home}
+use Rattle.swapper_kernel.specs.Homes.{home_at}
 use Rattle.filer_kernel.specs.Evidence.{IsSo}
+use Rattle.file_manager.specs.Reasons.{HasReason, IsAtHome, MayBeFree, Outset, WasMade, outset}
 use Rattle.pilot_top.specs.Headline.{IsLeftOpen, Run, TellsDamage}
 use Rattle.pilot_top.specs.Moments.{Lawfully, Moments}
+use Rattle.pilot_top.specs.Outset.{FromOutset}
 use Rattle.pilot_top.specs.Replied.{AreToFirst, Replied}
 use Rattle.pilot_top.specs.Trial.{HasNoFile, TriesLawfully}
 use Rattle.pilot_top.specs.declared.status.Status.{Status}
@@ -20,6 +27,26 @@ use Rattle.pilot_top.specs.declared.status.Status.TheVariants as status
 -- no fault rose behind a reference
 pub none_rose_behind : {D : Type 0} (state : D → DiskState) (before : ℕ) (x y : D) → (Rose before (state x).faults → ⊥) → x ≡ y → Rose before (state y).faults → ⊥
 none_rose_behind state before x y none same = subst (λ z. Rose before (state z).faults → ⊥) same none
+
+-- a write that one disk tells is told by another that tells the same writes
+made_there : (o : Outset) (a b : DiskState) (w : DiskWrite) → a.writes ≡ b.writes → WasMade o a w → WasMade o b w
+made_there o a b w same made = record { more = made.more; told = sym same ∙ made.told; turn = made.turn; is = made.is }
+
+-- so a page is at home there, a sector may be free, and evidence has its reason
+home_there : (o : Outset) (a b : DiskState) (home : Home) → a.writes ≡ b.writes → IsAtHome o a home → IsAtHome o b home
+home_there o a b home same (inl named) = inl named
+home_there o a b home same (inr given) = inr (given.0, made_there o a b _ same given.1)
+
+free_there : (o : Outset) (a b : DiskState) (sector : ℕ) → a.writes ≡ b.writes → MayBeFree o a sector → MayBeFree o b sector
+free_there o a b sector same (inl free) = inl free
+free_there o a b sector same (inr given) = inr (made_there o a b _ same given)
+
+reason_there : (o : Outset) (l : Layout) (a b : DiskState) (e : Evidence) → a.writes ≡ b.writes → HasReason o l a e → HasReason o l b e
+reason_there o l a b (Mismatch sector wanted found) same (inl map) = inl map
+reason_there o l a b (Mismatch sector wanted found) same (inr (inl home)) = inr (inl (home_there o a b (home_at sector wanted) same home))
+reason_there o l a b (Mismatch sector wanted found) same (inr (inr free)) = inr (inr (free.0, free_there o a b sector same free.1))
+reason_there o l a b (Malformed window page) same is = is
+reason_there o l a b (Missing id page) same is = is
 
 module _ {D : Type 0} (state : D → DiskState) (x y : D) (same : x ≡ y) where
   pub rose_behind : (before : ℕ) → Rose before (state y).faults → Rose before (state x).faults
@@ -50,28 +77,29 @@ module _ {D : Type 0} (state : D → DiskState) (x y : D) (same : x ≡ y) where
   pub so_there : (n : ℕ) (e : Evidence) → IsSo (lent_state n (state y)) e → IsSo (state x) e
   so_there n e so = rw same (so_behind n e so)
 
-  -- what is told of damage
+  -- what is told of damage, and its reason
   module _ {t : List ℕ} {took : Option (List ℕ)} {failed : Type 0} (n : ℕ) (told : TellsDamage t took failed (lent_state n (state y))) where
     abbrev tells_there : TellsDamage t took failed (state y)
     tells_there = record { replies = told.replies; evidence = told.evidence; so = so_behind n told.evidence told.so; left_open = told.left_open; written = told.written }
 
-    pub damage_behind : TellsDamage t took failed (state x)
-    damage_behind = subst (λ (z : D). TellsDamage t took failed (state z)) (sym same) tells_there
+    pub damage_behind : (reasoned : Evidence → Type 0) → reasoned told.evidence → (there : TellsDamage t took failed (state x)) × reasoned there.evidence
+    damage_behind reasoned reason = subst (λ (z : D). (there : TellsDamage t took failed (state z)) × reasoned there.evidence) (sym same) (tells_there, reason)
 
-    first_behind : (lines : List TraceLine) → AreToFirst told.replies lines → (there : TellsDamage t took failed (state x)) × AreToFirst there.replies lines
-    first_behind lines to_first = subst (λ (z : D). (there : TellsDamage t took failed (state z)) × AreToFirst there.replies lines) (sym same) (tells_there, to_first)
+    first_behind : (reasoned : Evidence → Type 0) (lines : List TraceLine) → AreToFirst told.replies lines → reasoned told.evidence → (there : TellsDamage t took failed (state x)) × AreToFirst there.replies lines × reasoned there.evidence
+    first_behind reasoned lines to_first reason =
+        subst (λ (z : D). (there : TellsDamage t took failed (state z)) × AreToFirst there.replies lines × reasoned there.evidence) (sym same) (tells_there, to_first, reason)
 
   -- what was replied
-  pub replied_behind : (s : Status) (b t : List ℕ) (left took : Option (List ℕ)) (failed : Type 0) (n : ℕ) → Replied s b left t took failed (lent_state n (state y)) → Replied s b left t took failed (state x)
-  replied_behind status.Damaged b t left took failed n is = first_behind n is.0 (reading b) is.1
-  replied_behind status.Done b t left took failed n is = is
-  replied_behind status.DiskFault b t left took failed n is = is
-  replied_behind status.Long b t left took failed n is = is
-  replied_behind status.StreamFault b t left took failed n is = is
-  replied_behind status.NotOpened b t left took failed n is = is
-  replied_behind status.NoMemory b t left took failed n is = is
-  replied_behind status.Usage b t left took failed n is = is
-  replied_behind status.Unfit b t left took failed n is = is
+  pub replied_behind : (s : Status) (b t : List ℕ) (left took : Option (List ℕ)) (failed : Type 0) (n : ℕ) (reasoned : Evidence → Type 0) → Replied s b left t took failed (lent_state n (state y)) reasoned → Replied s b left t took failed (state x) reasoned
+  replied_behind status.Damaged b t left took failed n reasoned is = first_behind n is.0 reasoned (reading b) is.1 is.2
+  replied_behind status.Done b t left took failed n reasoned is = is
+  replied_behind status.DiskFault b t left took failed n reasoned is = is
+  replied_behind status.Long b t left took failed n reasoned is = is
+  replied_behind status.StreamFault b t left took failed n reasoned is = is
+  replied_behind status.NotOpened b t left took failed n reasoned is = is
+  replied_behind status.NoMemory b t left took failed n reasoned is = is
+  replied_behind status.Usage b t left took failed n reasoned is = is
+  replied_behind status.Unfit b t left took failed n reasoned is = is
 
   -- and so many transfers were made
   pub spent_behind : (most : ℕ) → (state y).transfers ≤ most → (state x).transfers ≤ most
@@ -89,6 +117,12 @@ module _ {D : Type 0} (state : D → DiskState) (x y : D) (same : x ≡ y) where
   run_behind status.Unfit d b t left took failed n is = absurd is
 
   module _ (first : DiskState) (m n : ℕ) where
+    -- evidence that has its reason behind the references has it here
+    pub from_behind : (e : Evidence) → FromOutset (lent_state m first) (lent_state n (state y)) e → FromOutset first (state x) e
+    from_behind e from d named ws begun =
+        reason_there (outset d named ws) (layout_of (length d)) (lent_state n (state y)) (state x) e (ap (λ z. (state z).writes) (sym same))
+        (from d named ws (record { contents = begun.contents; writes = begun.writes; map = begun.map }))
+
     pub reads_behind : OnlyReads (lent_state m first) (lent_state n (state y)) → OnlyReads first (state x)
     reads_behind reads = rw same (record {
       sectors = reads.sectors;

@@ -44,6 +44,12 @@ pub damage_told : (h : Halt) (s : Status) (failed : Type 0) (u v : Option (List 
 damage_told halt.Disk s failed u v disk so same damaged puts = absurd (cc (same, damaged))
 damage_told (halt.Damaged evidence) s failed u v disk so same damaged puts = (evidence, so, puts)
 
+-- and its reason
+pub damage_reasoned : (h : Halt) (s : Status) (failed : Type 0) (u v : Option (List ℕ)) (disk : DiskState) (reasoned : Evidence → Type 0) → ShowsSo disk h → ((e : Evidence) → h ≡ halt.Damaged e → reasoned e)
+    → s ≡ status_of h → ◌≡◌ {A = Option Status} (Some s) (Some status.Damaged) → Puts failed u v (last_line (cause_of h)) → (e : Evidence) × IsSo disk e × reasoned e × Puts failed u v (last_line (cause.Damaged e))
+damage_reasoned halt.Disk s failed u v disk reasoned so reason same damaged puts = absurd (cc (same, damaged))
+damage_reasoned (halt.Damaged evidence) s failed u v disk reasoned so reason same damaged puts = (evidence, so, reason evidence refl, puts)
+
 -- a damaged volume is left open
 pub left_damaged : (h : Halt) (s : Status) (disk : DiskState) → LeavesOpen disk h → s ≡ status_of h → ◌≡◌ {A = Option Status} (Some s) (Some status.Damaged) → IsUnset disk
 left_damaged halt.Disk s disk left same damaged = absurd (cc (same, damaged))

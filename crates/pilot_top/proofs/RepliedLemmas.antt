@@ -38,7 +38,7 @@ use Rattle.pilot_top.proofs.SuitLemmas.{to_more}
 use Rattle.pilot_top.proofs.TopLemmas.{Going, damage_told, told_bytes, told_end, told_taken, wrote_last}
 
 -- Source and sink tell their bytes.
-module _ (x t : List ℕ) {b u : Option (List ℕ)} {p : Progress} {first now : Machine → Type 0} (going : Going (Some x) b (Some t) u p first now) (failed : Type 0) (disk : DiskState) where
+module _ (x t : List ℕ) {b u : Option (List ℕ)} {p : Progress} {first now : Machine → Type 0} (going : Going (Some x) b (Some t) u p first now) (failed : Type 0) (disk : DiskState) (reasoned : Evidence → Type 0) where
   abbrev texts : List ℕ
   texts = flat_map text going.replies
 
@@ -52,21 +52,21 @@ module _ (x t : List ℕ) {b u : Option (List ℕ)} {p : Progress} {first now : 
   to_first : (more : List TraceLine) → reading x ≡ going.lines ++ more → AreToFirst going.replies (reading x)
   to_first more are = record { first = going.lines; rest = more; all = are; each = going.each; none_last = going.none_last }
 
-  Replied-disk : (c v : Option (List ℕ)) (more : List TraceLine) → reading x ≡ going.lines ++ more → Puts failed u v (last_line cause.DiskFault) → Replied status.DiskFault x c t v failed disk
+  Replied-disk : (c v : Option (List ℕ)) (more : List TraceLine) → reading x ≡ going.lines ++ more → Puts failed u v (last_line cause.DiskFault) → Replied status.DiskFault x c t v failed disk reasoned
   Replied-disk c v more are put = (going.replies, to_first more are, stopped_line v (last_line cause.DiskFault) put)
 
-  Replied-damaged : (c v : Option (List ℕ)) (more : List TraceLine) → reading x ≡ going.lines ++ more → (e : Evidence) → IsSo disk e → IsLeftOpen disk → Puts failed u v (last_line (cause.Damaged e))
-      → Replied status.Damaged x c t v failed disk
-  Replied-damaged c v more are e so open_still put = (damage_told (Some x) b u v t p first now failed e disk so open_still going put, to_first more are)
+  Replied-damaged : (c v : Option (List ℕ)) (more : List TraceLine) → reading x ≡ going.lines ++ more → (e : Evidence) → IsSo disk e → reasoned e → IsLeftOpen disk → Puts failed u v (last_line (cause.Damaged e))
+      → Replied status.Damaged x c t v failed disk reasoned
+  Replied-damaged c v more are e so reason open_still put = (damage_told (Some x) b u v t p first now failed e disk so open_still going put, to_first more are, reason)
 
-  pub Replied-halted : (s : Status) (why : Halt) (c v : Option (List ℕ)) (more : List TraceLine) → reading x ≡ going.lines ++ more → s ≡ status_of why → ShowsSo disk why → IsLeftOpen disk
-      → Puts failed u v (last_line (cause_of why)) → Replied s x c t v failed disk
-  Replied-halted s halt.Disk c v more are is so open_still put = subst (λ (z : Status). Replied z x c t v failed disk) (sym is) (Replied-disk c v more are put)
-  Replied-halted s (halt.Damaged e) c v more are is so open_still put = subst (λ (z : Status). Replied z x c t v failed disk) (sym is) (Replied-damaged c v more are e so open_still put)
+  pub Replied-halted : (s : Status) (why : Halt) (c v : Option (List ℕ)) (more : List TraceLine) → reading x ≡ going.lines ++ more → s ≡ status_of why → ShowsSo disk why → ((e : Evidence) → why ≡ halt.Damaged e → reasoned e) → IsLeftOpen disk
+      → Puts failed u v (last_line (cause_of why)) → Replied s x c t v failed disk reasoned
+  Replied-halted s halt.Disk c v more are is so reason open_still put = subst (λ (z : Status). Replied z x c t v failed disk reasoned) (sym is) (Replied-disk c v more are put)
+  Replied-halted s (halt.Damaged e) c v more are is so reason open_still put = subst (λ (z : Status). Replied z x c t v failed disk reasoned) (sym is) (Replied-damaged c v more are e so (reason e refl) open_still put)
 
   -- as many bytes as the limit were taken
   pub Replied-long : (c v : Option (List ℕ)) (q : Progress) → p.stopped ≡ None → TakesPart stop.Long b c p q → q.taken ≡ 2 ^ 32 → Puts failed u v (last_line cause.Long)
-      → Replied status.Long x c t v failed disk
+      → Replied status.Long x c t v failed disk reasoned
   Replied-long c v q none takes full put =
       let read = HasRead-part (Some x) b c p q stop.Long going.lines going.read none takes in
       let taken = told_taken x c read.bytes read.took in (
@@ -78,7 +78,7 @@ module _ (x t : List ℕ) {b u : Option (List ℕ)} {p : Progress} {first now : 
       )
 
   -- the source failed
-  pub Replied-read_fault : (c : Option (List ℕ)) (q : Progress) → p.stopped ≡ None → TakesPart stop.ReadFault b c p q → Replied status.StreamFault x c t u failed disk
+  pub Replied-read_fault : (c : Option (List ℕ)) (q : Progress) → p.stopped ≡ None → TakesPart stop.ReadFault b c p q → Replied status.StreamFault x c t u failed disk reasoned
   Replied-read_fault c q none takes =
       let read = HasRead-part (Some x) b c p q stop.ReadFault going.lines going.read none takes in
       let taken = told_taken x c read.bytes read.took in
@@ -91,7 +91,7 @@ module _ (x t : List ℕ) {b u : Option (List ℕ)} {p : Progress} {first now : 
 
   -- the sink failed on a reply
   pub Replied-write_fault : (c v : Option (List ℕ)) (q : Progress) (line : TraceLine) (r : Reply) → p.stopped ≡ None → TakesLine line b c p q → Suits line r
-      → failed → (front : List ℕ) → IsFrontOf front (text r) → Appends u v front → Replied status.StreamFault x c t v failed disk
+      → failed → (front : List ℕ) → IsFrontOf front (text r) → Appends u v front → Replied status.StreamFault x c t v failed disk reasoned
   Replied-write_fault c v q line r none takes suits rose front is_front wrote =
       elim (HasRead-item (Some x) b c p q going.lines line going.read none takes) [
         | inl read ↦
@@ -112,12 +112,12 @@ module _ (x t : List ℕ) {b u : Option (List ℕ)} {p : Progress} {first now : 
 
   -- all lines were read and answered
   done_all : (c v : Option (List ℕ)) (taken limit : ℕ) (lines : List TraceLine) (replies : List Reply) → HasReadAll (Some x) c taken limit lines → AreTo replies lines
-      → Appends (Some t) v (flat_map text replies) → Replied status.Done x c t v failed disk
+      → Appends (Some t) v (flat_map text replies) → Replied status.Done x c t v failed disk reasoned
   done_all c v taken limit lines replies all each wrote =
       (replies, subst (λ (ls : List TraceLine). AreTo replies ls) (sym all.items_are) each, told_bytes t v (flat_map text replies) wrote, all.rest_is)
 
   done_last : (c v : Option (List ℕ)) (q : Progress) (line : TraceLine) (r : Reply) → p.stopped ≡ None → TakesLine line b c p q → Suits line r → is_last line ≡ true → Appends u v (text r)
-      → Replied status.Done x c t v failed disk
+      → Replied status.Done x c t v failed disk reasoned
   done_last c v q line r none takes suits last wrote =
       done_all c v q.taken q.limit (going.lines ++ line ∷ []) (going.replies ++ r ∷ []) (HasRead-last (Some x) b c p q going.lines line going.read none takes last)
       (to_more going.lines going.replies line r going.each suits)
@@ -127,7 +127,7 @@ module _ (x t : List ℕ) {b u : Option (List ℕ)} {p : Progress} {first now : 
   nothing_more v wrote = subst (λ (o : List ℕ). Appends (Some t) v o) (append-nil texts) (Appends-trans (Some t) u v texts [] wrote_texts wrote)
 
   -- at the trace's end
-  Replied-done : (how : End) (c v : Option (List ℕ)) (q : Progress) → EndsTrace how b c p q → Appends u v (end_text how) → Replied status.Done x c t v failed disk
+  Replied-done : (how : End) (c v : Option (List ℕ)) (q : Progress) → EndsTrace how b c p q → Appends u v (end_text how) → Replied status.Done x c t v failed disk reasoned
   Replied-done end.Close c v q ended wrote = done_last c v q (Some call.Close) reply.Done ended.0 ended.1 refl refl wrote
   Replied-done end.Halt c v q ended wrote = done_last c v q (Some call.Halt) reply.Done ended.0 ended.1 refl refl wrote
   Replied-done end.Trace c v q (inl ended) wrote =
@@ -137,7 +137,7 @@ module _ (x t : List ℕ) {b u : Option (List ℕ)} {p : Progress} {first now : 
       done_all c v p.taken p.limit going.lines going.replies (subst (λ e. HasReadAll (Some x) e p.taken p.limit going.lines) (sym ended.1) all.0) going.each (nothing_more v wrote)
 
   Replied-part : (how : End) (c v : Option (List ℕ)) (q : Progress) → EndsTrace how b c p q → how ≢ end.Trace → failed → (front : List ℕ) → IsFrontOf front (end_text how) → Appends u v front
-      → Replied status.StreamFault x c t v failed disk
+      → Replied status.StreamFault x c t v failed disk reasoned
   Replied-part end.Close c v q ended other rose front is_front wrote = Replied-write_fault c v q (Some call.Close) reply.Done ended.0 ended.1 refl rose front is_front wrote
   Replied-part end.Halt c v q ended other rose front is_front wrote = Replied-write_fault c v q (Some call.Halt) reply.Done ended.0 ended.1 refl rose front is_front wrote
   Replied-part end.Trace c v q ended other rose front is_front wrote = absurd (other refl)
@@ -148,18 +148,18 @@ module _ (x t : List ℕ) {b u : Option (List ℕ)} {p : Progress} {first now : 
       → (s ≡ status.StreamFault → (front : List ℕ) × IsFrontOf front (end_text how) × Appends u v front)
       → (s ≡ status.StreamFault → failed × (how ≢ end.Trace))
       → (s ≡ status.DiskFault → Puts failed u v (last_line cause.DiskFault))
-      → (s ≡ status.Damaged → (e : Evidence) × IsSo disk e × Puts failed u v (last_line (cause.Damaged e)))
+      → (s ≡ status.Damaged → (e : Evidence) × IsSo disk e × reasoned e × Puts failed u v (last_line (cause.Damaged e)))
       → (s ≡ status.Damaged → IsLeftOpen disk)
-      → Replied s x c t v failed disk
-  Replied-end s how c v q ended (inl done) on_done on_part cause_is on_disk on_damage open_still = subst (λ (z : Status). Replied z x c t v failed disk) (sym done) (Replied-done how c v q ended (on_done done))
+      → Replied s x c t v failed disk reasoned
+  Replied-end s how c v q ended (inl done) on_done on_part cause_is on_disk on_damage open_still = subst (λ (z : Status). Replied z x c t v failed disk reasoned) (sym done) (Replied-done how c v q ended (on_done done))
   Replied-end s how c v q ended (inr (inl part)) on_done on_part cause_is on_disk on_damage open_still =
       let front = on_part part in
       let why = cause_is part in
-      subst (λ (z : Status). Replied z x c t v failed disk) (sym part) (Replied-part how c v q ended why.1 why.0 front.0 front.1 front.2)
+      subst (λ (z : Status). Replied z x c t v failed disk reasoned) (sym part) (Replied-part how c v q ended why.1 why.0 front.0 front.1 front.2)
   Replied-end s how c v q ended (inr (inr (inl fault))) on_done on_part cause_is on_disk on_damage open_still =
       let front = End-front x b (Some t) u p first now going how c q ended in
-      subst (λ (z : Status). Replied z x c t v failed disk) (sym fault) (Replied-disk c v front.0 front.1 (on_disk fault))
+      subst (λ (z : Status). Replied z x c t v failed disk reasoned) (sym fault) (Replied-disk c v front.0 front.1 (on_disk fault))
   Replied-end s how c v q ended (inr (inr (inr damaged))) on_done on_part cause_is on_disk on_damage open_still =
       let front = End-front x b (Some t) u p first now going how c q ended in
       let line = on_damage damaged in
-      subst (λ (z : Status). Replied z x c t v failed disk) (sym damaged) (Replied-damaged c v front.0 front.1 line.0 line.1 (open_still damaged) line.2)
+      subst (λ (z : Status). Replied z x c t v failed disk reasoned) (sym damaged) (Replied-damaged c v front.0 front.1 line.0 line.1 line.2 (open_still damaged) line.3)

@@ -130,32 +130,38 @@ module _ {K : Type 0} (f : StartFault) (s : Status) (old new : K) (took : K → 
     | inr (inr (inr damage)) ↦ absurd (let e : halt.Damaged damage.0 ≡ halt.Disk = subst IsOutside damage.1 outside in cc e)
   ]
 
-  -- what is told of damage before any line
-  pub damage_first : (disk : DiskState) → IsSoAtStart disk f → LeavesOpenAtStart disk f → (t : List ℕ) → took old ≡ Some t → s ≡ status.Damaged → TellsDamage t (took new) failed disk
-  damage_first disk so left t sink is = elim (how f s old new (Puts failed (took old) (took new)) stops) [
+  -- what is told of damage before any line, and its reason
+  pub damage_first : (disk : DiskState) (reasoned : Evidence → Type 0) → IsSoAtStart disk f → ((e : Evidence) → f ≡ start_fault.Halt (halt.Damaged e) → reasoned e) → LeavesOpenAtStart disk f → (t : List ℕ) → took old ≡ Some t → s ≡ status.Damaged
+      → (told : TellsDamage t (took new) failed disk) × reasoned told.evidence
+  damage_first disk reasoned so reason left t sink is = elim (how f s old new (Puts failed (took old) (took new)) stops) [
     | inl refusal ↦ absurd (let e = sym refusal.3 ∙ is in cc e)
     | inr (inl fault) ↦ absurd (let e = sym fault.1 ∙ is in cc e)
     | inr (inr (inl memory)) ↦ absurd (let e = sym memory.1 ∙ is in cc e)
-    | inr (inr (inr damage)) ↦ damage_alone failed t (took old) (took new) damage.0 disk (subst (IsSoAtStart disk) damage.1 so) (subst (LeavesOpenAtStart disk) damage.1 left) sink damage.3
+    | inr (inr (inr damage)) ↦ (
+      damage_alone failed t (took old) (took new) damage.0 disk (subst (IsSoAtStart disk) damage.1 so) (subst (LeavesOpenAtStart disk) damage.1 left) sink damage.3,
+      reason damage.0 damage.1,
+    )
   ]
 
   -- nothing was taken, and no line has a reply
-  pub replied_refused : (b t : List ℕ) (left : Option (List ℕ)) (disk : DiskState) → IsSoAtStart disk f → LeavesOpenAtStart disk f → left ≡ Some b → took old ≡ Some t → Replied s b left t (took new) failed disk
-  replied_refused b t left disk so open_still source sink = elim (how f s old new (Puts failed (took old) (took new)) stops) [
+  pub replied_refused : (b t : List ℕ) (left : Option (List ℕ)) (disk : DiskState) (reasoned : Evidence → Type 0) → IsSoAtStart disk f → ((e : Evidence) → f ≡ start_fault.Halt (halt.Damaged e) → reasoned e) → LeavesOpenAtStart disk f
+      → left ≡ Some b → took old ≡ Some t → Replied s b left t (took new) failed disk reasoned
+  replied_refused b t left disk reasoned so reason open_still source sink = elim (how f s old new (Puts failed (took old) (took new)) stops) [
     | inl refusal ↦
-        subst (λ (x : Status). Replied x b left t (took new) failed disk) (sym refusal.3)
+        subst (λ (x : Status). Replied x b left t (took new) failed disk reasoned) (sym refusal.3)
         (source, refusal.0, put_alone failed t (took old) (took new) (last_line (cause.Root refusal.0)) sink refusal.4)
     | inr (inl fault) ↦
-        subst (λ (x : Status). Replied x b left t (took new) failed disk) (sym fault.1) (
+        subst (λ (x : Status). Replied x b left t (took new) failed disk reasoned) (sym fault.1) (
           [],
           none_first (reading b),
           subst (λ (u : List ℕ). HasWritten failed u (took new) (last_line cause.DiskFault)) (sym (append-nil t)) (put_alone failed t (took old) (took new) (last_line cause.DiskFault) sink fault.2),
         )
-    | inr (inr (inl memory)) ↦ subst (λ (x : Status). Replied x b left t (took new) failed disk) (sym memory.1) (source, ap took memory.2 ∙ sink)
+    | inr (inr (inl memory)) ↦ subst (λ (x : Status). Replied x b left t (took new) failed disk reasoned) (sym memory.1) (source, ap took memory.2 ∙ sink)
     | inr (inr (inr damage)) ↦
-        subst (λ (x : Status). Replied x b left t (took new) failed disk) (sym damage.2) (
+        subst (λ (x : Status). Replied x b left t (took new) failed disk reasoned) (sym damage.2) (
           damage_alone failed t (took old) (took new) damage.0 disk (subst (IsSoAtStart disk) damage.1 so) (subst (LeavesOpenAtStart disk) damage.1 open_still) sink damage.3,
           none_first (reading b),
+          reason damage.0 damage.1,
         )
   ]
 

@@ -2,6 +2,7 @@
 use Rattle.std.specs.Prelude.{◌≡◌, ◌⊎◌, ◌^◌, false, ℕ, List, [], ◌∷◌, ◌++◌, length, flat_map, Option, Some, None}
 use Rattle.std.specs.List.{AllZip, list_any}
 use Rattle.labelled_disk.specs.State.{DiskState}
+use Rattle.labelled_disk.specs.declared.evidence.Evidence.{Evidence}
 use Rattle.labelled_disk.specs.declared.layout.RootFault.{RootFault}
 use Rattle.flat_machine.specs.declared.call.Call.TheVariants.{Close, Halt}
 use Rattle.flat_machine.specs.declared.call.Refusal.TheVariants.{Syntax}
@@ -46,29 +47,29 @@ pub record IsCutShort (lines : List TraceLine) (t : List ℕ) (took : Option (Li
   pub took_is : took ≡ Some (t ++ flat_map text replies ++ front)
 
 -- A run that began with a source with the bytes b and a sink with the bytes t: what source and sink have now.
--- `failed` says that the sink failed, and `disk` is the disk as it was left.
-abbrev pub Replied : Status → List ℕ → Option (List ℕ) → List ℕ → Option (List ℕ) → Type 0 → DiskState → Type 0
+-- `failed` says that the sink failed, `disk` is the disk as it was left, and `reasoned` says of evidence that it has its reason.
+abbrev pub Replied : Status → List ℕ → Option (List ℕ) → List ℕ → Option (List ℕ) → Type 0 → DiskState → (Evidence → Type 0) → Type 0
 -- a reply to each line of the trace; what is left stands behind the last of them
-Replied status.Done b left t took failed disk =
+Replied status.Done b left t took failed disk reasoned =
     (replies : List Reply) × AreTo replies (reading b) × (took ≡ Some (t ++ flat_map text replies)) × (left ≡ Some (rest_of b))
 -- replies to some first lines, but none to one that ends the trace, and the last line
-Replied status.DiskFault b left t took failed disk =
+Replied status.DiskFault b left t took failed disk reasoned =
     (replies : List Reply) × AreToFirst replies (reading b) × HasWritten failed (t ++ flat_map text replies) took (last_line cause.DiskFault)
--- the same, with what shows in the last line that the volume is damaged
-Replied status.Damaged b left t took failed disk = (told : TellsDamage t took failed disk) × AreToFirst told.replies (reading b)
+-- the same, with what shows in the last line that the volume is damaged, and its reason
+Replied status.Damaged b left t took failed disk reasoned = (told : TellsDamage t took failed disk) × AreToFirst told.replies (reading b) × reasoned told.evidence
 -- replies to the lines that are whole in the 2 ^ 32 bytes taken, and the last line
-Replied status.Long b left t took failed disk =
+Replied status.Long b left t took failed disk reasoned =
     (taken : Taken b left) × (length taken.bytes ≡ 2 ^ 32) × (replies : List Reply) × AreTo replies (whole_reading taken.bytes)
     × HasWritten failed (t ++ flat_map text replies) took (last_line cause.Long)
 -- replies to the lines that are whole in the bytes taken; or, where the sink failed, to those before the last of them, and a
 -- front of the reply to that one; or, where nothing is left, the same of all lines
-Replied status.StreamFault b left t took failed disk =
+Replied status.StreamFault b left t took failed disk reasoned =
     ((taken : Taken b left) × (replies : List Reply) × AreTo replies (whole_reading taken.bytes) × (took ≡ Some (t ++ flat_map text replies)))
     ⊎ (failed × (taken : Taken b left) × IsCutShort (whole_reading taken.bytes) t took)
     ⊎ (failed × (left ≡ Some []) × IsCutShort (reading b) t took)
 -- nothing was taken, and the last line alone was written
-Replied status.NotOpened b left t took failed disk = (left ≡ Some b) × (why : RootFault) × HasWritten failed t took (last_line (cause.Root why))
+Replied status.NotOpened b left t took failed disk reasoned = (left ≡ Some b) × (why : RootFault) × HasWritten failed t took (last_line (cause.Root why))
 -- nothing was taken, and nothing was written
-Replied status.NoMemory b left t took failed disk = (left ≡ Some b) × (took ≡ Some t)
+Replied status.NoMemory b left t took failed disk reasoned = (left ≡ Some b) × (took ≡ Some t)
 -- no run ends so
-Replied other b left t took failed disk = ⊥
+Replied other b left t took failed disk reasoned = ⊥

@@ -11,6 +11,7 @@ use Rattle.pilot_engine.specs.Closing.{HasShut}
 use Rattle.pilot_top.specs.Ending.{halts, closes}
 use Rattle.pilot_top.specs.Headline.{EndsEarly, IsLeftOpen, Run, TellsDamage, at_end, run_bound}
 use Rattle.pilot_top.specs.Moments.{Lawfully, Moments}
+use Rattle.pilot_top.specs.Outset.{FromOutset}
 use Rattle.pilot_top.specs.Replied.{Replied}
 use Rattle.pilot_top.specs.World.{World, Holds, Gives, Took, DiskFailed, SourceFailed, SinkFailed, StaysUnwritten, WritesLast}
 use Rattle.pilot_top.specs.declared.last.Cause.TheVariants as cause
@@ -22,7 +23,7 @@ pub record Ran (s : Status) (before after : World) : Type 0 where
   -- On a sound volume: the replies, what the source has left, and the files of the disk.
   pub answers : (d : List Sector) (b t : List ℕ) → Holds before d → Sound d → Gives before b → Took before t → Run s d b after.left t after.took (SinkFailed before after) after.disk
   -- Whatever the disk holds, replies to the lines that were read, and the last line where it stopped.
-  pub replied : (b t : List ℕ) → Gives before b → Took before t → Replied s b after.left t after.took (SinkFailed before after) after.disk
+  pub replied : (b t : List ℕ) → Gives before b → Took before t → Replied s b after.left t after.took (SinkFailed before after) after.disk (FromOutset before.disk after.disk)
   -- Where its end was not a `halt`, the volume is closed, sound, and on the medium; so it is where only the reply to `close`
   -- was not heard.
   pub closed : (d : List Sector) (b : List ℕ) → Holds before d → Sound d → Gives before b → s ≡ status.Done → halts (reading b) ≡ false → HasShut (at_end d (reading b)) after.disk
@@ -39,10 +40,11 @@ pub record Ran (s : Status) (before after : World) : Type 0 where
   pub left_open : (s ≡ status.Long) ⊎ (s ≡ status.Damaged) → IsLeftOpen after.disk
   -- How many transfers its start, its lines and its end may make.
   pub transfers : (d : List Sector) (b : List ℕ) → Holds before d → Sound d → Gives before b → after.disk.transfers ≤ before.disk.transfers + run_bound before.disk.sectors (reading b)
-  -- Over any contents each write is lawful at its moment, and the volume stays open between the first and the last; and what
-  -- is told of a damaged volume is so.
+  -- Over any contents each write is lawful at its moment, and the volume stays open between the first and the last. What is told
+  -- of a damaged volume is so; and where the file map was in form at the start, a label was wanted there for a reason: the layout,
+  -- what both maps said then, or what the run gave and gave up.
   pub lawful : Lawfully before.disk after.disk
-  pub damage : (t : List ℕ) → Took before t → s ≡ status.Damaged → TellsDamage t after.took (SinkFailed before after) after.disk
+  pub damage : (t : List ℕ) → Took before t → s ≡ status.Damaged → (told : TellsDamage t after.took (SinkFailed before after) after.disk) × FromOutset before.disk after.disk told.evidence
   -- A sound volume is not refused, and shows no damage, whatever source and sink tell.
   pub sound : (d : List Sector) → Holds before d → Sound d → s ≢ status.NotOpened × s ≢ status.Damaged
   -- A volume that can't be opened.

@@ -19,6 +19,7 @@ ghost use Rattle.pilot_top.specs.Ending.{halts, closes};
 ghost use Rattle.pilot_top.specs.Headline.{Answering, EndsEarly, HasFilesAt, IsLeftOpen, Run, TellsDamage, at_end, line_bound, run_bound};
 ghost use Rattle.pilot_top.specs.Last.{last_line, Puts};
 ghost use Rattle.pilot_top.specs.Moments.{Lawfully, Moments, ShutsLast};
+ghost use Rattle.pilot_top.specs.Outset.{FromEachOutset, FromOutset};
 ghost use Rattle.pilot_top.specs.Replied.{Replied};
 
 use crate::Status;
@@ -50,7 +51,7 @@ fn answer_lines<D: Disk, A: Allocator, S: Source, K: Sink>(
     ensures replied { (b t : List ℕ) → IsLeftOpen (D.state session.core.filer.swapper.under)
         → S.left source.old ≡ Some b → K.took sink.old ≡ Some t
         → Replied result.0 b (S.left source.new) t (K.took sink.new)
-        (Rose (K.faults sink.old) (K.faults sink.new)) (D.state result.1) }
+        (Rose (K.faults sink.old) (K.faults sink.new)) (D.state result.1) (FromEachOutset session.core.filer (D.state result.1)) }
     ensures moments { (m : Machine) (b : List ℕ) → Runs session.core session.volume m
         → S.left source.old ≡ Some b → Moments m (reading b) (D.state session.core.filer.swapper.under) (D.state result.1) }
     ensures closed { (m : Machine) (b : List ℕ) → Runs session.core session.volume m
@@ -76,7 +77,8 @@ fn answer_lines<D: Disk, A: Allocator, S: Source, K: Sink>(
         → result.0 ≢ Status.Damaged }
     ensures damage { (t : List ℕ) → IsLeftOpen (D.state session.core.filer.swapper.under)
         → K.took sink.old ≡ Some t → result.0 ≡ Status.Damaged
-        → TellsDamage t (K.took sink.new) (Rose (K.faults sink.old) (K.faults sink.new)) (D.state result.1) }
+        → (told : TellsDamage t (K.took sink.new) (Rose (K.faults sink.old) (K.faults sink.new)) (D.state result.1))
+        × FromEachOutset session.core.filer (D.state result.1) told.evidence }
     ensures lawful { ShutsLast (D.state session.core.filer.swapper.under) (D.state result.1) }
     ensures same_disk { Went (D.state session.core.filer.swapper.under) (D.state result.1) }
     ensures disk_cause { result.0 ≡ Status.DiskFault
@@ -129,7 +131,7 @@ pub(crate) fn run<A: Allocator, D: Disk, S: Source, K: Sink>(
         (Rose (K.faults sink.old) (K.faults sink.new)) (D.state result.1) }
     ensures replied { (b t : List ℕ) → S.left source.old ≡ Some b → K.took sink.old ≡ Some t
         → Replied result.0 b (S.left source.new) t (K.took sink.new)
-        (Rose (K.faults sink.old) (K.faults sink.new)) (D.state result.1) }
+        (Rose (K.faults sink.old) (K.faults sink.new)) (D.state result.1) (FromOutset (D.state disk) (D.state result.1)) }
     ensures moments { (d : List Sector) (b : List ℕ)
         → (D.state disk).contents ≡ Some d → Sound d → S.left source.old ≡ Some b
         → Moments (start d) (reading b) (D.state disk) (D.state result.1) }
@@ -155,7 +157,8 @@ pub(crate) fn run<A: Allocator, D: Disk, S: Source, K: Sink>(
     ensures sound { (d : List Sector) → (D.state disk).contents ≡ Some d → Sound d
         → result.0 ≢ Status.NotOpened × result.0 ≢ Status.Damaged }
     ensures damage { (t : List ℕ) → K.took sink.old ≡ Some t → result.0 ≡ Status.Damaged
-        → TellsDamage t (K.took sink.new) (Rose (K.faults sink.old) (K.faults sink.new)) (D.state result.1) }
+        → (told : TellsDamage t (K.took sink.new) (Rose (K.faults sink.old) (K.faults sink.new)) (D.state result.1))
+        × FromOutset (D.state disk) (D.state result.1) told.evidence }
     ensures lawful { Lawfully (D.state disk) (D.state result.1) }
     ensures same_disk { Went (D.state disk) (D.state result.1) }
 

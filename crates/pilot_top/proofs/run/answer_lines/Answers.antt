@@ -1,4 +1,5 @@
 use Rattle.std.proofs.Common.{◌≡◌, inl, inr, ◌∙◌, refl, sym, ap, subst, arith, Some, List, []}
+use Rattle.labelled_disk.specs.declared.evidence.Evidence.{Evidence}
 use Rattle.labelled_disk.specs.declared.evidence.Halt.{Halt}
 use Rattle.labelled_disk.specs.declared.evidence.Halt.TheVariants as halt
 use Rattle.labelled_disk.specs.Calls.{Rose}
@@ -9,11 +10,13 @@ use Rattle.swapper_kernel.specs.GoesLaws.{went_itself, went_then}
 use Rattle.trace_io.specs.Reading.{reading}
 use Rattle.session_words.specs.StandsFor.{TellsSettled}
 use Rattle.filer_kernel.specs.Evidence.{IsSo, ShowsSo}
+use Rattle.file_manager.specs.Reasons.{KeepsOn, Outset}
 use Rattle.pilot_engine.specs.declared.session.SessionOver.{SessionOver}
 use Rattle.pilot_engine.proofs.UnsetLemmas.{unset_then}
 use Rattle.running_words.specs.Running.{Runs}
 use Rattle.pilot_top.specs.Headline.{HasFilesAt}
 use Rattle.pilot_top.specs.Last.{last_line, Puts}
+use Rattle.pilot_top.specs.Outset.{FromEachOutset}
 use Rattle.pilot_top.specs.Stopping.{status_of, cause_of}
 use Rattle.pilot_top.specs.declared.last.Cause.{Cause}
 use Rattle.pilot_top.specs.declared.last.Cause.TheVariants as cause
@@ -25,6 +28,7 @@ use Rattle.pilot_top.proofs.FrontLemmas.{End-has}
 use Rattle.pilot_top.proofs.LawfulRuns.{called_openly, ended_last, openly_last, openly_none, openly_then}
 use Rattle.pilot_top.proofs.OpenLemmas.{early_halt}
 use Rattle.pilot_top.proofs.PlaceLemmas.{stop_told}
+use Rattle.pilot_top.proofs.ReasonLemmas.{reason_before, reason_halted}
 use Rattle.pilot_top.proofs.RepliedLemmas.{Replied-end, Replied-halted, Replied-long, Replied-read_fault, Replied-write_fault}
 use Rattle.pilot_top.proofs.StagedLemmas.{from_rest, stands_told}
 use Rattle.pilot_top.proofs.StatusLemmas.{halt_disk, halt_ends, trace_ends}
@@ -65,6 +69,8 @@ turns-init g c =
       limit = ap (λ p. p.limit) made;
       bound = rw made (omega arith);
       size = c.requires.size;
+      layout = refl;
+      keeps = λ o keeps. keeps;
       opened = c.requires.opened;
       running = c.requires.running;
       left_open = λ is. is;
@@ -94,6 +100,8 @@ turns-preserved g c =
       limit = turn.2.limit ∙ i.limit;
       bound = c.take_turn.ensures.bound;
       size = went.sectors ∙ i.size ∙ ap (λ l. l.sectors) (sym c.take_turn.ensures.layout);
+      layout = c.take_turn.ensures.layout ∙ i.layout;
+      keeps = λ o keeps. c.in-Replies.ensures.keeps_to o (i.keeps o keeps) tt;
       opened = c.take_turn.ensures.open_still;
       running = c.in-Replies.ensures.going tt;
       left_open = λ is. unset_then (i.left_open is) c.take_turn.ensures.wrote;
@@ -117,7 +125,7 @@ returns-in_default g c =
           Run-write_fault m b t _ _ c.turns.lines _ _ turned.going stands _ (HasFilesAt m (reading b) (g.D.Disk.state c.into_disk.result)) _ _ c.take_turn.new.lines _ turn.1 c.in-Replies.reply turn.0 turn.2 turn.3
           rose put.0 put.1 put.2 (rw c.into_disk.ensures has);
       replied = λ b t left source sink.
-          Replied-write_fault b t (Going-told _ _ _ _ _ _ _ b t i.turned.going source sink) _ (g.D.Disk.state c.into_disk.result) (g.S.Source.left c.take_turn.new.source) _ c.take_turn.new.lines turn.1 c.in-Replies.reply turn.0 turn.2 turn.3.suits
+          Replied-write_fault b t (Going-told _ _ _ _ _ _ _ b t i.turned.going source sink) _ (g.D.Disk.state c.into_disk.result) (FromEachOutset c.args.session.core.filer (g.D.Disk.state c.into_disk.result)) (g.S.Source.left c.take_turn.new.source) _ c.take_turn.new.lines turn.1 c.in-Replies.reply turn.0 turn.2 turn.3.suits
           rose put.0 put.1 put.2;
       moments = λ m b stands source. rw c.into_disk.ensures (line_moments m (Turned-source i.turned source) stands turn.0 turn.2 turn.4 turn.5);
       closed = λ m b stands source done going. absurd (cc done);
@@ -154,7 +162,7 @@ returns-in-ReadFault g c =
           Run-read_fault m b t _ _ c.turns.lines _ _ turned.going stands _ (HasFilesAt m (reading b) (g.D.Disk.state c.into_disk-in-ReadFault.result)) _ c.take_turn.new.lines turn.0 turn.1
           (rw c.into_disk-in-ReadFault.ensures (still_files m turned stands (tells g c.take_turn.new.session)));
       replied = λ b t left source sink.
-          Replied-read_fault b t (Going-told _ _ _ _ _ _ _ b t i.turned.going source sink) _ (g.D.Disk.state c.into_disk-in-ReadFault.result) (g.S.Source.left c.take_turn.new.source) c.take_turn.new.lines turn.0 turn.1;
+          Replied-read_fault b t (Going-told _ _ _ _ _ _ _ b t i.turned.going source sink) _ (g.D.Disk.state c.into_disk-in-ReadFault.result) (FromEachOutset c.args.session.core.filer (g.D.Disk.state c.into_disk-in-ReadFault.result)) (g.S.Source.left c.take_turn.new.source) c.take_turn.new.lines turn.0 turn.1;
       moments = λ m b stands source. rw c.into_disk-in-ReadFault.ensures (still_moments m (Turned-same {S = Sessions g} (disk_of g) (stands_of g) same (Turned-source i.turned source)) stands);
       closed = λ m b stands source done going. absurd (cc done);
       closed_unheard = λ m b stands source is heard left closed. absurd (heard rose);
@@ -189,7 +197,7 @@ returns-in-Long g c =
           Run-long m b t _ _ c.turns.lines _ _ turned.going stands _ (HasFilesAt m (reading b) (g.D.Disk.state c.into_disk-in-Long.result)) _ _ c.take_turn.new.lines turn.0 turn.1 (turn.2 ∙ turn.1.limit ∙ i.limit)
           (Puts-later _ _ _ _ _ (rose_later _ _ _ i.sink) c.put_last.ensures.put) (rw c.into_disk-in-Long.ensures (still_files m turned stands (tells g c.take_turn.new.session)));
       replied = λ b t left source sink.
-          Replied-long b t (Going-told _ _ _ _ _ _ _ b t i.turned.going source sink) _ (g.D.Disk.state c.into_disk-in-Long.result) (g.S.Source.left c.take_turn.new.source) _ c.take_turn.new.lines turn.0 turn.1 (turn.2 ∙ turn.1.limit ∙ i.limit)
+          Replied-long b t (Going-told _ _ _ _ _ _ _ b t i.turned.going source sink) _ (g.D.Disk.state c.into_disk-in-Long.result) (FromEachOutset c.args.session.core.filer (g.D.Disk.state c.into_disk-in-Long.result)) (g.S.Source.left c.take_turn.new.source) _ c.take_turn.new.lines turn.0 turn.1 (turn.2 ∙ turn.1.limit ∙ i.limit)
           (Puts-later _ _ _ _ _ (rose_later _ _ _ i.sink) c.put_last.ensures.put);
       moments = λ m b stands source. rw c.into_disk-in-Long.ensures (still_moments m (Turned-same {S = Sessions g} (disk_of g) (stands_of g) same (Turned-source i.turned source)) stands);
       closed = λ m b stands source done going. absurd (cc done);
@@ -220,6 +228,8 @@ returns-in-Halts g c =
     let other = halt_ends c.in-Halts.halt c.stop.result stopped in
     let lawful = openly_last (openly_then i.turned.lawful (called_openly c.take_turn.ensures.wrote)) in
     let went = went_then i.same_disk c.take_turn.ensures.wrote.makes.went in
+    let disk = disk_of g c.take_turn.new.session in
+    let reason = λ (e : Evidence). reason_halted c.args.session.core.filer c.turns.session.core.filer i.layout i.keeps disk e c.in-Halts.halt (λ o keeps. c.in-Halts.ensures.reasons o keeps c.in-Halts.halt refl) in
     record {
       answering = λ m b t stands source sink.
           let turned = Turned-told i.turned source sink in
@@ -234,8 +244,8 @@ returns-in-Halts g c =
           let going = Going-told _ _ _ _ _ _ _ b t i.turned.going source sink in
           let front = told_front b _ c.turns.lines going.lines going.read turn.0 in
           rw c.into_disk-in-Halts.ensures
-          (Replied-halted b t going _ (disk_of g c.take_turn.new.session) c.stop.result c.in-Halts.halt (g.S.Source.left c.take_turn.new.source) _ front.0 front.1 stopped
-          (c.in-Halts.ensures.so c.in-Halts.halt refl) (unset_then (i.left_open left) c.take_turn.ensures.wrote)
+          (Replied-halted b t going _ disk (FromEachOutset c.args.session.core.filer disk) c.stop.result c.in-Halts.halt (g.S.Source.left c.take_turn.new.source) _ front.0 front.1 stopped
+          (c.in-Halts.ensures.so c.in-Halts.halt refl) reason (unset_then (i.left_open left) c.take_turn.ensures.wrote)
           (Puts-later _ _ _ _ _ (rose_later _ _ _ i.sink) c.stop.ensures.line));
       moments = λ m b stands source. rw c.into_disk-in-Halts.ensures (line_moments m (Turned-source i.turned source) stands turn.0 turn.2 turn.3 turn.4);
       closed = λ m b stands source done going. absurd (other.0 done);
@@ -249,11 +259,10 @@ returns-in-Halts g c =
       sound = λ m stands is. halt_not_damaged c.in-Halts.halt c.stop.result stopped (c.in-Halts.ensures.sound _ c.in-Halts.halt (i.turned.going.stands m stands) refl) is;
       damage = λ t left sink is.
           let why = halt_evidence c.in-Halts.halt c.stop.result stopped is in
-          let disk = disk_of g c.take_turn.new.session in
           let so : IsSo disk why.0 = subst (λ (h : Halt). ShowsSo disk h) why.1 (c.in-Halts.ensures.so c.in-Halts.halt refl) in
-          rw c.into_disk-in-Halts.ensures
-          (damage_told _ _ _ _ t c.turns.lines _ _ _ why.0 disk so (unset_then (i.left_open left) c.take_turn.ensures.wrote) (Going-sink _ _ _ _ _ _ _ t i.turned.going sink)
-          (Puts-later _ _ _ _ _ (rose_later _ _ _ i.sink) (subst (λ (h : Halt). PutsLast g c.turns.sink c.stop.new.sink (cause_of h)) why.1 c.stop.ensures.line)));
+          let line = Puts-later _ _ _ _ _ (rose_later _ _ _ i.sink) (subst (λ (h : Halt). PutsLast g c.turns.sink c.stop.new.sink (cause_of h)) why.1 c.stop.ensures.line) in
+          let told = damage_told _ _ _ _ t c.turns.lines _ _ _ why.0 disk so (unset_then (i.left_open left) c.take_turn.ensures.wrote) (Going-sink _ _ _ _ _ _ _ t i.turned.going sink) line in
+          rw c.into_disk-in-Halts.ensures (told, reason why.0 why.1);
       lawful = rw c.into_disk-in-Halts.ensures lawful;
       same_disk = rw c.into_disk-in-Halts.ensures went;
       disk_cause = λ is.
@@ -277,6 +286,9 @@ returns-in-Ends g c =
     let disk = g.D.Disk.state c.end_trace.result.1 in
     let went = went_then i.same_disk c.take_turn.ensures.wrote.makes.went in
     let other = trace_ends c.end_trace.result.0 e.ends in
+    let layout = c.take_turn.ensures.layout ∙ i.layout in
+    let keeps = λ (o : Outset). λ (kept : KeepsOn o c.args.session.core.filer). c.in-Ends.ensures.keeps_to o (i.keeps o kept) tt in
+    let reason = λ (e : Evidence). reason_before c.args.session.core.filer c.take_turn.new.session.core.filer layout keeps disk e in
     record {
       answering = λ m b t stands source sink.
           let turned = Turned-told stands_still source sink in
@@ -289,10 +301,10 @@ returns-in-Ends g c =
           (λ well. End-has m b _ _ _ c.turns.lines _ _ turned.going disk told c.in-Ends.end _ c.take_turn.new.lines ended (λ other. e.closed _ there other well))
           (stopped_files m turned stands disk told);
       replied = λ b t left source sink.
-          Replied-end b t (Going-told _ _ _ _ _ _ _ b t i.turned.going source sink) _ disk c.end_trace.result.0 c.in-Ends.end (g.S.Source.left c.take_turn.new.source) _ c.take_turn.new.lines ended e.ends e.done e.part
+          Replied-end b t (Going-told _ _ _ _ _ _ _ b t i.turned.going source sink) _ disk (FromEachOutset c.args.session.core.filer disk) c.end_trace.result.0 c.in-Ends.end (g.S.Source.left c.take_turn.new.source) _ c.take_turn.new.lines ended e.ends e.done e.part
           (λ is. (rose_later _ _ _ i.sink (e.stream_cause is).0, (e.stream_cause is).1))
           (λ is. Puts-later _ _ _ _ _ (rose_later _ _ _ i.sink) (e.disk_line is))
-          (λ is. let line = e.damage_line is in (line.0, line.1, Puts-later _ _ _ _ _ (rose_later _ _ _ i.sink) line.2))
+          (λ is. let line = e.damage_line is in (line.0, line.1, reason line.0 line.2, Puts-later _ _ _ _ _ (rose_later _ _ _ i.sink) line.3))
           (λ is. e.left_open (unset_then (i.left_open left) c.take_turn.ensures.wrote) is);
       moments = λ m b stands source. let turned = Turned-source stands_still source in end_moments m turned stands _ (e.stops _ (turned.going.stands m stands));
       closed = λ m b stands source done going.
@@ -319,7 +331,8 @@ returns-in-Ends g c =
       damage = λ t left sink is.
           let line = e.damage_line is in
           let open_still = e.left_open (unset_then (i.left_open left) c.take_turn.ensures.wrote) is in
-          damage_told _ _ _ _ t c.turns.lines _ _ _ line.0 disk line.1 open_still (Going-sink _ _ _ _ _ _ _ t i.turned.going sink) (Puts-later _ _ _ _ _ (rose_later _ _ _ i.sink) line.2);
+          let told = damage_told _ _ _ _ t c.turns.lines _ _ _ line.0 disk line.1 open_still (Going-sink _ _ _ _ _ _ _ t i.turned.going sink) (Puts-later _ _ _ _ _ (rose_later _ _ _ i.sink) line.3) in
+          (told, reason line.0 line.2);
       lawful = ended_last (openly_then i.turned.lawful (called_openly c.take_turn.ensures.wrote)) e.wrote;
       same_disk = went_then went e.wrote.went;
       disk_cause = λ is. rose_later _ _ _ went.faults (e.disk_cause is);

@@ -45,7 +45,7 @@ returns-in-Some-clause-sound g c = λ m stands damaged.
     c.close-stopped.ensures.sound (after_calls m (first_calls ++ drawn_calls c.args.seed c.args.calls)) (c.in-Ok.ensures.answered.3 m stands).1 (c.in-Some.is ∙ ap (λ (s : Status). Some s) damaged)
 
 pub returns-in-Some-clause-damage_line : goal.returns-in-Some-clause-damage_line
-returns-in-Some-clause-damage_line g c = λ damaged. c.close-stopped.ensures.so (c.in-Some.is ∙ ap (λ (s : Status). Some s) damaged)
+returns-in-Some-clause-damage_line g c = λ damaged. let all = c.close-stopped.ensures.so (c.in-Some.is ∙ ap (λ (s : Status). Some s) damaged) in (all.0, all.1, all.3)
 
 pub returns-in-Some-clause-lawful : goal.returns-in-Some-clause-lawful
 returns-in-Some-clause-lawful g c = ended_last c.try_calls.ensures.lawful c.close-stopped.ensures.wrote

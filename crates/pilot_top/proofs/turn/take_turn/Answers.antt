@@ -1,6 +1,7 @@
 use Rattle.std.proofs.Common.{◌≡◌, [], ◌∷◌, false, Some, None, refl, sym, ◌∙◌, subst}
 use Rattle.labelled_disk.specs.declared.evidence.Halt.{Halt}
 use Rattle.filer_kernel.specs.Evidence.{ShowsSo}
+use Rattle.file_manager.specs.Reasons.{ShowsReason}
 use Rattle.trace_io.specs.Form.{GivesForm}
 use Rattle.trace_io.specs.Reading.{is_last}
 use Rattle.running_words.specs.Running.{Runs}
@@ -88,3 +89,27 @@ returns-in-Bad-clause-turns g c =
 
 pub returns-in-Err-clause-so : goal.returns-in-Err-clause-so
 returns-in-Err-clause-so g c halt same = subst (λ (h : Halt). ShowsSo (g.D.Disk.state c.step.new.self.core.filer.swapper.under) h) (same_halt c.in-Err.halt halt same) c.in-Err.ensures.so
+
+-- The outsets to which the session keeps.
+
+pub returns-in-Ok-clause-keeps_to : goal.returns-in-Ok-clause-keeps_to
+returns-in-Ok-clause-keeps_to g c o keeps going = c.in-Ok.ensures.keeps_to o keeps
+
+pub returns-in-Some-clause-keeps_to : goal.returns-in-Some-clause-keeps_to
+returns-in-Some-clause-keeps_to g c o keeps going = keeps
+
+pub returns-in-Bad-clause-keeps_to : goal.returns-in-Bad-clause-keeps_to
+returns-in-Bad-clause-keeps_to g c o keeps going = keeps
+
+pub returns-in-End-clause-keeps_to : goal.returns-in-End-clause-keeps_to
+returns-in-End-clause-keeps_to g c o keeps going = keeps
+
+pub returns-in-ReadFault-clause-keeps_to : goal.returns-in-ReadFault-clause-keeps_to
+returns-in-ReadFault-clause-keeps_to g c o keeps going = keeps
+
+pub returns-in-Long-clause-keeps_to : goal.returns-in-Long-clause-keeps_to
+returns-in-Long-clause-keeps_to g c o keeps going = keeps
+
+pub returns-in-Err-clause-reasons : goal.returns-in-Err-clause-reasons
+returns-in-Err-clause-reasons g c o keeps halt same =
+    subst (λ (h : Halt). ShowsReason o c.args.session.now.core.filer.swapper.layout (g.D.Disk.state c.step.new.self.core.filer.swapper.under) h) (same_halt c.in-Err.halt halt same) (c.in-Err.ensures.reasons o keeps)

@@ -1,0 +1,23 @@
+-- Why a run tells that a volume is damaged: from what stood when it began, and what it gave and gave up.
+use Rattle.std.specs.Prelude.{List, length}
+use Rattle.labelled_disk.specs.declared.disk.Disk.{Ghosts}
+use Rattle.labelled_disk.specs.declared.disk.DiskWrite.{DiskWrite}
+use Rattle.labelled_disk.specs.declared.evidence.Evidence.{Evidence}
+use Rattle.labelled_disk.specs.Layout.{layout_of}
+use Rattle.labelled_disk.specs.Sectors.{Sector}
+use Rattle.labelled_disk.specs.State.{DiskState}
+use Rattle.file_map.specs.FileMap.{Triples}
+use Rattle.filer_kernel.specs.declared.filer.FilerOver.{FilerOver}
+use Rattle.file_manager.specs.Reasons.{HasReason, KeepsOn, Outset, outset}
+use Rattle.pilot_engine.specs.Reasons.{IsBegun}
+
+-- Where the disk told at the start its sectors and the writes that were made, and its file map was in form, a label that is told has
+-- its reason in the layout, in what both maps said then, or in what the run gave and gave up, and of the file map page 0 alone is
+-- told as broken.
+abbrev pub FromOutset : DiskState → DiskState → Evidence → Type 0
+FromOutset before after evidence = (d : List Sector) (named : Triples) (ws : List DiskWrite) → IsBegun d named ws before → HasReason (outset d named ws) (layout_of (length d)) after evidence
+
+module _ {D A : Type 0} {G : Ghosts D} where
+  -- of a session: whichever outset its filer kept to, the evidence has its reason in that
+  abbrev pub FromEachOutset : FilerOver D A G → DiskState → Evidence → Type 0
+  FromEachOutset filer after evidence = (o : Outset) → KeepsOn o filer → HasReason o filer.swapper.layout after evidence
