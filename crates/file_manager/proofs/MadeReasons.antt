@@ -157,6 +157,7 @@ module _ {o : Outset} {x l1 l3 : Layout} {k : List Run} {a b c d : DiskState} {s
       let later = (sectors_then mid.2.taken (file_map_alone x run.id mid.0 more.memory more.differs)).bits h.marks h.bits in
       keeps_after h makes more.memory more.stands (with_run named run) more.is given k (are_more named run k h.kept) (λ home held. elim (come.homes home held) [ inl was ↦ inl was | inr own ↦ inr (inl own) ])
       (unframed_still come h.unframed) later.0 later.1 (λ sector from below free. elim (later.2 sector from) [ inl same ↦ inl (sym same ∙ free) | inr (used, _) ↦ absurd (true≢false (sym used ∙ free)) ])
+      (λ home from may was. inl (ap (λ (b : Bool). b || run_names run home.id home.page home.sector) was)) _ _
 
   held_home : (home : Home) → IsHeld t home → IsMapsHome x home ⊎ IsAtHome o d home
   held_home home held = elim ((maps_come taken).homes home held) [ inl was ↦ home_later h makes home was | inr own ↦ inl own ]

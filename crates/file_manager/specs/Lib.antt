@@ -16,6 +16,7 @@ pub mod Causes
 pub mod Taking
 pub mod Roots
 pub mod Grounds
+pub mod CountedRuns
 pub mod Reasons
 pub mod Forgetting
 pub mod ReasonLaws

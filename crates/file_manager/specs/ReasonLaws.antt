@@ -1,6 +1,7 @@
 -- What keeps to an outset does so behind a call, and what a call tells as evidence has its reason.
-use Rattle.std.proofs.Common.{◌≡◌, ◌⊎◌, inl, inr, ℕ, zero, suc, ◌<◌, ◌≤◌, ◌^◌, true, false, not, List, [], ◌∷◌, ◌++◌, drop, Some, refl, sym, ◌∙◌, ap, subst, arith, append_assoc}
+use Rattle.std.proofs.Common.{◌≡◌, ◌≢◌, ◌⊎◌, inl, inr, ℕ, zero, suc, ◌+◌, ◌<◌, ◌≤◌, ◌^◌, true, false, not, List, [], ◌∷◌, ◌++◌, drop, length, map, Some, refl, sym, ◌∙◌, ap, subst, arith, append_assoc}
 use Rattle.std.specs.Prelude.{slice_get, option_map, filter}
+use Rattle.std.proofs.lemmas.List.{length-map}
 use Rattle.std.proofs.lemmas.Bool.{true≢false}
 use Rattle.std.proofs.lemmas.Option.{same_Some, none-some}
 use Rattle.labelled_disk.specs.declared.disk.DiskWrite.{DiskWrite}
@@ -10,14 +11,17 @@ use Rattle.labelled_disk.specs.declared.evidence.Evidence.TheVariants.{Mismatch,
 use Rattle.labelled_disk.specs.declared.evidence.Halt.{Halt}
 use Rattle.labelled_disk.specs.declared.evidence.Halt.TheVariants as halt
 use Rattle.labelled_disk.specs.declared.layout.Layout.{Layout}
+use Rattle.labelled_disk.specs.Label.{page_label}
 use Rattle.labelled_disk.specs.Layout.{vfm}
+use Rattle.labelled_disk.specs.Runs.{zero_bytes}
 use Rattle.labelled_disk.specs.Sectors.{Sector, free_label}
 use Rattle.labelled_disk.specs.State.{DiskState}
 use Rattle.frame_pool.specs.declared.home.Home.{Home}
 use Rattle.frame_pool.specs.Frames.{Slots}
+use Rattle.page_tree.specs.Page.{page_at, count_in}
 use Rattle.file_map.specs.declared.run.Run.{Run}
 use Rattle.file_map.specs.Cause.{IsBroken}
-use Rattle.file_map.specs.FileMap.{Triples}
+use Rattle.file_map.specs.FileMap.{Triples, IsNowhere, most_records}
 use Rattle.file_map.specs.Run.{holds, sector_at}
 use Rattle.file_map.proofs.InForm.{shown_run, shown_unbroken}
 use Rattle.file_map.proofs.Runs.{has_page}
@@ -28,16 +32,19 @@ use Rattle.swapper_kernel.specs.HaltLaws.{brings_wider}
 use Rattle.swapper_kernel.specs.Halts.{Halts}
 use Rattle.swapper_kernel.specs.Homes.{Homes, Brings, IsHeld, IsLayout, home_at}
 use Rattle.swapper_kernel.specs.Maps.{IsMapHome}
+use Rattle.swapper_kernel.specs.OnceLaws.{tells_once}
 use Rattle.swapper_kernel.specs.Stands.{Stands}
 use Rattle.swapper_kernel.specs.Window.{Tells, Beside}
 use Rattle.filer_kernel.specs.declared.cached.CachedRuns.{CachedRuns}
 use Rattle.filer_kernel.specs.Cached.{runs_of}
-use Rattle.filer_kernel.specs.Causes.{MapShows, MapHalts, IsRunHome}
+use Rattle.filer_kernel.specs.Causes.{MapShows, MapCounts, MapHalts, IsRunHome}
+use Rattle.filer_kernel.specs.Evidence.{MayBeMissing}
 use Rattle.filer_kernel.specs.Marks.{Marks, BitsAre}
 use Rattle.filer_kernel.specs.Triples.{MapIs, AreOf}
+use Rattle.file_manager.specs.CountedRuns.{counted_runs, first_named, firsts_apart}
 use Rattle.file_manager.specs.Grounds.{IsMapsHome, IsUnframed}
 use Rattle.file_manager.specs.Looking.{Looks}
-use Rattle.file_manager.specs.Reasons.{Outset, IsSince, WasMade, WasGivenUp, IsAtHome, MayBeFree, KeepsTo, HasReason, ShowsReason}
+use Rattle.file_manager.specs.Reasons.{Outset, IsSince, WasMade, WasGiven, WasGivenUp, WasTaken, WasNumbered, WasRenumbered, IsAtHome, IsLet, IsGone, IsTakenUp, IsFilledUp, AreHomes, MayBeFree, KeepsTo, HasReason, ShowsReason}
 
 -- ---- Writes in a row.
 
@@ -69,6 +76,16 @@ label_among (write.Whole sector label bytes ∷ ws) zero w at = (zero, at)
 label_among (write.Whole sector label bytes ∷ ws) (suc k) w at = let rest = label_among ws k w at in (suc rest.0, rest.1)
 label_among (write.LabelOnly sector label ∷ ws) zero w at = (zero, at)
 label_among (write.LabelOnly sector label ∷ ws) (suc k) w at = let rest = label_among ws k w at in (suc rest.0, rest.1)
+
+-- and each write among them that is not of a page is one of the writes of labels
+label_back : (ws : List DiskWrite) (k : ℕ) (w : DiskWrite) → slice_get ws k ≡ Some w → is_page_write w ≡ false → (j : ℕ) × (slice_get (filter (λ w. not (is_page_write w)) ws) j ≡ Some w)
+label_back [] k w at label = absurd (none-some w at)
+label_back (write.Page sector wanted bytes ∷ ws) zero w at label = absurd (true≢false (ap is_page_write (same_Some (write.Page sector wanted bytes) w at) ∙ label))
+label_back (write.Page sector wanted bytes ∷ ws) (suc k) w at label = label_back ws k w at label
+label_back (write.Whole sector l bytes ∷ ws) zero w at label = (zero, at)
+label_back (write.Whole sector l bytes ∷ ws) (suc k) w at label = let rest = label_back ws k w at label in (suc rest.0, rest.1)
+label_back (write.LabelOnly sector l ∷ ws) zero w at label = (zero, at)
+label_back (write.LabelOnly sector l ∷ ws) (suc k) w at label = let rest = label_back ws k w at label in (suc rest.0, rest.1)
 
 -- where no label was written, each write is of a page
 no_label : (ws : List DiskWrite) (k : ℕ) (w : DiskWrite) → filter (λ w. not (is_page_write w)) ws ≡ [] → slice_get ws k ≡ Some w → is_page_write w ≡ false → ⊥
@@ -105,16 +122,37 @@ module _ (o : Outset) {pages : Pages} {run : List DiskWrite} {a b : DiskState} {
   may_be_free_later sector (inl free) = inl free
   may_be_free_later sector (inr made) = inr (made_later made)
 
-  reason_later : (x : Layout) (e : Evidence) → HasReason o x a e → HasReason o x b e
-  reason_later x (Mismatch sector wanted found) (inl own) = inl own
-  reason_later x (Mismatch sector wanted found) (inr (inl home)) = inr (inl (at_home_later (home_at sector wanted) home))
-  reason_later x (Mismatch sector wanted found) (inr (inr (none, free))) = inr (inr (none, may_be_free_later sector free))
-  reason_later x (Malformed window page) is = is
-  reason_later x (Missing id page) is = is
+  taken_later : (sector : ℕ) → WasTaken o a sector → WasTaken o b sector
+  taken_later sector (id, page, kind, made) = (id, page, kind, made_later made)
 
-  pub shows_later : (x : Layout) (e : Halt) → ShowsReason o x a e → ShowsReason o x b e
-  shows_later x halt.Disk is = is
-  shows_later x (halt.Damaged evidence) is = reason_later x evidence is
+  numbered_later : (id : ℕ) → WasNumbered o a id → WasNumbered o b id
+  numbered_later id h = record { root = h.root; made = made_later h.made; last = h.last }
+
+  renumbered_later : (home : Home) → WasRenumbered o a home → WasRenumbered o b home
+  renumbered_later home h = record {
+    more = h.more ++ makes.wrote.writes;
+    told = told_later h.more h.told;
+    kind = h.kind;
+    turn = h.turn;
+    given = get_front h.more makes.wrote.writes h.turn _ h.given;
+    later = h.later;
+    behind = h.behind;
+    root = h.root;
+    numbered = get_front h.more makes.wrote.writes h.later _ h.numbered;
+    last = h.last;
+  }
+
+  pub let_later : (home : Home) → IsLet o a home → IsLet o b home
+  let_later home (inl up) = inl (made_later up)
+  let_later home (inr (inl (named, inl tables))) = inr (inl (named, inl tables))
+  let_later home (inr (inl (named, inr numbered))) = inr (inl (named, inr (numbered_later home.id numbered)))
+  let_later home (inr (inr again)) = inr (inr (renumbered_later home again))
+
+  taken_up_later : (x : Layout) → IsTakenUp o x a → IsTakenUp o x b
+  taken_up_later x up sector from below free = taken_later sector (up sector from below free)
+
+  filled_up_later : (x : Layout) → IsFilledUp o x a → IsFilledUp o x b
+  filled_up_later x h = record { homes = h.homes; counted = h.counted; each = λ k home at. at_home_later home (h.each k home at); apart = h.apart }
 
   -- each label that the call wrote was written since
   pub made_now : IsSince o a → (k : ℕ) (w : DiskWrite) → slice_get run k ≡ Some w → WasMade o b w
@@ -123,18 +161,25 @@ module _ (o : Outset) {pages : Pages} {run : List DiskWrite} {a b : DiskState} {
       let there = get_end more makes.wrote.writes among.0 w among.1 in
       record { more = more ++ makes.wrote.writes; told = told_later more told; turn = there.0; is = there.1 }
 
+  -- what was written since had been before the call, or the call wrote it
+  pub made_either : IsSince o a → (w : DiskWrite) → WasMade o b w → is_page_write w ≡ false → WasMade o a w ⊎ ((k : ℕ) × (slice_get run k ≡ Some w))
+  made_either (more, told) w made label =
+      let later = told_later more told in
+      let same : made.more ≡ more ++ makes.wrote.writes =
+      same_end o.writes made.more (more ++ makes.wrote.writes) (same_Some (o.writes ++ made.more) (o.writes ++ (more ++ makes.wrote.writes)) (sym made.told ∙ later)) in
+      elim (get_either more makes.wrote.writes made.turn w (ap (λ (ws : List DiskWrite). slice_get ws made.turn) (sym same) ∙ made.is)) [
+        | inl here ↦ inl (record { more = more; told = told; turn = made.turn; is = here })
+        | inr (j, here) ↦ let back = label_back makes.wrote.writes j w here label in inr (back.0, ap (λ (ws : List DiskWrite). slice_get ws back.0) (sym makes.wrote.labels) ∙ back.1)
+      ]
+
 -- ---- What is so behind a call that wrote no label was so before.
 
 module _ (o : Outset) {pages : Pages} {a b : DiskState} {s t : Slots} (makes : Makes pages [] a s b t) (since : IsSince o a) where
   pub made_before : (w : DiskWrite) → WasMade o b w → is_page_write w ≡ false → WasMade o a w
-  made_before w made label =
-      let later = told_later o makes since.0 since.1 in
-      let same : made.more ≡ since.0 ++ makes.wrote.writes =
-      same_end o.writes made.more (since.0 ++ makes.wrote.writes) (same_Some (o.writes ++ made.more) (o.writes ++ (since.0 ++ makes.wrote.writes)) (sym made.told ∙ later)) in
-      elim (get_either since.0 makes.wrote.writes made.turn w (ap (λ (ws : List DiskWrite). slice_get ws made.turn) (sym same) ∙ made.is)) [
-        | inl here ↦ record { more = since.0; told = since.1; turn = made.turn; is = here }
-        | inr (j, here) ↦ absurd (no_label makes.wrote.writes j w makes.wrote.labels here label)
-      ]
+  made_before w made label = elim (made_either o makes since w made label) [
+    | inl was ↦ was
+    | inr (k, here) ↦ absurd (none-some w here)
+  ]
 
   pub at_home_before : (home : Home) → IsAtHome o b home → IsAtHome o a home
   at_home_before home (inl named) = inl named
@@ -144,16 +189,77 @@ module _ (o : Outset) {pages : Pages} {a b : DiskState} {s t : Slots} (makes : M
   may_be_free_before sector (inl free) = inl free
   may_be_free_before sector (inr made) = inr (made_before (write.LabelOnly sector free_label) made refl)
 
+  -- the writes that are told since then, up to the call
+  more_before : (more : List DiskWrite) → b.writes ≡ Some (o.writes ++ more) → more ≡ since.0 ++ makes.wrote.writes
+  more_before more told = same_end o.writes more (since.0 ++ makes.wrote.writes) (same_Some (o.writes ++ more) (o.writes ++ (since.0 ++ makes.wrote.writes)) (sym told ∙ told_later o makes since.0 since.1))
+
+  -- a write of a label among them stands in its place before the call
+  turn_before : (more : List DiskWrite) → b.writes ≡ Some (o.writes ++ more) → (k : ℕ) (w : DiskWrite) → slice_get more k ≡ Some w → is_page_write w ≡ false → slice_get since.0 k ≡ Some w
+  turn_before more told k w at label =
+      elim (get_either since.0 makes.wrote.writes k w (ap (λ (ws : List DiskWrite). slice_get ws k) (sym (more_before more told)) ∙ at)) [
+        | inl here ↦ here
+        | inr (j, here) ↦ absurd (no_label makes.wrote.writes j w makes.wrote.labels here label)
+      ]
+
+  renumbered_before : (home : Home) → WasRenumbered o b home → WasRenumbered o a home
+  renumbered_before home h = record {
+    more = since.0;
+    told = since.1;
+    kind = h.kind;
+    turn = h.turn;
+    given = turn_before h.more h.told h.turn _ h.given refl;
+    later = h.later;
+    behind = h.behind;
+    root = h.root;
+    numbered = turn_before h.more h.told h.later _ h.numbered refl;
+    last = h.last;
+  }
+
+  pub let_before : (home : Home) → IsLet o b home → IsLet o a home
+  let_before home (inl up) = inl (made_before (write.LabelOnly home.sector free_label) up refl)
+  let_before home (inr (inl (named, inl tables))) = inr (inl (named, inl tables))
+  let_before home (inr (inl (named, inr numbered))) = inr (inl (named, inr (record { root = numbered.root; made = made_before _ numbered.made refl; last = numbered.last })))
+  let_before home (inr (inr again)) = inr (inr (renumbered_before home again))
+
   reason_before : (x : Layout) (e : Evidence) → HasReason o x b e → HasReason o x a e
   reason_before x (Mismatch sector wanted found) (inl own) = inl own
   reason_before x (Mismatch sector wanted found) (inr (inl home)) = inr (inl (at_home_before (home_at sector wanted) home))
   reason_before x (Mismatch sector wanted found) (inr (inr (none, free))) = inr (inr (none, may_be_free_before sector free))
-  reason_before x (Malformed window page) is = is
-  reason_before x (Missing id page) is = is
+  reason_before x (Malformed window page) (inl (second, first, full)) =
+      inl (second, first, record { homes = full.homes; counted = full.counted; each = λ k home at. at_home_before home (full.each k home at); apart = full.apart })
+  reason_before x (Malformed window page) (inr third) = inr third
+  reason_before x (Missing id page) (inl (tables, first, up)) = inl (tables, first, λ sector from below free. let t = up sector from below free in (t.0, t.1, t.2, made_before _ t.3 refl))
+  reason_before x (Missing id page) (inr (may, gone)) = inr (may, λ sector from at. let_before _ (gone sector from (at_home_later o makes _ at)))
 
   pub shows_before : (x : Layout) (e : Halt) → ShowsReason o x b e → ShowsReason o x a e
   shows_before x halt.Disk is = is
   shows_before x (halt.Damaged evidence) is = reason_before x evidence is
+
+  reason_later : (x : Layout) (e : Evidence) → HasReason o x a e → HasReason o x b e
+  reason_later x (Mismatch sector wanted found) (inl own) = inl own
+  reason_later x (Mismatch sector wanted found) (inr (inl home)) = inr (inl (at_home_later o makes (home_at sector wanted) home))
+  reason_later x (Mismatch sector wanted found) (inr (inr (none, free))) = inr (inr (none, may_be_free_later o makes sector free))
+  reason_later x (Malformed window page) (inl (second, first, full)) = inl (second, first, filled_up_later o makes x full)
+  reason_later x (Malformed window page) (inr third) = inr third
+  reason_later x (Missing id page) (inl (tables, first, up)) = inl (tables, first, taken_up_later o makes x up)
+  reason_later x (Missing id page) (inr (may, gone)) = inr (may, λ sector from at. let_later o makes _ (gone sector from (at_home_before _ at)))
+
+  pub shows_later : (x : Layout) (e : Halt) → ShowsReason o x a e → ShowsReason o x b e
+  shows_later x halt.Disk is = is
+  shows_later x (halt.Damaged evidence) is = reason_later x evidence is
+
+-- ---- The homes of the first pages of runs.
+
+home_of : Run → Home
+home_of r = record { sector = r.sector; id = r.id; page = r.first }
+
+homes_of : List Run → List Home
+homes_of runs = map home_of runs
+
+home_at_turn : (runs : List Run) (k : ℕ) (home : Home) → slice_get (homes_of runs) k ≡ Some home → (r : Run) × (slice_get runs k ≡ Some r) × (home ≡ home_of r)
+home_at_turn [] k home at = absurd (none-some home at)
+home_at_turn (r ∷ runs) zero home at = (r, refl, sym (same_Some (home_of r) home at))
+home_at_turn (r ∷ runs) (suc k) home at = home_at_turn runs k home at
 
 -- ---- What a map in form shows.
 
@@ -187,6 +293,23 @@ module _ {x : Layout} {named : Triples} {a : DiskState} {s : Slots} {m : List Se
   pub in_form : (page : ℕ) → IsBroken x.sectors (MapShows x a s) page → ⊥
   in_form page broken = shown_unbroken x.sectors x.vfm map.bytes named map.names few least most (MapShows x a s) (λ sight shows. shows map.bytes bytes_told) page broken
 
+  -- as many pages of it are named as it counts records
+  pub named_homes : (k : ℕ) → MapCounts x a s k → AreHomes (λ home. named home.id home.page home.sector ≡ true) k
+  named_homes k (b, told, counts) =
+      let runs = map.names.runs in
+      let n : k ≡ length runs = counts ∙ ap (λ (c : List ℕ). count_in (page_at c 0)) (tells_once FileMap a s x b map.bytes told bytes_told) ∙ counted_runs x.sectors x.vfm map.bytes named map.names in
+      record {
+        homes = homes_of runs;
+        counted = length-map runs home_of ∙ sym n;
+        each = λ j home at. let r = home_at_turn runs j home at in
+            (λ i. named (r.2 i).id (r.2 i).page (r.2 i).sector) ∙ first_named x.sectors x.vfm map.bytes named map.names j r.0 r.1;
+        apart = λ i j y z first second before same_id same_page.
+            let r = home_at_turn runs i y first in
+            let q = home_at_turn runs j z second in
+            firsts_apart x.sectors x.vfm map.bytes named map.names i j r.0 q.0 r.1 q.1 before
+            (ap (λ (h : Home). h.id) (sym r.2) ∙ same_id ∙ ap (λ (h : Home). h.id) q.2) (ap (λ (h : Home). h.page) (sym r.2) ∙ same_page ∙ ap (λ (h : Home). h.page) q.2);
+      }
+
 -- ---- Pages of the maps in frames.
 
 map_no_free : (x : Layout) (home : Home) → IsMapsHome x home → home.id ≡ 0 → ⊥
@@ -210,12 +333,31 @@ module _ {o : Outset} {x : Layout} {k : List Run} {a : DiskState} {s : Slots} {n
   pub home_later : (home : Home) → IsHeld s home → IsMapsHome x home ⊎ IsAtHome o b home
   home_later home held = elim (h.frames home held) [ inl own ↦ inl own | inr at ↦ inr (at_home_later o makes home at) ]
 
+  -- a page that is at home behind a call is named, or its home is let: where this is so of those that were named, and of those
+  -- that the call gave a sector
+  rest_after : (later : Triples) → ((home : Home) → x.first ≤ home.sector → MayBeMissing home.id home.page → named home.id home.page home.sector ≡ true → (later home.id home.page home.sector ≡ true) ⊎ IsLet o b home)
+      → ((home : Home) (kind turn : ℕ) → x.first ≤ home.sector → MayBeMissing home.id home.page → slice_get run turn ≡ Some (write.Whole home.sector (page_label home.id kind home.page) zero_bytes) → (later home.id home.page home.sector ≡ true) ⊎ IsLet o b home)
+      → (home : Home) → x.first ≤ home.sector → MayBeMissing home.id home.page → IsAtHome o b home → (later home.id home.page home.sector ≡ true) ⊎ IsLet o b home
+  rest_after later still given home from may at = elim at [
+    | inl is ↦ was (inl is)
+    | inr (kind, made) ↦ elim (made_either o makes h.since (write.Whole home.sector (page_label home.id kind home.page) zero_bytes) made refl) [
+      | inl before ↦ was (inr (kind, before))
+      | inr (turn, now) ↦ given home kind turn from may now
+    ]
+  ]
+    where
+      was : IsAtHome o a home → (later home.id home.page home.sector ≡ true) ⊎ IsLet o b home
+      was at = elim (h.rest home from may at) [ inl is ↦ still home from may is | inr let_go ↦ inr (let_later o makes home let_go) ]
+
   -- behind a call of which this is known
   pub keeps_after : (n : List Sector) → Stands b t n → (later : Triples) → MapIs x later n
       → ((home : Home) → later home.id home.page home.sector ≡ true → (named home.id home.page home.sector ≡ true) ⊎ IsAtHome o b home) → (l : List Run) → AreOf later l
       → ((home : Home) → IsHeld t home → IsHeld s home ⊎ (IsMapsHome x home ⊎ (named home.id home.page home.sector ≡ true))) → IsUnframed t 0
-      → (marks : Marks) → BitsAre x marks n → ((sector : ℕ) → x.first ≤ sector → sector < x.sectors → marks sector ≡ false → (h.marks sector ≡ false) ⊎ WasGivenUp o b sector) → KeepsTo o x l b t later
-  keeps_after n stands later map homes l are frames unframed marks bits free = record {
+      → (marks : Marks) → BitsAre x marks n → ((sector : ℕ) → x.first ≤ sector → sector < x.sectors → marks sector ≡ false → (h.marks sector ≡ false) ⊎ WasGivenUp o b sector)
+      → ((home : Home) → x.first ≤ home.sector → MayBeMissing home.id home.page → named home.id home.page home.sector ≡ true → (later home.id home.page home.sector ≡ true) ⊎ IsLet o b home)
+      → ((home : Home) (kind turn : ℕ) → x.first ≤ home.sector → MayBeMissing home.id home.page → slice_get run turn ≡ Some (write.Whole home.sector (page_label home.id kind home.page) zero_bytes) → (later home.id home.page home.sector ≡ true) ⊎ IsLet o b home)
+      → ((sector : ℕ) → x.first ≤ sector → sector < x.sectors → marks sector ≡ true → (h.marks sector ≡ true) ⊎ WasTaken o b sector) → KeepsTo o x l b t later
+  keeps_after n stands later map homes l are frames unframed marks bits free still given used = record {
     since = since_later o makes h.since;
     memory = n;
     stands = stands;
@@ -232,13 +374,12 @@ module _ {o : Outset} {x : Layout} {k : List Run} {a : DiskState} {s : Slots} {n
     marks = marks;
     bits = bits;
     free = λ sector from below is. elim (free sector from below is) [ inl was ↦ may_be_free_later o makes sector (h.free sector from below was) | inr now ↦ inr now ];
+    rest = rest_after later still given;
+    used = λ sector from below is. elim (used sector from below is) [
+      | inl was ↦ elim (h.used sector from below was) [ inl outset ↦ inl outset | inr taken ↦ inr (taken_later o makes sector taken) ]
+      | inr now ↦ inr now
+    ];
   }
-
-  -- the memory stays, and pages of the maps alone came into frames
-  pub keeps_same : Stands b t h.memory → (l : List Run) → AreOf named l → Brings (IsMapsHome x) s t → KeepsTo o x l b t named
-  keeps_same stands l are brings =
-      keeps_after h.memory stands named h.map (λ home is. inl is) l are (λ home held. elim (brings.homes home held) [ inl was ↦ inl was | inr own ↦ inr (inl own) ])
-      (unframed_still brings h.unframed) h.marks h.bits (λ sector from below is. inl is)
 
   -- a label that another page's is wanted for, at a home that was given or that a frame had
   pub label_reasons : (homes : Homes) → ((home : Home) → homes home → IsMapsHome x home ⊎ IsAtHome o b home) → (e : Halt) → Halts homes a s b e → ShowsReason o x b e
@@ -259,6 +400,40 @@ module _ {o : Outset} {x : Layout} {k : List Run} {a : DiskState} {s : Slots} {n
   ]
   map_reasons is (halt.Damaged (Malformed window page)) cause = absurd (in_form is h.size h.stands h.map page cause.1)
   map_reasons is (halt.Damaged (Missing id page)) cause = absurd cause
+
+-- ---- Behind a call that wrote no label.
+
+module _ {o : Outset} {x : Layout} {k : List Run} {a : DiskState} {s : Slots} {named : Triples} (h : KeepsTo o x k a s named) {pages : Pages} {b : DiskState} {t : Slots} (makes : Makes pages [] a s b t) where
+  -- the memory stays, and pages of the maps alone came into frames
+  pub keeps_same : Stands b t h.memory → (l : List Run) → AreOf named l → Brings (IsMapsHome x) s t → KeepsTo o x l b t named
+  keeps_same stands l are brings =
+      keeps_after h makes h.memory stands named h.map (λ home is. inl is) l are (λ home held. elim (brings.homes home held) [ inl was ↦ inl was | inr own ↦ inr (inl own) ])
+      (unframed_still brings h.unframed) h.marks h.bits (λ sector from below is. inl is)
+      (λ home from may is. inl is) (λ home kind turn from may at. absurd (none-some _ at)) (λ sector from below is. inl is)
+
+  -- a page that the map does not name is told as missing
+  pub missing_reason : (id page : ℕ) → MayBeMissing id page → ((m : List Sector) (named : Triples) → Stands a s m → MapIs x named m → IsNowhere named id page) → HasReason o x b (Missing id page)
+  missing_reason id page may nowhere = inr (may, λ sector from at.
+      let home : Home = record { sector = sector; id = id; page = page } in
+      elim (h.rest home from may (at_home_before o makes h.since home at)) [
+        | inl is ↦ absurd (true≢false (sym is ∙ nowhere h.memory named h.stands h.map sector))
+        | inr let_go ↦ let_later o makes home let_go
+      ])
+
+-- ---- What is full.
+
+module _ {o : Outset} {x : Layout} {k : List Run} {a : DiskState} {s : Slots} {named : Triples} (h : KeepsTo o x k a s named) {pages : Pages} {run : List DiskWrite} {b : DiskState} {t : Slots} (makes : Makes pages run a s b t) where
+  -- the allocation map has each data sector as used
+  pub room_reason : ((sector : ℕ) → x.first ≤ sector → sector < x.sectors → h.marks sector ≡ true) → HasReason o x b (Missing 3 0)
+  room_reason all = inl (refl, refl, λ sector from below free. elim (h.used sector from below (all sector from below)) [
+    | inl outset ↦ absurd (true≢false (sym outset ∙ free))
+    | inr taken ↦ taken_later o makes sector taken
+  ])
+
+  -- the file map counts as many records as it may
+  pub full_reason : IsLayout x → MapCounts x a s (most_records x.sectors) → HasReason o x b (Malformed 2 0)
+  full_reason is counts = let h' = named_homes is h.size h.stands h.map (most_records x.sectors) counts in
+      inl (refl, refl, record { homes = h'.homes; counted = h'.counted; each = λ j home at. at_home_later o makes home (h.homes home (h'.each j home at)); apart = h'.apart })
 
 module _ {o : Outset} {x : Layout} {k : List Run} {a : DiskState} {s : Slots} {named : Triples} (h : KeepsTo o x k a s named) {b : DiskState} {t : Slots} where
   -- a look at files

@@ -1,5 +1,5 @@
 -- Why a page may be wanted in a sector: what both maps said when a time began, and what was given and given up since then.
-use Rattle.std.specs.Prelude.{◌≡◌, ◌⊎◌, ◌≤◌, ◌<◌, ℕ, true, false, List, ◌++◌, Some, slice_get}
+use Rattle.std.specs.Prelude.{◌≡◌, ◌≢◌, ◌⊎◌, ◌≤◌, ◌<◌, ◌+◌, ℕ, true, false, List, ◌++◌, Some, length, slice_get}
 use Rattle.labelled_disk.specs.declared.disk.Disk.{Ghosts}
 use Rattle.labelled_disk.specs.declared.disk.DiskWrite.{DiskWrite}
 use Rattle.labelled_disk.specs.declared.disk.DiskWrite.TheVariants.{LabelOnly, Whole}
@@ -15,15 +15,19 @@ use Rattle.labelled_disk.specs.State.{DiskState}
 use Rattle.frame_pool.specs.declared.home.Home.{Home}
 use Rattle.frame_pool.specs.Frames.{Slots}
 use Rattle.file_map.specs.declared.run.Run.{Run}
-use Rattle.file_map.specs.FileMap.{Triples}
-use Rattle.swapper_kernel.specs.Homes.{IsHeld, home_at}
+use Rattle.file_map.specs.FileMap.{Triples, most_records}
+use Rattle.swapper_kernel.specs.Homes.{Homes, IsHeld, home_at}
 use Rattle.swapper_kernel.specs.Stands.{Stands}
 use Rattle.label_calls.specs.Labels.{nobody}
 use Rattle.filer_kernel.specs.declared.filer.FilerOver.{FilerOver}
 use Rattle.filer_kernel.specs.Cached.{runs_of}
+use Rattle.filer_kernel.specs.Evidence.{MayBeMissing}
 use Rattle.filer_kernel.specs.Marks.{Marks, BitsAre}
 use Rattle.filer_kernel.specs.Triples.{MapIs, AreOf}
 use Rattle.session_words.specs.Parts.{is_marked}
+use Rattle.volume_root.specs.declared.root.Root.{Root}
+use Rattle.volume_root.specs.RootPage.{root_write}
+use Rattle.file_manager.specs.Creating.{next_id}
 use Rattle.file_manager.specs.Grounds.{IsMapsHome, IsUnframed}
 
 -- What stood when the time began: which triples the file map named, which sectors the allocation map had as used, and the
@@ -64,9 +68,65 @@ IsAtHome o disk home = (o.named home.id home.page home.sector ≡ true) ⊎ WasG
 abbrev pub MayBeFree : Outset → DiskState → ℕ → Type 0
 MayBeFree o disk sector = (o.marks sector ≡ false) ⊎ WasGivenUp o disk sector
 
+-- the sector was given to some page
+abbrev pub WasTaken : Outset → DiskState → ℕ → Type 0
+WasTaken o disk sector = (id page : ℕ) × WasGiven o disk (record { sector = sector; id = id; page = page })
+
+-- a root was written under which this identifier was the last that had been given out
+pub record WasNumbered (o : Outset) (disk : DiskState) (id : ℕ) : Type 0 where
+  pub root : Root
+  pub made : WasMade o disk (root_write root)
+  pub last : id + 1 ≡ next_id root
+
+-- the sector was given to the page, and after that its file's identifier was given out
+pub record WasRenumbered (o : Outset) (disk : DiskState) (home : Home) : Type 0 where
+  pub more : List DiskWrite
+  pub told : disk.writes ≡ Some (o.writes ++ more)
+  pub kind : ℕ
+  pub turn : ℕ
+  pub given : slice_get more turn ≡ Some (Whole home.sector (page_label home.id kind home.page) zero_bytes)
+  pub later : ℕ
+  pub behind : turn < later
+  pub root : Root
+  pub numbered : slice_get more later ≡ Some (root_write root)
+  pub last : home.id + 1 ≡ next_id root
+
+-- A home that the map has no more: the sector was given up since; or what the map said at the outset was of a file that was
+-- made later, or of the space tables, whose pages a run makes anew; or the file was made after that.
+abbrev pub IsLet : Outset → DiskState → Home → Type 0
+IsLet o disk home =
+    WasGivenUp o disk home.sector
+    ⊎ (((o.named home.id home.page home.sector ≡ true) × ((home.id ≡ 3) ⊎ WasNumbered o disk home.id)) ⊎ WasRenumbered o disk home)
+
+-- so is each home that these triples have of some pages of a file
+abbrev pub AreLet : Outset → DiskState → Triples → ℕ → (ℕ → Type 0) → Type 0
+AreLet o disk named id pages = (page sector : ℕ) → pages page → named id page sector ≡ true → IsLet o disk (record { sector = sector; id = id; page = page })
+
+-- the page has a home no more, wherever it was at home
+abbrev pub IsGone : Outset → Layout → DiskState → ℕ → ℕ → Type 0
+IsGone o layout disk id page =
+    (sector : ℕ) → layout.first ≤ sector → IsAtHome o disk (record { sector = sector; id = id; page = page })
+    → IsLet o disk (record { sector = sector; id = id; page = page })
+
+-- each data sector that the allocation map had as free at the outset was given to a page since
+abbrev pub IsTakenUp : Outset → Layout → DiskState → Type 0
+IsTakenUp o layout disk = (sector : ℕ) → layout.first ≤ sector → sector < layout.sectors → o.marks sector ≡ false → WasTaken o disk sector
+
+-- so many homes, of different pages
+pub record AreHomes (are : Homes) (count : ℕ) : Type 0 where
+  pub homes : List Home
+  pub counted : length homes ≡ count
+  pub each : (k : ℕ) (home : Home) → slice_get homes k ≡ Some home → are home
+  pub apart : (j k : ℕ) (x y : Home) → slice_get homes j ≡ Some x → slice_get homes k ≡ Some y → j < k → x.id ≡ y.id → x.page ≢ y.page
+
+-- as many pages are or were at home as the file map may have records
+abbrev pub IsFilledUp : Outset → Layout → DiskState → Type 0
+IsFilledUp o layout disk = AreHomes (IsAtHome o disk) (most_records layout.sectors)
+
 -- Disk and frames make a memory whose file map is in form. Each page that it names is or was at home there, and so is each page of
 -- a frame, unless the layout has it there; runs that are kept are the map's; and each data sector that the allocation map has as
--- free may be so.
+-- free may be so. The other way, each page that is or was at home is named there, or its home is let, and each data sector that
+-- the allocation map has as used was so at the outset, or was given to a page.
 pub record KeepsTo (o : Outset) (layout : Layout) (runs : List Run) (disk : DiskState) (slots : Slots) (named : Triples) : Type 0 where
   pub since : IsSince o disk
   pub memory : List Sector
@@ -80,15 +140,19 @@ pub record KeepsTo (o : Outset) (layout : Layout) (runs : List Run) (disk : Disk
   pub marks : Marks
   pub bits : BitsAre layout marks memory
   pub free : (sector : ℕ) → layout.first ≤ sector → sector < layout.sectors → marks sector ≡ false → MayBeFree o disk sector
+  pub rest : (home : Home) → layout.first ≤ home.sector → MayBeMissing home.id home.page → IsAtHome o disk home → (named home.id home.page home.sector ≡ true) ⊎ IsLet o disk home
+  pub used : (sector : ℕ) → layout.first ≤ sector → sector < layout.sectors → marks sector ≡ true → (o.marks sector ≡ true) ⊎ WasTaken o disk sector
 
 -- A label is told where the layout has the page of a map there, where the wanted page is or was at home, or where nobody's is
--- wanted and the sector may be free. Of the file map page 0 alone is told as broken; of the space tables any page is, and of a
--- missing page nothing is said.
+-- wanted and the sector may be free. Of the file map page 0 alone is told as broken, and as many pages are or were at home as it
+-- may have records; of the space tables any page is. A page is told as missing that has a home no more, or page 0 of the space
+-- tables where each sector was taken that had been free.
 abbrev pub HasReason : Outset → Layout → DiskState → Evidence → Type 0
 HasReason o layout disk (Mismatch sector wanted found) =
     IsMapsHome layout (home_at sector wanted) ⊎ (IsAtHome o disk (home_at sector wanted) ⊎ ((wanted ≡ nobody) × MayBeFree o disk sector))
-HasReason o layout disk (Malformed window page) = ((window ≡ 2) × (page ≡ 0)) ⊎ (window ≡ 3)
-HasReason o layout disk (Missing id page) = Unit {0}
+HasReason o layout disk (Malformed window page) = ((window ≡ 2) × (page ≡ 0) × IsFilledUp o layout disk) ⊎ (window ≡ 3)
+HasReason o layout disk (Missing id page) =
+    ((id ≡ 3) × (page ≡ 0) × IsTakenUp o layout disk) ⊎ (MayBeMissing id page × IsGone o layout disk id page)
 
 -- a halt: the disk failed, or the evidence has such a reason
 abbrev pub ShowsReason : Outset → Layout → DiskState → Halt → Type 0

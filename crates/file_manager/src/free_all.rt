@@ -11,7 +11,7 @@ ghost use Rattle.labelled_disk.specs.Label.{leader_page};
 ghost use Rattle.filer_kernel.specs.Evidence.{ShowsSo};
 ghost use Rattle.label_calls.specs.Own.{RelabelsOwn};
 ghost use Rattle.file_manager.specs.Freeing.{MayFreeAll, FreedAll, FreedFirst, MakesFree, MakesSomeFree};
-ghost use Rattle.file_manager.specs.Reasons.{Keeps, KeepsOn, Outset, ShowsReason};
+ghost use Rattle.file_manager.specs.Reasons.{AreLet, Keeps, KeepsOn, Outset, ShowsReason};
 
 use crate::release::{free_run, free_up};
 use filer_kernel::FilerOver;
@@ -39,6 +39,7 @@ pub(crate) fn free_all<D: Disk, A: Allocator>(
     ensures stopped { OnErr result (MakesSomeFree (D.state filer.old.swapper.under) filer.old.swapper.pool (D.state filer.new.swapper.under) filer.new.swapper.pool) }
     ensures cause { IfErr result (FreeHalts (IsUnframed filer.old.swapper.pool id) filer.old.swapper.layout (runs_of filer.old.swapper.layout.sectors filer.old.runs) id (λ p. (p ≡ leader_page) ⊎ (p < pages)) (D.state filer.old.swapper.under) filer.old.swapper.pool (D.state filer.new.swapper.under)) }
     ensures keeps_to { (o : Outset) (named : Triples) → Keeps o filer.old named → OnOk result (Keeps o filer.new named) }
+    ensures let_go { (o : Outset) (named : Triples) → Keeps o filer.old named → OnOk result (AreLet o (D.state filer.new.swapper.under) named id (λ p. (p ≡ leader_page) ⊎ (p < pages))) }
     ensures reasons { (o : Outset) (named : Triples) → Keeps o filer.old named → IfErr result (ShowsReason o filer.old.swapper.layout (D.state filer.new.swapper.under)) }
     ensures keeps { OnOk result (KeepsMap (IsUnframed filer.old.swapper.pool id) filer.old.swapper.layout id (D.state filer.old.swapper.under) filer.old.swapper.pool (runs_of filer.old.swapper.layout.sectors filer.old.runs) (D.state filer.new.swapper.under) filer.new.swapper.pool (runs_of filer.old.swapper.layout.sectors filer.new.runs)) }
     ensures so { IfErr result (ShowsSo (D.state filer.new.swapper.under)) }

@@ -54,7 +54,6 @@ fn take_run<D: Disk, A: Allocator>(
     ensures sound { (m : List Sector) (marks : Marks) (k : ℕ) → Stands (D.state filer.old.swapper.under) filer.old.swapper.pool m → BitsAre filer.old.swapper.layout marks m → AreNamed m (IsMapHome AllocationMap filer.old.swapper.layout)
         → filer.old.swapper.layout.first ≤ k → k < filer.old.swapper.layout.sectors → marks k ≡ false → IfErr result (λ e. e ≡ halt.Disk) }
     ensures cause { IfErr result (TakeHalts filer.old.swapper.layout (D.state filer.old.swapper.under) filer.old.swapper.pool (D.state filer.new.swapper.under) filer.new.swapper.pool) }
-    ensures keeps_to { (o : Outset) (named : Triples) → Keeps o filer.old named → OnOk result (Keeps o filer.new named) }
     ensures reasons { (o : Outset) (named : Triples) → Keeps o filer.old named → IfErr result (ShowsReason o filer.old.swapper.layout (D.state filer.new.swapper.under)) }
     ensures so { IfErr result (ShowsSo (D.state filer.new.swapper.under)) }
     ensures counted { result ≡ Err halt.Disk → Rose (D.state filer.old.swapper.under).faults (D.state filer.new.swapper.under).faults }
