@@ -109,7 +109,7 @@ module _ {o : Outset} {layout : Layout} {runs : List Run} {b : DiskState} {t : S
         ap (λ (l : List Sector). slice_get l k) now.2
         ∙ freed_elsewhere sectors h.memory k (λ j at. let r = has j k at in let same = r.2 in let above = on_data in omega (arith, low, same, above)) ∙ here in
         keeps_after h made.makes now.0 now.1 named (map_stays is stays h.map) (λ home is. inl is) runs h.kept (λ home held. inl held) h.unframed h.marks (bits_stay is stays h.bits) (λ sector from below free. inl free)
-        (λ home from may was. inl was) (λ home kind turn from may at. absurd (frees_none sectors turn _ _ _ _ at)) (λ sector from below used. inl used)
+        (λ home from may was. inl was) (λ home from may. inr (frees_give_not sectors home)) (λ sector from below used. inl used)
 
     -- each sector was given up
     given_up : (i : ℕ) → i < run.pages → WasGivenUp o c (run.sector + i)
@@ -136,7 +136,7 @@ module _ {o : Outset} {layout : Layout} {runs : List Run} {b : DiskState} {t : S
           | inl (i, inside, at) ↦ inr (made_later o beside.goes.makes (subst (λ (n : ℕ). WasGivenUp o c n) (sym at) (given_up i inside)))
           | inr before ↦ inl before
         ])
-        (λ home from may was. inl was) (λ home kind turn from may at. absurd (none-some _ at)) (λ sector from below used. inl (used_before run.sector run.pages k.marks sector used))
+        (λ home from may was. inl was) (λ home from may. inr (λ turn w at gives. none-some w at)) (λ sector from below used. inl (used_before run.sector run.pages k.marks sector used))
 
     -- where it stops at the allocation map
     pub marks_reason : {pages : Pages} {writes : List DiskWrite} {d : DiskState} {u : Slots} → Makes pages writes c t d u → (halt : Halt) → Halts (IsMapHome AllocationMap layout) c t d halt → ShowsReason o layout d halt

@@ -30,7 +30,7 @@ use Rattle.filer_kernel.specs.Marks.{Marks, BitsAre}
 use Rattle.filer_kernel.specs.Triples.{MapIs, AreOf}
 use Rattle.file_manager.specs.Grounds.{IsMapsHome}
 use Rattle.file_manager.specs.Reasons.{Outset, IsLet, KeepsTo}
-use Rattle.file_manager.specs.ReasonLaws.{keeps_after, let_later, unframed_still}
+use Rattle.file_manager.specs.ReasonLaws.{GivesNot, keeps_after, let_later, unframed_still}
 use Rattle.file_manager.proofs.FreedReasons.{found_keeps}
 use Rattle.file_manager.proofs.ForgottenRun.{SameFront, map_stays, bits_stay}
 use Rattle.file_manager.proofs.FreedRun.{shows_still}
@@ -40,7 +40,7 @@ use Rattle.file_manager.proofs.MadeRun.{maps_come}
 
 -- none of the writes gives a sector to a page
 abbrev pub GivesNone : List DiskWrite → Type 0
-GivesNone run = (turn sector id kind page : ℕ) → slice_get run turn ≡ Some (Whole sector (page_label id kind page) zero_bytes) → ⊥
+GivesNone run = (home : Home) → GivesNot run home
 
 -- A later memory that has the same bits, and whose map names nothing else: runs that are kept are the map's.
 pub keeps_stepped : {pages : Pages} {run : List DiskWrite} {o : Outset} {layout : Layout} {kept runs : List Run} {a b : DiskState} {s t : Slots} {named later : Triples} → (k : KeepsTo o layout kept a s named)
@@ -50,8 +50,7 @@ pub keeps_stepped : {pages : Pages} {run : List DiskWrite} {o : Outset} {layout 
 keeps_stepped {o = o} {runs = runs} {later = later} k makes brings n stands map bits only are still none =
     keeps_after k makes n stands later map (λ home is. inl (only home.id home.page home.sector is)) runs are (λ home held. elim (brings.homes home held) [ inl was ↦ inl was | inr own ↦ inr (inl own) ])
     (unframed_still brings k.unframed) k.marks bits (λ sector from below clear. inl clear)
-    (λ home from may was. elim (still home from may was) [ inl is ↦ inl is | inr let_go ↦ inr (let_later o makes home let_go) ])
-    (λ home kind turn from may at. absurd (none turn home.sector home.id kind home.page at)) (λ sector from below is. inl is)
+    (λ home from may was. elim (still home from may was) [ inl is ↦ inl is | inr let_go ↦ inr (let_later o makes k.since home (none home) let_go) ]) (λ home from may. inr (none home)) (λ sector from below is. inl is)
 
 -- what was said by one layout is said by the same
 pub keeps_at : {o : Outset} {layout place : Layout} {b : DiskState} {t : Slots} {named : Triples} (runs : CachedRuns) → place ≡ layout
@@ -60,7 +59,7 @@ keeps_at {o = o} {b = b} {t = t} {named = named} runs same k = subst (λ (l : La
 
 -- no write at all gives none
 pub no_writes : GivesNone []
-no_writes turn sector id kind page at = none-some _ at
+no_writes home turn w at gives = none-some w at
 
 -- sectors in front of the data are as they were, and no frame came
 pub keeps_front : {pages : Pages} {run : List DiskWrite} {o : Outset} {layout : Layout} {kept : List Run} {a b : DiskState} {s t : Slots} {named : Triples} → IsLayout layout → (k : KeepsTo o layout kept a s named)

@@ -28,7 +28,7 @@ pub root_keeps : {o : Outset} {x : Layout} {k : List Run} {a b : DiskState} {s :
     → Goes (λ m n. n ≡ written (root_write root) m) no_page (root_write root ∷ []) a s b s → KeepsTo o x k b s named
 root_keeps {x = x} {k = k} {b = b} {s = s} {named = named} root h goes =
     keeps_after h goes.makes now.0 now.1 named map (λ home is. inl is) k h.kept (λ home held. inl held) h.unframed h.marks bits (λ sector from below is. inl is)
-    (λ home from may was. inl was) (λ home kind turn from may at. absurd (no_page_given x root home kind turn from at)) (λ sector from below was. inl was)
+    (λ home from may was. inl was) (λ home from may. inr (root_gives_not x root home from)) (λ sector from below was. inl was)
   where
     now : (n : List Sector) × Stands b s n × (n ≡ written (root_write root) h.memory)
     now = goes.memory h.memory h.stands

@@ -3,7 +3,7 @@ use Rattle.std.proofs.Common.{◌≡◌, ◌≢◌, ◌⊎◌, inl, inr, ℕ, ze
 use Rattle.std.specs.Prelude.{slice_get, option_map, filter}
 use Rattle.std.proofs.lemmas.List.{length-map}
 use Rattle.std.proofs.lemmas.Bool.{true≢false}
-use Rattle.std.proofs.lemmas.Option.{same_Some, none-some}
+use Rattle.std.proofs.lemmas.Option.{same_Some, none-some, slice_get_within}
 use Rattle.labelled_disk.specs.declared.disk.DiskWrite.{DiskWrite}
 use Rattle.labelled_disk.specs.declared.disk.DiskWrite.TheVariants as write
 use Rattle.labelled_disk.specs.declared.evidence.Evidence.{Evidence}
@@ -44,7 +44,7 @@ use Rattle.filer_kernel.specs.Triples.{MapIs, AreOf}
 use Rattle.file_manager.specs.CountedRuns.{counted_runs, first_named, firsts_apart}
 use Rattle.file_manager.specs.Grounds.{IsMapsHome, IsUnframed}
 use Rattle.file_manager.specs.Looking.{Looks}
-use Rattle.file_manager.specs.Reasons.{Outset, IsSince, WasMade, WasGiven, WasGivenUp, WasTaken, WasNumbered, WasRenumbered, IsAtHome, IsLet, IsGone, IsTakenUp, IsFilledUp, AreHomes, MayBeFree, KeepsTo, HasReason, ShowsReason}
+use Rattle.file_manager.specs.Reasons.{Outset, IsSince, WasMade, WasGiven, WasGivenUp, WasTaken, Gives, Lets, IsAtHome, IsLet, IsTakenUp, IsFilledUp, AreHomes, MayBeFree, KeepsTo, HasReason, ShowsReason}
 
 -- ---- Writes in a row.
 
@@ -56,6 +56,11 @@ get_front (x ∷ xs) ys (suc k) w at = get_front xs ys k w at
 get_end : (xs ys : List DiskWrite) (k : ℕ) (w : DiskWrite) → slice_get ys k ≡ Some w → (j : ℕ) × (slice_get (xs ++ ys) j ≡ Some w)
 get_end [] ys k w at = (k, at)
 get_end (x ∷ xs) ys k w at = let rest = get_end xs ys k w at in (suc rest.0, rest.1)
+
+-- its place is behind the first row
+get_end_behind : (xs ys : List DiskWrite) (k : ℕ) (w : DiskWrite) → slice_get ys k ≡ Some w → (j : ℕ) × (length xs ≤ j) × (slice_get (xs ++ ys) j ≡ Some w)
+get_end_behind [] ys k w at = (k, omega arith, at)
+get_end_behind (x ∷ xs) ys k w at = let rest = get_end_behind xs ys k w at in let from = rest.1 in (suc rest.0, omega (arith, from), rest.2)
 
 -- what stands in two rows stands in one of them
 get_either : (xs ys : List DiskWrite) (k : ℕ) (w : DiskWrite) → slice_get (xs ++ ys) k ≡ Some w → (slice_get xs k ≡ Some w) ⊎ ((j : ℕ) × (slice_get ys j ≡ Some w))
@@ -95,6 +100,20 @@ no_label (write.LabelOnly sector l ∷ ws) k w none at label = none-some (write.
 no_label (write.Page sector wanted bytes ∷ ws) zero w none at label = true≢false (ap is_page_write (same_Some (write.Page sector wanted bytes) w at) ∙ label)
 no_label (write.Page sector wanted bytes ∷ ws) (suc k) w none at label = no_label ws k w none at label
 
+-- ---- Writes that give a sector to a page, or let a home.
+
+-- none of the writes gives the home's sector to its page
+abbrev pub GivesNot : List DiskWrite → Home → Type 0
+GivesNot run home = (turn : ℕ) (w : DiskWrite) → slice_get run turn ≡ Some w → Gives home w → ⊥
+
+-- both are writes of labels
+gives_label : (home : Home) (w : DiskWrite) → Gives home w → is_page_write w ≡ false
+gives_label home w (kind, is) = ap is_page_write is
+
+lets_label : (home : Home) (w : DiskWrite) → Lets home w → is_page_write w ≡ false
+lets_label home w (inl is) = ap is_page_write is
+lets_label home w (inr (root, is, last)) = ap is_page_write is
+
 -- ---- What was so before a call is so behind it.
 
 module _ (o : Outset) {pages : Pages} {run : List DiskWrite} {a b : DiskState} {s t : Slots} (makes : Makes pages run a s b t) where
@@ -125,29 +144,6 @@ module _ (o : Outset) {pages : Pages} {run : List DiskWrite} {a b : DiskState} {
   taken_later : (sector : ℕ) → WasTaken o a sector → WasTaken o b sector
   taken_later sector (id, page, kind, made) = (id, page, kind, made_later made)
 
-  numbered_later : (id : ℕ) → WasNumbered o a id → WasNumbered o b id
-  numbered_later id h = record { root = h.root; made = made_later h.made; last = h.last }
-
-  renumbered_later : (home : Home) → WasRenumbered o a home → WasRenumbered o b home
-  renumbered_later home h = record {
-    more = h.more ++ makes.wrote.writes;
-    told = told_later h.more h.told;
-    kind = h.kind;
-    turn = h.turn;
-    given = get_front h.more makes.wrote.writes h.turn _ h.given;
-    later = h.later;
-    behind = h.behind;
-    root = h.root;
-    numbered = get_front h.more makes.wrote.writes h.later _ h.numbered;
-    last = h.last;
-  }
-
-  pub let_later : (home : Home) → IsLet o a home → IsLet o b home
-  let_later home (inl up) = inl (made_later up)
-  let_later home (inr (inl (named, inl tables))) = inr (inl (named, inl tables))
-  let_later home (inr (inl (named, inr numbered))) = inr (inl (named, inr (numbered_later home.id numbered)))
-  let_later home (inr (inr again)) = inr (inr (renumbered_later home again))
-
   taken_up_later : (x : Layout) → IsTakenUp o x a → IsTakenUp o x b
   taken_up_later x up sector from below free = taken_later sector (up sector from below free)
 
@@ -172,6 +168,45 @@ module _ (o : Outset) {pages : Pages} {run : List DiskWrite} {a b : DiskState} {
         | inr (j, here) ↦ let back = label_back makes.wrote.writes j w here label in inr (back.0, ap (λ (ws : List DiskWrite). slice_get ws back.0) (sym makes.wrote.labels) ∙ back.1)
       ]
 
+  -- the writes that are told since then, up to the end of the call
+  pub more_now : (since : IsSince o a) (more : List DiskWrite) → b.writes ≡ Some (o.writes ++ more) → more ≡ since.0 ++ makes.wrote.writes
+  more_now since more told = same_end o.writes more (since.0 ++ makes.wrote.writes) (same_Some (o.writes ++ more) (o.writes ++ (since.0 ++ makes.wrote.writes)) (sym told ∙ told_later since.0 since.1))
+
+  -- a home that was let stays so where the call gave its sector to its page in no write
+  pub let_later : IsSince o a → (home : Home) → GivesNot run home → IsLet o a home → IsLet o b home
+  let_later since home none h = record {
+    outset = λ is. elim (h.outset is) [ inl tables ↦ inl tables | inr (v, lets, made) ↦ inr (v, lets, made_later made) ];
+    since = λ more told turn w at gives.
+        let same = more_now since more told in
+        elim (get_either since.0 makes.wrote.writes turn w (ap (λ (ws : List DiskWrite). slice_get ws turn) (sym same) ∙ at)) [
+          | inl was ↦
+              let l = h.since since.0 since.1 turn w was gives in
+              (l.0, l.1, l.2.0, l.2.1, ap (λ (ws : List DiskWrite). slice_get ws l.0) same ∙ get_front since.0 makes.wrote.writes l.0 l.2.0 l.2.2)
+          | inr (j, here) ↦
+              let back = label_back makes.wrote.writes j w here (gives_label home w gives) in
+              absurd (none back.0 w (ap (λ (ws : List DiskWrite). slice_get ws back.0) (sym makes.wrote.labels) ∙ back.1) gives)
+        ];
+  }
+
+  -- a home is let where the call let it, and gave its sector to its page in no write
+  pub let_now : IsSince o a → (home : Home) → GivesNot run home → (k : ℕ) (v : DiskWrite) → slice_get run k ≡ Some v → Lets home v → IsLet o b home
+  let_now since home none k v at lets = record {
+    outset = λ is. inr (v, lets, made_now since k v at);
+    since = λ more told turn w here gives.
+        let same = more_now since more told in
+        let among = label_among makes.wrote.writes k v (ap (λ (ws : List DiskWrite). slice_get ws k) makes.wrote.labels ∙ at) in
+        let there = get_end_behind since.0 makes.wrote.writes among.0 v among.1 in
+        elim (get_either since.0 makes.wrote.writes turn w (ap (λ (ws : List DiskWrite). slice_get ws turn) (sym same) ∙ here)) [
+          | inl was ↦
+              let below : turn < length since.0 = slice_get_within since.0 turn w was in
+              let from = there.1 in
+              (there.0, omega (arith, below, from), v, lets, ap (λ (ws : List DiskWrite). slice_get ws there.0) same ∙ there.2)
+          | inr (j, later) ↦
+              let back = label_back makes.wrote.writes j w later (gives_label home w gives) in
+              absurd (none back.0 w (ap (λ (ws : List DiskWrite). slice_get ws back.0) (sym makes.wrote.labels) ∙ back.1) gives)
+        ];
+  }
+
 -- ---- What is so behind a call that wrote no label was so before.
 
 module _ (o : Outset) {pages : Pages} {a b : DiskState} {s t : Slots} (makes : Makes pages [] a s b t) (since : IsSince o a) where
@@ -189,37 +224,16 @@ module _ (o : Outset) {pages : Pages} {a b : DiskState} {s t : Slots} (makes : M
   may_be_free_before sector (inl free) = inl free
   may_be_free_before sector (inr made) = inr (made_before (write.LabelOnly sector free_label) made refl)
 
-  -- the writes that are told since then, up to the call
-  more_before : (more : List DiskWrite) → b.writes ≡ Some (o.writes ++ more) → more ≡ since.0 ++ makes.wrote.writes
-  more_before more told = same_end o.writes more (since.0 ++ makes.wrote.writes) (same_Some (o.writes ++ more) (o.writes ++ (since.0 ++ makes.wrote.writes)) (sym told ∙ told_later o makes since.0 since.1))
-
-  -- a write of a label among them stands in its place before the call
-  turn_before : (more : List DiskWrite) → b.writes ≡ Some (o.writes ++ more) → (k : ℕ) (w : DiskWrite) → slice_get more k ≡ Some w → is_page_write w ≡ false → slice_get since.0 k ≡ Some w
-  turn_before more told k w at label =
-      elim (get_either since.0 makes.wrote.writes k w (ap (λ (ws : List DiskWrite). slice_get ws k) (sym (more_before more told)) ∙ at)) [
-        | inl here ↦ here
-        | inr (j, here) ↦ absurd (no_label makes.wrote.writes j w makes.wrote.labels here label)
-      ]
-
-  renumbered_before : (home : Home) → WasRenumbered o b home → WasRenumbered o a home
-  renumbered_before home h = record {
-    more = since.0;
-    told = since.1;
-    kind = h.kind;
-    turn = h.turn;
-    given = turn_before h.more h.told h.turn _ h.given refl;
-    later = h.later;
-    behind = h.behind;
-    root = h.root;
-    numbered = turn_before h.more h.told h.later _ h.numbered refl;
-    last = h.last;
+  let_before : (home : Home) → IsLet o b home → IsLet o a home
+  let_before home h = record {
+    outset = λ is. elim (h.outset is) [ inl tables ↦ inl tables | inr (v, lets, made) ↦ inr (v, lets, made_before v made (lets_label home v lets)) ];
+    since = λ more told turn w at gives.
+        let l = h.since (more ++ makes.wrote.writes) (told_later o makes more told) turn w (get_front more makes.wrote.writes turn w at) gives in
+        (l.0, l.1, l.2.0, l.2.1, elim (get_either more makes.wrote.writes l.0 l.2.0 l.2.2) [
+          | inl was ↦ was
+          | inr (j, here) ↦ absurd (no_label makes.wrote.writes j l.2.0 makes.wrote.labels here (lets_label home l.2.0 l.2.1))
+        ]);
   }
-
-  pub let_before : (home : Home) → IsLet o b home → IsLet o a home
-  let_before home (inl up) = inl (made_before (write.LabelOnly home.sector free_label) up refl)
-  let_before home (inr (inl (named, inl tables))) = inr (inl (named, inl tables))
-  let_before home (inr (inl (named, inr numbered))) = inr (inl (named, inr (record { root = numbered.root; made = made_before _ numbered.made refl; last = numbered.last })))
-  let_before home (inr (inr again)) = inr (inr (renumbered_before home again))
 
   reason_before : (x : Layout) (e : Evidence) → HasReason o x b e → HasReason o x a e
   reason_before x (Mismatch sector wanted found) (inl own) = inl own
@@ -229,7 +243,7 @@ module _ (o : Outset) {pages : Pages} {a b : DiskState} {s t : Slots} (makes : M
       inl (second, first, record { homes = full.homes; counted = full.counted; each = λ k home at. at_home_before home (full.each k home at); apart = full.apart })
   reason_before x (Malformed window page) (inr third) = inr third
   reason_before x (Missing id page) (inl (tables, first, up)) = inl (tables, first, λ sector from below free. let t = up sector from below free in (t.0, t.1, t.2, made_before _ t.3 refl))
-  reason_before x (Missing id page) (inr (may, gone)) = inr (may, λ sector from at. let_before _ (gone sector from (at_home_later o makes _ at)))
+  reason_before x (Missing id page) (inr (may, gone)) = inr (may, λ sector from. let_before _ (gone sector from))
 
   pub shows_before : (x : Layout) (e : Halt) → ShowsReason o x b e → ShowsReason o x a e
   shows_before x halt.Disk is = is
@@ -242,7 +256,7 @@ module _ (o : Outset) {pages : Pages} {a b : DiskState} {s t : Slots} (makes : M
   reason_later x (Malformed window page) (inl (second, first, full)) = inl (second, first, filled_up_later o makes x full)
   reason_later x (Malformed window page) (inr third) = inr third
   reason_later x (Missing id page) (inl (tables, first, up)) = inl (tables, first, taken_up_later o makes x up)
-  reason_later x (Missing id page) (inr (may, gone)) = inr (may, λ sector from at. let_later o makes _ (gone sector from (at_home_before _ at)))
+  reason_later x (Missing id page) (inr (may, gone)) = inr (may, λ sector from. let_later o makes since _ (λ k w at gives. none-some w at) (gone sector from))
 
   pub shows_later : (x : Layout) (e : Halt) → ShowsReason o x a e → ShowsReason o x b e
   shows_later x halt.Disk is = is
@@ -333,21 +347,15 @@ module _ {o : Outset} {x : Layout} {k : List Run} {a : DiskState} {s : Slots} {n
   pub home_later : (home : Home) → IsHeld s home → IsMapsHome x home ⊎ IsAtHome o b home
   home_later home held = elim (h.frames home held) [ inl own ↦ inl own | inr at ↦ inr (at_home_later o makes home at) ]
 
-  -- a page that is at home behind a call is named, or its home is let: where this is so of those that were named, and of those
-  -- that the call gave a sector
+  -- a home is named behind a call, or let: where this is so of those that were named, and where each page that the call gave a
+  -- sector is named there
   rest_after : (later : Triples) → ((home : Home) → x.first ≤ home.sector → MayBeMissing home.id home.page → named home.id home.page home.sector ≡ true → (later home.id home.page home.sector ≡ true) ⊎ IsLet o b home)
-      → ((home : Home) (kind turn : ℕ) → x.first ≤ home.sector → MayBeMissing home.id home.page → slice_get run turn ≡ Some (write.Whole home.sector (page_label home.id kind home.page) zero_bytes) → (later home.id home.page home.sector ≡ true) ⊎ IsLet o b home)
-      → (home : Home) → x.first ≤ home.sector → MayBeMissing home.id home.page → IsAtHome o b home → (later home.id home.page home.sector ≡ true) ⊎ IsLet o b home
-  rest_after later still given home from may at = elim at [
-    | inl is ↦ was (inl is)
-    | inr (kind, made) ↦ elim (made_either o makes h.since (write.Whole home.sector (page_label home.id kind home.page) zero_bytes) made refl) [
-      | inl before ↦ was (inr (kind, before))
-      | inr (turn, now) ↦ given home kind turn from may now
-    ]
+      → ((home : Home) → x.first ≤ home.sector → MayBeMissing home.id home.page → (later home.id home.page home.sector ≡ true) ⊎ GivesNot run home)
+      → (home : Home) → x.first ≤ home.sector → MayBeMissing home.id home.page → (later home.id home.page home.sector ≡ true) ⊎ IsLet o b home
+  rest_after later still given home from may = elim (given home from may) [
+    | inl is ↦ inl is
+    | inr none ↦ elim (h.rest home from may) [ inl is ↦ still home from may is | inr let_go ↦ inr (let_later o makes h.since home none let_go) ]
   ]
-    where
-      was : IsAtHome o a home → (later home.id home.page home.sector ≡ true) ⊎ IsLet o b home
-      was at = elim (h.rest home from may at) [ inl is ↦ still home from may is | inr let_go ↦ inr (let_later o makes home let_go) ]
 
   -- behind a call of which this is known
   pub keeps_after : (n : List Sector) → Stands b t n → (later : Triples) → MapIs x later n
@@ -355,7 +363,7 @@ module _ {o : Outset} {x : Layout} {k : List Run} {a : DiskState} {s : Slots} {n
       → ((home : Home) → IsHeld t home → IsHeld s home ⊎ (IsMapsHome x home ⊎ (named home.id home.page home.sector ≡ true))) → IsUnframed t 0
       → (marks : Marks) → BitsAre x marks n → ((sector : ℕ) → x.first ≤ sector → sector < x.sectors → marks sector ≡ false → (h.marks sector ≡ false) ⊎ WasGivenUp o b sector)
       → ((home : Home) → x.first ≤ home.sector → MayBeMissing home.id home.page → named home.id home.page home.sector ≡ true → (later home.id home.page home.sector ≡ true) ⊎ IsLet o b home)
-      → ((home : Home) (kind turn : ℕ) → x.first ≤ home.sector → MayBeMissing home.id home.page → slice_get run turn ≡ Some (write.Whole home.sector (page_label home.id kind home.page) zero_bytes) → (later home.id home.page home.sector ≡ true) ⊎ IsLet o b home)
+      → ((home : Home) → x.first ≤ home.sector → MayBeMissing home.id home.page → (later home.id home.page home.sector ≡ true) ⊎ GivesNot run home)
       → ((sector : ℕ) → x.first ≤ sector → sector < x.sectors → marks sector ≡ true → (h.marks sector ≡ true) ⊎ WasTaken o b sector) → KeepsTo o x l b t later
   keeps_after n stands later map homes l are frames unframed marks bits free still given used = record {
     since = since_later o makes h.since;
@@ -409,15 +417,15 @@ module _ {o : Outset} {x : Layout} {k : List Run} {a : DiskState} {s : Slots} {n
   keeps_same stands l are brings =
       keeps_after h makes h.memory stands named h.map (λ home is. inl is) l are (λ home held. elim (brings.homes home held) [ inl was ↦ inl was | inr own ↦ inr (inl own) ])
       (unframed_still brings h.unframed) h.marks h.bits (λ sector from below is. inl is)
-      (λ home from may is. inl is) (λ home kind turn from may at. absurd (none-some _ at)) (λ sector from below is. inl is)
+      (λ home from may is. inl is) (λ home from may. inr (λ k w at gives. none-some w at)) (λ sector from below is. inl is)
 
   -- a page that the map does not name is told as missing
   pub missing_reason : (id page : ℕ) → MayBeMissing id page → ((m : List Sector) (named : Triples) → Stands a s m → MapIs x named m → IsNowhere named id page) → HasReason o x b (Missing id page)
-  missing_reason id page may nowhere = inr (may, λ sector from at.
+  missing_reason id page may nowhere = inr (may, λ sector from.
       let home : Home = record { sector = sector; id = id; page = page } in
-      elim (h.rest home from may (at_home_before o makes h.since home at)) [
+      elim (h.rest home from may) [
         | inl is ↦ absurd (true≢false (sym is ∙ nowhere h.memory named h.stands h.map sector))
-        | inr let_go ↦ let_later o makes home let_go
+        | inr let_go ↦ let_later o makes h.since home (λ k w at gives. none-some w at) let_go
       ])
 
 -- ---- What is full.

@@ -72,41 +72,34 @@ MayBeFree o disk sector = (o.marks sector ≡ false) ⊎ WasGivenUp o disk secto
 abbrev pub WasTaken : Outset → DiskState → ℕ → Type 0
 WasTaken o disk sector = (id page : ℕ) × WasGiven o disk (record { sector = sector; id = id; page = page })
 
--- a root was written under which this identifier was the last that had been given out
-pub record WasNumbered (o : Outset) (disk : DiskState) (id : ℕ) : Type 0 where
-  pub root : Root
-  pub made : WasMade o disk (root_write root)
-  pub last : id + 1 ≡ next_id root
+-- a write lets a home of a page: its sector is given up, or a root is written under which the identifier of the page's file was
+-- the last that had been given out
+abbrev pub Lets : Home → DiskWrite → Type 0
+Lets home w = (w ≡ LabelOnly home.sector free_label) ⊎ ((root : Root) × (w ≡ root_write root) × (home.id + 1 ≡ next_id root))
 
--- the sector was given to the page, and after that its file's identifier was given out
-pub record WasRenumbered (o : Outset) (disk : DiskState) (home : Home) : Type 0 where
-  pub more : List DiskWrite
-  pub told : disk.writes ≡ Some (o.writes ++ more)
-  pub kind : ℕ
-  pub turn : ℕ
-  pub given : slice_get more turn ≡ Some (Whole home.sector (page_label home.id kind home.page) zero_bytes)
-  pub later : ℕ
-  pub behind : turn < later
-  pub root : Root
-  pub numbered : slice_get more later ≡ Some (root_write root)
-  pub last : home.id + 1 ≡ next_id root
+-- one of the writes gives the sector to the page
+abbrev pub Gives : Home → DiskWrite → Type 0
+Gives home w = (kind : ℕ) × (w ≡ Whole home.sector (page_label home.id kind home.page) zero_bytes)
 
--- A home that the map has no more: the sector was given up since; or what the map said at the outset was of a file that was
--- made later, or of the space tables, whose pages a run makes anew; or the file was made after that.
-abbrev pub IsLet : Outset → DiskState → Home → Type 0
-IsLet o disk home =
-    WasGivenUp o disk home.sector
-    ⊎ (((o.named home.id home.page home.sector ≡ true) × ((home.id ≡ 3) ⊎ WasNumbered o disk home.id)) ⊎ WasRenumbered o disk home)
+-- behind each of the writes that give the sector to the page there is one that lets this home
+abbrev pub AreLetGo : Home → List DiskWrite → Type 0
+AreLetGo home ws =
+    (turn : ℕ) (w : DiskWrite) → slice_get ws turn ≡ Some w → Gives home w
+    → (later : ℕ) × (turn < later) × ((v : DiskWrite) × Lets home v × (slice_get ws later ≡ Some v))
+
+-- Nothing makes the page be at home there now: what the file map said at the outset was let since, or is of the space tables, whose
+-- pages a run makes anew; and wherever the sector was given to the page, it was let after that.
+pub record IsLet (o : Outset) (disk : DiskState) (home : Home) : Type 0 where
+  pub outset : o.named home.id home.page home.sector ≡ true → (home.id ≡ 3) ⊎ ((v : DiskWrite) × Lets home v × WasMade o disk v)
+  pub since : (more : List DiskWrite) → disk.writes ≡ Some (o.writes ++ more) → AreLetGo home more
 
 -- so is each home that these triples have of some pages of a file
 abbrev pub AreLet : Outset → DiskState → Triples → ℕ → (ℕ → Type 0) → Type 0
 AreLet o disk named id pages = (page sector : ℕ) → pages page → named id page sector ≡ true → IsLet o disk (record { sector = sector; id = id; page = page })
 
--- the page has a home no more, wherever it was at home
+-- nothing makes the page be at home in any data sector
 abbrev pub IsGone : Outset → Layout → DiskState → ℕ → ℕ → Type 0
-IsGone o layout disk id page =
-    (sector : ℕ) → layout.first ≤ sector → IsAtHome o disk (record { sector = sector; id = id; page = page })
-    → IsLet o disk (record { sector = sector; id = id; page = page })
+IsGone o layout disk id page = (sector : ℕ) → layout.first ≤ sector → IsLet o disk (record { sector = sector; id = id; page = page })
 
 -- each data sector that the allocation map had as free at the outset was given to a page since
 abbrev pub IsTakenUp : Outset → Layout → DiskState → Type 0
@@ -125,8 +118,8 @@ IsFilledUp o layout disk = AreHomes (IsAtHome o disk) (most_records layout.secto
 
 -- Disk and frames make a memory whose file map is in form. Each page that it names is or was at home there, and so is each page of
 -- a frame, unless the layout has it there; runs that are kept are the map's; and each data sector that the allocation map has as
--- free may be so. The other way, each page that is or was at home is named there, or its home is let, and each data sector that
--- the allocation map has as used was so at the outset, or was given to a page.
+-- free may be so. The other way, each home of a page that may be missing is named, or let, and each data sector that the
+-- allocation map has as used was so at the outset, or was given to a page.
 pub record KeepsTo (o : Outset) (layout : Layout) (runs : List Run) (disk : DiskState) (slots : Slots) (named : Triples) : Type 0 where
   pub since : IsSince o disk
   pub memory : List Sector
@@ -140,13 +133,13 @@ pub record KeepsTo (o : Outset) (layout : Layout) (runs : List Run) (disk : Disk
   pub marks : Marks
   pub bits : BitsAre layout marks memory
   pub free : (sector : ℕ) → layout.first ≤ sector → sector < layout.sectors → marks sector ≡ false → MayBeFree o disk sector
-  pub rest : (home : Home) → layout.first ≤ home.sector → MayBeMissing home.id home.page → IsAtHome o disk home → (named home.id home.page home.sector ≡ true) ⊎ IsLet o disk home
+  pub rest : (home : Home) → layout.first ≤ home.sector → MayBeMissing home.id home.page → (named home.id home.page home.sector ≡ true) ⊎ IsLet o disk home
   pub used : (sector : ℕ) → layout.first ≤ sector → sector < layout.sectors → marks sector ≡ true → (o.marks sector ≡ true) ⊎ WasTaken o disk sector
 
 -- A label is told where the layout has the page of a map there, where the wanted page is or was at home, or where nobody's is
--- wanted and the sector may be free. Of the file map page 0 alone is told as broken, and as many pages are or were at home as it
--- may have records; of the space tables any page is. A page is told as missing that has a home no more, or page 0 of the space
--- tables where each sector was taken that had been free.
+-- wanted and the sector may be free. Of the file map page 0 alone is told as broken, where as many pages are or were at home as it
+-- may have records; of the space tables any page is. A page is told as missing that nothing makes be at home anywhere, or page 0
+-- of the space tables where each sector that had been free was given to a page.
 abbrev pub HasReason : Outset → Layout → DiskState → Evidence → Type 0
 HasReason o layout disk (Mismatch sector wanted found) =
     IsMapsHome layout (home_at sector wanted) ⊎ (IsAtHome o disk (home_at sector wanted) ⊎ ((wanted ≡ nobody) × MayBeFree o disk sector))
