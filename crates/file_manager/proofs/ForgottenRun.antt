@@ -103,6 +103,8 @@ module _ {id first pages : ℕ} {layout : Layout} {d : DiskState} {t u : Slots} 
         marks = h.marks;
         bits = bits_stay is stays h.bits;
         free = h.free;
+        rest = h.rest;
+        used = h.used;
       }
 
 -- ---- A run that was found, and whose frames were given up.

@@ -1,7 +1,7 @@
 -- The freeing of a run keeps to an outset, and what it tells as evidence has its reason.
 use Rattle.std.proofs.Common.{◌≡◌, ◌⊎◌, inl, inr, ℕ, zero, suc, ◌+◌, ◌-◌, ◌<◌, ◌≤◌, Bool, true, false, List, [], ◌∷◌, Some, refl, sym, ◌∙◌, ap, subst, arith}
 use Rattle.std.specs.Prelude.{slice_get, nat_le, nat_lt, ◌&&◌, if◌then◌else◌}
-use Rattle.std.proofs.lemmas.Bool.{and_parts, leb-true, ltb-true}
+use Rattle.std.proofs.lemmas.Bool.{and_parts, false≢true, leb-true, ltb-true}
 use Rattle.std.proofs.lemmas.Option.{same_Some, none-some}
 use Rattle.labelled_disk.specs.declared.disk.DiskWrite.{DiskWrite}
 use Rattle.labelled_disk.specs.declared.disk.DiskWrite.TheVariants as write
@@ -13,6 +13,7 @@ use Rattle.labelled_disk.specs.declared.layout.Layout.{Layout}
 use Rattle.labelled_disk.specs.Runs.{freeing}
 use Rattle.labelled_disk.specs.Sectors.{Sector, free_label}
 use Rattle.labelled_disk.specs.State.{DiskState}
+use Rattle.frame_pool.specs.declared.home.Home.{Home}
 use Rattle.frame_pool.specs.Frames.{Frame, Slots, Has, IsWithin}
 use Rattle.file_map.specs.declared.run.Run.{Run}
 use Rattle.file_map.specs.FileMap.{Triples}
@@ -37,7 +38,7 @@ use Rattle.filer_kernel.specs.Triples.{MapIs, AreOf}
 use Rattle.file_manager.specs.Freeing.{NamesAll}
 use Rattle.file_manager.specs.Grounds.{IsMapsHome}
 use Rattle.file_manager.specs.Reasons.{Outset, WasGivenUp, KeepsTo, ShowsReason}
-use Rattle.file_manager.specs.ReasonLaws.{at_home_later, made_later, made_now, keeps_after, unframed_still, label_reasons, beside_keeps}
+use Rattle.file_manager.specs.ReasonLaws.{GivesNot, at_home_later, made_later, made_now, keeps_after, unframed_still, label_reasons, beside_keeps}
 use Rattle.file_manager.proofs.FreedRun.{shows_still, behind_map}
 use Rattle.file_manager.proofs.FreedSectors.{freed_elsewhere}
 use Rattle.file_manager.proofs.ForgottenRun.{SameFront, map_stays, bits_stay}
@@ -59,6 +60,28 @@ freeing_at : (sectors : List ℕ) (j k : ℕ) → slice_get sectors j ≡ Some k
 freeing_at [] j k at = absurd (none-some k at)
 freeing_at (i ∷ is) zero k at = ap (λ (n : ℕ). Some (write.LabelOnly n free_label)) (same_Some i k at)
 freeing_at (i ∷ is) (suc j) k at = freeing_at is j k at
+
+-- none of these writes gives a sector to a page
+pub frees_give_not : (sectors : List ℕ) (home : Home) → GivesNot (freeing sectors) home
+frees_give_not [] home turn w at gives = none-some w at
+frees_give_not (k ∷ ks) home zero w at (kind, is) = only_label (same_Some (write.LabelOnly k free_label) w at ∙ is)
+  where
+    only_label : {sector : ℕ} {label : Label} {bytes : List ℕ} → write.LabelOnly k free_label ≡ write.Whole sector label bytes → ⊥
+    only_label same = false≢true (ap is_whole same)
+
+    is_whole : DiskWrite → Bool
+    is_whole (write.Whole sector label bytes) = true
+    is_whole (write.LabelOnly sector label) = false
+    is_whole (write.Page sector wanted bytes) = false
+frees_give_not (k ∷ ks) home (suc turn) w at gives = frees_give_not ks home turn w at gives
+
+-- a sector that the bits say is used then was used
+used_before : (first count : ℕ) (marks : Marks) (sector : ℕ) → marked false first count marks sector ≡ true → marks sector ≡ true
+used_before first count marks sector is = either (nat_le first sector && nat_lt sector (first + count)) refl
+  where
+    either : (b : Bool) → (nat_le first sector && nat_lt sector (first + count)) ≡ b → marks sector ≡ true
+    either true within = absurd (false≢true (sym (ap (λ (b : Bool). if b then false else marks sector) within) ∙ is))
+    either false out = sym (ap (λ (b : Bool). if b then false else marks sector) out) ∙ is
 
 -- the sector is one of a row, or the bits say of it what they said
 one_of_row : (first count : ℕ) (marks : Marks) (sector : ℕ) → marked false first count marks sector ≡ false → ((i : ℕ) × (i < count) × (sector ≡ first + i)) ⊎ (marks sector ≡ false)

@@ -142,7 +142,7 @@ module _ (o : Outset) {pages : Pages} {run : List DiskWrite} {a b : DiskState} {
   may_be_free_later sector (inr made) = inr (made_later made)
 
   taken_later : (sector : ℕ) → WasTaken o a sector → WasTaken o b sector
-  taken_later sector (id, page, kind, made) = (id, page, kind, made_later made)
+  taken_later sector (id, page, (kind, made)) = (id, page, (kind, made_later made))
 
   taken_up_later : (x : Layout) → IsTakenUp o x a → IsTakenUp o x b
   taken_up_later x up sector from below free = taken_later sector (up sector from below free)
@@ -181,7 +181,7 @@ module _ (o : Outset) {pages : Pages} {run : List DiskWrite} {a b : DiskState} {
         elim (get_either since.0 makes.wrote.writes turn w (ap (λ (ws : List DiskWrite). slice_get ws turn) (sym same) ∙ at)) [
           | inl was ↦
               let l = h.since since.0 since.1 turn w was gives in
-              (l.0, l.1, l.2.0, l.2.1, ap (λ (ws : List DiskWrite). slice_get ws l.0) same ∙ get_front since.0 makes.wrote.writes l.0 l.2.0 l.2.2)
+              (l.0, l.1, (l.2.0, l.2.1, ap (λ (ws : List DiskWrite). slice_get ws l.0) same ∙ get_front since.0 makes.wrote.writes l.0 l.2.0 l.2.2))
           | inr (j, here) ↦
               let back = label_back makes.wrote.writes j w here (gives_label home w gives) in
               absurd (none back.0 w (ap (λ (ws : List DiskWrite). slice_get ws back.0) (sym makes.wrote.labels) ∙ back.1) gives)
@@ -200,7 +200,7 @@ module _ (o : Outset) {pages : Pages} {run : List DiskWrite} {a b : DiskState} {
           | inl was ↦
               let below : turn < length since.0 = slice_get_within since.0 turn w was in
               let from = there.1 in
-              (there.0, omega (arith, below, from), v, lets, ap (λ (ws : List DiskWrite). slice_get ws there.0) same ∙ there.2)
+              (there.0, omega (arith, below, from), (v, lets, ap (λ (ws : List DiskWrite). slice_get ws there.0) same ∙ there.2))
           | inr (j, later) ↦
               let back = label_back makes.wrote.writes j w later (gives_label home w gives) in
               absurd (none back.0 w (ap (λ (ws : List DiskWrite). slice_get ws back.0) (sym makes.wrote.labels) ∙ back.1) gives)
@@ -229,10 +229,10 @@ module _ (o : Outset) {pages : Pages} {a b : DiskState} {s t : Slots} (makes : M
     outset = λ is. elim (h.outset is) [ inl tables ↦ inl tables | inr (v, lets, made) ↦ inr (v, lets, made_before v made (lets_label home v lets)) ];
     since = λ more told turn w at gives.
         let l = h.since (more ++ makes.wrote.writes) (told_later o makes more told) turn w (get_front more makes.wrote.writes turn w at) gives in
-        (l.0, l.1, l.2.0, l.2.1, elim (get_either more makes.wrote.writes l.0 l.2.0 l.2.2) [
+        (l.0, l.1, (l.2.0, l.2.1, elim (get_either more makes.wrote.writes l.0 l.2.0 l.2.2) [
           | inl was ↦ was
           | inr (j, here) ↦ absurd (no_label makes.wrote.writes j l.2.0 makes.wrote.labels here (lets_label home l.2.0 l.2.1))
-        ]);
+        ]));
   }
 
   reason_before : (x : Layout) (e : Evidence) → HasReason o x b e → HasReason o x a e
@@ -242,7 +242,7 @@ module _ (o : Outset) {pages : Pages} {a b : DiskState} {s t : Slots} (makes : M
   reason_before x (Malformed window page) (inl (second, first, full)) =
       inl (second, first, record { homes = full.homes; counted = full.counted; each = λ k home at. at_home_before home (full.each k home at); apart = full.apart })
   reason_before x (Malformed window page) (inr third) = inr third
-  reason_before x (Missing id page) (inl (tables, first, up)) = inl (tables, first, λ sector from below free. let t = up sector from below free in (t.0, t.1, t.2, made_before _ t.3 refl))
+  reason_before x (Missing id page) (inl (tables, first, up)) = inl (tables, first, λ sector from below free. let t = up sector from below free in (t.0, t.1, (t.2.0, made_before _ t.2.1 refl)))
   reason_before x (Missing id page) (inr (may, gone)) = inr (may, λ sector from. let_before _ (gone sector from))
 
   pub shows_before : (x : Layout) (e : Halt) → ShowsReason o x b e → ShowsReason o x a e
@@ -264,10 +264,10 @@ module _ (o : Outset) {pages : Pages} {a b : DiskState} {s t : Slots} (makes : M
 
 -- ---- The homes of the first pages of runs.
 
-home_of : Run → Home
+abbrev home_of : Run → Home
 home_of r = record { sector = r.sector; id = r.id; page = r.first }
 
-homes_of : List Run → List Home
+abbrev homes_of : List Run → List Home
 homes_of runs = map home_of runs
 
 home_at_turn : (runs : List Run) (k : ℕ) (home : Home) → slice_get (homes_of runs) k ≡ Some home → (r : Run) × (slice_get runs k ≡ Some r) × (home ≡ home_of r)
