@@ -66,13 +66,13 @@ pub frees_give_not : (sectors : List ℕ) (home : Home) → GivesNot (freeing se
 frees_give_not [] home turn w at gives = none-some w at
 frees_give_not (k ∷ ks) home zero w at (kind, is) = only_label (same_Some (write.LabelOnly k free_label) w at ∙ is)
   where
-    only_label : {sector : ℕ} {label : Label} {bytes : List ℕ} → write.LabelOnly k free_label ≡ write.Whole sector label bytes → ⊥
-    only_label same = false≢true (ap is_whole same)
-
     is_whole : DiskWrite → Bool
     is_whole (write.Whole sector label bytes) = true
     is_whole (write.LabelOnly sector label) = false
     is_whole (write.Page sector wanted bytes) = false
+
+    only_label : {sector : ℕ} {label : Label} {bytes : List ℕ} → write.LabelOnly k free_label ≡ write.Whole sector label bytes → ⊥
+    only_label same = false≢true (ap is_whole same)
 frees_give_not (k ∷ ks) home (suc turn) w at gives = frees_give_not ks home turn w at gives
 
 -- a sector that the bits say is used then was used
