@@ -23,6 +23,7 @@ use Rattle.file_manager.proofs.RootCalls.{quiet_root, file_no_root, resized_root
 use Rattle.labelled_disk.specs.declared.layout.Layout.{Layout}
 use Rattle.labelled_disk.specs.Label.{leader_page}
 use Rattle.file_manager.specs.Reasons.{ShowsReason}
+use Rattle.file_manager.specs.ReasonLaws.{missing_reason}
 use Rattle.file_manager.proofs.KeepCut.{none_above}
 use Rattle.file_manager.proofs.resizing.set_size.Goals as goal
 
@@ -378,6 +379,9 @@ returns-in-Err-shrink-clause-root g c = resized_some_root c.args.pages (file_no_
 
 pub returns-in-Err-clause-reasons : goal.returns-in-Err-clause-reasons
 returns-in-Err-clause-reasons g c = c.in-Err.ensures.reasons
+
+pub returns-in-Ok-None-clause-reasons : goal.returns-in-Ok-None-clause-reasons
+returns-in-Ok-None-clause-reasons g c = λ o named k. missing_reason k c.find_file.ensures.makes c.args.id leader_page (inr (file_id c.args.id c.requires.of_file)) (c.find_file.ensures.missing (search rules))
 
 pub returns-in-Ok-clause-keeps_to : goal.returns-in-Ok-clause-keeps_to
 returns-in-Ok-clause-keeps_to g c = λ o named k.
