@@ -67,13 +67,14 @@ growth_turn id kind page first zero turn w at = absurd (none-some w at)
 growth_turn id kind page first (suc n) zero w at = omega arith
 growth_turn id kind page first (suc n) (suc turn) w at = let rest = growth_turn id kind (page + 1) (first + 1) n turn w at in omega (arith, rest)
 
--- where a write gives the sector to the page
-sector_of : DiskWrite → ℕ
+-- where a write goes
+abbrev pub sector_of : DiskWrite → ℕ
 sector_of (Whole sector label bytes) = sector
 sector_of (LabelOnly sector label) = sector
 sector_of (Page sector wanted bytes) = sector
 
-label_of : DiskWrite → Label
+-- the label that it gives
+abbrev label_of : DiskWrite → Label
 label_of (Whole sector label bytes) = label
 label_of (LabelOnly sector label) = label
 label_of (Page sector wanted bytes) = page_label 0 0 0
@@ -86,7 +87,6 @@ names_turn run id page sector j same of below at =
 
 -- so the writes of its growth give sectors to the pages that it names
 growth_names : (run : Run) (kind turn : ℕ) (w : DiskWrite) (home : Home) → slice_get (growth run.id kind run.first (sectors_of run)) turn ≡ Some w → Gives home w → run_names run home.id home.page home.sector ≡ true
-unfolding label_of sector_of
 growth_names run kind turn w home at (other, is) =
     let below = growth_turn run.id kind run.first run.sector run.pages turn w at in
     let same : Whole (run.sector + turn) (page_label run.id kind (run.first + turn)) zero_bytes ≡ Whole home.sector (page_label home.id other home.page) zero_bytes =

@@ -16,13 +16,13 @@ use Rattle.file_map.specs.FileMap.{Triples}
 use Rattle.swapper_kernel.specs.declared.manager.Manager.TheVariants.{FileMap}
 use Rattle.swapper_kernel.specs.Goes.{Makes, Pages, no_page}
 use Rattle.swapper_kernel.specs.Halts.{HasCause, IsOther, held_or}
-use Rattle.swapper_kernel.specs.Homes.{IsLayout, home_at}
+use Rattle.swapper_kernel.specs.Homes.{home_at}
 use Rattle.swapper_kernel.specs.Maps.{IsMapHome}
 use Rattle.label_calls.specs.declared.page.Mark.{Mark}
 use Rattle.label_calls.specs.Labels.{IsNotOf, MayHaveWritten, with_mark}
-use Rattle.filer_kernel.specs.Causes.{AddHalts, CutHalts, IsFaultOrMismatch, IsFaultOrMost}
+use Rattle.filer_kernel.specs.Causes.{CutHalts, IsFaultOrMismatch}
 use Rattle.file_manager.specs.Reasons.{Outset, KeepsTo, IsAtHome, HasReason, ShowsReason}
-use Rattle.file_manager.specs.ReasonLaws.{at_home_later, full_reason, label_reasons}
+use Rattle.file_manager.specs.ReasonLaws.{at_home_later, label_reasons}
 
 -- Over writes that were made since.
 module _ {o : Outset} {layout : Layout} {kept : List Run} {a : DiskState} {s : Slots} {named : Triples} (k : KeepsTo o layout kept a s named)
@@ -37,16 +37,6 @@ module _ {o : Outset} {layout : Layout} {kept : List Run} {a : DiskState} {s : S
   cut_reasons (Damaged (Mismatch sector wanted found)) is right = held_reason sector wanted found is
   cut_reasons (Damaged (Malformed window page)) is right = absurd right
   cut_reasons (Damaged (Missing id page)) is right = absurd is
-
-  -- a run is added to it
-  pub add_reasons : IsLayout layout → (halt : Halt) → AddHalts layout a s b halt → IsFaultOrMost layout a s halt → ShowsReason o layout b halt
-  add_reasons placed Disk is right = tt
-  add_reasons placed (Damaged (Mismatch sector wanted found)) is right = held_reason sector wanted found is
-  add_reasons placed (Damaged (Malformed window page)) is right = elim right [
-    | inl other ↦ absurd other
-    | inr full ↦ subst (λ (e : Halt). ShowsReason o layout b e) (sym full.0) (full_reason k makes placed full.1)
-  ]
-  add_reasons placed (Damaged (Missing id page)) is right = absurd is
 
   -- a label isn't that of a page which the map names there
   pub other_reasons : (place : ℕ) (w : Wanted) → named w.id w.page place ≡ true → (c d e : DiskState) (halt : Halt) → HasCause (IsNotOf place w c) d e halt → ShowsReason o layout b halt

@@ -4,7 +4,6 @@ use Rattle.std.specs.Prelude.{slice_get, filter}
 use Rattle.std.proofs.lemmas.Bool.{and_parts, cases_eq, eq-eqb, le-leb, ne_eqb}
 use Rattle.std.proofs.lemmas.Option.{same_Some, none-some}
 use Rattle.labelled_disk.specs.declared.disk.DiskWrite.{DiskWrite}
-use Rattle.labelled_disk.specs.declared.disk.DiskWrite.TheVariants.{Whole, LabelOnly, Page}
 use Rattle.labelled_disk.specs.declared.layout.Layout.{Layout}
 use Rattle.labelled_disk.specs.Label.{root_label}
 use Rattle.labelled_disk.specs.Moment.{written}
@@ -33,16 +32,10 @@ use Rattle.file_manager.specs.ReasonLaws.{GivesNot, keeps_after, let_now}
 use Rattle.file_manager.specs.Taking.{NamesNoneOf, every_page}
 use Rattle.file_manager.proofs.FreedRun.{first_is, shows_still}
 use Rattle.file_manager.proofs.KeepSteps.{keeps_changed}
-
--- where a write goes
-sector_of : DiskWrite → ℕ
-sector_of (Whole sector label bytes) = sector
-sector_of (LabelOnly sector label) = sector
-sector_of (Page sector wanted bytes) = sector
+use Rattle.file_manager.proofs.MadeReasons.{sector_of}
 
 -- the root gives no data sector to a page
 pub root_gives_not : (x : Layout) → IsLayout x → (root : Root) (home : Home) → x.first ≤ home.sector → GivesNot (root_write root ∷ []) home
-unfolding sector_of
 root_gives_not x is root home from zero w at (kind, gives) =
     let here : 0 ≡ home.sector = ap sector_of (same_Some (root_write root) w at ∙ gives) in
     let first = first_is x is in
