@@ -1,4 +1,5 @@
 pub mod BookLemmas
+pub mod AddReasons
 pub mod Faults
 pub mod CauseLemmas
 pub mod MapOnce

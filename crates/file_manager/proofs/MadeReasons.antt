@@ -221,16 +221,18 @@ module _ {o : Outset} {x l1 l3 : Layout} {k : List Run} {a b c d : DiskState} {s
   held_home : (home : Home) → IsHeld t home → IsMapsHome x home ⊎ IsAtHome o d home
   held_home home held = elim ((maps_come taken).homes home held) [ inl was ↦ home_later h makes home was | inr own ↦ inl own ]
 
+  -- its first page is at home
+  first_at : IsAtHome o d (record { sector = run.sector; id = run.id; page = run.first })
+  first_at =
+      let some = form.some in
+      let at = growth_at run.id kind run.first run.sector run.pages 0 (omega (arith, some)) in
+      let page : run.first + 0 ≡ run.first = omega arith in
+      let place : run.sector + 0 ≡ run.sector = omega arith in
+      inr (kind, made_now o makes h.since 0 (Whole run.sector (page_label run.id kind run.first) zero_bytes) (at ∙ (λ i. Some (Whole (place i) (page_label run.id kind (page i)) zero_bytes))))
+
   pub add_reasons : (e : Halt) → AddHalts x c t d e → ((m : List Sector) (named : Triples) → Stands c t m → MapIs x named m → IsNew named run → IsFaultOrMost x c t e) → ShowsReason o x d e
-  add_reasons Disk cause right = tt
-  add_reasons (Damaged (Mismatch sector wanted found)) cause right = elim cause.reason [
-    | inl held ↦ elim (held_home (home_at sector wanted) held) [ inl own ↦ inl own | inr here ↦ inr (inl here) ]
-    | inr own ↦ inl (FileMap, own)
-  ]
-  add_reasons (Damaged (Malformed window page)) cause right = elim (right mid.0 named mid.1 map_mid (new_run run named nothing)) [
-    | inl not ↦ absurd not
-    | inr (same, counts) ↦
-        let full = named_homes is (made.makes.went.sectors ∙ taken.goes.makes.went.sectors ∙ h.size) mid.1 map_mid (most_records x.sectors) counts in
-        inl (cause.0, ap page_in same, record { homes = full.homes; counted = full.counted; each = λ j home at. at_home_later o makes home (h.homes home (full.each j home at)); apart = full.apart })
-  ]
-  add_reasons (Damaged (Missing id page)) cause right = absurd cause
+  add_reasons e cause right =
+      let some = form.some in
+      add_at is (made.makes.went.sectors ∙ taken.goes.makes.went.sectors ∙ h.size) mid.0 mid.1 map_mid (λ home named_so. at_home_later o makes home (h.homes home named_so)) held_home
+      (record { sector = run.sector; id = run.id; page = run.first }) first_at (λ sector. nothing run.first sector (omega arith, omega (arith, some)))
+      e cause (right mid.0 named mid.1 map_mid (new_run run named nothing))

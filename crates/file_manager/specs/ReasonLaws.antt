@@ -428,7 +428,7 @@ module _ {o : Outset} {x : Layout} {k : List Run} {a : DiskState} {s : Slots} {n
         | inr let_go ↦ let_later o makes h.since home (λ k w at gives. none-some w at) let_go
       ])
 
--- ---- What is full.
+-- ---- No data sector is free.
 
 module _ {o : Outset} {x : Layout} {k : List Run} {a : DiskState} {s : Slots} {named : Triples} (h : KeepsTo o x k a s named) {pages : Pages} {run : List DiskWrite} {b : DiskState} {t : Slots} (makes : Makes pages run a s b t) where
   -- the allocation map has each data sector as used
@@ -437,11 +437,6 @@ module _ {o : Outset} {x : Layout} {k : List Run} {a : DiskState} {s : Slots} {n
     | inl outset ↦ absurd (true≢false (sym outset ∙ free))
     | inr taken ↦ taken_later o makes sector taken
   ])
-
-  -- the file map counts as many records as it may
-  pub full_reason : IsLayout x → MapCounts x a s (most_records x.sectors) → HasReason o x b (Malformed 2 0)
-  full_reason is counts = let h' = named_homes is h.size h.stands h.map (most_records x.sectors) counts in
-      inl (refl, refl, record { homes = h'.homes; counted = h'.counted; each = λ j home at. at_home_later o makes home (h.homes home (h'.each j home at)); apart = h'.apart })
 
 module _ {o : Outset} {x : Layout} {k : List Run} {a : DiskState} {s : Slots} {named : Triples} (h : KeepsTo o x k a s named) {b : DiskState} {t : Slots} where
   -- a look at files

@@ -20,7 +20,7 @@ use Rattle.filer_kernel.specs.Cached.{runs_of}
 use Rattle.file_manager.specs.Grounds.{IsUnframed}
 use Rattle.file_manager.proofs.KeepSteps.{keeps_at}
 use Rattle.file_manager.proofs.CutReasons.{added_reasons}
-use Rattle.file_manager.proofs.KeepCut.{keeps_led, less_named}
+use Rattle.file_manager.proofs.KeepCut.{keeps_led, less_named, cut_add_reasons}
 use Rattle.file_manager.proofs.ReasonCauses.{cut_reasons}
 use Rattle.file_manager.proofs.cutting.cut_to.Goals as goal
 
@@ -111,15 +111,17 @@ returns-in-Err-clause-reasons g c = λ o named k led. cut_reasons k c.cut.ensure
 
 pub returns-in-Err-add-clause-reasons : goal.returns-in-Err-add-clause-reasons
 returns-in-Err-add-clause-reasons g c = λ o named k led.
-    let layout = c.args.filer.now.swapper.layout in
-    let lay = c.cut.ensures.beside.layout in
     let fits = c.ranges.from.fits in
     let few : c.args.from ≤ leader_page = omega (arith, fits) in
-    let left = without_from named c.args.id c.args.from in
-    let b = c.in-Ok.ensures.cut k.memory named k.stands k.map in
+    let layout = c.args.filer.now.swapper.layout in
+    let is = c.args.filer.now.swapper.accepted in
+    let lay = c.cut.ensures.beside.layout in
+    let cut = c.in-Ok.ensures.cut k.memory named k.stands k.map in
+    let beside = rw lay at c.add.ensures.beside in
+    let since = c.cut.ensures.beside.goes.makes in
+    let new = leader_new named c.args.id c.args.from c.args.leader few in
     let right = rw lay at c.in-Err-add.ensures.right in
-    added_reasons k c.args.filer.now.swapper.accepted c.cut.ensures.beside b (less_named named c.args.id c.args.from) c.add.ensures.beside.goes.makes c.in-Err-add.halt (rw lay at c.in-Err-add.ensures.cause)
-    (right b.memory left b.stands b.is (leader_new named c.args.id c.args.from c.args.leader few))
+    cut_add_reasons k is c.cut.ensures.beside beside.goes.makes c.args.id c.args.from c.args.leader led cut new c.in-Err-add.halt (rw lay at c.in-Err-add.ensures.cause) (right cut.memory (without_from named c.args.id c.args.from) cut.stands cut.is new)
 
 pub returns-clause-keeps_to : goal.returns-clause-keeps_to
 returns-clause-keeps_to g c = λ o named k led let_go.
