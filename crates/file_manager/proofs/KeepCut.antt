@@ -82,7 +82,7 @@ cut_named named id from leader led i page sector is = elim (either_named (withou
 ]
 
 -- pages from the size of a file on have no sector
-pub none_above : (named : Triples) (id size pages : ℕ) → pages < 4294967295 → IsSize named id size → NamesNoneOf id (λ p. (size ≤ p) × (p < pages)) named
+pub none_above : (named : Triples) (id size pages : ℕ) → pages ≤ 4294967295 → IsSize named id size → NamesNoneOf id (λ p. (size ≤ p) × (p < pages)) named
 none_above named id size pages few sized page sector own = either (named id page sector) refl
   where
     either : (b : Bool) → named id page sector ≡ b → named id page sector ≡ false
