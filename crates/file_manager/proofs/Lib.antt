@@ -35,6 +35,7 @@ pub mod LookLemmas
 pub mod DownLemmas
 pub mod DownRun
 pub mod DownTo
+pub mod CutReasons
 pub mod CutSteps
 pub mod ShrinkLemmas
 pub mod SizeSteps
