@@ -306,5 +306,8 @@ returns-clause-keeps_to g c = λ o named k.
     let asked = keeps_asked c.args.filer.now.runs c.size.new.self.runs c.size.ensures.runs k c.size.ensures.beside c.size.ensures.same in
     let now = c.in-Ok-free_all.ensures.keeps_to o named asked in
     let sized = c.in-Ok.ensures.size k.memory named k.stands k.map in
-    rw c.frames_of-volume.ensures.same (_, keeps_at c.cut.new.self.runs c.cut.ensures.beside.layout (keeps_cut now c.cut.ensures.beside c.args.id 0 (c.cut.ensures.runs c.free_all.new.filer.swapper.layout.sectors)
-    (λ page sector may from is. c.in-Ok-free_all.ensures.let_go o named asked page sector (all_pages sized k.map page sector is) is) c.in-Ok-cut.ensures.cut))
+    rw c.frames_of-volume.ensures.same (
+      _,
+      keeps_at c.cut.new.self.runs c.cut.ensures.beside.layout (keeps_cut now c.cut.ensures.beside c.args.id 0 (c.cut.ensures.runs c.free_all.new.filer.swapper.layout.sectors)
+          (λ page sector may from is. c.in-Ok-free_all.ensures.let_go o named asked page sector (all_pages sized k.map page sector is) is) c.in-Ok-cut.ensures.cut),
+    )

@@ -165,5 +165,8 @@ returns-clause-keeps_to g c = λ o named k.
     let forgot = keeps_at c.forget_tables.new.filer.runs f.layout (subst (λ (r : CachedRuns). KeepsTo o c.args.filer.now.swapper.layout (runs_of c.args.filer.now.swapper.layout.sectors r) (g.D.Disk.state c.forget_tables.new.filer.swapper.under) c.forget_tables.new.filer.swapper.pool named) (sym f.runs)
     (forgotten_keeps [] c.args.filer.now.swapper.accepted c.args.filer.now.swapper.placed f.gone f.left f.goes (ap g.D.Disk.state f.under) k)) in
     let now = c.in-Ok.ensures.keeps_to o named forgot in
-    rw c.frames_of.ensures.same (_, keeps_at c.cut.new.self.runs c.cut.ensures.beside.layout (keeps_cut now c.cut.ensures.beside 3 0 (c.cut.ensures.runs c.free_up.new.filer.swapper.layout.sectors)
-    (λ page sector may from is. c.in-Ok.ensures.let_go o named forgot page sector (from, table_page may) is) c.in-Ok-cut.ensures.cut))
+    rw c.frames_of.ensures.same (
+      _,
+      keeps_at c.cut.new.self.runs c.cut.ensures.beside.layout (keeps_cut now c.cut.ensures.beside 3 0 (c.cut.ensures.runs c.free_up.new.filer.swapper.layout.sectors)
+          (λ page sector may from is. c.in-Ok.ensures.let_go o named forgot page sector (from, table_page may) is) c.in-Ok-cut.ensures.cut),
+    )
