@@ -6,7 +6,6 @@ use Rattle.std.proofs.lemmas.Bool.Decides.{nat_tests}
 use Rattle.std.proofs.lemmas.Option.{same_Some, none-some}
 use Rattle.labelled_disk.specs.declared.disk.DiskWrite.{DiskWrite}
 use Rattle.labelled_disk.specs.declared.disk.DiskWrite.TheVariants.{LabelOnly, Page, Whole}
-use Rattle.labelled_disk.specs.declared.evidence.Halt.{Halt}
 use Rattle.labelled_disk.specs.declared.label.Label.{Label}
 use Rattle.labelled_disk.specs.declared.label.Wanted.{Wanted}
 use Rattle.labelled_disk.specs.declared.layout.Layout.{Layout}
@@ -16,27 +15,22 @@ use Rattle.labelled_disk.specs.State.{DiskState}
 use Rattle.frame_pool.specs.declared.home.Home.{Home}
 use Rattle.frame_pool.specs.Frames.{Slots}
 use Rattle.file_map.specs.declared.run.Run.{Run}
-use Rattle.file_map.specs.FileMap.{Triples, IsNew, IsSize, without_from, run_names}
-use Rattle.file_map.specs.Run.{holds}
+use Rattle.file_map.specs.FileMap.{Triples, IsSize, without_from, run_names}
 use Rattle.file_map.proofs.Searches.{named_by}
 use Rattle.swapper_kernel.specs.declared.manager.Manager.TheVariants.{FileMap}
-use Rattle.swapper_kernel.specs.Goes.{Makes, Pages}
-use Rattle.swapper_kernel.specs.Homes.{IsHeld, IsLayout}
+use Rattle.swapper_kernel.specs.Homes.{IsLayout}
 use Rattle.swapper_kernel.specs.Stands.{Stands}
 use Rattle.swapper_kernel.specs.Window.{Beside}
 use Rattle.label_calls.specs.declared.page.Mark.{Mark}
 use Rattle.label_calls.specs.Labels.{Relabels, ones_of, with_mark}
 use Rattle.filer_kernel.specs.Becomes.{Becomes}
-use Rattle.filer_kernel.specs.Causes.{AddHalts, IsFaultOrMost}
 use Rattle.filer_kernel.specs.Triples.{MapIs, AreOf}
 use Rattle.filer_kernel.proofs.LawLemmas.{are_of_fewer, are_of_more}
 use Rattle.filer_kernel.specs.Evidence.{MayBeMissing}
 use Rattle.filer_kernel.specs.PlaceLaws.{one_sector}
-use Rattle.file_manager.specs.Reasons.{Outset, AreLet, IsAtHome, IsLet, KeepsTo, ShowsReason}
-use Rattle.file_manager.specs.ReasonLaws.{at_home_later}
+use Rattle.file_manager.specs.Reasons.{Outset, AreLet, IsLet, KeepsTo}
 use Rattle.file_manager.specs.Taking.{NamesNoneOf}
 use Rattle.file_manager.specs.Shrinking.{leader_run, cut_triples}
-use Rattle.file_manager.proofs.AddReasons.{add_at}
 use Rattle.file_manager.proofs.MadeReasons.{either_named, run_parts}
 use Rattle.file_manager.proofs.KeepSteps.{GivesNone, keeps_changed, keeps_front}
 use Rattle.file_manager.proofs.MarkStands.{marked_stands}
@@ -146,26 +140,6 @@ all_pages {layout = layout} {named = named} {m = m} {id = id} sized map page sec
       | inl low ↦ inr (sized.highest page sector is low)
       | inr high ↦ inl (omega (arith, few, high))
     ]
-
--- the leader's run has its page
-has_leader : (id leader : ℕ) → holds (leader_run id leader) id leader_page ≡ true
-has_leader id leader = grind (arith, nat_tests)
-
--- The map was cut of a file from one page on, and its leader is to be put in again: why that stops.
-pub cut_add_reasons : {o : Outset} {layout last : Layout} {kept : List Run} {a b d : DiskState} {s t u : Slots} {named : Triples} {pages : Pages} {run : List DiskWrite} (k : KeepsTo o layout kept a s named) → IsLayout layout → Beside FileMap a s layout b t last → Makes pages run b t d u
-    → (id from leader : ℕ) → named id leader_page leader ≡ true → Becomes FileMap layout k.memory (MapIs layout (without_from named id from)) b t → IsNew (without_from named id from) (leader_run id leader)
-    → (e : Halt) → AddHalts layout b t d e → IsFaultOrMost layout b t e → ShowsReason o layout d e
-cut_add_reasons {o = o} {layout = layout} {a = a} {d = d} {named = named} k is beside more id from leader led cut new e cause right =
-    add_at is (beside.goes.makes.went.sectors ∙ k.size) cut.memory cut.stands cut.is
-    (λ home named_so. later home (k.homes home (less_named named id from home.id home.page home.sector named_so)))
-    (λ home held. elim (beside.brings.homes home held) [
-      | inl was ↦ elim (k.frames home was) [ inl own ↦ inl own | inr at ↦ inr (later home at) ]
-      | inr own ↦ inl (FileMap, own)
-    ])
-    (record { sector = leader; id = id; page = leader_page }) (later _ (k.homes (record { sector = leader; id = id; page = leader_page }) led)) (λ sector. new leader_page sector (has_leader id leader)) e cause right
-  where
-    later : (home : Home) → IsAtHome o a home → IsAtHome o d home
-    later home at = at_home_later o more home (at_home_later o beside.goes.makes home at)
 
 -- ---- A leader gets a mark.
 

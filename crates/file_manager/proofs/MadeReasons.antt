@@ -41,6 +41,7 @@ use Rattle.file_manager.specs.Making.{sectors_of}
 use Rattle.file_manager.specs.Reasons.{Outset, Gives, IsAtHome, KeepsTo, ShowsReason, WasTaken}
 use Rattle.file_manager.specs.ReasonLaws.{GivesNot, at_home_later, made_now, may_be_free_later, keeps_after, home_later, label_reasons, named_homes, room_reason, unframed_still}
 use Rattle.file_manager.specs.Taking.{NamesNoneOf}
+use Rattle.file_manager.proofs.AddReasons.{add_at}
 use Rattle.file_manager.proofs.KeepSteps.{bits_beside}
 use Rattle.file_manager.proofs.MadeRun.{IsLabelledFor, maps_come, labelled, labelled_bits, map_then, new_run, run_adds}
 use Rattle.file_manager.proofs.MakeStops.{page_in}

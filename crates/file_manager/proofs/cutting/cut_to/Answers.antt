@@ -19,8 +19,8 @@ use Rattle.file_manager.proofs.CutCauses.{cut_halts_behind, shrink_of_cut, shrin
 use Rattle.filer_kernel.specs.Cached.{runs_of}
 use Rattle.file_manager.specs.Grounds.{IsUnframed}
 use Rattle.file_manager.proofs.KeepSteps.{keeps_at}
-use Rattle.file_manager.proofs.CutReasons.{added_reasons}
-use Rattle.file_manager.proofs.KeepCut.{keeps_led, less_named, cut_add_reasons}
+use Rattle.file_manager.proofs.CutReasons.{added_reasons, has_leader}
+use Rattle.file_manager.proofs.KeepCut.{keeps_led, less_named}
 use Rattle.file_manager.proofs.ReasonCauses.{cut_reasons}
 use Rattle.file_manager.proofs.cutting.cut_to.Goals as goal
 
@@ -118,10 +118,10 @@ returns-in-Err-add-clause-reasons g c = λ o named k led.
     let lay = c.cut.ensures.beside.layout in
     let cut = c.in-Ok.ensures.cut k.memory named k.stands k.map in
     let beside = rw lay at c.add.ensures.beside in
-    let since = c.cut.ensures.beside.goes.makes in
     let new = leader_new named c.args.id c.args.from c.args.leader few in
     let right = rw lay at c.in-Err-add.ensures.right in
-    cut_add_reasons k is c.cut.ensures.beside beside.goes.makes c.args.id c.args.from c.args.leader led cut new c.in-Err-add.halt (rw lay at c.in-Err-add.ensures.cause) (right cut.memory (without_from named c.args.id c.args.from) cut.stands cut.is new)
+    added_reasons k is c.cut.ensures.beside cut (less_named named c.args.id c.args.from) beside.goes.makes (record { sector = c.args.leader; id = c.args.id; page = leader_page }) led (λ sector. new leader_page sector (has_leader c.args.id c.args.leader))
+    c.in-Err-add.halt (rw lay at c.in-Err-add.ensures.cause) (right cut.memory (without_from named c.args.id c.args.from) cut.stands cut.is new)
 
 pub returns-clause-keeps_to : goal.returns-clause-keeps_to
 returns-clause-keeps_to g c = λ o named k led let_go.
