@@ -3,7 +3,6 @@ use Rattle.std.proofs.Common.{◌≡◌, ◌≢◌, ◌⊎◌, inl, inr, ℕ, ze
 use Rattle.std.specs.Prelude.{slice_get, filter}
 use Rattle.std.proofs.lemmas.Bool.{and_parts, cases_eq, eq-eqb, le-leb, ne_eqb}
 use Rattle.std.proofs.lemmas.Option.{same_Some, none-some}
-use Rattle.labelled_disk.specs.declared.disk.DiskWrite.{DiskWrite}
 use Rattle.labelled_disk.specs.declared.layout.Layout.{Layout}
 use Rattle.labelled_disk.specs.Label.{root_label}
 use Rattle.labelled_disk.specs.Moment.{written}
