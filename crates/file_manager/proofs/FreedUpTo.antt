@@ -16,7 +16,7 @@ use Rattle.filer_kernel.specs.Cached.{runs_of}
 use Rattle.session_words.specs.Volume.{volume_page}
 use Rattle.file_manager.specs.Freeing.{MayFree, Freed, MakesFree}
 use Rattle.file_manager.specs.Grounds.{IsUnframed, FreeHalts, KeepsMap}
-use Rattle.file_manager.specs.Reasons.{Outset, AreLet, KeepsTo, ShowsReason}
+use Rattle.file_manager.specs.Reasons.{Outset, AreLet, KeepsTo}
 use Rattle.file_manager.proofs.FreedReasons.{let_more}
 use Rattle.file_manager.proofs.FreedRun.{freed_then, freed_none, makes_free_then}
 use Rattle.file_manager.proofs.Keeping.{keeps_none, keeps_then, free_halts_before}
@@ -142,8 +142,3 @@ module _ {id from end page : ℕ} {d0 d : DiskState} {s0 s : Slots} {layout late
       let above = h.above in
       free_halts_before h.keeps (λ p. p ≡ page) (λ p. (from ≤ p) × (p < end)) (λ p same. (omega (arith, above, same), omega (arith, under, same))) size e halt
       (subst (λ (l : Layout). FreeHalts (IsUnframed s id) l (runs_of l.sectors runs) id (λ p. p ≡ page) d s e halt) h.same_layout why)
-
-  -- and its reason
-  pub to_reason : (e : DiskState) (halt : Halt) → ((o : Outset) (named : Triples) → KeepsTo o later (runs_of later.sectors runs) d s named → ShowsReason o later e halt)
-      → (o : Outset) (named : Triples) → KeepsTo o layout (runs_of layout.sectors kept) d0 s0 named → ShowsReason o layout e halt
-  to_reason e halt why o named k = subst (λ (l : Layout). ShowsReason o l e halt) h.same_layout (why o named (h.keeps_to o named k))

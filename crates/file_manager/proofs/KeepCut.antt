@@ -15,7 +15,7 @@ use Rattle.labelled_disk.specs.State.{DiskState}
 use Rattle.frame_pool.specs.declared.home.Home.{Home}
 use Rattle.frame_pool.specs.Frames.{Slots}
 use Rattle.file_map.specs.declared.run.Run.{Run}
-use Rattle.file_map.specs.FileMap.{Triples, IsSize, without_from, run_names}
+use Rattle.file_map.specs.FileMap.{Triples, IsSize, with_run, without_from, run_names}
 use Rattle.file_map.proofs.Searches.{named_by}
 use Rattle.swapper_kernel.specs.declared.manager.Manager.TheVariants.{FileMap}
 use Rattle.swapper_kernel.specs.Homes.{IsLayout}
@@ -26,9 +26,8 @@ use Rattle.label_calls.specs.Labels.{Relabels, ones_of, with_mark}
 use Rattle.filer_kernel.specs.Becomes.{Becomes}
 use Rattle.filer_kernel.specs.Triples.{MapIs, AreOf}
 use Rattle.filer_kernel.proofs.LawLemmas.{are_of_fewer, are_of_more}
-use Rattle.filer_kernel.specs.Evidence.{MayBeMissing}
 use Rattle.filer_kernel.specs.PlaceLaws.{one_sector}
-use Rattle.file_manager.specs.Reasons.{Outset, AreLet, IsLet, KeepsTo}
+use Rattle.file_manager.specs.Reasons.{Outset, AreLet, IsLet, KeepsTo, NamesTables}
 use Rattle.file_manager.specs.Taking.{NamesNoneOf}
 use Rattle.file_manager.specs.Shrinking.{leader_run, cut_triples}
 use Rattle.file_manager.proofs.MadeReasons.{either_named, run_parts}
@@ -45,7 +44,7 @@ less_named named id from i page sector is = (and_parts (named i page sector) (no
 leader_named : (id leader : ℕ) → run_names (leader_run id leader) id leader_page leader ≡ true
 leader_named id leader = grind (arith, nat_tests)
 
-or_right : (a b : Bool) → b ≡ true → (a || b) ≡ true
+pub or_right : (a b : Bool) → b ≡ true → (a || b) ≡ true
 or_right true b is = refl
 or_right false b is = is
 
@@ -89,6 +88,19 @@ none_above named id size pages few sized page sector own = either (named id page
     either false e = e
     either true e = let from = own.0 in let below = own.1 in let within = sized.highest page sector e (omega (arith, below, few)) in absurd (omega (arith, within, from))
 
+-- without pages of a client's file the pages of the space tables are named still
+pub tables_left : (named : Triples) (id from : ℕ) → 16 ≤ id → NamesTables named → NamesTables (without_from named id from)
+tables_left named id from client all page below =
+    let at = all page below in
+    elim (cut_rest named id from 3 page at.0 at.1) [
+      | inl left ↦ (at.0, left)
+      | inr (same, above) ↦ absurd (omega (arith, client, same))
+    ]
+
+-- and with a run more
+pub tables_more : (named : Triples) (run : Run) → NamesTables named → NamesTables (with_run named run)
+tables_more named run all page below = let at = all page below in (at.0, ap (λ (b : Bool). b || run_names run 3 page at.0) at.1)
+
 -- ---- The map is cut.
 
 module _ {o : Outset} {layout last : Layout} {kept runs : List Run} {a b : DiskState} {s t : Slots} {named : Triples} (k : KeepsTo o layout kept a s named) (beside : Beside FileMap a s layout b t last) (id from : ℕ)
@@ -98,12 +110,12 @@ module _ {o : Outset} {layout last : Layout} {kept runs : List Run} {a b : DiskS
   runs_left = subst (AreOf (without_from named id from)) (sym fewer) (are_of_fewer named kept id from k.kept)
 
   -- it has no page of the file from one on
-  pub keeps_cut : ((page sector : ℕ) → MayBeMissing id page → from ≤ page → named id page sector ≡ true → IsLet o a (record { sector = sector; id = id; page = page })) → ((m : List Sector) (named : Triples) → Stands a s m → MapIs layout named m → Becomes FileMap layout m (MapIs layout (without_from named id from)) b t) → KeepsTo o layout runs b t (without_from named id from)
+  pub keeps_cut : ((page sector : ℕ) → 16 ≤ id → from ≤ page → named id page sector ≡ true → IsLet o a (record { sector = sector; id = id; page = page })) → ((m : List Sector) (named : Triples) → Stands a s m → MapIs layout named m → Becomes FileMap layout m (MapIs layout (without_from named id from)) b t) → KeepsTo o layout runs b t (without_from named id from)
   keeps_cut let_go cut = keeps_changed k beside (cut k.memory named k.stands k.map) (less_named named id from) runs_left
       (λ home first may is. elim (cut_rest named id from home.id home.page home.sector is) [
         | inl left ↦ inl left
         | inr (same, above) ↦ inr (subst (λ (i : ℕ). IsLet o a (record { sector = home.sector; id = i; page = home.page })) (sym same)
-            (let_go home.page home.sector (subst (λ (i : ℕ). MayBeMissing i home.page) same may) above (subst (λ (i : ℕ). named i home.page home.sector ≡ true) same is)))
+            (let_go home.page home.sector (subst (λ (i : ℕ). 16 ≤ i) same may) above (subst (λ (i : ℕ). named i home.page home.sector ≡ true) same is)))
       ])
 
   -- and has the leader again
@@ -126,11 +138,6 @@ module _ {o : Outset} {layout last : Layout} {kept runs : List Run} {a b : DiskS
           let place : home.sector ≡ leader = one_sector layout named k.memory k.map id leader_page home.sector leader there led in
           inl (or_right (without_from named id from home.id home.page home.sector) (run_names (leader_run id leader) home.id home.page home.sector)
           ((λ j. run_names (leader_run id leader) (same j) (leads j) (place j)) ∙ leader_named id leader))
-
--- a page of the tables that may be missing is one of the 96
-pub table_page : {page : ℕ} → MayBeMissing 3 page → page < 96
-table_page (inl own) = own.1
-table_page (inr high) = absurd (omega (arith, high))
 
 -- of a file of this size the leader is named, and pages below it
 pub all_pages : {layout : Layout} {named : Triples} {m : List Sector} {id size : ℕ} → IsSize named id size → MapIs layout named m → (page sector : ℕ) → named id page sector ≡ true → (page ≡ leader_page) ⊎ (page < size)

@@ -21,7 +21,6 @@ use Rattle.swapper_kernel.specs.Window.{Beside, in_map}
 use Rattle.filer_kernel.specs.declared.cached.CachedRuns.{CachedRuns}
 use Rattle.filer_kernel.specs.Becomes.{Becomes}
 use Rattle.filer_kernel.specs.Cached.{runs_of}
-use Rattle.filer_kernel.specs.Evidence.{MayBeMissing}
 use Rattle.filer_kernel.specs.Marks.{Marks, BitsAre}
 use Rattle.filer_kernel.specs.Triples.{MapIs, AreOf}
 use Rattle.file_manager.specs.Grounds.{IsMapsHome}
@@ -42,7 +41,7 @@ GivesNone run = (home : Home) → GivesNot run home
 pub keeps_stepped : {pages : Pages} {run : List DiskWrite} {o : Outset} {layout : Layout} {kept runs : List Run} {a b : DiskState} {s t : Slots} {named later : Triples} → (k : KeepsTo o layout kept a s named)
     → Makes pages run a s b t → Brings (IsMapsHome layout) s t → (n : List Sector) → Stands b t n → MapIs layout later n → BitsAre layout k.marks n
     → ((id page sector : ℕ) → later id page sector ≡ true → named id page sector ≡ true) → AreOf later runs
-    → ((home : Home) → layout.first ≤ home.sector → MayBeMissing home.id home.page → named home.id home.page home.sector ≡ true → (later home.id home.page home.sector ≡ true) ⊎ IsLet o a home) → GivesNone run → KeepsTo o layout runs b t later
+    → ((home : Home) → layout.first ≤ home.sector → 16 ≤ home.id → named home.id home.page home.sector ≡ true → (later home.id home.page home.sector ≡ true) ⊎ IsLet o a home) → GivesNone run → KeepsTo o layout runs b t later
 keeps_stepped {o = o} {runs = runs} {later = later} k makes brings n stands map bits only are still none =
     keeps_after k makes n stands later map (λ home is. inl (only home.id home.page home.sector is)) runs are (λ home held. elim (brings.homes home held) [ inl was ↦ inl was | inr own ↦ inr (inl own) ])
     (unframed_still brings k.unframed) k.marks bits (λ sector from below clear. inl clear)
@@ -87,7 +86,7 @@ bits_beside layout marks m n differs bits = record {
 -- the map is changed: it names nothing else
 pub keeps_changed : {o : Outset} {layout last : Layout} {kept runs : List Run} {a b : DiskState} {s t : Slots} {named later : Triples} → (k : KeepsTo o layout kept a s named) → Beside FileMap a s layout b t last
     → Becomes FileMap layout k.memory (MapIs layout later) b t → ((id page sector : ℕ) → later id page sector ≡ true → named id page sector ≡ true) → AreOf later runs
-    → ((home : Home) → layout.first ≤ home.sector → MayBeMissing home.id home.page → named home.id home.page home.sector ≡ true → (later home.id home.page home.sector ≡ true) ⊎ IsLet o a home) → KeepsTo o layout runs b t later
+    → ((home : Home) → layout.first ≤ home.sector → 16 ≤ home.id → named home.id home.page home.sector ≡ true → (later home.id home.page home.sector ≡ true) ⊎ IsLet o a home) → KeepsTo o layout runs b t later
 keeps_changed {layout = layout} k beside becomes only are still =
     keeps_stepped k beside.goes.makes (maps_come beside) becomes.memory becomes.stands becomes.is (bits_beside layout k.marks k.memory becomes.memory becomes.differs k.bits) only are still no_writes
 

@@ -19,14 +19,13 @@ use Rattle.swapper_kernel.specs.Homes.{IsLayout}
 use Rattle.swapper_kernel.specs.Stands.{Stands}
 use Rattle.swapper_kernel.specs.Window.{Beside}
 use Rattle.filer_kernel.specs.Becomes.{Becomes}
-use Rattle.filer_kernel.specs.Evidence.{MayBeMissing}
 use Rattle.filer_kernel.specs.Marks.{BitsAre}
 use Rattle.filer_kernel.specs.Triples.{MapIs, AreOf}
 use Rattle.filer_kernel.proofs.LawLemmas.{are_of_fewer}
 use Rattle.volume_root.specs.declared.root.Root.{Root}
 use Rattle.volume_root.specs.RootPage.{root_bytes, root_write}
 use Rattle.file_manager.specs.Creating.{counted, next_id}
-use Rattle.file_manager.specs.Reasons.{Outset, AreLet, IsLet, KeepsTo}
+use Rattle.file_manager.specs.Reasons.{Outset, IsLet, KeepsTo}
 use Rattle.file_manager.specs.ReasonLaws.{GivesNot, keeps_after, let_now}
 use Rattle.file_manager.specs.Taking.{NamesNoneOf, every_page}
 use Rattle.file_manager.proofs.FreedRun.{first_is, shows_still}
@@ -82,9 +81,9 @@ none_left named id page sector own =
 
 -- The map is cut of a whole file, each home of which was let.
 module _ {o : Outset} {x last : Layout} {k l : List Run} {a b : DiskState} {s t : Slots} {named : Triples} (h : KeepsTo o x k a s named) (beside : Beside FileMap a s x b t last) (id : ℕ) (fewer : l ≡ filter (λ r. not (r.id == id)) k)
-    (let_go : (home : Home) → x.first ≤ home.sector → MayBeMissing home.id home.page → home.id ≡ id → named home.id home.page home.sector ≡ true → IsLet o a home) where
+    (let_go : (home : Home) → x.first ≤ home.sector → 16 ≤ home.id → home.id ≡ id → named home.id home.page home.sector ≡ true → IsLet o a home) where
   -- a home is named then, or was let
-  still : (home : Home) → x.first ≤ home.sector → MayBeMissing home.id home.page → named home.id home.page home.sector ≡ true → (without_from named id 0 home.id home.page home.sector ≡ true) ⊎ IsLet o a home
+  still : (home : Home) → x.first ≤ home.sector → 16 ≤ home.id → named home.id home.page home.sector ≡ true → (without_from named id 0 home.id home.page home.sector ≡ true) ⊎ IsLet o a home
   still home from may was = elim (cases_eq home.id id) [
     | inl same ↦ inr (let_go home from may same was)
     | inr other ↦ let apart : (home.id == id) ≡ false = ne_eqb home.id id other in inl (λ j. was j && not (apart j && nat_le 0 home.page))
@@ -94,13 +93,3 @@ module _ {o : Outset} {x last : Layout} {k l : List Run} {a b : DiskState} {s t 
   whole_cut cut =
       keeps_changed h beside (cut h.memory named h.stands h.map) (λ i page sector is. (and_parts (named i page sector) (not ((i == id) && nat_le 0 page)) is).0)
       (subst (AreOf (without_from named id 0)) (sym fewer) (are_of_fewer named k id 0 h.kept)) still
-
--- of the space tables this is so where it is of each of their pages
-pub tables_let : {o : Outset} (x : Layout) {a : DiskState} (named : Triples) → AreLet o a named 3 (λ p. p < 96)
-    → (home : Home) → x.first ≤ home.sector → MayBeMissing home.id home.page → home.id ≡ 3 → named home.id home.page home.sector ≡ true → IsLet o a home
-tables_let {o = o} x {a = a} named let_go home from may same was = elim may [
-  | inl (_, below) ↦
-      let own = let_go home.page home.sector below (subst (λ (i : ℕ). named i home.page home.sector ≡ true) same was) in
-      subst (λ (i : ℕ). IsLet o a (record { sector = home.sector; id = i; page = home.page })) (sym same) own
-  | inr client ↦ absurd (omega (arith, client, same))
-]

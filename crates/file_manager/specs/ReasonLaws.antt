@@ -36,13 +36,12 @@ use Rattle.swapper_kernel.specs.Window.{Tells, Beside}
 use Rattle.filer_kernel.specs.declared.cached.CachedRuns.{CachedRuns}
 use Rattle.filer_kernel.specs.Cached.{runs_of}
 use Rattle.filer_kernel.specs.Causes.{MapShows, MapCounts, MapHalts, IsRunHome}
-use Rattle.filer_kernel.specs.Evidence.{MayBeMissing}
 use Rattle.filer_kernel.specs.Marks.{Marks, BitsAre}
 use Rattle.filer_kernel.specs.Triples.{MapIs, AreOf}
 use Rattle.file_manager.specs.CountedRuns.{counted_runs, first_named, firsts_apart}
 use Rattle.file_manager.specs.Grounds.{IsMapsHome, IsUnframed}
 use Rattle.file_manager.specs.Looking.{Looks}
-use Rattle.file_manager.specs.Reasons.{Outset, IsSince, WasMade, WasGivenUp, WasTaken, Gives, Lets, IsAtHome, IsLet, IsTakenUp, IsFilledUp, AreHomes, MayBeFree, KeepsTo, HasReason, ShowsReason}
+use Rattle.file_manager.specs.Reasons.{Outset, IsSince, WasMade, WasGivenUp, WasTaken, Gives, Lets, IsAtHome, IsLet, IsTakenUp, IsFilledUp, AreHomes, MayBeFree, KeepsTo, HasReason, ShowsReason, MayLack}
 
 -- ---- Writes in a row.
 
@@ -173,7 +172,7 @@ module _ (o : Outset) {pages : Pages} {run : List DiskWrite} {a b : DiskState} {
   -- a home that was let stays so where the call gave its sector to its page in no write
   pub let_later : IsSince o a → (home : Home) → GivesNot run home → IsLet o a home → IsLet o b home
   let_later since home none h = record {
-    outset = λ is. elim (h.outset is) [ inl tables ↦ inl tables | inr (v, lets, made) ↦ inr (v, lets, made_later made) ];
+    outset = λ is. let was = h.outset is in (was.0, was.1, made_later was.2);
     since = λ more told turn w at gives.
         let same = more_now since more told in
         elim (get_either since.0 makes.wrote.writes turn w (ap (λ (ws : List DiskWrite). slice_get ws turn) (sym same) ∙ at)) [
@@ -189,7 +188,7 @@ module _ (o : Outset) {pages : Pages} {run : List DiskWrite} {a b : DiskState} {
   -- a home is let where the call let it, and gave its sector to its page in no write
   pub let_now : IsSince o a → (home : Home) → GivesNot run home → (k : ℕ) (v : DiskWrite) → slice_get run k ≡ Some v → Lets home v → IsLet o b home
   let_now since home none k v at lets = record {
-    outset = λ is. inr (v, lets, made_now since k v at);
+    outset = λ is. (v, lets, made_now since k v at);
     since = λ more told turn w here gives.
         let same = more_now since more told in
         let among = label_among makes.wrote.writes k v (ap (λ (ws : List DiskWrite). slice_get ws k) makes.wrote.labels ∙ at) in
@@ -224,7 +223,7 @@ module _ (o : Outset) {pages : Pages} {a b : DiskState} {s t : Slots} (makes : M
 
   let_before : (home : Home) → IsLet o b home → IsLet o a home
   let_before home h = record {
-    outset = λ is. elim (h.outset is) [ inl tables ↦ inl tables | inr (v, lets, made) ↦ inr (v, lets, made_before v made (lets_label home v lets)) ];
+    outset = λ is. let was = h.outset is in (was.0, was.1, made_before was.0 was.2 (lets_label home was.0 was.1));
     since = λ more told turn w at gives.
         let l = h.since (more ++ makes.wrote.writes) (told_later o makes more told) turn w (get_front more makes.wrote.writes turn w at) gives in (
           l.0,
@@ -354,9 +353,9 @@ module _ {o : Outset} {x : Layout} {k : List Run} {a : DiskState} {s : Slots} {n
 
   -- a home is named behind a call, or let: where this is so of those that were named, and where each page that the call gave a
   -- sector is named there
-  rest_after : (later : Triples) → ((home : Home) → x.first ≤ home.sector → MayBeMissing home.id home.page → named home.id home.page home.sector ≡ true → (later home.id home.page home.sector ≡ true) ⊎ IsLet o b home)
-      → ((home : Home) → x.first ≤ home.sector → MayBeMissing home.id home.page → (later home.id home.page home.sector ≡ true) ⊎ GivesNot run home)
-      → (home : Home) → x.first ≤ home.sector → MayBeMissing home.id home.page → (later home.id home.page home.sector ≡ true) ⊎ IsLet o b home
+  rest_after : (later : Triples) → ((home : Home) → x.first ≤ home.sector → 16 ≤ home.id → named home.id home.page home.sector ≡ true → (later home.id home.page home.sector ≡ true) ⊎ IsLet o b home)
+      → ((home : Home) → x.first ≤ home.sector → 16 ≤ home.id → (later home.id home.page home.sector ≡ true) ⊎ GivesNot run home)
+      → (home : Home) → x.first ≤ home.sector → 16 ≤ home.id → (later home.id home.page home.sector ≡ true) ⊎ IsLet o b home
   rest_after later still given home from may = elim (given home from may) [
     | inl is ↦ inl is
     | inr none ↦ elim (h.rest home from may) [ inl is ↦ still home from may is | inr let_go ↦ inr (let_later o makes h.since home none let_go) ]
@@ -367,8 +366,8 @@ module _ {o : Outset} {x : Layout} {k : List Run} {a : DiskState} {s : Slots} {n
       → ((home : Home) → later home.id home.page home.sector ≡ true → (named home.id home.page home.sector ≡ true) ⊎ IsAtHome o b home) → (l : List Run) → AreOf later l
       → ((home : Home) → IsHeld t home → IsHeld s home ⊎ (IsMapsHome x home ⊎ (named home.id home.page home.sector ≡ true))) → IsUnframed t 0
       → (marks : Marks) → BitsAre x marks n → ((sector : ℕ) → x.first ≤ sector → sector < x.sectors → marks sector ≡ false → (h.marks sector ≡ false) ⊎ WasGivenUp o b sector)
-      → ((home : Home) → x.first ≤ home.sector → MayBeMissing home.id home.page → named home.id home.page home.sector ≡ true → (later home.id home.page home.sector ≡ true) ⊎ IsLet o b home)
-      → ((home : Home) → x.first ≤ home.sector → MayBeMissing home.id home.page → (later home.id home.page home.sector ≡ true) ⊎ GivesNot run home)
+      → ((home : Home) → x.first ≤ home.sector → 16 ≤ home.id → named home.id home.page home.sector ≡ true → (later home.id home.page home.sector ≡ true) ⊎ IsLet o b home)
+      → ((home : Home) → x.first ≤ home.sector → 16 ≤ home.id → (later home.id home.page home.sector ≡ true) ⊎ GivesNot run home)
       → ((sector : ℕ) → x.first ≤ sector → sector < x.sectors → marks sector ≡ true → (h.marks sector ≡ true) ⊎ WasTaken o b sector) → KeepsTo o x l b t later
   keeps_after n stands later map homes l are frames unframed marks bits free still given used = record {
     since = since_later o makes h.since;
@@ -425,16 +424,20 @@ module _ {o : Outset} {x : Layout} {k : List Run} {a : DiskState} {s : Slots} {n
       (λ home from may is. inl is) (λ home from may. inr (λ k w at gives. none-some w at)) (λ sector from below is. inl is)
 
   -- a page that the map does not name is told as missing
-  pub missing_reason : (id page : ℕ) → MayBeMissing id page → ((m : List Sector) (named : Triples) → Stands a s m → MapIs x named m → IsNowhere named id page) → HasReason o x b (Missing id page)
-  missing_reason id page may nowhere = inr (
-    may,
-    λ sector from.
-        let home : Home = record { sector = sector; id = id; page = page } in
-        elim (h.rest home from may) [
-          | inl is ↦ absurd (true≢false (sym is ∙ nowhere h.memory named h.stands h.map sector))
-          | inr let_go ↦ let_later o makes h.since home (λ k w at gives. none-some w at) let_go
-        ],
-  )
+  pub missing_reason : (id page : ℕ) → 16 ≤ id → ((m : List Sector) (named : Triples) → Stands a s m → MapIs x named m → IsNowhere named id page) → HasReason o x b (Missing id page)
+  missing_reason id page client nowhere = inr (client, λ sector from.
+      let home : Home = record { sector = sector; id = id; page = page } in
+      elim (h.rest home from client) [
+        | inl is ↦ absurd (true≢false (sym is ∙ nowhere h.memory named h.stands h.map sector))
+        | inr let_go ↦ let_later o makes h.since home (λ k w at gives. none-some w at) let_go
+      ])
+
+  -- one of the space tables, which are all named, is not
+  pub lack_reason : (id page : ℕ) → MayLack named id page → ((m : List Sector) (named : Triples) → Stands a s m → MapIs x named m → IsNowhere named id page) → HasReason o x b (Missing id page)
+  lack_reason id page (inl client) nowhere = missing_reason id page client nowhere
+  lack_reason id page (inr (tables, below, all)) nowhere =
+      let at = all page below in
+      absurd (true≢false (sym at.1 ∙ subst (λ (i : ℕ). named i page at.0 ≡ false) tables (nowhere h.memory named h.stands h.map at.0)))
 
 -- ---- No data sector is free.
 

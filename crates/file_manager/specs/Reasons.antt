@@ -21,7 +21,6 @@ use Rattle.swapper_kernel.specs.Stands.{Stands}
 use Rattle.label_calls.specs.Labels.{nobody}
 use Rattle.filer_kernel.specs.declared.filer.FilerOver.{FilerOver}
 use Rattle.filer_kernel.specs.Cached.{runs_of}
-use Rattle.filer_kernel.specs.Evidence.{MayBeMissing}
 use Rattle.filer_kernel.specs.Marks.{Marks, BitsAre}
 use Rattle.filer_kernel.specs.Triples.{MapIs, AreOf}
 use Rattle.session_words.specs.Parts.{is_marked}
@@ -87,10 +86,10 @@ AreLetGo home ws =
     (turn : ℕ) (w : DiskWrite) → slice_get ws turn ≡ Some w → Gives home w
     → (later : ℕ) × (turn < later) × ((v : DiskWrite) × Lets home v × (slice_get ws later ≡ Some v))
 
--- Nothing makes the page be at home there now: what the file map said at the outset was let since, or is of the space tables, whose
--- pages a run makes anew; and wherever the sector was given to the page, it was let after that.
+-- Nothing makes the page be at home there now: what the file map said at the outset was let since; and wherever the sector was
+-- given to the page, it was let after that.
 pub record IsLet (o : Outset) (disk : DiskState) (home : Home) : Type 0 where
-  pub outset : o.named home.id home.page home.sector ≡ true → (home.id ≡ 3) ⊎ ((v : DiskWrite) × Lets home v × WasMade o disk v)
+  pub outset : o.named home.id home.page home.sector ≡ true → (v : DiskWrite) × Lets home v × WasMade o disk v
   pub since : (more : List DiskWrite) → disk.writes ≡ Some (o.writes ++ more) → AreLetGo home more
 
 -- so is each home that these triples have of some pages of a file
@@ -118,7 +117,7 @@ IsFilledUp o layout disk = AreHomes (IsAtHome o disk) (most_records layout.secto
 
 -- Disk and frames make a memory whose file map is in form. Each page that it names is or was at home there, and so is each page of
 -- a frame, unless the layout has it there; runs that are kept are the map's; and each data sector that the allocation map has as
--- free may be so. The other way, each home of a page that may be missing is named, or let, and each data sector that the
+-- free may be so. The other way, each home of a page of a client's file is named, or let, and each data sector that the
 -- allocation map has as used was so at the outset, or was given to a page.
 pub record KeepsTo (o : Outset) (layout : Layout) (runs : List Run) (disk : DiskState) (slots : Slots) (named : Triples) : Type 0 where
   pub since : IsSince o disk
@@ -133,7 +132,7 @@ pub record KeepsTo (o : Outset) (layout : Layout) (runs : List Run) (disk : Disk
   pub marks : Marks
   pub bits : BitsAre layout marks memory
   pub free : (sector : ℕ) → layout.first ≤ sector → sector < layout.sectors → marks sector ≡ false → MayBeFree o disk sector
-  pub rest : (home : Home) → layout.first ≤ home.sector → MayBeMissing home.id home.page → (named home.id home.page home.sector ≡ true) ⊎ IsLet o disk home
+  pub rest : (home : Home) → layout.first ≤ home.sector → 16 ≤ home.id → (named home.id home.page home.sector ≡ true) ⊎ IsLet o disk home
   pub used : (sector : ℕ) → layout.first ≤ sector → sector < layout.sectors → marks sector ≡ true → (o.marks sector ≡ true) ⊎ WasTaken o disk sector
 
 -- A label is told where the layout has the page of a map there, where the wanted page is or was at home, or where nobody's is
@@ -145,7 +144,15 @@ HasReason o layout disk (Mismatch sector wanted found) =
     IsMapsHome layout (home_at sector wanted) ⊎ (IsAtHome o disk (home_at sector wanted) ⊎ ((wanted ≡ nobody) × MayBeFree o disk sector))
 HasReason o layout disk (Malformed window page) = ((window ≡ 2) × (page ≡ 0) × IsFilledUp o layout disk) ⊎ (window ≡ 3)
 HasReason o layout disk (Missing id page) =
-    ((id ≡ 3) × (page ≡ 0) × IsTakenUp o layout disk) ⊎ (MayBeMissing id page × IsGone o layout disk id page)
+    ((id ≡ 3) × (page ≡ 0) × IsTakenUp o layout disk) ⊎ ((16 ≤ id) × IsGone o layout disk id page)
+
+-- the file map has a sector for each page of the space tables
+abbrev pub NamesTables : Triples → Type 0
+NamesTables named = (page : ℕ) → page < 96 → (sector : ℕ) × (named 3 page sector ≡ true)
+
+-- the page is one of a client's file, or one of the space tables, which are all named
+abbrev pub MayLack : Triples → ℕ → ℕ → Type 0
+MayLack named id page = (16 ≤ id) ⊎ ((id ≡ 3) × (page < 96) × NamesTables named)
 
 -- a halt: the disk failed, or the evidence has such a reason
 abbrev pub ShowsReason : Outset → Layout → DiskState → Halt → Type 0
@@ -157,6 +164,14 @@ module _ {D A : Type 0} {G : Ghosts D} where
   abbrev pub Keeps : Outset → FilerOver D A G → Triples → Type 0
   Keeps o f named = KeepsTo o f.swapper.layout (runs_of f.swapper.layout.sectors f.runs) (G.state f.swapper.under) f.swapper.pool named
 
-  -- whatever it names
+  -- whatever it names, all pages of the space tables where these were named
+  abbrev pub KeepsFrom : Outset → Triples → FilerOver D A G → Type 0
+  KeepsFrom o named f = (later : Triples) × Keeps o f later × (NamesTables named → NamesTables later)
+
+  -- whatever it names, all pages of the space tables among it
   abbrev pub KeepsOn : Outset → FilerOver D A G → Type 0
-  KeepsOn o f = (named : Triples) × Keeps o f named
+  KeepsOn o f = (named : Triples) × Keeps o f named × NamesTables named
+
+  -- whatever it names
+  abbrev pub KeepsBare : Outset → FilerOver D A G → Type 0
+  KeepsBare o f = (named : Triples) × Keeps o f named

@@ -21,7 +21,7 @@ ghost use Rattle.filer_kernel.specs.Evidence.{ShowsSo};
 ghost use Rattle.session_words.specs.Parts.{Shape, Shapes, IsTriple};
 ghost use Rattle.file_manager.specs.Freeing.{MakesFree, MakesSomeFree};
 ghost use Rattle.file_manager.specs.Shrinking.{MayShrink, ShrunkBy, ShrunkSome, IsLeaderAlone, cut_triples};
-ghost use Rattle.file_manager.specs.Reasons.{AreLet, Keeps, KeepsOn, Outset, ShowsReason};
+ghost use Rattle.file_manager.specs.Reasons.{AreLet, Keeps, KeepsFrom, Outset, ShowsReason};
 ghost use Rattle.file_manager.specs.Taking.{NamesNoneOf};
 
 use crate::Volume;
@@ -51,7 +51,7 @@ fn cut_to<D: Disk, A: Allocator>(
         → AreOnce named → IsLeaderAlone named id leader → IfErr result (λ e. e ≡ halt.Disk) }
     ensures runs { (n : ℕ) → runs_of n filer.new.runs ≡ filter (λ r. not (r.id == id)) (runs_of n filer.old.runs) }
     ensures cause { IfErr result (ShrinkHalts (IsUnframed filer.old.swapper.pool id) filer.old.swapper.layout (runs_of filer.old.swapper.layout.sectors filer.old.runs) id from (λ p. ⊥) (D.state filer.old.swapper.under) filer.old.swapper.pool (D.state filer.new.swapper.under) filer.new.swapper.pool) }
-    ensures keeps_to { (o : Outset) (named : Triples) → Keeps o filer.old named → named id leader_page leader ≡ true → AreLet o (D.state filer.old.swapper.under) named id (λ p. (from ≤ p) × (p < 4294967295)) → OnOk result (KeepsOn o filer.new) }
+    ensures keeps_to { (o : Outset) (named : Triples) → Keeps o filer.old named → named id leader_page leader ≡ true → AreLet o (D.state filer.old.swapper.under) named id (λ p. (from ≤ p) × (p < 4294967295)) → OnOk result (KeepsFrom o named filer.new) }
     ensures reasons { (o : Outset) (named : Triples) → Keeps o filer.old named → named id leader_page leader ≡ true → IfErr result (ShowsReason o filer.old.swapper.layout (D.state filer.new.swapper.under)) }
     ensures so { IfErr result (ShowsSo (D.state filer.new.swapper.under)) }
     ensures counted { IfErr result (λ e. e ≡ halt.Disk → Rose (D.state filer.old.swapper.under).faults (D.state filer.new.swapper.under).faults) }
@@ -96,7 +96,7 @@ pub(crate) fn shrink<D: Disk, A: Allocator>(
     ensures sound { (x : List Sector) (shapes : Shapes) (spaces : List Space) (f : Shape) → MayShrink (D.state filer.old.swapper.under) filer.old.swapper.pool filer.old.swapper.layout filer.old.runs shapes spaces id f pages x
         → f.size ≡ size → IsTriple (labels_of x) id leader_page leader → IfErr result (λ e. e ≡ halt.Disk) }
     ensures cause { IfErr result (ShrinkHalts (IsUnframed filer.old.swapper.pool id) filer.old.swapper.layout (runs_of filer.old.swapper.layout.sectors filer.old.runs) id pages (λ p. (pages ≤ p) × (p < size)) (D.state filer.old.swapper.under) filer.old.swapper.pool (D.state filer.new.swapper.under) filer.new.swapper.pool) }
-    ensures keeps_to { (o : Outset) (named : Triples) → Keeps o filer.old named → named id leader_page leader ≡ true → NamesNoneOf id (λ p. (size ≤ p) × (p < 4294967295)) named → OnOk result (KeepsOn o filer.new) }
+    ensures keeps_to { (o : Outset) (named : Triples) → Keeps o filer.old named → named id leader_page leader ≡ true → NamesNoneOf id (λ p. (size ≤ p) × (p < 4294967295)) named → OnOk result (KeepsFrom o named filer.new) }
     ensures reasons { (o : Outset) (named : Triples) → Keeps o filer.old named → named id leader_page leader ≡ true → IfErr result (ShowsReason o filer.old.swapper.layout (D.state filer.new.swapper.under)) }
     ensures so { IfErr result (ShowsSo (D.state filer.new.swapper.under)) }
     ensures counted { IfErr result (λ e. e ≡ halt.Disk → Rose (D.state filer.old.swapper.under).faults (D.state filer.new.swapper.under).faults) }

@@ -15,7 +15,7 @@ ghost use Rattle.file_manager.specs.Book.{Books};
 ghost use Rattle.file_manager.specs.Deleting.{DeletedBy, DeletesFirst, MakesOneFree};
 ghost use Rattle.file_manager.specs.Freeing.{MakesSomeFree};
 ghost use Rattle.file_manager.specs.Roots.{RootStays};
-ghost use Rattle.file_manager.specs.Reasons.{Keeps, KeepsOn, Outset, ShowsReason};
+ghost use Rattle.file_manager.specs.Reasons.{Keeps, KeepsFrom, Outset, ShowsReason};
 
 use crate::Volume;
 use crate::free_all::free_all;
@@ -49,7 +49,7 @@ pub fn delete<D: Disk, A: Allocator>(
     ensures makes { OnOk result (MakesOneFree (D.state filer.old.swapper.under) filer.old.swapper.pool (D.state filer.new.swapper.under) filer.new.swapper.pool) }
     ensures stopped { OnErr result (MakesSomeFree (D.state filer.old.swapper.under) filer.old.swapper.pool (D.state filer.new.swapper.under) filer.new.swapper.pool) }
     ensures cause { IfErr result (DeleteHalts filer.old.swapper.layout (runs_of filer.old.swapper.layout.sectors filer.old.runs) id (D.state filer.old.swapper.under) filer.old.swapper.pool (D.state filer.new.swapper.under)) }
-    ensures keeps_to { (o : Outset) (named : Triples) → Keeps o filer.old named → OnOk result (KeepsOn o filer.new) }
+    ensures keeps_to { (o : Outset) (named : Triples) → Keeps o filer.old named → OnOk result (KeepsFrom o named filer.new) }
     ensures reasons { (o : Outset) (named : Triples) → Keeps o filer.old named → IfErr result (ShowsReason o filer.old.swapper.layout (D.state filer.new.swapper.under)) }
     ensures so { IfErr result (ShowsSo (D.state filer.new.swapper.under)) }
     ensures counted { result ≡ Err halt.Disk → Rose (D.state filer.old.swapper.under).faults (D.state filer.new.swapper.under).faults }

@@ -11,7 +11,7 @@ ghost use Rattle.labelled_disk.specs.Label.{leader_page};
 ghost use Rattle.filer_kernel.specs.Evidence.{ShowsSo};
 ghost use Rattle.label_calls.specs.Own.{RelabelsOwn};
 ghost use Rattle.file_manager.specs.Freeing.{MayFreeAll, FreedAll, FreedFirst, MakesFree, MakesSomeFree};
-ghost use Rattle.file_manager.specs.Reasons.{AreLet, Keeps, KeepsOn, Outset, ShowsReason};
+ghost use Rattle.file_manager.specs.Reasons.{AreLet, Keeps, Outset, ShowsReason};
 
 use crate::release::{free_run, free_up};
 use filer_kernel::FilerOver;

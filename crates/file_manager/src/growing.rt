@@ -11,7 +11,7 @@ ghost use Rattle.file_manager.specs.Grounds.{MakeHalts};
 ghost use Rattle.filer_kernel.specs.Evidence.{ShowsSo};
 ghost use Rattle.file_manager.specs.Broken.{GrewSome};
 ghost use Rattle.file_manager.specs.Making.{MayGrow, GrownBy, MakesAll, MakesSome};
-ghost use Rattle.file_manager.specs.Reasons.{Keeps, KeepsOn, Outset, ShowsReason};
+ghost use Rattle.file_manager.specs.Reasons.{Keeps, KeepsFrom, Outset, ShowsReason};
 ghost use Rattle.file_manager.specs.Taking.{NamesNoneOf};
 
 use crate::Volume;
@@ -42,7 +42,7 @@ pub fn grow<D: Disk, A: Allocator>(
     ensures makes { OnOk result (MakesAll id kind size (pages - size) (D.state filer.old.swapper.under) filer.old.swapper.pool (D.state filer.new.swapper.under) filer.new.swapper.pool) }
     ensures stopped { OnErr result (MakesSome id kind size (pages - size) (D.state filer.old.swapper.under) filer.old.swapper.pool (D.state filer.new.swapper.under) filer.new.swapper.pool) }
     ensures cause { IfErr result (MakeHalts filer.old.swapper.layout id (λ p. (size ≤ p) × (p < pages)) (D.state filer.old.swapper.under) filer.old.swapper.pool (D.state filer.new.swapper.under) filer.new.swapper.pool) }
-    ensures keeps_to { (o : Outset) (named : Triples) → Keeps o filer.old named → NamesNoneOf id (λ p. (size ≤ p) × (p < pages)) named → OnOk result (KeepsOn o filer.new) }
+    ensures keeps_to { (o : Outset) (named : Triples) → Keeps o filer.old named → NamesNoneOf id (λ p. (size ≤ p) × (p < pages)) named → OnOk result (KeepsFrom o named filer.new) }
     ensures reasons { (o : Outset) (named : Triples) → Keeps o filer.old named → NamesNoneOf id (λ p. (size ≤ p) × (p < pages)) named → IfErr result (ShowsReason o filer.old.swapper.layout (D.state filer.new.swapper.under)) }
     ensures so { IfErr result (ShowsSo (D.state filer.new.swapper.under)) }
     ensures counted { result ≡ Err halt.Disk → Rose (D.state filer.old.swapper.under).faults (D.state filer.new.swapper.under).faults }

@@ -28,7 +28,7 @@ ghost use Rattle.frame_pool.specs.Frames.{ArePages};
 ghost use Rattle.file_manager.specs.Book.{Books, BooksUpto, Leads};
 ghost use Rattle.file_manager.specs.Broken.{GrewSome};
 ghost use Rattle.file_manager.specs.Making.{AreUnowned, AreUnownedUpto, ShowsNoFree, free_count, sectors_of, IsRunFor, MayGrow, GrownBy, MakesAll, MakesSome};
-ghost use Rattle.file_manager.specs.Reasons.{Keeps, KeepsOn, Outset, ShowsReason};
+ghost use Rattle.file_manager.specs.Reasons.{Keeps, KeepsFrom, Outset, ShowsReason};
 ghost use Rattle.file_manager.specs.Taking.{NamesNoneOf};
 
 use alloc_map::AllocError;
@@ -191,7 +191,7 @@ pub(crate) fn make_up<D: Disk, A: Allocator>(
     ensures makes { OnOk result (MakesAll id kind from (end - from) (D.state filer.old.swapper.under) filer.old.swapper.pool (D.state filer.new.swapper.under) filer.new.swapper.pool) }
     ensures stopped { OnErr result (MakesSome id kind from (end - from) (D.state filer.old.swapper.under) filer.old.swapper.pool (D.state filer.new.swapper.under) filer.new.swapper.pool) }
     ensures cause { IfErr result (MakeHalts filer.old.swapper.layout id (λ p. (from ≤ p) × (p < end)) (D.state filer.old.swapper.under) filer.old.swapper.pool (D.state filer.new.swapper.under) filer.new.swapper.pool) }
-    ensures keeps_to { (o : Outset) (named : Triples) → Keeps o filer.old named → NamesNoneOf id (λ p. (from ≤ p) × (p < end)) named → OnOk result (KeepsOn o filer.new) }
+    ensures keeps_to { (o : Outset) (named : Triples) → Keeps o filer.old named → NamesNoneOf id (λ p. (from ≤ p) × (p < end)) named → OnOk result (KeepsFrom o named filer.new) }
     ensures reasons { (o : Outset) (named : Triples) → Keeps o filer.old named → NamesNoneOf id (λ p. (from ≤ p) × (p < end)) named → IfErr result (ShowsReason o filer.old.swapper.layout (D.state filer.new.swapper.under)) }
     ensures takes { OnOk result (MakesFor filer.old.swapper.layout id (λ p. (from ≤ p) × (p < end)) (D.state filer.old.swapper.under) filer.old.swapper.pool (D.state filer.new.swapper.under) filer.new.swapper.pool) }
     ensures come { Brings (IsMapsHome filer.old.swapper.layout) filer.old.swapper.pool filer.new.swapper.pool }

@@ -17,7 +17,7 @@ ghost use Rattle.file_manager.specs.Making.{MayGrow, GrownBy};
 ghost use Rattle.file_manager.specs.Resizing.{Resizes, ResizesSome};
 ghost use Rattle.file_manager.specs.Shrinking.{MayShrink, ShrunkBy, ShrunkSome};
 ghost use Rattle.file_manager.specs.Roots.{RootStays};
-ghost use Rattle.file_manager.specs.Reasons.{Keeps, KeepsOn, Outset, ShowsReason};
+ghost use Rattle.file_manager.specs.Reasons.{Keeps, KeepsFrom, Outset, ShowsReason};
 
 use crate::Volume;
 use crate::cutting::shrink;
@@ -60,7 +60,7 @@ pub fn set_size<D: Disk, A: Allocator>(
     ensures makes { OnOk result (Resizes id pages (D.state filer.old.swapper.under) filer.old.swapper.pool (D.state filer.new.swapper.under) filer.new.swapper.pool) }
     ensures stopped { OnErr result (ResizesSome id pages (D.state filer.old.swapper.under) filer.old.swapper.pool (D.state filer.new.swapper.under) filer.new.swapper.pool) }
     ensures cause { IfErr result (ResizeHalts filer.old.swapper.layout (runs_of filer.old.swapper.layout.sectors filer.old.runs) id pages (D.state filer.old.swapper.under) filer.old.swapper.pool (D.state filer.new.swapper.under) filer.new.swapper.pool) }
-    ensures keeps_to { (o : Outset) (named : Triples) → Keeps o filer.old named → OnOk result (KeepsOn o filer.new) }
+    ensures keeps_to { (o : Outset) (named : Triples) → Keeps o filer.old named → OnOk result (KeepsFrom o named filer.new) }
     ensures reasons { (o : Outset) (named : Triples) → Keeps o filer.old named → IfErr result (ShowsReason o filer.old.swapper.layout (D.state filer.new.swapper.under)) }
     ensures so { IfErr result (ShowsSo (D.state filer.new.swapper.under)) }
     ensures counted { result ≡ Err halt.Disk → Rose (D.state filer.old.swapper.under).faults (D.state filer.new.swapper.under).faults }

@@ -23,7 +23,7 @@ ghost use Rattle.swapper_kernel.specs.Halts.{HasCause};
 ghost use Rattle.filer_kernel.specs.Evidence.{MayBeMissing, ShowsSo};
 ghost use Rattle.file_manager.specs.Freeing.{MayFree, NamesAll, MakesFree, MakesSomeFree};
 ghost use Rattle.file_manager.specs.Shrinking.{IsLastPart, FreedDown, StoppedDown, run_down};
-ghost use Rattle.file_manager.specs.Reasons.{AreLet, Keeps, KeepsOn, Outset, ShowsReason};
+ghost use Rattle.file_manager.specs.Reasons.{AreLet, Keeps, MayLack, Outset, ShowsReason};
 
 use crate::forgetting::forget_run;
 use file_map::Run;
@@ -50,7 +50,7 @@ fn last_part<D: Disk, A: Allocator>(
         → named id (end - 1) sector ≡ true → IfErr result (λ e. e ≡ halt.Disk) }
     ensures cause { IfErr result (FreeHalts (IsUnframed filer.old.swapper.pool id) filer.old.swapper.layout (runs_of filer.old.swapper.layout.sectors filer.old.runs) id (λ p. p ≡ end - 1) (D.state filer.old.swapper.under) filer.old.swapper.pool (D.state filer.new.swapper.under)) }
     ensures keeps_to { (o : Outset) (named : Triples) → Keeps o filer.old named → OnOk result (Keeps o filer.new named) }
-    ensures reasons { (o : Outset) (named : Triples) → Keeps o filer.old named → MayBeMissing id (end - 1) → IfErr result (ShowsReason o filer.old.swapper.layout (D.state filer.new.swapper.under)) }
+    ensures reasons { (o : Outset) (named : Triples) → Keeps o filer.old named → MayLack named id (end - 1) → IfErr result (ShowsReason o filer.old.swapper.layout (D.state filer.new.swapper.under)) }
     ensures homes { IfOk result (λ run. (k : ℕ) → k < run.pages → IsRunHome filer.old.swapper.layout (D.state filer.old.swapper.under) filer.old.swapper.pool (runs_of filer.old.swapper.layout.sectors filer.old.runs) (home_at (run.sector + k) (record { id = id; page = run.first + k }))) }
     ensures keeps { (id ≡ 3) ⊎ (16 ≤ id) → KeepsMap (IsUnframed filer.old.swapper.pool id) filer.old.swapper.layout id (D.state filer.old.swapper.under) filer.old.swapper.pool (runs_of filer.old.swapper.layout.sectors filer.old.runs) (D.state filer.new.swapper.under) filer.new.swapper.pool (runs_of filer.old.swapper.layout.sectors filer.new.runs) }
     ensures so { MayBeMissing id (end - 1) → IfErr result (ShowsSo (D.state filer.new.swapper.under)) }

@@ -19,7 +19,7 @@ ghost use Rattle.file_manager.specs.Freeing.{MakesFree, MakesSomeFree};
 ghost use Rattle.file_manager.specs.Making.{MakesAll, MakesSome};
 ghost use Rattle.file_manager.specs.Tables.{MayBegin, BegunBy, EndedBy, EndedSome};
 ghost use Rattle.file_manager.specs.Roots.{RootStays};
-ghost use Rattle.file_manager.specs.Reasons.{AreLet, Keeps, KeepsOn, Outset, ShowsReason};
+ghost use Rattle.file_manager.specs.Reasons.{Keeps, KeepsBare, KeepsOn, NamesTables, Outset, ShowsReason};
 ghost use Rattle.file_manager.specs.Taking.{NamesNoneOf};
 
 use crate::growth::{TABLES, frames_of, make_run};
@@ -72,8 +72,8 @@ pub fn make_tables<D: Disk, A: Allocator>(filer: &mut FilerOver<D, A>) -> Result
     ensures makes { OnOk result (MakesAll 3 0 0 96 (D.state filer.old.swapper.under) filer.old.swapper.pool (D.state filer.new.swapper.under) filer.new.swapper.pool) }
     ensures stopped { OnErr result (MakesSome 3 0 0 96 (D.state filer.old.swapper.under) filer.old.swapper.pool (D.state filer.new.swapper.under) filer.new.swapper.pool) }
     ensures cause { IfErr result (CreateHalts filer.old.swapper.layout 3 (D.state filer.old.swapper.under) filer.old.swapper.pool (D.state filer.new.swapper.under) filer.new.swapper.pool) }
-    ensures keeps_to { (o : Outset) (named : Triples) → Keeps o filer.old named → AreLet o (D.state filer.old.swapper.under) named 3 (λ p. p < 96) → OnOk result (KeepsOn o filer.new) }
-    ensures reasons { (o : Outset) (named : Triples) → Keeps o filer.old named → AreLet o (D.state filer.old.swapper.under) named 3 (λ p. p < 96) → IfErr result (ShowsReason o filer.old.swapper.layout (D.state filer.new.swapper.under)) }
+    ensures keeps_to { (o : Outset) (named : Triples) → Keeps o filer.old named → OnOk result (KeepsOn o filer.new) }
+    ensures reasons { (o : Outset) (named : Triples) → Keeps o filer.old named → IfErr result (ShowsReason o filer.old.swapper.layout (D.state filer.new.swapper.under)) }
     ensures so { IfErr result (ShowsSo (D.state filer.new.swapper.under)) }
     ensures counted { result ≡ Err halt.Disk → Rose (D.state filer.old.swapper.under).faults (D.state filer.new.swapper.under).faults }
     ensures root { RootStays (D.state filer.old.swapper.under) (D.state filer.new.swapper.under) }
@@ -121,8 +121,8 @@ pub fn free_tables<D: Disk, A: Allocator>(filer: &mut FilerOver<D, A>) -> Result
     ensures makes { OnOk result (MakesFree 96 (D.state filer.old.swapper.under) filer.old.swapper.pool (D.state filer.new.swapper.under) filer.new.swapper.pool) }
     ensures stopped { OnErr result (MakesSomeFree (D.state filer.old.swapper.under) filer.old.swapper.pool (D.state filer.new.swapper.under) filer.new.swapper.pool) }
     ensures cause { IfErr result (CutFileHalts (AreTables filer.old.swapper.pool) filer.old.swapper.layout (runs_of filer.old.swapper.layout.sectors filer.old.runs) 3 0 (λ page. page < 96) (D.state filer.old.swapper.under) filer.old.swapper.pool (D.state filer.new.swapper.under)) }
-    ensures keeps_to { (o : Outset) (named : Triples) → Keeps o filer.old named → OnOk result (KeepsOn o filer.new) }
-    ensures reasons { (o : Outset) (named : Triples) → Keeps o filer.old named → IfErr result (ShowsReason o filer.old.swapper.layout (D.state filer.new.swapper.under)) }
+    ensures keeps_to { (o : Outset) (named : Triples) → Keeps o filer.old named → OnOk result (KeepsBare o filer.new) }
+    ensures reasons { (o : Outset) (named : Triples) → Keeps o filer.old named → NamesTables named → IfErr result (ShowsReason o filer.old.swapper.layout (D.state filer.new.swapper.under)) }
     ensures so { IfErr result (ShowsSo (D.state filer.new.swapper.under)) }
     ensures counted { result ≡ Err halt.Disk → Rose (D.state filer.old.swapper.under).faults (D.state filer.new.swapper.under).faults }
     ensures root { RootStays (D.state filer.old.swapper.under) (D.state filer.new.swapper.under) }

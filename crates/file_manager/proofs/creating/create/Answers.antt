@@ -1,4 +1,4 @@
-use Rattle.std.proofs.Common.{◌≡◌, ◌∙◌, subst, arith, sym, rules}
+use Rattle.std.proofs.Common.{◌≡◌, ◌∙◌, subst, arith, sym, rules, ◌≤◌}
 use Rattle.std.specs.Prelude.{List, slice_set}
 use Rattle.labelled_disk.specs.Sectors.{Sector, AreSectors}
 use Rattle.swapper_kernel.specs.FormLaws.{memory_in_form}
@@ -27,6 +27,7 @@ use Rattle.file_map.specs.FileMap.{without_from}
 use Rattle.file_manager.proofs.KeepSteps.{keeps_at}
 use Rattle.file_manager.proofs.ReasonCauses.{cut_reasons}
 use Rattle.file_manager.proofs.RootKeeps.{none_left, root_lets, whole_cut}
+use Rattle.file_manager.proofs.KeepCut.{tables_left}
 use Rattle.file_manager.proofs.creating.create.Goals as goal
 
 pub returns-in-Err-clause-sound : goal.returns-in-Err-clause-sound
@@ -206,4 +207,6 @@ returns-clause-keeps_to g c = λ o named h.
     let id = c.next_id-id.result in
     let cut = keeps_at c.cut.new.self.runs c.in-Ok-cut.ensures.beside.layout (whole_cut rooted c.in-Ok-cut.ensures.beside id (c.in-Ok-cut.ensures.runs c.write_over.new.filer.swapper.layout.sectors)
     (λ home from may same was. root_lets c.args.volume.now.root c.args.filer.now.swapper.accepted h c.in-Ok.ensures.made.makes home (rw c.in-Ok.ensures.layout at from) (same ∙ c.next_id-id.ensures.next)) c.in-Ok-cut.ensures.cut) in
-    (rw c.frames_of.ensures.same at c.in-Ok-make_file.ensures.keeps_to) o (without_from named id 0) cut (none_left named id)
+    let later = (rw c.frames_of.ensures.same at c.in-Ok-make_file.ensures.keeps_to) o (without_from named id 0) cut (none_left named id) in
+    let client : 16 ≤ id = let of = c.next_id-id.ensures.next in let serial = c.requires.valid.serial in omega (arith, of, serial) in
+    (later.0, later.1, λ all. later.2 (tables_left named id 0 client all))

@@ -82,10 +82,10 @@ pub returns-in-Err-free_up-clause-so : goal.returns-in-Err-free_up-clause-so
 returns-in-Err-free_up-clause-so g c = c.in-Err-free_up.ensures.so (λ page below. inr c.requires.of_file)
 
 pub returns-in-Err-clause-reasons : goal.returns-in-Err-clause-reasons
-returns-in-Err-clause-reasons g c = λ o named h. c.in-Err.ensures.reasons o named h (inr c.requires.of_file)
+returns-in-Err-clause-reasons g c = λ o named h. c.in-Err.ensures.reasons o named h (inl c.requires.of_file)
 
 pub returns-in-Err-free_up-clause-reasons : goal.returns-in-Err-free_up-clause-reasons
-returns-in-Err-free_up-clause-reasons g c = λ o named h. rw c.in-Ok.ensures.layout at (c.in-Err-free_up.ensures.reasons o named (c.in-Ok.ensures.keeps_to o named h) (λ page below. inr c.requires.of_file))
+returns-in-Err-free_up-clause-reasons g c = λ o named h. rw c.in-Ok.ensures.layout at (c.in-Err-free_up.ensures.reasons o named (c.in-Ok.ensures.keeps_to o named h) (λ page below. inl c.requires.of_file))
 
 pub returns-in-Ok-free_up-clause-keeps_to : goal.returns-in-Ok-free_up-clause-keeps_to
 returns-in-Ok-free_up-clause-keeps_to g c = λ o named h. c.in-Ok-free_up.ensures.keeps_to o named (c.in-Ok.ensures.keeps_to o named h)

@@ -3,6 +3,7 @@ use Rattle.file_manager.proofs.UpTo.{up_all, up_cause, up_cost, up_none, up_more
 use Rattle.file_manager.proofs.GrowBroken.{up_broken}
 use Rattle.file_manager.proofs.Faults.{counted_then}
 use Rattle.swapper_kernel.specs.HaltLaws.{brings_then}
+use Rattle.file_manager.proofs.KeptUpTo.{tables_still}
 use Rattle.file_manager.proofs.growth.make_up.Goals as goal
 
 pub loop-page-init : goal.loop-page-init
@@ -57,7 +58,7 @@ returns-clause-takes g c =
     rw all at c.loop-page.invariant.takes
 
 pub returns-clause-keeps_to : goal.returns-clause-keeps_to
-returns-clause-keeps_to g c = λ o named h none. let now = c.loop-page.invariant.keeps o named h none in (now.0, now.1)
+returns-clause-keeps_to g c = λ o named h none. let now = c.loop-page.invariant.keeps o named h none in (now.0, now.1, tables_still named now.0 now.3)
 
 pub returns-in-Err-clause-reasons : goal.returns-in-Err-clause-reasons
 returns-in-Err-clause-reasons g c = λ o named h none.

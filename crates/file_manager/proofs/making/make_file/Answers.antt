@@ -14,6 +14,7 @@ use Rattle.labelled_disk.specs.Runs.{growth}
 use Rattle.file_map.specs.FileMap.{with_run}
 use Rattle.file_manager.specs.Taking.{every_page}
 use Rattle.file_manager.proofs.MadeReasons.{none_with_run}
+use Rattle.file_manager.proofs.KeepCut.{tables_more}
 use Rattle.file_manager.proofs.making.make_file.Goals as goal
 
 pub returns-in-Err-clause-sound : goal.returns-in-Err-clause-sound
@@ -111,5 +112,6 @@ returns-clause-keeps_to g c = λ o named h none.
     let form = c.in-Ok.ensures.form in
     let below = c.requires.numbers in
     let now = c.in-Ok.ensures.keeps_to o named h (λ p sector own. none p sector tt) in
-    c.in-Ok-make_up.ensures.keeps_to o (with_run named run) now
-    (none_with_run run named c.args.id 4294967295 (λ p. (0 ≤ p) × (p < c.args.pages)) form.same_id form.same_first (λ p own other. let last = own.1 in let from = other.0 in omega (arith, last, from, below)) (λ p sector own. none p sector tt))
+    let later = c.in-Ok-make_up.ensures.keeps_to o (with_run named run) now
+    (none_with_run run named c.args.id 4294967295 (λ p. (0 ≤ p) × (p < c.args.pages)) form.same_id form.same_first (λ p own other. let last = own.1 in let from = other.0 in omega (arith, last, from, below)) (λ p sector own. none p sector tt)) in
+    (later.0, later.1, λ all. later.2 (tables_more named run all))

@@ -136,7 +136,7 @@ pub returns-in-Err-clause-reasons : goal.returns-in-Err-clause-reasons
 returns-in-Err-clause-reasons g c = c.in-Err.ensures.reasons
 
 pub returns-in-Ok-None-clause-reasons : goal.returns-in-Ok-None-clause-reasons
-returns-in-Ok-None-clause-reasons g c = λ o named k. missing_reason k c.leader_of.ensures.makes c.args.id leader_page (inr c.requires.client) (c.leader_of.ensures.missing (search rules))
+returns-in-Ok-None-clause-reasons g c = λ o named k. missing_reason k c.leader_of.ensures.makes c.args.id leader_page c.requires.client (c.leader_of.ensures.missing (search rules))
 
 pub returns-in-Err-mark_leader-clause-reasons : goal.returns-in-Err-mark_leader-clause-reasons
 returns-in-Err-mark_leader-clause-reasons g c = λ o named k.

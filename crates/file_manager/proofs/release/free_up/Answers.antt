@@ -1,10 +1,12 @@
-use Rattle.std.proofs.Common.{arith, rules, ◌≡◌, ◌<◌}
+use Rattle.std.proofs.Common.{arith, rules, ◌≡◌, ◌<◌, subst}
 use Rattle.file_manager.proofs.FreedRun.{stops_then}
-use Rattle.file_manager.proofs.FreedUpTo.{to_reason, to_none, to_then, to_rest, to_all, to_made, to_spent, to_stopped_cost, to_halts}
+use Rattle.file_manager.proofs.FreedUpTo.{to_none, to_then, to_rest, to_all, to_made, to_spent, to_stopped_cost, to_halts}
 use Rattle.file_manager.proofs.StoppedFree.{some_then}
 use Rattle.file_manager.proofs.Faults.{counted_then}
 use Rattle.label_calls.specs.OwnLaws.{relabels_own}
 use Rattle.file_manager.proofs.OwnSteps.{some_own, own_after}
+use Rattle.labelled_disk.specs.declared.layout.Layout.{Layout}
+use Rattle.file_manager.specs.Reasons.{ShowsReason}
 use Rattle.file_manager.proofs.release.free_up.Goals as goal
 
 pub loop-page-init : goal.loop-page-init
@@ -75,7 +77,8 @@ returns-in-Err-clause-so g c = λ there.
 pub returns-in-Err-clause-reasons : goal.returns-in-Err-clause-reasons
 returns-in-Err-clause-reasons g c = λ o named h there.
     let below : c.loop-page.page < c.args.end = search rules in
-    to_reason c.loop-page.invariant (g.D.Disk.state c.free_run.new.filer.swapper.under) c.in-Err.halt (λ o named k. c.in-Err.ensures.reasons o named k (there c.loop-page.page below)) o named h
+    let inv = c.loop-page.invariant in
+    subst (λ (l : Layout). ShowsReason o l (g.D.Disk.state c.free_run.new.filer.swapper.under) c.in-Err.halt) inv.same_layout (c.in-Err.ensures.reasons o named (inv.keeps_to o named h) (there c.loop-page.page below))
 
 pub returns-clause-let_go : goal.returns-clause-let_go
 returns-clause-let_go g c = λ o named h page sector own is.

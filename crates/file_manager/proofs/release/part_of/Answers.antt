@@ -12,7 +12,7 @@ use Rattle.file_map.specs.declared.run.Run.{Run}
 use Rattle.file_map.specs.Run.{IsRun, holds}
 use Rattle.filer_kernel.specs.Causes.{IsGiven}
 use Rattle.file_manager.specs.Grounds.{IsUnframed}
-use Rattle.file_manager.specs.ReasonLaws.{map_reasons, missing_reason}
+use Rattle.file_manager.specs.ReasonLaws.{map_reasons, lack_reason}
 use Rattle.file_manager.proofs.FreedReasons.{found_keeps}
 use Rattle.file_manager.proofs.release.part_of.Goals as goal
 
@@ -82,4 +82,4 @@ pub returns-in-Err-clause-reasons : goal.returns-in-Err-clause-reasons
 returns-in-Err-clause-reasons g c = λ o named h may. map_reasons h c.find.ensures.beside.goes.makes c.args.filer.now.swapper.accepted c.in-Err.halt c.in-Err.ensures.cause
 
 pub returns-in-Ok-None-clause-reasons : goal.returns-in-Ok-None-clause-reasons
-returns-in-Ok-None-clause-reasons g c = λ o named h may. missing_reason h c.find.ensures.beside.goes.makes c.args.id c.args.page may (λ m named stands map. c.find.ensures.nowhere m named stands map (search rules))
+returns-in-Ok-None-clause-reasons g c = λ o named h may. lack_reason h c.find.ensures.beside.goes.makes c.args.id c.args.page may (λ m named stands map. c.find.ensures.nowhere m named stands map (search rules))

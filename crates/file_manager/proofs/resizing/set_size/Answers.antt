@@ -381,7 +381,7 @@ pub returns-in-Err-clause-reasons : goal.returns-in-Err-clause-reasons
 returns-in-Err-clause-reasons g c = c.in-Err.ensures.reasons
 
 pub returns-in-Ok-None-clause-reasons : goal.returns-in-Ok-None-clause-reasons
-returns-in-Ok-None-clause-reasons g c = λ o named k. missing_reason k c.find_file.ensures.makes c.args.id leader_page (inr (file_id c.args.id c.requires.of_file)) (c.find_file.ensures.missing (search rules))
+returns-in-Ok-None-clause-reasons g c = λ o named k. missing_reason k c.find_file.ensures.makes c.args.id leader_page (file_id c.args.id c.requires.of_file) (c.find_file.ensures.missing (search rules))
 
 pub returns-in-Ok-clause-keeps_to : goal.returns-in-Ok-clause-keeps_to
 returns-in-Ok-clause-keeps_to g c = λ o named k.

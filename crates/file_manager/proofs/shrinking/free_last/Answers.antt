@@ -1,4 +1,4 @@
-use Rattle.std.proofs.Common.{◌≡◌, ◌<◌, ◌≤◌, inr, ◌-◌, sym, ◌∙◌, ap, subst, arith, rules}
+use Rattle.std.proofs.Common.{◌≡◌, ◌<◌, ◌≤◌, inr, ◌-◌, sym, ◌∙◌, ap, subst, arith, rules, inl}
 use Rattle.labelled_disk.specs.declared.layout.Layout.{Layout}
 use Rattle.swapper_kernel.specs.declared.manager.Manager.TheVariants.{AllocationMap, FileMap}
 use Rattle.filer_kernel.specs.declared.cached.CachedRuns.{CachedRuns}
@@ -203,7 +203,7 @@ returns-clause-own g c =
     own_after (quiet_own c.args.id f.makes) (own_then (wrote_own c.in-Ok-free_labels_down.ensures.freed.makes (same_id c.in-Ok.ensures.form.same_id c.in-Ok-free_labels_down.ensures.own)) (map_own c.args.id c.in-Ok-give.ensures.kept))
 
 pub returns-in-Err-clause-reasons : goal.returns-in-Err-clause-reasons
-returns-in-Err-clause-reasons g c = λ o named h. c.in-Err.ensures.reasons o named h (inr c.requires.of_file)
+returns-in-Err-clause-reasons g c = λ o named h. c.in-Err.ensures.reasons o named h (inl c.requires.of_file)
 
 pub returns-in-Err-free_labels_down-clause-reasons : goal.returns-in-Err-free_labels_down-clause-reasons
 returns-in-Err-free_labels_down-clause-reasons g c = λ o named h.

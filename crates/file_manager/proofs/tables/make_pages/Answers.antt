@@ -1,4 +1,4 @@
-use Rattle.std.proofs.Common.{rules, refl, inl, ◌≡◌, ◌<◌, arith}
+use Rattle.std.proofs.Common.{rules, refl, inl, ◌≡◌, ◌<◌, arith, ◌≤◌}
 use Rattle.file_manager.proofs.TablesMade.{tables_none, tables_more, tables_sound, tables_all, tables_made, tables_cost}
 use Rattle.file_manager.proofs.UpTo.{up_cause, up_cost, up_stopped}
 use Rattle.file_manager.proofs.Faults.{counted_then}
@@ -60,7 +60,10 @@ pub returns-clause-root : goal.returns-clause-root
 returns-clause-root g c = grown_root {id = 3} (λ same. omega (arith, same)) (returns-clause-makes g c)
 
 pub returns-clause-keeps_to : goal.returns-clause-keeps_to
-returns-clause-keeps_to g c = λ o named h none. let now = c.loop-page.invariant.up.keeps o named h (λ p sector own. none p sector own.1) in (now.0, now.1)
+returns-clause-keeps_to g c = λ o named h none. 
+    let all : 96 ≤ c.loop-page.page = search rules in
+    let now = c.loop-page.invariant.up.keeps o named h (λ p sector own. none p sector own.1) in
+    (now.0, now.1, λ page below. now.4 page (omega arith) (omega (arith, below, all)))
 
 pub returns-in-Err-clause-reasons : goal.returns-in-Err-clause-reasons
 returns-in-Err-clause-reasons g c = λ o named h none.
