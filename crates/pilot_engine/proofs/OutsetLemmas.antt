@@ -1,8 +1,10 @@
 -- How a session keeps to what stood when it began: at its start, where the space tables are begun, and where maps are written.
-use Rattle.std.proofs.Common.{◌≡◌, inl, inr, ℕ, ◌*◌, ◌<◌, Bool, List, [], length, Some, refl, sym, ◌∙◌, ap, append-nil, subst, arith}
+use Rattle.std.proofs.Common.{◌≡◌, ◌⊎◌, inl, inr, ℕ, ◌*◌, ◌<◌, Bool, true, false, List, [], ◌∷◌, ◌++◌, drop, length, Some, refl, suc, sym, zero, ◌∙◌, ap, append-nil, subst, arith}
 use Rattle.std.specs.Prelude.{slice_get, ◌&&◌, ◌==◌}
-use Rattle.std.proofs.lemmas.Option.{none-some}
+use Rattle.std.proofs.lemmas.Bool.{true≢false}
+use Rattle.std.proofs.lemmas.Option.{none-some, same_Some}
 use Rattle.labelled_disk.specs.declared.disk.DiskWrite.{DiskWrite}
+use Rattle.labelled_disk.specs.declared.disk.DiskWrite.TheVariants as write
 use Rattle.labelled_disk.specs.declared.evidence.Halt.{Halt}
 use Rattle.labelled_disk.specs.declared.layout.Layout.{Layout}
 use Rattle.labelled_disk.specs.Calls.{OnlyReads}
@@ -10,13 +12,14 @@ use Rattle.labelled_disk.specs.Layout.{vam}
 use Rattle.labelled_disk.specs.Sectors.{Sector, AreSectors}
 use Rattle.labelled_disk.specs.State.{DiskState}
 use Rattle.alloc_map.specs.Bits.{is_used}
+use Rattle.frame_pool.specs.declared.home.Home.{Home}
 use Rattle.frame_pool.specs.Frames.{Frame, Slots, Has}
 use Rattle.file_map.specs.declared.run.Run.{Run}
 use Rattle.file_map.specs.FileMap.{Triples}
 use Rattle.swapper_kernel.specs.declared.manager.Manager.TheVariants.{AllocationMap}
 use Rattle.swapper_kernel.specs.Differs.{Differs}
 use Rattle.swapper_kernel.specs.DiffersLaws.{differs_wider}
-use Rattle.swapper_kernel.specs.Goes.{Swaps}
+use Rattle.swapper_kernel.specs.Goes.{Makes, Pages, Swaps}
 use Rattle.swapper_kernel.specs.GoesLaws.{goes_wider}
 use Rattle.swapper_kernel.specs.HaltLaws.{brings_same, brings_wider}
 use Rattle.swapper_kernel.specs.Halts.{Halts}
@@ -32,8 +35,10 @@ use Rattle.filer_kernel.specs.Tables.{in_tables, BesideTables}
 use Rattle.filer_kernel.specs.Triples.{AreOf, IsOneOf}
 use Rattle.filer_kernel.proofs.LawLemmas.{named_in_sectors}
 use Rattle.session_words.proofs.ShownLemmas.{shown_laws}
-use Rattle.file_manager.specs.ReasonLaws.{beside_keeps, label_reasons}
-use Rattle.file_manager.specs.Reasons.{KeepsTo, Outset, ShowsReason, outset}
+use Rattle.volume_root.specs.declared.root.Root.{Root}
+use Rattle.volume_root.specs.RootPage.{root_write}
+use Rattle.file_manager.specs.ReasonLaws.{GivesNot, beside_keeps, label_reasons, let_later, since_later}
+use Rattle.file_manager.specs.Reasons.{AreLet, IsLet, IsSince, KeepsTo, Outset, ShowsReason, outset}
 use Rattle.fault_core.specs.Reach.{IsReached, Reaches, ReachHalts, no_break}
 use Rattle.fault_core.specs.Touch.{on_data}
 use Rattle.fault_core.specs.View.{View, kept_by}
@@ -49,6 +54,17 @@ use Rattle.pilot_engine.proofs.StartStands.{bare_stands}
 -- a disk that was read alone tells the same
 pub begun_read : {d : List Sector} {named : Triples} {ws : List DiskWrite} {a b : DiskState} → OnlyReads a b → IsBegun d named ws a → IsBegun d named ws b
 begun_read reads b = record { contents = reads.contents ∙ b.contents; writes = reads.writes ∙ b.writes; map = b.map }
+
+-- what adds nothing to a list is the empty one
+ends_bare : (ws more : List DiskWrite) → ws ++ more ≡ ws → more ≡ []
+ends_bare [] more same = same
+ends_bare (w ∷ ws) more same = ends_bare ws more (ap (λ (l : List DiskWrite). drop 1 l) same)
+
+-- nothing is told behind the writes that a disk tells
+nothing_more : (ws : List DiskWrite) (disk : DiskState) → disk.writes ≡ Some ws → (more : List DiskWrite) → disk.writes ≡ Some (ws ++ more) → (turn : ℕ) (w : DiskWrite) → slice_get more turn ≡ Some w → ⊥
+nothing_more ws disk writes more told turn w at =
+    let bare : more ≡ [] = ends_bare ws more (same_Some (ws ++ more) ws (sym told ∙ writes)) in
+    none-some w (sym (ap (λ (l : List DiskWrite). slice_get l turn) bare) ∙ at)
 
 -- without frames and runs, a disk keeps to what it tells
 pub begun_keeps : (layout : Layout) (d : List Sector) (named : Triples) (ws : List DiskWrite) (disk : DiskState) (slots : Slots) (kept : CachedRuns) → IsLayout layout → disk.sectors ≡ layout.sectors → AreSectors d
@@ -66,13 +82,49 @@ begun_keeps layout d named ws disk slots kept is size sectors long bare none beg
   marks = is_used (map_bytes AllocationMap layout d);
   bits = record { bytes = map_bytes AllocationMap layout d; shows = shown; are = λ sector. refl };
   free = λ sector from below clear. inl (sym (shown_laws.bits layout d (map_bytes AllocationMap layout d) sector shown (in_bits sector below)) ∙ clear);
+  rest = λ home from may. let_or_named (named home.id home.page home.sector) home refl;
+  used = λ sector from below is_used. inl (sym (shown_laws.bits layout d (map_bytes AllocationMap layout d) sector shown (in_bits sector below)) ∙ is_used);
 }
   where
+    let_or_named : (is_named : Bool) (home : Home) → named home.id home.page home.sector ≡ is_named → (named home.id home.page home.sector ≡ true) ⊎ IsLet (outset d named ws) disk home
+    let_or_named true home is_so = inl is_so
+    let_or_named false home is_so = inr (record {
+      outset = λ was. absurd (true≢false (sym was ∙ is_so));
+      since = λ more told turn w at gives. absurd (nothing_more ws disk begun.writes more told turn w at);
+    })
+
     shown : Shows AllocationMap d layout (map_bytes AllocationMap layout d)
     shown = shows_there AllocationMap layout d is long sectors
 
     in_bits : (k : ℕ) → k < layout.sectors → k < 4096 * layout.vam
     in_bits k below = let v : layout.vam ≡ vam layout.sectors = ap (λ (l : Layout). l.vam) is.1 in omega (arith, below, v)
+
+-- ---- The root is written, and the allocation map is looked at.
+
+-- the identifier in a label that is written with its page
+id_written : DiskWrite → ℕ
+id_written (write.Whole sector label bytes) = label.id
+id_written (write.LabelOnly sector label) = 0
+id_written (write.Page sector wanted bytes) = 0
+
+-- the root's label gives no page of the space tables a sector
+root_gives_not : (root : Root) (home : Home) → home.id ≡ 3 → GivesNot (root_write root ∷ []) home
+unfolding id_written
+root_gives_not root home tables zero w at (kind, is) =
+    let four : 4 ≡ id_written w = ap id_written (same_Some (root_write root) w at) in
+    let own : id_written w ≡ home.id = ap id_written is in
+    omega (arith, four, own, tables)
+root_gives_not root home tables (suc k) w at gives = absurd (none-some w at)
+
+-- so nothing makes a page of the space tables be at home behind it
+pub rooted_let : (d : List Sector) (named : Triples) (ws : List DiskWrite) (root : Root) {p q : Pages} {a b c : DiskState} {s t u v : Slots} → a.writes ≡ Some ws
+    → Makes p (root_write root ∷ []) a s b t → Makes q [] b u c v → AreLet (outset d named ws) c named 3 (λ page. page < 96)
+rooted_let d named ws root {a = a} writes made counted = λ page sector below is_named.
+    let o = outset d named ws in
+    let home : Home = record { sector = sector; id = 3; page = page } in
+    let since : IsSince o a = ([], writes ∙ ap (λ (l : List DiskWrite). Some l) (sym (append-nil ws))) in
+    let first : IsLet o a home = record { outset = λ was. inl refl; since = λ more told turn w at gives. absurd (nothing_more ws a writes more told turn w at) } in
+    let_later o counted (since_later o made since) home (λ k w at gives. none-some w at) (let_later o made since home (root_gives_not root home refl) first)
 
 -- ---- The space tables are begun.
 

@@ -1,7 +1,6 @@
 -- What a call leaves of the outset, and why it stops, where other calls are made in it.
-use Rattle.std.proofs.Common.{◌≡◌, ℕ, List, Result, Ok, Err, sym, subst}
+use Rattle.std.proofs.Common.{◌≡◌, ℕ, [], Result, Ok, Err, sym, subst}
 use Rattle.std.specs.Prelude.{IfErr, OnOk}
-use Rattle.labelled_disk.specs.declared.disk.DiskWrite.{DiskWrite}
 use Rattle.labelled_disk.specs.declared.evidence.Halt.{Halt}
 use Rattle.labelled_disk.specs.declared.evidence.Halt.TheVariants as halt
 use Rattle.labelled_disk.specs.declared.layout.Layout.{Layout}
@@ -34,9 +33,9 @@ pub reshaped_on : (o : Outset) (v w : View) → IsLayout v.layout → Reshapes v
 reshaped_on o v w is reshapes k = moved_on o v w is (moves_of_reshapes v w reshapes) k
 
 -- why a call stopped shows its reason
-pub shows_after : (P : View → View → Halt → Type 0) → HasReasonAfter P → (o : Outset) (v w : View) {pages : Pages} {run : List DiskWrite} → IsLayout v.layout → Makes pages run v.disk v.slots w.disk w.slots → ViewKeepsOn o v
+pub shows_after : (P : View → View → Halt → Type 0) → HasReasonAfter P → (o : Outset) (v w : View) {pages : Pages} → IsLayout v.layout → Makes pages [] v.disk v.slots w.disk w.slots → ViewKeepsOn o v
     → (e : Halt) → P v w e → ShowsReason o v.layout w.disk e
-shows_after P reasons o v w {pages = pages} {run = run} is makes k e halts = reasons o v w k.0 pages run is k.1 makes e halts
+shows_after P reasons o v w {pages = pages} is makes k e halts = reasons o v w k.0 pages is k.1 makes e halts
 
 -- ---- The last call, which writes no label.
 

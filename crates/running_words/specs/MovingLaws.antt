@@ -1,8 +1,9 @@
 -- What goes with calls that write no label: their changes in a row, and that what is seen keeps to the outset.
 use Rattle.std.proofs.Common.{◌≡◌, ◌⊎◌, inl, inr, ℕ, ◌+◌, ◌*◌, ◌<◌, true, false, List, refl, sym, ◌∙◌, ap, subst, arith}
 use Rattle.std.specs.Prelude.{[]}
+use Rattle.std.proofs.lemmas.Bool.{true≢false}
 use Rattle.std.proofs.lemmas.Bool.Decides.{nat_tests}
-use Rattle.labelled_disk.specs.declared.disk.DiskWrite.{DiskWrite}
+use Rattle.std.proofs.lemmas.Option.{none-some}
 use Rattle.labelled_disk.specs.declared.evidence.Evidence.{Evidence}
 use Rattle.labelled_disk.specs.declared.evidence.Evidence.TheVariants.{Mismatch, Malformed, Missing}
 use Rattle.labelled_disk.specs.declared.evidence.Halt.{Halt}
@@ -16,7 +17,7 @@ use Rattle.frame_pool.specs.declared.home.Home.{Home}
 use Rattle.frame_pool.specs.Frames.{Slots}
 use Rattle.file_map.specs.declared.run.Run.{Run}
 use Rattle.file_map.specs.Entries.{Sight, Entry}
-use Rattle.file_map.specs.FileMap.{Triples}
+use Rattle.file_map.specs.FileMap.{Triples, IsNowhere}
 use Rattle.file_map.specs.Run.{run_bytes}
 use Rattle.swapper_kernel.specs.declared.manager.Manager.{Manager}
 use Rattle.swapper_kernel.specs.declared.manager.Manager.TheVariants.{AllocationMap, FileMap}
@@ -27,10 +28,13 @@ use Rattle.swapper_kernel.specs.GoesLaws.{goes_then, goes_wider}
 use Rattle.swapper_kernel.specs.HaltLaws.{brings_then, brings_wider}
 use Rattle.swapper_kernel.specs.Homes.{Brings, IsLayout, home_at}
 use Rattle.swapper_kernel.specs.Maps.{IsMapHome, pages_of, start_of}
+use Rattle.swapper_kernel.specs.Stands.{Stands}
 use Rattle.swapper_kernel.specs.Window.{IsPage, Shows}
 use Rattle.swapper_kernel.proofs.PlacedLemmas.{parts}
 use Rattle.filer_kernel.specs.Causes.{IsGiven, MapShows}
+use Rattle.filer_kernel.specs.Evidence.{MayBeMissing}
 use Rattle.filer_kernel.specs.Marks.{Marks, BitsAre}
+use Rattle.filer_kernel.specs.Triples.{MapIs}
 use Rattle.file_manager.specs.Grounds.{IsMapsHome, IsUnframed}
 use Rattle.file_manager.specs.ReasonLaws.{keeps_after, run_home_named, in_form, shows_later, shows_before}
 use Rattle.file_manager.specs.Reasons.{Outset, IsAtHome, KeepsTo, HasReason, ShowsReason}
@@ -158,6 +162,15 @@ module _ (o : Outset) (v : View) (named : Triples) (is : IsLayout v.layout) (kee
         (kept_by w) (h.runs_are keeps.memory named keeps.stands keeps.map keeps.kept)
         (λ home held. elim (h.brings.homes home held) [ inl was ↦ inl was | inr came ↦ inr (reached_named home came) ])
         (unframed_moved w.slots h.brings) keeps.marks (marks_still v.layout is keeps.marks keeps.memory now.0 now.2 keeps.bits) (λ sector from below free. inl free)
+        (λ home from may one. inl one) (λ home from may. inr (λ k write at gives. none-some write at)) (λ sector from below used. inl used)
+
+  -- a page that the file map does not name is missing with reason
+  pub unnamed_missing : (id page : ℕ) → MayBeMissing id page → ((m : List Sector) (triples : Triples) → Stands v.disk v.slots m → MapIs v.layout triples m → IsNowhere triples id page) → HasReason o v.layout v.disk (Missing id page)
+  unnamed_missing id page may nowhere = inr (may, λ sector from.
+      elim (keeps.rest (record { sector = sector; id = id; page = page }) from may) [
+        | inl is_named ↦ absurd (true≢false (sym is_named ∙ nowhere keeps.memory named keeps.stands keeps.map sector))
+        | inr let_go ↦ let_go
+      ])
 
   -- what stops a search for pages has a reason before it
   module _ (breaks : ℕ → Type 0) (w : View) where
@@ -171,7 +184,7 @@ module _ (o : Outset) (v : View) (named : Triples) (is : IsLayout v.layout) (kee
       | inl (second, broken) ↦ absurd (in_form is keeps.size keeps.stands keeps.map page broken)
       | inr (third, broken) ↦ inr third
     ]
-    evidence_shows (Missing id page) cause = tt
+    evidence_shows (Missing id page) cause = unnamed_missing id page cause.0 cause.1
 
     halt_shows : (e : Halt) → ReachHalts breaks v w e → ShowsReason o v.layout v.disk e
     halt_shows Disk cause = tt
@@ -190,6 +203,6 @@ pub reach_shows : (o : Outset) (v w : View) (named : Triples) (breaks : ℕ → 
 reach_shows o v w named breaks is keeps halt halts = halt_shows o v named is keeps breaks w halt halts
 
 -- and after it
-pub reach_reasons : (o : Outset) (v w : View) (named : Triples) (breaks : ℕ → Type 0) {pages : Pages} {run : List DiskWrite} → IsLayout v.layout → ViewKeepsTo o v named → Makes pages run v.disk v.slots w.disk w.slots
+pub reach_reasons : (o : Outset) (v w : View) (named : Triples) (breaks : ℕ → Type 0) {pages : Pages} → IsLayout v.layout → ViewKeepsTo o v named → Makes pages [] v.disk v.slots w.disk w.slots
     → (halt : Halt) → ReachHalts breaks v w halt → ShowsReason o v.layout w.disk halt
-reach_reasons o v w named breaks is keeps makes halt halts = shows_later o makes v.layout halt (reach_shows o v w named breaks is keeps halt halts)
+reach_reasons o v w named breaks is keeps makes halt halts = shows_later o makes keeps.since v.layout halt (reach_shows o v w named breaks is keeps halt halts)

@@ -1,8 +1,7 @@
 -- What stops a call on spaces, or a look at a file, has a reason, where disk and frames keep to the outset.
 use Rattle.std.proofs.Common.{◌⊎◌, inl, inr, ℕ, true, false, List, Option, sym, subst, arith}
 use Rattle.std.proofs.lemmas.Bool.Decides.{nat_tests}
-use Rattle.std.specs.Prelude.{Bool}
-use Rattle.labelled_disk.specs.declared.disk.DiskWrite.{DiskWrite}
+use Rattle.std.specs.Prelude.{Bool, []}
 use Rattle.labelled_disk.specs.declared.evidence.Evidence.{Evidence}
 use Rattle.labelled_disk.specs.declared.evidence.Evidence.TheVariants.{Mismatch, Malformed, Missing}
 use Rattle.labelled_disk.specs.declared.evidence.Halt.{Halt}
@@ -37,9 +36,9 @@ use Rattle.space_calls.specs.Unmapping.{Reshapes}
 abbrev pub HasReasonBefore : (View → View → Halt → Type 0) → Type 0
 HasReasonBefore P = (o : Outset) (v w : View) (named : Triples) → IsLayout v.layout → ViewKeepsTo o v named → (halt : Halt) → P v w halt → ShowsReason o v.layout v.disk halt
 
--- after the call, whatever it wrote, it has one
+-- after the call, which wrote no label, it has one
 abbrev pub HasReasonAfter : (View → View → Halt → Type 0) → Type 1
-HasReasonAfter P = (o : Outset) (v w : View) (named : Triples) (pages : Pages) (run : List DiskWrite) → IsLayout v.layout → ViewKeepsTo o v named → Makes pages run v.disk v.slots w.disk w.slots
+HasReasonAfter P = (o : Outset) (v w : View) (named : Triples) (pages : Pages) → IsLayout v.layout → ViewKeepsTo o v named → Makes pages [] v.disk v.slots w.disk w.slots
     → (halt : Halt) → P v w halt → ShowsReason o v.layout w.disk halt
 
 -- ---- Calls in a row.
@@ -57,7 +56,7 @@ moves_of_reshapes v w h = record {
 
 -- what has a reason before a call has it after it
 pub after_it : (P : View → View → Halt → Type 0) → HasReasonBefore P → HasReasonAfter P
-after_it P reasons o v w named pages run is keeps makes halt halts = shows_later o makes v.layout halt (reasons o v w named is keeps halt halts)
+after_it P reasons o v w named pages is keeps makes halt halts = shows_later o makes keeps.since v.layout halt (reasons o v w named is keeps halt halts)
 
 -- a call went before that wrote no label
 moved_shows : (leaves : View → View → Type 0) (P : View → View → Halt → Type 0) (o : Outset) (v w : View) (named : Triples) → IsLayout v.layout → ViewKeepsTo o v named
@@ -67,14 +66,14 @@ moved_shows leaves P o v w named is keeps moves halt reasons (u, left, halts) =
     let moved = moves u left in
     moved_before o v u named keeps moved halt (reasons u left (keeps_moved o v u named is keeps moved) halts)
 
-pub moved_reasons : (leaves : View → View → Type 0) (P : View → View → Halt → Type 0) (o : Outset) (v w : View) (named : Triples) {pages : Pages} {run : List DiskWrite} → IsLayout v.layout → ViewKeepsTo o v named
-    → Makes pages run v.disk v.slots w.disk w.slots → ((u : View) → leaves v u → Moves v u) → (halt : Halt) → ((u : View) → leaves v u → ViewKeepsTo o u named → P u w halt → ShowsReason o v.layout u.disk halt)
+pub moved_reasons : (leaves : View → View → Type 0) (P : View → View → Halt → Type 0) (o : Outset) (v w : View) (named : Triples) {pages : Pages} → IsLayout v.layout → ViewKeepsTo o v named
+    → Makes pages [] v.disk v.slots w.disk w.slots → ((u : View) → leaves v u → Moves v u) → (halt : Halt) → ((u : View) → leaves v u → ViewKeepsTo o u named → P u w halt → ShowsReason o v.layout u.disk halt)
     → After leaves P v w halt → ShowsReason o v.layout w.disk halt
-moved_reasons leaves P o v w named is keeps makes moves halt reasons halts = shows_later o makes v.layout halt (moved_shows leaves P o v w named is keeps moves halt reasons halts)
+moved_reasons leaves P o v w named is keeps makes moves halt reasons halts = shows_later o makes keeps.since v.layout halt (moved_shows leaves P o v w named is keeps moves halt reasons halts)
 
 -- pages were found before
-pub after_reasons : (P : View → View → Halt → Type 0) (o : Outset) (v w : View) (named : Triples) {pages : Pages} {run : List DiskWrite} → IsLayout v.layout → ViewKeepsTo o v named
-    → Makes pages run v.disk v.slots w.disk w.slots → (halt : Halt) → ((u : View) → Reaches v u → ViewKeepsTo o u named → P u w halt → ShowsReason o v.layout u.disk halt)
+pub after_reasons : (P : View → View → Halt → Type 0) (o : Outset) (v w : View) (named : Triples) {pages : Pages} → IsLayout v.layout → ViewKeepsTo o v named
+    → Makes pages [] v.disk v.slots w.disk w.slots → (halt : Halt) → ((u : View) → Reaches v u → ViewKeepsTo o u named → P u w halt → ShowsReason o v.layout u.disk halt)
     → After Reaches P v w halt → ShowsReason o v.layout w.disk halt
 after_reasons P o v w named is keeps makes halt reasons halts = moved_reasons Reaches P o v w named is keeps makes (λ u h. moves_of_reaches v u h) halt reasons halts
 

@@ -17,7 +17,7 @@ use Rattle.fault_core.specs.View.{view_of}
 use Rattle.pilot_engine.proofs.BeginLemmas.{rooted}
 use Rattle.labelled_disk.specs.declared.layout.Layout.{Layout}
 use Rattle.file_manager.specs.Reasons.{ShowsReason, outset}
-use Rattle.pilot_engine.proofs.OutsetLemmas.{begun_keeps, counted_reasons, keeps_counted}
+use Rattle.pilot_engine.proofs.OutsetLemmas.{begun_keeps, counted_reasons, keeps_counted, rooted_let}
 use Rattle.pilot_engine.proofs.start.begin.Goals as goal
 
 pub used_of-requires-clause-first : goal.used_of-requires-clause-first
@@ -216,7 +216,7 @@ returns-in-Err-make_tables-clause-reasons g c = λ d named ws begun.
     let rooted_keeps = c.in-Ok.ensures.keeps_to o named first in
     let counted = keeps_counted o (view_of c.write_over.new.filer) (view_of c.free_count.new.self) named rooted_keeps c.in-Ok-free_count.ensures.kept c.in-Ok-free_count.ensures.same c.in-Ok-free_count.ensures.runs in
     subst (λ (l : Layout). ShowsReason o l (g.D.Disk.state c.make_tables.new.filer.swapper.under) c.in-Err-make_tables.halt) (c.in-Ok-free_count.ensures.kept.layout ∙ c.in-Ok.ensures.layout)
-    (c.in-Err-make_tables.ensures.reasons o named counted)
+    (c.in-Err-make_tables.ensures.reasons o named counted (rooted_let d named ws c.in_use-root.result begun.writes c.in-Ok.ensures.made.makes c.in-Ok-free_count.ensures.kept.goes.makes))
 
 pub returns-in-Err-write_tables-clause-reasons : goal.returns-in-Err-write_tables-clause-reasons
 returns-in-Err-write_tables-clause-reasons g c = λ d named ws begun.
@@ -226,7 +226,7 @@ returns-in-Err-write_tables-clause-reasons g c = λ d named ws begun.
     (g.met.D.Disk.whole filer.swapper.under d begun.contents ∙ c.requires.size) c.requires.bare (c.requires.no_runs filer.swapper.layout.sectors) begun in
     let rooted_keeps = c.in-Ok.ensures.keeps_to o named first in
     let counted = keeps_counted o (view_of c.write_over.new.filer) (view_of c.free_count.new.self) named rooted_keeps c.in-Ok-free_count.ensures.kept c.in-Ok-free_count.ensures.same c.in-Ok-free_count.ensures.runs in
-    let made = c.in-Ok-make_tables.ensures.keeps_to o named counted in
+    let made = c.in-Ok-make_tables.ensures.keeps_to o named counted (rooted_let d named ws c.in_use-root.result begun.writes c.in-Ok.ensures.made.makes c.in-Ok-free_count.ensures.kept.goes.makes) in
     subst (λ (l : Layout). ShowsReason o l (g.D.Disk.state c.write_tables.new.filer.swapper.under) c.in-Err-write_tables.halt) (c.in-Ok-make_tables.ensures.layout ∙ c.in-Ok-free_count.ensures.kept.layout ∙ c.in-Ok.ensures.layout)
     (c.in-Err-write_tables.ensures.reasons o made)
 
@@ -238,5 +238,5 @@ returns-clause-keeps_to g c = λ d named ws begun.
     (g.met.D.Disk.whole filer.swapper.under d begun.contents ∙ c.requires.size) c.requires.bare (c.requires.no_runs filer.swapper.layout.sectors) begun in
     let rooted_keeps = c.in-Ok.ensures.keeps_to o named first in
     let counted = keeps_counted o (view_of c.write_over.new.filer) (view_of c.free_count.new.self) named rooted_keeps c.in-Ok-free_count.ensures.kept c.in-Ok-free_count.ensures.same c.in-Ok-free_count.ensures.runs in
-    let made = c.in-Ok-make_tables.ensures.keeps_to o named counted in
+    let made = c.in-Ok-make_tables.ensures.keeps_to o named counted (rooted_let d named ws c.in_use-root.result begun.writes c.in-Ok.ensures.made.makes c.in-Ok-free_count.ensures.kept.goes.makes) in
     c.in-Ok-write_tables.ensures.keeps_to o made
