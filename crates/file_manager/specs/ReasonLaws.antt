@@ -4,6 +4,7 @@ use Rattle.std.specs.Prelude.{slice_get, option_map, filter}
 use Rattle.std.proofs.lemmas.List.{length-map}
 use Rattle.std.proofs.lemmas.Bool.{true≢false}
 use Rattle.std.proofs.lemmas.Option.{same_Some, none-some, slice_get_within}
+use Rattle.labelled_disk.specs.declared.disk.Disk.{Ghosts}
 use Rattle.labelled_disk.specs.declared.disk.DiskWrite.{DiskWrite}
 use Rattle.labelled_disk.specs.declared.disk.DiskWrite.TheVariants as write
 use Rattle.labelled_disk.specs.declared.evidence.Evidence.{Evidence}
@@ -34,6 +35,7 @@ use Rattle.swapper_kernel.specs.OnceLaws.{tells_once}
 use Rattle.swapper_kernel.specs.Stands.{Stands}
 use Rattle.swapper_kernel.specs.Window.{Tells, Beside}
 use Rattle.filer_kernel.specs.declared.cached.CachedRuns.{CachedRuns}
+use Rattle.filer_kernel.specs.declared.filer.FilerOver.{FilerOver}
 use Rattle.filer_kernel.specs.Cached.{runs_of}
 use Rattle.filer_kernel.specs.Causes.{MapShows, MapCounts, MapHalts, IsRunHome}
 use Rattle.filer_kernel.specs.Marks.{Marks, BitsAre}
@@ -41,7 +43,7 @@ use Rattle.filer_kernel.specs.Triples.{MapIs, AreOf}
 use Rattle.file_manager.specs.CountedRuns.{counted_runs, first_named, firsts_apart}
 use Rattle.file_manager.specs.Grounds.{IsMapsHome, IsUnframed}
 use Rattle.file_manager.specs.Looking.{Looks}
-use Rattle.file_manager.specs.Reasons.{Outset, IsSince, WasMade, WasGivenUp, WasTaken, Gives, Lets, IsAtHome, IsLet, IsTakenUp, IsFilledUp, AreHomes, MayBeFree, KeepsTo, HasReason, ShowsReason, MayLack}
+use Rattle.file_manager.specs.Reasons.{Outset, IsSince, WasMade, WasGivenUp, WasTaken, Gives, Lets, IsAtHome, IsLet, IsTakenUp, IsFilledUp, AreHomes, MayBeFree, KeepsTo, HasReason, ShowsReason, MayLack, KeepsFrom, KeepsOn, NamesTables}
 
 -- ---- Writes in a row.
 
@@ -468,3 +470,10 @@ module _ {o : Outset} {x : Layout} {k : List Run} {a : DiskState} {s : Slots} {n
 pub keeps_as : {o : Outset} {x y : Layout} {k l : CachedRuns} {b : DiskState} {t : Slots} {named : Triples} → y ≡ x → l ≡ k → KeepsTo o x (runs_of x.sectors k) b t named → KeepsTo o y (runs_of y.sectors l) b t named
 keeps_as {o = o} {x = x} {l = l} {b = b} {t = t} {named = named} place same h =
     subst (λ (z : Layout). KeepsTo o z (runs_of z.sectors l) b t named) (sym place) (subst (λ (r : CachedRuns). KeepsTo o x (runs_of x.sectors r) b t named) (sym same) h)
+
+-- ---- What a filer keeps to, all pages of the space tables named.
+
+module _ {D A : Type 0} {G : Ghosts D} where
+  -- behind a call that names what it will, the pages of the space tables among it
+  pub on_from : (o : Outset) (named : Triples) (f : FilerOver D A G) → NamesTables named → KeepsFrom o named f → KeepsOn o f
+  on_from o named f tables from = (from.0, (from.1, from.2 tables))

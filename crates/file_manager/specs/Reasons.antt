@@ -170,7 +170,7 @@ module _ {D A : Type 0} {G : Ghosts D} where
 
   -- whatever it names, all pages of the space tables among it
   abbrev pub KeepsOn : Outset → FilerOver D A G → Type 0
-  KeepsOn o f = (named : Triples) × Keeps o f named × NamesTables named
+  KeepsOn o f = (named : Triples) × (Keeps o f named × NamesTables named)
 
   -- whatever it names
   abbrev pub KeepsBare : Outset → FilerOver D A G → Type 0

@@ -134,12 +134,12 @@ module _ (o : Outset) (v : View) (named : Triples) (is : IsLayout v.layout) (kee
   reached_named : (home : Home) → IsReached v home → IsMapsHome v.layout home ⊎ (named home.id home.page home.sector ≡ true)
   reached_named home reached = elim reached [
     | inl own ↦ inl (FileMap, own)
-    | inr found ↦ inr (run_home_named is keeps.size keeps.stands keeps.map (kept_by v) keeps.kept home found.by_run)
+    | inr found ↦ inr (run_home_named is keeps.0.size keeps.0.stands keeps.0.map (kept_by v) keeps.0.kept home found.by_run)
   ]
 
   -- so it is at home
   reached_home : (home : Home) → IsReached v home → IsMapsHome v.layout home ⊎ IsAtHome o v.disk home
-  reached_home home reached = elim (reached_named home reached) [ inl own ↦ inl own | inr is_named ↦ inr (keeps.homes home is_named) ]
+  reached_home home reached = elim (reached_named home reached) [ inl own ↦ inl own | inr is_named ↦ inr (keeps.0.homes home is_named) ]
 
   -- it is none that a free label would name
   reached_some : (home : Home) → IsReached v home → home.id ≡ 0 → ⊥
@@ -150,25 +150,28 @@ module _ (o : Outset) (v : View) (named : Triples) (is : IsLayout v.layout) (kee
 
   unframed_moved : (t : Slots) → Brings (IsReached v) v.slots t → IsUnframed t 0
   unframed_moved t brings page there = elim (brings.homes there.frame.home (record { slot = there.slot; frame = there.frame; has = there.has; at = refl })) [
-    | inl was ↦ keeps.unframed page (record { slot = was.slot; frame = was.frame; has = was.has; same_id = ap (λ (h : Home). h.id) was.at ∙ there.same_id; same_page = ap (λ (h : Home). h.page) was.at ∙ there.same_page })
+    | inl was ↦ keeps.0.unframed page (record { slot = was.slot; frame = was.frame; has = was.has; same_id = ap (λ (h : Home). h.id) was.at ∙ there.same_id; same_page = ap (λ (h : Home). h.page) was.at ∙ there.same_page })
     | inr came ↦ reached_some there.frame.home came there.same_id
   ]
 
   module _ (w : View) (h : Moves v w) where
     keeps_there : KeepsTo o v.layout (kept_by w) w.disk w.slots named
     keeps_there =
-        let now = h.goes.memory keeps.memory keeps.stands in
-        keeps_after keeps h.goes.makes now.0 now.1 named (map_still v.layout is named keeps.memory now.0 now.2 keeps.map) (λ home one. inl one)
-        (kept_by w) (h.runs_are keeps.memory named keeps.stands keeps.map keeps.kept)
+        let now = h.goes.memory keeps.0.memory keeps.0.stands in
+        keeps_after keeps.0 h.goes.makes now.0 now.1 named (map_still v.layout is named keeps.0.memory now.0 now.2 keeps.0.map) (λ home one. inl one)
+        (kept_by w) (h.runs_are keeps.0.memory named keeps.0.stands keeps.0.map keeps.0.kept)
         (λ home held. elim (h.brings.homes home held) [ inl was ↦ inl was | inr came ↦ inr (reached_named home came) ])
-        (unframed_moved w.slots h.brings) keeps.marks (marks_still v.layout is keeps.marks keeps.memory now.0 now.2 keeps.bits) (λ sector from below free. inl free)
+        (unframed_moved w.slots h.brings) keeps.0.marks (marks_still v.layout is keeps.0.marks keeps.0.memory now.0 now.2 keeps.0.bits) (λ sector from below free. inl free)
         (λ home from may one. inl one) (λ home from may. inr (λ k write at gives. none-some write at)) (λ sector from below used. inl used)
 
   -- a page that the file map does not name is missing with reason
   pub unnamed_missing : (id page : ℕ) → MayBeMissing id page → ((m : List Sector) (triples : Triples) → Stands v.disk v.slots m → MapIs v.layout triples m → IsNowhere triples id page) → HasReason o v.layout v.disk (Missing id page)
-  unnamed_missing id page may nowhere = inr (may, λ sector from.
-      elim (keeps.rest (record { sector = sector; id = id; page = page }) from may) [
-        | inl is_named ↦ absurd (true≢false (sym is_named ∙ nowhere keeps.memory named keeps.stands keeps.map sector))
+  unnamed_missing id page (inl (tables, below)) nowhere =
+      let at = keeps.1 page below in
+      absurd (true≢false (sym at.1 ∙ subst (λ (i : ℕ). named i page at.0 ≡ false) tables (nowhere keeps.0.memory named keeps.0.stands keeps.0.map at.0)))
+  unnamed_missing id page (inr client) nowhere = inr (client, λ sector from.
+      elim (keeps.0.rest (record { sector = sector; id = id; page = page }) from client) [
+        | inl is_named ↦ absurd (true≢false (sym is_named ∙ nowhere keeps.0.memory named keeps.0.stands keeps.0.map sector))
         | inr let_go ↦ let_go
       ])
 
@@ -176,12 +179,12 @@ module _ (o : Outset) (v : View) (named : Triples) (is : IsLayout v.layout) (kee
   module _ (breaks : ℕ → Type 0) (w : View) where
     evidence_shows : (e : Evidence) → ReachEvidence breaks v e → HasReason o v.layout v.disk e
     evidence_shows (Mismatch sector wanted found) cause = elim cause.reason [
-      | inl (inl held) ↦ elim (keeps.frames (home_at sector wanted) held) [ inl own ↦ inl own | inr at ↦ inr (inl at) ]
+      | inl (inl held) ↦ elim (keeps.0.frames (home_at sector wanted) held) [ inl own ↦ inl own | inr at ↦ inr (inl at) ]
       | inl (inr own) ↦ inl (FileMap, own)
       | inr came ↦ elim (reached_home (home_at sector wanted) (inr came)) [ inl own ↦ inl own | inr at ↦ inr (inl at) ]
     ]
     evidence_shows (Malformed window page) cause = elim cause [
-      | inl (second, broken) ↦ absurd (in_form is keeps.size keeps.stands keeps.map page broken)
+      | inl (second, broken) ↦ absurd (in_form is keeps.0.size keeps.0.stands keeps.0.map page broken)
       | inr (third, broken) ↦ inr third
     ]
     evidence_shows (Missing id page) cause = unnamed_missing id page cause.0 cause.1
@@ -192,11 +195,11 @@ module _ (o : Outset) (v : View) (named : Triples) (is : IsLayout v.layout) (kee
 
 -- what is seen afterwards keeps to it too
 pub keeps_moved : (o : Outset) (v w : View) (named : Triples) → IsLayout v.layout → ViewKeepsTo o v named → Moves v w → ViewKeepsTo o w named
-keeps_moved o v w named is keeps h = subst (λ (l : Layout). KeepsTo o l (kept_by w) w.disk w.slots named) (sym h.layout) (keeps_there o v named is keeps w h)
+keeps_moved o v w named is keeps h = (subst (λ (l : Layout). KeepsTo o l (kept_by w) w.disk w.slots named) (sym h.layout) (keeps_there o v named is keeps w h), keeps.1)
 
 -- a reason that stands after it stood before
 pub moved_before : (o : Outset) (v w : View) (named : Triples) → ViewKeepsTo o v named → Moves v w → (halt : Halt) → ShowsReason o v.layout w.disk halt → ShowsReason o v.layout v.disk halt
-moved_before o v w named keeps h halt shows = shows_before o h.goes.makes keeps.since v.layout halt shows
+moved_before o v w named keeps h halt shows = shows_before o h.goes.makes keeps.0.since v.layout halt shows
 
 -- what stops a search for pages has a reason, already before it
 pub reach_shows : (o : Outset) (v w : View) (named : Triples) (breaks : ℕ → Type 0) → IsLayout v.layout → ViewKeepsTo o v named → (halt : Halt) → ReachHalts breaks v w halt → ShowsReason o v.layout v.disk halt
@@ -205,4 +208,4 @@ reach_shows o v w named breaks is keeps halt halts = halt_shows o v named is kee
 -- and after it
 pub reach_reasons : (o : Outset) (v w : View) (named : Triples) (breaks : ℕ → Type 0) {pages : Pages} → IsLayout v.layout → ViewKeepsTo o v named → Makes pages [] v.disk v.slots w.disk w.slots
     → (halt : Halt) → ReachHalts breaks v w halt → ShowsReason o v.layout w.disk halt
-reach_reasons o v w named breaks is keeps makes halt halts = shows_later o makes keeps.since v.layout halt (reach_shows o v w named breaks is keeps halt halts)
+reach_reasons o v w named breaks is keeps makes halt halts = shows_later o makes keeps.0.since v.layout halt (reach_shows o v w named breaks is keeps halt halts)

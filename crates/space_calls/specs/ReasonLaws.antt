@@ -56,7 +56,7 @@ moves_of_reshapes v w h = record {
 
 -- what has a reason before a call has it after it
 pub after_it : (P : View → View → Halt → Type 0) → HasReasonBefore P → HasReasonAfter P
-after_it P reasons o v w named pages is keeps makes halt halts = shows_later o makes keeps.since v.layout halt (reasons o v w named is keeps halt halts)
+after_it P reasons o v w named pages is keeps makes halt halts = shows_later o makes keeps.0.since v.layout halt (reasons o v w named is keeps halt halts)
 
 -- a call went before that wrote no label
 moved_shows : (leaves : View → View → Type 0) (P : View → View → Halt → Type 0) (o : Outset) (v w : View) (named : Triples) → IsLayout v.layout → ViewKeepsTo o v named
@@ -69,7 +69,7 @@ moved_shows leaves P o v w named is keeps moves halt reasons (u, left, halts) =
 pub moved_reasons : (leaves : View → View → Type 0) (P : View → View → Halt → Type 0) (o : Outset) (v w : View) (named : Triples) {pages : Pages} → IsLayout v.layout → ViewKeepsTo o v named
     → Makes pages [] v.disk v.slots w.disk w.slots → ((u : View) → leaves v u → Moves v u) → (halt : Halt) → ((u : View) → leaves v u → ViewKeepsTo o u named → P u w halt → ShowsReason o v.layout u.disk halt)
     → After leaves P v w halt → ShowsReason o v.layout w.disk halt
-moved_reasons leaves P o v w named is keeps makes moves halt reasons halts = shows_later o makes keeps.since v.layout halt (moved_shows leaves P o v w named is keeps moves halt reasons halts)
+moved_reasons leaves P o v w named is keeps makes moves halt reasons halts = shows_later o makes keeps.0.since v.layout halt (moved_shows leaves P o v w named is keeps moves halt reasons halts)
 
 -- pages were found before
 pub after_reasons : (P : View → View → Halt → Type 0) (o : Outset) (v w : View) (named : Triples) {pages : Pages} → IsLayout v.layout → ViewKeepsTo o v named
@@ -100,16 +100,16 @@ reach_before breaks o v w named is keeps halt halts = reach_shows o v w named (b
 module _ (o : Outset) (v : View) (named : Triples) (is : IsLayout v.layout) (keeps : ViewKeepsTo o v named) (id : ℕ) where
   searched : (e : Evidence) → MapEvidence v.layout v.disk v.slots e → HasReason o v.layout v.disk e
   searched (Mismatch sector wanted found) cause = elim cause.reason [
-    | inl held ↦ elim (keeps.frames (home_at sector wanted) held) [ inl own ↦ inl own | inr at ↦ inr (inl at) ]
+    | inl held ↦ elim (keeps.0.frames (home_at sector wanted) held) [ inl own ↦ inl own | inr at ↦ inr (inl at) ]
     | inr own ↦ inl (FileMap, own)
   ]
-  searched (Malformed window page) cause = absurd (in_form is keeps.size keeps.stands keeps.map page cause.1)
+  searched (Malformed window page) cause = absurd (in_form is keeps.0.size keeps.0.stands keeps.0.map page cause.1)
   searched (Missing missing page) cause = absurd cause
 
   no_leader : (e : Evidence) → IsNoLeader v.layout (kept_by v) id v.disk v.slots e → HasReason o v.layout v.disk e
   no_leader (Mismatch sector wanted found) cause =
       let home : Home = home_at cause.sector (record { id = id; page = leader_page }) in
-      let at : IsAtHome o v.disk home = keeps.homes home (run_home_named is keeps.size keeps.stands keeps.map (kept_by v) keeps.kept home cause.by_run) in
+      let at : IsAtHome o v.disk home = keeps.0.homes home (run_home_named is keeps.0.size keeps.0.stands keeps.0.map (kept_by v) keeps.0.kept home cause.by_run) in
       inr (inl (subst (λ (h : Home). IsAtHome o v.disk h) (λ i. home_at (sym cause.other.0 i) (sym cause.other.1 i)) at))
   no_leader (Malformed window page) cause = absurd cause.other
   no_leader (Missing missing page) cause = absurd cause.other

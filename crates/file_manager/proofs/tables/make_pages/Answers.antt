@@ -63,7 +63,7 @@ pub returns-clause-keeps_to : goal.returns-clause-keeps_to
 returns-clause-keeps_to g c = λ o named h none. 
     let all : 96 ≤ c.loop-page.page = search rules in
     let now = c.loop-page.invariant.up.keeps o named h (λ p sector own. none p sector own.1) in
-    (now.0, now.1, λ page below. now.4 page (omega arith) (omega (arith, below, all)))
+    (now.0, (now.1, λ page below. now.4 page (omega arith) (omega (arith, below, all))))
 
 pub returns-in-Err-clause-reasons : goal.returns-in-Err-clause-reasons
 returns-in-Err-clause-reasons g c = λ o named h none.
