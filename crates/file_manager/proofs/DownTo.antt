@@ -1,5 +1,6 @@
 -- The pages of a file down to one, freed in a loop over runs.
-use Rattle.std.proofs.Common.{◌≡◌, ℕ, ◌+◌, ◌-◌, ◌*◌, ◌<◌, ◌≤◌, List, [], refl, sym, ◌∙◌, ap, subst, arith}
+use Rattle.std.proofs.Common.{◌≡◌, inl, inr, ℕ, ◌+◌, ◌-◌, ◌*◌, ◌<◌, ◌≤◌, List, [], refl, sym, ◌∙◌, ap, subst, arith}
+use Rattle.std.proofs.lemmas.Bool.Decides.{leb_tells}
 use Rattle.labelled_disk.specs.declared.evidence.Halt.{Halt}
 use Rattle.labelled_disk.specs.declared.layout.Layout.{Layout}
 use Rattle.labelled_disk.specs.Sectors.{Sector}
@@ -16,7 +17,8 @@ use Rattle.session_words.specs.Volume.{volume_page}
 use Rattle.file_manager.specs.Freeing.{MayFree, MakesFree}
 use Rattle.file_manager.specs.Shrinking.{FreedDown, StoppedDown}
 use Rattle.file_manager.specs.Grounds.{IsUnframed, FreeHalts, KeepsMap}
-use Rattle.file_manager.specs.Reasons.{Outset, KeepsTo, ShowsReason}
+use Rattle.file_manager.specs.Reasons.{Outset, AreLet, KeepsTo, ShowsReason}
+use Rattle.file_manager.proofs.FreedReasons.{let_more}
 use Rattle.file_manager.proofs.FreedRun.{makes_free_then}
 use Rattle.file_manager.proofs.Keeping.{keeps_none, keeps_then, free_halts_before}
 use Rattle.file_manager.proofs.FreedUpTo.{cost_then}
@@ -34,6 +36,7 @@ pub record IsFreedDownTo (id from end page : ℕ) (d0 : DiskState) (s0 : Slots) 
   pub told : (named : Triples) (spaces : List Space) (m : List Sector) → MayFree d0 s0 layout kept named spaces id from end m → FreedDown layout named spaces id from (end - page) end d0 s0 d s runs
   pub own : WroteOwn id d0 d
   pub keeps_to : (o : Outset) (named : Triples) → KeepsTo o layout (runs_of layout.sectors kept) d0 s0 named → KeepsTo o later (runs_of later.sectors runs) d s named
+  pub let_go : (o : Outset) (named : Triples) → KeepsTo o layout (runs_of layout.sectors kept) d0 s0 named → AreLet o d named id (λ p. (page ≤ p) × (p < end))
 
 down_cost : (t0 t u from page end v : ℕ) → page ≤ end → from < page → t ≤ t0 + (end - page) * (16 + 4 * v) → u ≤ t + (14 + 2 * (page - from) + 4 * v) → u ≤ t0 + (end - from) * (16 + 4 * v)
 down_cost t0 t u from page end v above below before here =
@@ -55,6 +58,7 @@ down_none id from end d0 s0 layout kept order size =
       told = λ named spaces m may. subst (λ (n : ℕ). FreedDown layout named spaces id from n end d0 s0 d0 s0 kept) z (freed_down_none m may);
       own = quiet_own id (makes_nothing volume_page d0 s0);
       keeps_to = λ o named h. h;
+      let_go = λ o named h p sector own is. let above = own.0 in let below = own.1 in absurd (omega (arith, above, below));
     }
 
 -- and a run more
@@ -63,8 +67,9 @@ pub down_then : {id from end page pages : ℕ} {d0 d e : DiskState} {s0 s t : Sl
     → KeepsMap (IsUnframed s id) later id d s (runs_of later.sectors runs) e t (runs_of later.sectors more)
     → ((named : Triples) (spaces : List Space) (m : List Sector) → MayFree d s later runs named spaces id from page m → FreedDown later named spaces id from pages page d s e t more)
     → RelabelsOwn id d e → ((o : Outset) (named : Triples) → KeepsTo o later (runs_of later.sectors runs) d s named → KeepsTo o last (runs_of last.sectors more) e t named)
+    → ((o : Outset) (named : Triples) → KeepsTo o later (runs_of later.sectors runs) d s named → AreLet o e named id (λ p. (page - pages ≤ p) × (p < page)))
     → IsFreedDownTo id from end (page - pages) d0 s0 layout kept e t last more
-down_then {id = id} {from = from} {end = end} {page = page} {pages = pages} {d0 = d0} {d = d} {e = e} {s0 = s0} {s = s} {t = t} {layout = layout} {later = later} {last = last} {kept = kept} {runs = runs} {more = more} h under some same cost makes keeps told own keeps_to =
+down_then {id = id} {from = from} {end = end} {page = page} {pages = pages} {d0 = d0} {d = d} {e = e} {s0 = s0} {s = s} {t = t} {layout = layout} {later = later} {last = last} {kept = kept} {runs = runs} {more = more} h under some same cost makes keeps told own keeps_to let_go =
     let few = some.1 in
     let below = h.below in
     let z : end - page + pages ≡ end - (page - pages) = omega (arith, below, few) in
@@ -87,6 +92,12 @@ down_then {id = id} {from = from} {end = end} {page = page} {pages = pages} {d0 
           (freed_down_then first (subst (λ (n : ℕ). FreedDown layout named spaces id from pages n d s e t more) (sym y) next_there));
       own = own_then h.own (freed_own makes own);
       keeps_to = λ o named k. keeps_to o named (h.keeps_to o named k);
+      let_go = λ o named k p sector own is.
+          let now = h.keeps_to o named k in
+          let first = own.0 in
+          let last = own.1 in
+          let_more named makes.sectors id (λ q. (page ≤ q) × (q < end)) (λ q. (page - pages ≤ q) × (q < page)) makes.makes now.since (h.let_go o named k) (let_go o named now) p sector
+          (elim (leb_tells page p) [ inl (_, above_it) ↦ inl (above_it, last) | inr (_, not_above) ↦ inr (first, omega (arith, not_above)) ]) is;
     }
 
 module _ {id from end page : ℕ} {d0 d : DiskState} {s0 s : Slots} {layout later : Layout} {kept runs : CachedRuns} (h : IsFreedDownTo id from end page d0 s0 layout kept d s later runs) where

@@ -22,7 +22,7 @@ use Rattle.swapper_kernel.specs.Stands.{Stands}
 use Rattle.file_manager.specs.Grounds.{AreTables, KeepsMap}
 use Rattle.file_manager.specs.Reasons.{Outset, KeepsTo}
 use Rattle.file_manager.proofs.FreedRun.{shows_still, first_is}
-use Rattle.file_manager.proofs.KeepSteps.{keeps_front}
+use Rattle.file_manager.proofs.KeepSteps.{keeps_front, no_writes}
 
 -- a label that is that of a page of the space tables has their identifier
 of_tables : (k : ℕ) (l : Label) → of_run 3 0 96 k l ≡ true → l.id ≡ 3
@@ -79,4 +79,4 @@ module _ {layout : Layout} {a b : DiskState} {s t : Slots} (kept : List Run) (is
   forgotten_keeps k =
       let now = goes.memory k.memory k.stands in
       keeps_front is k goes.makes (λ home held. record { slot = held.slot; frame = held.frame; has = left held.slot held.frame held.has; at = held.at }) now.0 now.1
-      (λ i x low here. stays k.memory now.0 k.stands now.1 i low x here now.2 (of_run 3 0 96 i x.0) refl)
+      (λ i x low here. stays k.memory now.0 k.stands now.1 i low x here now.2 (of_run 3 0 96 i x.0) refl) no_writes

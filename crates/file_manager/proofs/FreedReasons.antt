@@ -33,12 +33,12 @@ use Rattle.filer_kernel.specs.declared.cached.CachedRuns.{CachedRuns}
 use Rattle.filer_kernel.specs.Becomes.{Becomes}
 use Rattle.filer_kernel.specs.Cached.{runs_of}
 use Rattle.filer_kernel.specs.Marks.{Marks, BitsAre, marked}
-use Rattle.filer_kernel.specs.PlaceLaws.{data_first}
+use Rattle.filer_kernel.specs.PlaceLaws.{data_first, one_sector}
 use Rattle.filer_kernel.specs.Triples.{MapIs, AreOf}
 use Rattle.file_manager.specs.Freeing.{NamesAll}
 use Rattle.file_manager.specs.Grounds.{IsMapsHome}
-use Rattle.file_manager.specs.Reasons.{Outset, WasGivenUp, KeepsTo, ShowsReason}
-use Rattle.file_manager.specs.ReasonLaws.{GivesNot, at_home_later, made_later, made_now, keeps_after, unframed_still, label_reasons, beside_keeps}
+use Rattle.file_manager.specs.Reasons.{Outset, IsSince, WasGivenUp, IsLet, AreLet, KeepsTo, ShowsReason}
+use Rattle.file_manager.specs.ReasonLaws.{GivesNot, let_later, let_now, at_home_later, made_later, made_now, keeps_after, unframed_still, label_reasons, beside_keeps}
 use Rattle.file_manager.proofs.FreedRun.{shows_still, behind_map}
 use Rattle.file_manager.proofs.FreedSectors.{freed_elsewhere}
 use Rattle.file_manager.proofs.ForgottenRun.{SameFront, map_stays, bits_stay}
@@ -53,13 +53,7 @@ found_keeps {layout = layout} {b = b} {t = t} kept runs {o = o} {named = named} 
     subst (λ (l : Layout). KeepsTo o l (runs_of l.sectors runs) b t named) (sym beside.layout)
     (beside_keeps h FileMap beside (same h.memory named h.stands h.map) (runs_of layout.sectors runs) (are h.memory named h.stands h.map h.kept))
 
--- ---- A run that is freed.
-
--- the write of a turn
-freeing_at : (sectors : List ℕ) (j k : ℕ) → slice_get sectors j ≡ Some k → slice_get (freeing sectors) j ≡ Some (write.LabelOnly k free_label)
-freeing_at [] j k at = absurd (none-some k at)
-freeing_at (i ∷ is) zero k at = ap (λ (n : ℕ). Some (write.LabelOnly n free_label)) (same_Some i k at)
-freeing_at (i ∷ is) (suc j) k at = freeing_at is j k at
+-- ---- Homes that are let.
 
 -- none of these writes gives a sector to a page
 pub frees_give_not : (sectors : List ℕ) (home : Home) → GivesNot (freeing sectors) home
@@ -74,6 +68,28 @@ frees_give_not (k ∷ ks) home zero w at (kind, is) = only_label (same_Some (wri
     only_label : {sector : ℕ} {label : Label} {bytes : List ℕ} → write.LabelOnly k free_label ≡ write.Whole sector label bytes → ⊥
     only_label same = false≢true (ap is_whole same)
 frees_give_not (k ∷ ks) home (suc turn) w at gives = frees_give_not ks home turn w at gives
+
+-- those of a run's pages are those of some pages of its file
+pub let_of_run : {o : Outset} {disk : DiskState} (named : Triples) (run : Run) (id : ℕ) (own : ℕ → Type 0) → run.id ≡ id → ((p : ℕ) → own p → (run.first ≤ p) × (p < run.first + run.pages))
+    → AreLet o disk named run.id (λ p. (run.first ≤ p) × (p < run.first + run.pages)) → AreLet o disk named id own
+let_of_run {o = o} {disk = disk} named run id own same within all page sector is named_so =
+    subst (λ (i : ℕ). IsLet o disk (record { sector = sector; id = i; page = page })) same (all page sector (within page is) (subst (λ (i : ℕ). named i page sector ≡ true) (sym same) named_so))
+
+-- those of the pages up to one, and those behind it
+pub let_more : {o : Outset} {d e : DiskState} {s t : Slots} {pages : Pages} (named : Triples) (sectors : List ℕ) (id : ℕ) (before now : ℕ → Type 0) → Makes pages (freeing sectors) d s e t → IsSince o d
+    → AreLet o d named id before → AreLet o e named id now → AreLet o e named id (λ p. before p ⊎ now p)
+let_more {o = o} named sectors id before now makes since was is page sector own named_so = elim own [
+  | inl earlier ↦ let_later o makes since _ (frees_give_not sectors _) (was page sector earlier named_so)
+  | inr later ↦ is page sector later named_so
+]
+
+-- ---- A run that is freed.
+
+-- the write of a turn
+freeing_at : (sectors : List ℕ) (j k : ℕ) → slice_get sectors j ≡ Some k → slice_get (freeing sectors) j ≡ Some (write.LabelOnly k free_label)
+freeing_at [] j k at = absurd (none-some k at)
+freeing_at (i ∷ is) zero k at = ap (λ (n : ℕ). Some (write.LabelOnly n free_label)) (same_Some i k at)
+freeing_at (i ∷ is) (suc j) k at = freeing_at is j k at
 
 -- a sector that the bits say is used then was used
 used_before : (first count : ℕ) (marks : Marks) (sector : ℕ) → marked false first count marks sector ≡ true → marks sector ≡ true
@@ -137,6 +153,27 @@ module _ {o : Outset} {layout : Layout} {runs : List Run} {b : DiskState} {t : S
     -- each sector was given up
     given_up : (i : ℕ) → i < run.pages → WasGivenUp o c (run.sector + i)
     given_up i below = let turn = each i below in made_now o made.makes h.since turn.0 (write.LabelOnly (run.sector + i) free_label) (freeing_at sectors turn.0 (run.sector + i) turn.1)
+
+    -- so each home that the map has of its pages is let
+    pub labels_let : NamesAll named run → AreLet o c named run.id (λ p. (run.first ≤ p) × (p < run.first + run.pages))
+    labels_let all page sector own named_so =
+        let from = own.0 in
+        let below = own.1 in
+        let i = page - run.first in
+        let inside : i < run.pages = omega (arith, from, below) in
+        let of : run.first + i ≡ page = omega (arith, from) in
+        let there : named run.id page (run.sector + i) ≡ true = subst (λ (p : ℕ). named run.id p (run.sector + i) ≡ true) of (all i inside) in
+        let same : run.sector + i ≡ sector = one_sector layout named h.memory h.map run.id page (run.sector + i) sector there named_so in
+        let turn = each i inside in
+        let write_at : slice_get (freeing sectors) turn.0 ≡ Some (write.LabelOnly sector free_label) =
+        subst (λ (n : ℕ). slice_get (freeing sectors) turn.0 ≡ Some (write.LabelOnly n free_label)) same (freeing_at sectors turn.0 (run.sector + i) turn.1) in
+        let home : Home = record { sector = sector; id = run.id; page = page } in
+        let_now o made.makes h.since home (frees_give_not sectors home) turn.0 (write.LabelOnly sector free_label) write_at (inl refl)
+
+    -- behind accesses to the allocation map too
+    pub marks_let : {d : DiskState} {u : Slots} {later : Layout} → Beside AllocationMap c t layout d u later → NamesAll named run → AreLet o d named run.id (λ p. (run.first ≤ p) × (p < run.first + run.pages))
+    marks_let beside all page sector own named_so =
+        let_later o beside.goes.makes labels_keep.since _ (λ turn w at gives. none-some w at) (labels_let all page sector own named_so)
 
     pub marks_keep : {d : DiskState} {u : Slots} {later : Layout} → Beside AllocationMap c t layout d u later
         → ((m : List Sector) (marks : Marks) → Stands c t m → BitsAre layout marks m → Becomes AllocationMap layout m (BitsAre layout (marked false run.sector run.pages marks)) d u)

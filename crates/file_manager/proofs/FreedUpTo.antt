@@ -1,5 +1,6 @@
 -- The pages of a file up to one, freed in a loop over runs.
-use Rattle.std.proofs.Common.{◌≡◌, ℕ, zero, suc, ◌+◌, ◌-◌, ◌*◌, ◌<◌, ◌≤◌, List, [], refl, sym, ◌∙◌, ap, subst, arith}
+use Rattle.std.proofs.Common.{◌≡◌, inl, inr, ℕ, zero, suc, ◌+◌, ◌-◌, ◌*◌, ◌<◌, ◌≤◌, List, [], refl, sym, ◌∙◌, ap, subst, arith}
+use Rattle.std.proofs.lemmas.Bool.Decides.{leb_tells}
 use Rattle.labelled_disk.specs.declared.evidence.Halt.{Halt}
 use Rattle.labelled_disk.specs.declared.layout.Layout.{Layout}
 use Rattle.labelled_disk.specs.Sectors.{Sector}
@@ -15,7 +16,8 @@ use Rattle.filer_kernel.specs.Cached.{runs_of}
 use Rattle.session_words.specs.Volume.{volume_page}
 use Rattle.file_manager.specs.Freeing.{MayFree, Freed, MakesFree}
 use Rattle.file_manager.specs.Grounds.{IsUnframed, FreeHalts, KeepsMap}
-use Rattle.file_manager.specs.Reasons.{Outset, KeepsTo, ShowsReason}
+use Rattle.file_manager.specs.Reasons.{Outset, AreLet, KeepsTo, ShowsReason}
+use Rattle.file_manager.proofs.FreedReasons.{let_more}
 use Rattle.file_manager.proofs.FreedRun.{freed_then, freed_none, makes_free_then}
 use Rattle.file_manager.proofs.Keeping.{keeps_none, keeps_then, free_halts_before}
 use Rattle.file_manager.proofs.OwnSteps.{freed_own}
@@ -31,6 +33,7 @@ pub record IsFreedTo (id from end page : ℕ) (d0 : DiskState) (s0 : Slots) (lay
   pub told : (named : Triples) (spaces : List Space) (m : List Sector) → MayFree d0 s0 layout kept named spaces id from end m → Freed layout named spaces id from (page - from) end d0 s0 d s runs
   pub own : WroteOwn id d0 d
   pub keeps_to : (o : Outset) (named : Triples) → KeepsTo o layout (runs_of layout.sectors kept) d0 s0 named → KeepsTo o later (runs_of later.sectors runs) d s named
+  pub let_go : (o : Outset) (named : Triples) → KeepsTo o layout (runs_of layout.sectors kept) d0 s0 named → AreLet o d named id (λ p. (from ≤ p) × (p < page))
 
 -- what a run costs is at most so much a page
 pub per_page : (p v : ℕ) → 1 ≤ p → 14 + 2 * p + 4 * v ≤ p * (16 + 4 * v)
@@ -61,6 +64,7 @@ to_none id from end d0 s0 layout kept order size =
       told = λ named spaces m may. subst (λ (n : ℕ). Freed layout named spaces id from n end d0 s0 d0 s0 kept) z (freed_none m may);
       own = quiet_own id (makes_nothing volume_page d0 s0);
       keeps_to = λ o named h. h;
+      let_go = λ o named h p sector own is. let above = own.0 in let below = own.1 in absurd (omega (arith, above, below));
     }
 
 -- and a run more
@@ -69,8 +73,9 @@ pub to_then : {id from end page pages : ℕ} {d0 d e : DiskState} {s0 s t : Slot
     → KeepsMap (IsUnframed s id) later id d s (runs_of later.sectors runs) e t (runs_of later.sectors more)
     → ((named : Triples) (spaces : List Space) (m : List Sector) → MayFree d s later runs named spaces id page (page + (end - page)) m → Freed later named spaces id page pages (page + (end - page)) d s e t more)
     → RelabelsOwn id d e → ((o : Outset) (named : Triples) → KeepsTo o later (runs_of later.sectors runs) d s named → KeepsTo o last (runs_of last.sectors more) e t named)
+    → ((o : Outset) (named : Triples) → KeepsTo o later (runs_of later.sectors runs) d s named → AreLet o e named id (λ p. (page ≤ p) × (p < page + pages)))
     → IsFreedTo id from end (page + pages) d0 s0 layout kept e t last more
-to_then {id = id} {from = from} {end = end} {page = page} {pages = pages} {d0 = d0} {d = d} {e = e} {s0 = s0} {s = s} {t = t} {layout = layout} {later = later} {last = last} {kept = kept} {runs = runs} {more = more} h under some same cost makes keeps told own keeps_to =
+to_then {id = id} {from = from} {end = end} {page = page} {pages = pages} {d0 = d0} {d = d} {e = e} {s0 = s0} {s = s} {t = t} {layout = layout} {later = later} {last = last} {kept = kept} {runs = runs} {more = more} h under some same cost makes keeps told own keeps_to let_go =
     let few = some.1 in
     let whole : page + (end - page) ≡ end = omega (arith, under) in
     let above = h.above in
@@ -95,6 +100,12 @@ to_then {id = id} {from = from} {end = end} {page = page} {pages = pages} {d0 = 
           (freed_then first (subst (λ (n : ℕ). Freed layout named spaces id n pages end d s e t more) (sym y) next_there));
       own = own_then h.own (freed_own makes own);
       keeps_to = λ o named k. keeps_to o named (h.keeps_to o named k);
+      let_go = λ o named k p sector own is.
+          let now = h.keeps_to o named k in
+          let first = own.0 in
+          let last = own.1 in
+          let_more named makes.sectors id (λ q. (from ≤ q) × (q < page)) (λ q. (page ≤ q) × (q < page + pages)) makes.makes now.since (h.let_go o named k) (let_go o named now) p sector
+          (elim (leb_tells page p) [ inl (_, above_it) ↦ inr (above_it, last) | inr (_, not_above) ↦ inl (first, omega (arith, not_above)) ]) is;
     }
 
 module _ {id from end page : ℕ} {d0 d : DiskState} {s0 s : Slots} {layout later : Layout} {kept runs : CachedRuns} (h : IsFreedTo id from end page d0 s0 layout kept d s later runs) where

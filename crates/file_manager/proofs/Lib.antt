@@ -1,4 +1,5 @@
 pub mod BookLemmas
+pub mod AddReasons
 pub mod Faults
 pub mod CauseLemmas
 pub mod MapOnce
@@ -35,6 +36,7 @@ pub mod LookLemmas
 pub mod DownLemmas
 pub mod DownRun
 pub mod DownTo
+pub mod CutReasons
 pub mod CutSteps
 pub mod ShrinkLemmas
 pub mod SizeSteps

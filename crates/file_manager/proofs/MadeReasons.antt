@@ -2,12 +2,14 @@
 use Rattle.std.proofs.Common.{◌≡◌, ◌⊎◌, inl, inr, ℕ, zero, suc, ◌+◌, ◌-◌, ◌<◌, ◌≤◌, Bool, true, false, ◌&&◌, ◌||◌, List, Some, refl, sym, ◌∙◌, ap, subst, arith}
 use Rattle.std.specs.Prelude.{slice_get, nat_le, nat_lt, ◌==◌, if◌then◌else◌}
 use Rattle.std.specs.List.{range_with_len}
-use Rattle.std.proofs.lemmas.Bool.{and_parts, leb-true, ltb-true, eqb-true, true≢false}
+use Rattle.std.proofs.lemmas.Bool.{and_parts, leb-true, ltb-true, eqb-true, eq-eqb, le-leb, lt-ltb, true≢false}
+use Rattle.std.proofs.lemmas.Option.{same_Some, none-some}
 use Rattle.labelled_disk.specs.declared.disk.DiskWrite.{DiskWrite}
-use Rattle.labelled_disk.specs.declared.disk.DiskWrite.TheVariants.{Whole}
+use Rattle.labelled_disk.specs.declared.disk.DiskWrite.TheVariants.{Whole, LabelOnly, Page}
 use Rattle.labelled_disk.specs.declared.evidence.Evidence.TheVariants.{Mismatch, Malformed, Missing}
 use Rattle.labelled_disk.specs.declared.evidence.Halt.{Halt}
 use Rattle.labelled_disk.specs.declared.evidence.Halt.TheVariants.{Disk, Damaged}
+use Rattle.labelled_disk.specs.declared.label.Label.{Label}
 use Rattle.labelled_disk.specs.declared.layout.Layout.{Layout}
 use Rattle.labelled_disk.specs.Label.{page_label}
 use Rattle.labelled_disk.specs.Runs.{growth, zero_bytes}
@@ -18,7 +20,7 @@ use Rattle.frame_pool.specs.Frames.{Slots}
 use Rattle.alloc_map.specs.Runs.{IsDataRun}
 use Rattle.file_map.specs.declared.run.Run.{Run}
 use Rattle.file_map.specs.Run.{holds, sector_at}
-use Rattle.file_map.specs.FileMap.{Triples, IsNew, with_run, run_names}
+use Rattle.file_map.specs.FileMap.{Triples, IsNew, with_run, run_names, most_records}
 use Rattle.swapper_kernel.specs.declared.manager.Manager.TheVariants.{AllocationMap, FileMap}
 use Rattle.swapper_kernel.specs.Goes.{Makes, Pages}
 use Rattle.swapper_kernel.specs.HaltLaws.{brings_then}
@@ -31,18 +33,19 @@ use Rattle.label_calls.specs.Labels.{free_ones}
 use Rattle.label_calls.specs.Runs.{HaveOnes, RelabelsRun, IsOneTaken}
 use Rattle.filer_kernel.specs.Becomes.{Becomes}
 use Rattle.filer_kernel.specs.Causes.{AddHalts, IsFaultOrMost}
-use Rattle.filer_kernel.specs.Marks.{Marks, BitsAre, marked}
+use Rattle.filer_kernel.specs.Marks.{Marks, BitsAre, AreAll, marked}
 use Rattle.filer_kernel.specs.Triples.{MapIs, AreOf}
 use Rattle.session_words.specs.Volume.{volume_page}
 use Rattle.file_manager.specs.Grounds.{IsMapsHome}
 use Rattle.file_manager.specs.Making.{sectors_of}
-use Rattle.file_manager.specs.Reasons.{Outset, IsAtHome, KeepsTo, ShowsReason}
-use Rattle.file_manager.specs.ReasonLaws.{made_now, may_be_free_later, keeps_after, home_later, label_reasons, unframed_still}
+use Rattle.file_manager.specs.Reasons.{Outset, Gives, IsAtHome, KeepsTo, ShowsReason, WasTaken}
+use Rattle.file_manager.specs.ReasonLaws.{GivesNot, at_home_later, made_now, may_be_free_later, keeps_after, home_later, label_reasons, named_homes, room_reason, unframed_still}
 use Rattle.file_manager.specs.Taking.{NamesNoneOf}
-use Rattle.file_manager.proofs.FreedRun.{behind_map, shows_still}
-use Rattle.file_manager.proofs.MadeRun.{IsLabelledFor, maps_come, labelled, map_then, new_run, run_adds, file_map_alone}
+use Rattle.file_manager.proofs.AddReasons.{add_at}
+use Rattle.file_manager.proofs.KeepSteps.{bits_beside}
+use Rattle.file_manager.proofs.MadeRun.{IsLabelledFor, maps_come, labelled, labelled_bits, map_then, new_run, run_adds}
 use Rattle.file_manager.proofs.MakeStops.{page_in}
-use Rattle.file_manager.proofs.TakingLemmas.{sectors_then, none_later}
+use Rattle.file_manager.proofs.TakingLemmas.{none_later}
 
 -- ---- What is named with a run more.
 
@@ -58,6 +61,42 @@ growth_at id kind page first (suc n) (suc j) below =
     let at : first + 1 + j ≡ first + suc j = omega arith in
     let of : page + 1 + j ≡ page + suc j = omega arith in
     rest ∙ (λ i. Some (Whole (at i) (page_label id kind (of i)) zero_bytes))
+
+-- it is that of its turn
+growth_turn : (id kind page first n turn : ℕ) (w : DiskWrite) → slice_get (growth id kind page (range_with_len first n)) turn ≡ Some w → turn < n
+growth_turn id kind page first zero turn w at = absurd (none-some w at)
+growth_turn id kind page first (suc n) zero w at = omega arith
+growth_turn id kind page first (suc n) (suc turn) w at = let rest = growth_turn id kind (page + 1) (first + 1) n turn w at in omega (arith, rest)
+
+-- where a write goes
+abbrev pub sector_of : DiskWrite → ℕ
+sector_of (Whole sector label bytes) = sector
+sector_of (LabelOnly sector label) = sector
+sector_of (Page sector wanted bytes) = sector
+
+-- the label that it gives
+abbrev label_of : DiskWrite → Label
+label_of (Whole sector label bytes) = label
+label_of (LabelOnly sector label) = label
+label_of (Page sector wanted bytes) = page_label 0 0 0
+
+-- a run names the page of each turn
+names_turn : (run : Run) (id page sector j : ℕ) → run.id ≡ id → run.first + j ≡ page → j < run.pages → run.sector + j ≡ sector → run_names run id page sector ≡ true
+names_turn run id page sector j same of below at =
+    let place : sector ≡ sector_at run page = omega (arith, of, at) in
+    (λ i. (eq-eqb run.id id same i && (le-leb run.first page (omega (arith, of)) i && lt-ltb page (run.first + run.pages) (omega (arith, of, below)) i)) && eq-eqb sector (sector_at run page) place i)
+
+-- so the writes of its growth give sectors to the pages that it names
+growth_names : (run : Run) (kind turn : ℕ) (w : DiskWrite) (home : Home) → slice_get (growth run.id kind run.first (sectors_of run)) turn ≡ Some w → Gives home w → run_names run home.id home.page home.sector ≡ true
+growth_names run kind turn w home at (other, is) =
+    let below = growth_turn run.id kind run.first run.sector run.pages turn w at in
+    let same : Whole (run.sector + turn) (page_label run.id kind (run.first + turn)) zero_bytes ≡ Whole home.sector (page_label home.id other home.page) zero_bytes =
+    same_Some (Whole (run.sector + turn) (page_label run.id kind (run.first + turn)) zero_bytes) w (sym (growth_at run.id kind run.first run.sector run.pages turn below) ∙ at) ∙ is in
+    names_turn run home.id home.page home.sector turn (ap (λ (v : DiskWrite). (label_of v).id) same) (ap (λ (v : DiskWrite). (label_of v).page) same) below (ap sector_of same)
+
+or_true : (b : Bool) → (b || true) ≡ true
+or_true true = refl
+or_true false = refl
 
 pub either_named : (a b : Bool) → (a || b) ≡ true → (a ≡ true) ⊎ (b ≡ true)
 either_named true b is = inl refl
@@ -95,20 +134,21 @@ free_before first count k marks is = either (nat_le first k && nat_lt k (first +
     either true e = absurd (true≢false e)
     either false e = e
 
+-- one that is used then was used, or is one of them
+used_before : (first count k : ℕ) (marks : Marks) → marked true first count marks k ≡ true → (marks k ≡ true) ⊎ ((first ≤ k) × (k < first + count))
+used_before first count k marks is = either (nat_le first k && nat_lt k (first + count)) refl
+  where
+    either : (b : Bool) → (nat_le first k && nat_lt k (first + count)) ≡ b → (marks k ≡ true) ⊎ ((first ≤ k) × (k < first + count))
+    either true within = let parts = and_parts (nat_le first k) (nat_lt k (first + count)) within in inr (leb-true first k parts.0, ltb-true k (first + count) parts.1)
+    either false out = inl (sym (ap (λ (b : Bool). if b then true else marks k) out) ∙ is)
+
 module _ {o : Outset} {x l1 : Layout} {k : List Run} {a b : DiskState} {s t : Slots} {named : Triples} (h : KeepsTo o x k a s named) (taken : Beside AllocationMap a s x b t l1) where
   pub take_reasons : (e : Halt) → Halts (IsMapHome AllocationMap x) a s b e → ShowsReason o x b e
   take_reasons e why = label_reasons h taken.goes.makes (IsMapHome AllocationMap x) (λ home own. inl (AllocationMap, own)) e why
 
-  pub take_keeps : (sector count : ℕ) → ((m : List Sector) (marks : Marks) → Stands a s m → BitsAre x marks m → Becomes AllocationMap x m (BitsAre x (marked true sector count marks)) b t) → KeepsTo o x k b t named
-  take_keeps sector count becomes =
-      let now = becomes h.memory h.marks h.stands h.bits in
-      let map : MapIs x named now.memory = record {
-        bytes = h.map.bytes;
-        shows = shows_still FileMap x h.memory now.memory h.map.bytes (λ j y below here. now.differs.pages (1 + x.vam + j) y here (behind_map AllocationMap x (1 + x.vam + j) y.0 (omega arith))) h.map.shows;
-        names = h.map.names;
-      } in
-      keeps_after h taken.goes.makes now.memory now.stands named map (λ home is. inl is) k h.kept (λ home held. elim ((maps_come taken).homes home held) [ inl was ↦ inl was | inr own ↦ inr (inl own) ])
-      (unframed_still (maps_come taken) h.unframed) (marked true sector count h.marks) now.is (λ j from below free. inl (free_before sector count j h.marks free))
+  -- no sector is free
+  pub room_reasons : ((m : List Sector) (marks : Marks) → Stands a s m → BitsAre x marks m → AreAll true marks x.first x.sectors) → ShowsReason o x b (Damaged (Missing 3 0))
+  room_reasons all = room_reason h taken.goes.makes (all h.memory h.marks h.stands h.bits)
 
   -- ---- Labels are written.
 
@@ -151,25 +191,49 @@ module _ {o : Outset} {x l1 l3 : Layout} {k : List Run} {a b c d : DiskState} {s
         inr (inr (kind, made_now o makes h.since j (Whole home.sector (page_label home.id kind home.page) zero_bytes) (at ∙ (λ i. Some (Whole (sym p.3 i) (page_label (p.0 i) kind (of i)) zero_bytes)))))
   ]
 
+  -- no other page was
+  others : (home : Home) → (with_run named run home.id home.page home.sector ≡ true) ⊎ GivesNot (growth run.id kind run.first (sectors_of run)) home
+  others home = either (run_names run home.id home.page home.sector) refl
+    where
+      either : (b : Bool) → run_names run home.id home.page home.sector ≡ b → (with_run named run home.id home.page home.sector ≡ true) ⊎ GivesNot (growth run.id kind run.first (sectors_of run)) home
+      either true own = inl (ap (λ (b : Bool). named home.id home.page home.sector || b) own ∙ or_true (named home.id home.page home.sector))
+      either false out = inr (λ turn w at gives. true≢false (sym (growth_names run kind turn w home at gives) ∙ out))
+
+  -- each sector that is used besides was given to a page
+  used_now : (sector : ℕ) → marked true run.sector run.pages h.marks sector ≡ true → (h.marks sector ≡ true) ⊎ WasTaken o d sector
+  used_now sector is = elim (used_before run.sector run.pages sector h.marks is) [
+    | inl was ↦ inl was
+    | inr (from, below) ↦
+        let j = sector - run.sector in
+        let of : run.sector + j ≡ sector = omega (arith, from) in
+        let at = growth_at run.id kind run.first run.sector run.pages j (omega (arith, from, below)) in
+        inr (run.id, run.first + j, (kind, made_now o makes h.since j (Whole sector (page_label run.id kind (run.first + j)) zero_bytes) (at ∙ (λ i. Some (Whole (of i) (page_label run.id kind (run.first + j)) zero_bytes)))))
+  ]
+
   pub run_keeps : ((m : List Sector) (named : Triples) → Stands c t m → MapIs x named m → IsNew named run → Becomes FileMap x m (MapIs x (with_run named run)) d u) → KeepsTo o x k d u (with_run named run)
   run_keeps added =
       let more = added mid.0 named mid.1 map_mid (new_run run named nothing) in
-      let later = (sectors_then mid.2.taken (file_map_alone x run.id mid.0 more.memory more.differs)).bits h.marks h.bits in
+      let later = marked true run.sector run.pages h.marks in
+      let bits = labelled_bits is run kind most form taken marked_so made were h.unframed h.memory h.stands h.marks h.bits mid.0 mid.1 in
       keeps_after h makes more.memory more.stands (with_run named run) more.is given k (are_more named run k h.kept) (λ home held. elim (come.homes home held) [ inl was ↦ inl was | inr own ↦ inr (inl own) ])
-      (unframed_still come h.unframed) later.0 later.1 (λ sector from below free. elim (later.2 sector from) [ inl same ↦ inl (sym same ∙ free) | inr (used, _) ↦ absurd (true≢false (sym used ∙ free)) ])
-      (λ home from may was. inl (ap (λ (b : Bool). b || run_names run home.id home.page home.sector) was)) _ _
+      (unframed_still come h.unframed) later (bits_beside x later mid.0 more.memory more.differs bits) (λ sector from below free. inl (free_before run.sector run.pages sector h.marks free))
+      (λ home from may was. inl (ap (λ (b : Bool). b || run_names run home.id home.page home.sector) was)) (λ home from may. others home) (λ sector from below is. used_now sector is)
 
   held_home : (home : Home) → IsHeld t home → IsMapsHome x home ⊎ IsAtHome o d home
   held_home home held = elim ((maps_come taken).homes home held) [ inl was ↦ home_later h makes home was | inr own ↦ inl own ]
 
+  -- its first page is at home
+  first_at : IsAtHome o d (record { sector = run.sector; id = run.id; page = run.first })
+  first_at =
+      let some = form.some in
+      let at = growth_at run.id kind run.first run.sector run.pages 0 (omega (arith, some)) in
+      let page : run.first + 0 ≡ run.first = omega arith in
+      let place : run.sector + 0 ≡ run.sector = omega arith in
+      inr (kind, made_now o makes h.since 0 (Whole run.sector (page_label run.id kind run.first) zero_bytes) (at ∙ (λ i. Some (Whole (place i) (page_label run.id kind (page i)) zero_bytes))))
+
   pub add_reasons : (e : Halt) → AddHalts x c t d e → ((m : List Sector) (named : Triples) → Stands c t m → MapIs x named m → IsNew named run → IsFaultOrMost x c t e) → ShowsReason o x d e
-  add_reasons Disk cause right = tt
-  add_reasons (Damaged (Mismatch sector wanted found)) cause right = elim cause.reason [
-    | inl held ↦ elim (held_home (home_at sector wanted) held) [ inl own ↦ inl own | inr here ↦ inr (inl here) ]
-    | inr own ↦ inl (FileMap, own)
-  ]
-  add_reasons (Damaged (Malformed window page)) cause right = elim (right mid.0 named mid.1 map_mid (new_run run named nothing)) [
-    | inl not ↦ absurd not
-    | inr (same, counts) ↦ inl (cause.0, ap page_in same)
-  ]
-  add_reasons (Damaged (Missing id page)) cause right = absurd cause
+  add_reasons e cause right =
+      let some = form.some in
+      add_at is (made.makes.went.sectors ∙ taken.goes.makes.went.sectors ∙ h.size) mid.0 mid.1 map_mid (λ home named_so. at_home_later o makes home (h.homes home named_so)) held_home
+      (record { sector = run.sector; id = run.id; page = run.first }) first_at (λ sector. nothing run.first sector (omega arith, omega (arith, some)))
+      e cause (right mid.0 named mid.1 map_mid (new_run run named nothing))

@@ -240,6 +240,16 @@ module _ {layout l1 : Layout} {a b c : DiskState} {s t : Slots} (is : IsLayout l
       let two = (made.goes (none_over (unframed_still (maps_come taken) none) one.0 one.1)).memory one.0 one.1 in
       (two.0, two.1, record { taken = run_taken m stands one.0 one.1 one.2 two.0 two.2; map = map_stays m stands one.0 one.1 one.2 two.0 two.2 })
 
+  -- the bits of the run's sectors alone are other ones
+  pub labelled_bits : IsUnframed s 0 → (m : List Sector) → Stands a s m → (marks : Marks) → BitsAre layout marks m → (n : List Sector) → Stands c t n → BitsAre layout (marked true run.sector run.pages marks) n
+  labelled_bits none m stands marks bits n stands_n =
+      let one = taken.goes.memory m stands in
+      let two = (made.goes (none_over (unframed_still (maps_come taken) none) one.0 one.1)).memory one.0 one.1 in
+      let now = marked_so m marks stands bits in
+      let later = marked true run.sector run.pages marks in
+      let same = one_memory b t now.memory one.0 now.stands one.1 in
+      subst (BitsAre layout later) (one_memory c t two.0 n two.1 stands_n) (bits_stay m stands one.0 one.1 one.2 two.0 two.2 later (subst (BitsAre layout later) same now.is))
+
   -- the bytes of the file map are told as they were
   pub bytes_told : IsUnframed s 0 → (bytes : List ℕ) → Tells FileMap a s layout bytes → Tells FileMap c t layout bytes
   bytes_told none bytes tells =

@@ -1,5 +1,5 @@
 -- What stops a single call has its reason, where the state before it kept to an outset.
-use Rattle.std.proofs.Common.{◌≡◌, ◌⊎◌, inl, inr, ℕ, true, List, [], sym, ap, subst}
+use Rattle.std.proofs.Common.{◌≡◌, ◌⊎◌, inl, inr, ℕ, true, List, [], sym, subst}
 use Rattle.labelled_disk.specs.declared.disk.DiskWrite.{DiskWrite}
 use Rattle.labelled_disk.specs.declared.disk.DiskWrite.TheVariants.{LabelOnly}
 use Rattle.labelled_disk.specs.declared.evidence.Evidence.TheVariants.{Mismatch, Malformed, Missing}
@@ -20,10 +20,9 @@ use Rattle.swapper_kernel.specs.Homes.{home_at}
 use Rattle.swapper_kernel.specs.Maps.{IsMapHome}
 use Rattle.label_calls.specs.declared.page.Mark.{Mark}
 use Rattle.label_calls.specs.Labels.{IsNotOf, MayHaveWritten, with_mark}
-use Rattle.filer_kernel.specs.Causes.{AddHalts, CutHalts, IsFaultOrMismatch, IsFaultOrMost}
+use Rattle.filer_kernel.specs.Causes.{CutHalts, IsFaultOrMismatch}
 use Rattle.file_manager.specs.Reasons.{Outset, KeepsTo, IsAtHome, HasReason, ShowsReason}
 use Rattle.file_manager.specs.ReasonLaws.{at_home_later, label_reasons}
-use Rattle.file_manager.proofs.MakeStops.{page_in}
 
 -- Over writes that were made since.
 module _ {o : Outset} {layout : Layout} {kept : List Run} {a : DiskState} {s : Slots} {named : Triples} (k : KeepsTo o layout kept a s named)
@@ -38,16 +37,6 @@ module _ {o : Outset} {layout : Layout} {kept : List Run} {a : DiskState} {s : S
   cut_reasons (Damaged (Mismatch sector wanted found)) is right = held_reason sector wanted found is
   cut_reasons (Damaged (Malformed window page)) is right = absurd right
   cut_reasons (Damaged (Missing id page)) is right = absurd is
-
-  -- a run is added to it
-  pub add_reasons : (halt : Halt) → AddHalts layout a s b halt → IsFaultOrMost layout a s halt → ShowsReason o layout b halt
-  add_reasons Disk is right = tt
-  add_reasons (Damaged (Mismatch sector wanted found)) is right = held_reason sector wanted found is
-  add_reasons (Damaged (Malformed window page)) is right = elim right [
-    | inl other ↦ absurd other
-    | inr full ↦ inl (is.0, ap page_in full.0)
-  ]
-  add_reasons (Damaged (Missing id page)) is right = absurd is
 
   -- a label isn't that of a page which the map names there
   pub other_reasons : (place : ℕ) (w : Wanted) → named w.id w.page place ≡ true → (c d e : DiskState) (halt : Halt) → HasCause (IsNotOf place w c) d e halt → ShowsReason o layout b halt

@@ -1,34 +1,59 @@
 -- What keeps to an outset does so where a root is written, and where the file map is cut of a whole file.
-use Rattle.std.proofs.Common.{◌≡◌, ◌≢◌, inl, ℕ, ◌+◌, ◌≤◌, Bool, true, false, not, ◌&&◌, ◌==◌, nat_le, List, [], ◌∷◌, Some, refl, ◌∙◌, ap, arith}
-use Rattle.std.specs.Prelude.{slice_get}
-use Rattle.std.proofs.lemmas.Bool.{eq-eqb, le-leb}
+use Rattle.std.proofs.Common.{◌≡◌, ◌≢◌, ◌⊎◌, inl, inr, ℕ, zero, suc, ◌+◌, ◌<◌, ◌≤◌, Bool, true, false, not, ◌&&◌, ◌==◌, nat_le, List, [], ◌∷◌, Some, refl, sym, ◌∙◌, ap, subst, arith}
+use Rattle.std.specs.Prelude.{slice_get, filter}
+use Rattle.std.proofs.lemmas.Bool.{and_parts, cases_eq, eq-eqb, le-leb, ne_eqb}
+use Rattle.std.proofs.lemmas.Option.{same_Some, none-some}
 use Rattle.labelled_disk.specs.declared.layout.Layout.{Layout}
 use Rattle.labelled_disk.specs.Label.{root_label}
 use Rattle.labelled_disk.specs.Moment.{written}
 use Rattle.labelled_disk.specs.Sectors.{Sector}
 use Rattle.labelled_disk.specs.State.{DiskState}
+use Rattle.frame_pool.specs.declared.home.Home.{Home}
 use Rattle.frame_pool.specs.Frames.{Slots}
 use Rattle.frame_pool.specs.ListLaws.{get_other}
 use Rattle.file_map.specs.declared.run.Run.{Run}
 use Rattle.file_map.specs.FileMap.{Triples, without_from}
 use Rattle.swapper_kernel.specs.declared.manager.Manager.TheVariants.{AllocationMap, FileMap}
-use Rattle.swapper_kernel.specs.Goes.{Goes, no_page}
+use Rattle.swapper_kernel.specs.Goes.{Goes, Makes, no_page}
+use Rattle.swapper_kernel.specs.Homes.{IsLayout}
 use Rattle.swapper_kernel.specs.Stands.{Stands}
+use Rattle.swapper_kernel.specs.Window.{Beside}
+use Rattle.filer_kernel.specs.Becomes.{Becomes}
+use Rattle.filer_kernel.specs.Evidence.{MayBeMissing}
 use Rattle.filer_kernel.specs.Marks.{BitsAre}
-use Rattle.filer_kernel.specs.Triples.{MapIs}
+use Rattle.filer_kernel.specs.Triples.{MapIs, AreOf}
+use Rattle.filer_kernel.proofs.LawLemmas.{are_of_fewer}
 use Rattle.volume_root.specs.declared.root.Root.{Root}
 use Rattle.volume_root.specs.RootPage.{root_bytes, root_write}
-use Rattle.file_manager.specs.Reasons.{Outset, KeepsTo}
-use Rattle.file_manager.specs.ReasonLaws.{keeps_after}
+use Rattle.file_manager.specs.Creating.{counted, next_id}
+use Rattle.file_manager.specs.Reasons.{Outset, AreLet, IsLet, KeepsTo}
+use Rattle.file_manager.specs.ReasonLaws.{GivesNot, keeps_after, let_now}
 use Rattle.file_manager.specs.Taking.{NamesNoneOf, every_page}
-use Rattle.file_manager.proofs.FreedRun.{shows_still}
+use Rattle.file_manager.proofs.FreedRun.{first_is, shows_still}
+use Rattle.file_manager.proofs.KeepSteps.{keeps_changed}
+use Rattle.file_manager.proofs.MadeReasons.{sector_of}
+
+-- the root gives no data sector to a page
+pub root_gives_not : (x : Layout) → IsLayout x → (root : Root) (home : Home) → x.first ≤ home.sector → GivesNot (root_write root ∷ []) home
+root_gives_not x is root home from zero w at (kind, gives) =
+    let here : 0 ≡ home.sector = ap sector_of (same_Some (root_write root) w at ∙ gives) in
+    let first = first_is x is in
+    absurd (omega (arith, from, here, first))
+root_gives_not x is root home from (suc turn) w at gives = none-some w at
+
+-- the root that counts a file lets each home that pages of this file have
+pub root_lets : {o : Outset} {x : Layout} {k : List Run} {a b : DiskState} {s : Slots} {named : Triples} (root : Root) → IsLayout x → KeepsTo o x k a s named → Makes no_page (root_write (counted root) ∷ []) a s b s
+    → (home : Home) → x.first ≤ home.sector → home.id ≡ next_id root → IsLet o b home
+root_lets {o = o} {x = x} root is h makes home from same =
+    let last : home.id + 1 ≡ next_id (counted root) = omega (arith, same) in
+    let_now o makes h.since home (root_gives_not x is (counted root) home from) 0 (root_write (counted root)) refl (inr (counted root, refl, last))
 
 -- a root is written: no page of a map is in its sector
-pub root_keeps : {o : Outset} {x : Layout} {k : List Run} {a b : DiskState} {s : Slots} {named : Triples} (root : Root) → KeepsTo o x k a s named
+pub root_keeps : {o : Outset} {x : Layout} {k : List Run} {a b : DiskState} {s : Slots} {named : Triples} (root : Root) → IsLayout x → KeepsTo o x k a s named
     → Goes (λ m n. n ≡ written (root_write root) m) no_page (root_write root ∷ []) a s b s → KeepsTo o x k b s named
-root_keeps {x = x} {k = k} {b = b} {s = s} {named = named} root h goes =
-    keeps_after h goes.makes now.0 now.1 named map (λ home is. inl is) k h.kept (λ home held. inl held) h.unframed h.marks bits (λ sector from below is. inl is)
-    (λ home from may was. inl was) (λ home from may. inr (root_gives_not x root home from)) (λ sector from below was. inl was)
+root_keeps {x = x} {k = k} {b = b} {s = s} {named = named} root is h goes =
+    keeps_after h goes.makes now.0 now.1 named map (λ home is. inl is) k h.kept (λ home held. inl held) h.unframed h.marks bits (λ sector from below clear. inl clear)
+    (λ home from may was. inl was) (λ home from may. inr (root_gives_not x is root home from)) (λ sector from below was. inl was)
   where
     now : (n : List Sector) × Stands b s n × (n ≡ written (root_write root) h.memory)
     now = goes.memory h.memory h.stands
@@ -54,3 +79,28 @@ none_left named id page sector own =
     nowhere : (b : Bool) → (b && false) ≡ false
     nowhere true = refl
     nowhere false = refl
+
+-- The map is cut of a whole file, each home of which was let.
+module _ {o : Outset} {x last : Layout} {k l : List Run} {a b : DiskState} {s t : Slots} {named : Triples} (h : KeepsTo o x k a s named) (beside : Beside FileMap a s x b t last) (id : ℕ) (fewer : l ≡ filter (λ r. not (r.id == id)) k)
+    (let_go : (home : Home) → x.first ≤ home.sector → MayBeMissing home.id home.page → home.id ≡ id → named home.id home.page home.sector ≡ true → IsLet o a home) where
+  -- a home is named then, or was let
+  still : (home : Home) → x.first ≤ home.sector → MayBeMissing home.id home.page → named home.id home.page home.sector ≡ true → (without_from named id 0 home.id home.page home.sector ≡ true) ⊎ IsLet o a home
+  still home from may was = elim (cases_eq home.id id) [
+    | inl same ↦ inr (let_go home from may same was)
+    | inr other ↦ let apart : (home.id == id) ≡ false = ne_eqb home.id id other in inl (λ j. was j && not (apart j && nat_le 0 home.page))
+  ]
+
+  pub whole_cut : ((m : List Sector) (named : Triples) → Stands a s m → MapIs x named m → Becomes FileMap x m (MapIs x (without_from named id 0)) b t) → KeepsTo o x l b t (without_from named id 0)
+  whole_cut cut =
+      keeps_changed h beside (cut h.memory named h.stands h.map) (λ i page sector is. (and_parts (named i page sector) (not ((i == id) && nat_le 0 page)) is).0)
+      (subst (AreOf (without_from named id 0)) (sym fewer) (are_of_fewer named k id 0 h.kept)) still
+
+-- of the space tables this is so where it is of each of their pages
+pub tables_let : {o : Outset} (x : Layout) {a : DiskState} (named : Triples) → AreLet o a named 3 (λ p. p < 96)
+    → (home : Home) → x.first ≤ home.sector → MayBeMissing home.id home.page → home.id ≡ 3 → named home.id home.page home.sector ≡ true → IsLet o a home
+tables_let {o = o} x {a = a} named let_go home from may same was = elim may [
+  | inl (_, below) ↦
+      let own = let_go home.page home.sector below (subst (λ (i : ℕ). named i home.page home.sector ≡ true) same was) in
+      subst (λ (i : ℕ). IsLet o a (record { sector = home.sector; id = i; page = home.page })) (sym same) own
+  | inr client ↦ absurd (omega (arith, client, same))
+]

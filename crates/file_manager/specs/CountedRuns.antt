@@ -1,6 +1,6 @@
 -- As many pages are named by a map in form as it has records: the first pages of its runs.
-use Rattle.std.proofs.Common.{◌≡◌, ◌≢◌, inl, inr, ℕ, zero, suc, ◌+◌, ◌-◌, ◌<◌, ◌≤◌, true, Bool, List, [], ◌∷◌, length, map, get_or, Some, refl, sym, ◌∙◌, ap, subst, arith}
-use Rattle.std.specs.Prelude.{slice_get, ◌==◌, ◌&&◌, nat_le, nat_lt}
+use Rattle.std.proofs.Common.{◌≡◌, ◌≢◌, ℕ, zero, suc, ◌+◌, ◌-◌, ◌<◌, ◌≤◌, true, List, [], ◌∷◌, length, map, Some, refl, sym, ◌∙◌, ap, subst, arith}
+use Rattle.std.specs.Prelude.{slice_get, ◌&&◌}
 use Rattle.std.proofs.lemmas.Bool.{eq-eqb, le-leb, lt-ltb}
 use Rattle.std.proofs.lemmas.List.{length-map}
 use Rattle.std.proofs.lemmas.Option.{same_Some, none-some}
@@ -8,8 +8,8 @@ use Rattle.page_tree.specs.Page.{page_at, count_in}
 use Rattle.page_tree.specs.Tells.{TellsTree}
 use Rattle.page_tree.specs.Tree.{IsTree}
 use Rattle.file_map.specs.declared.run.Run.{Run}
-use Rattle.file_map.specs.FileMap.{Triples, AreNamed, run_at, no_run, names_triple}
-use Rattle.file_map.specs.Run.{IsRun, holds, sector_at, run_bytes}
+use Rattle.file_map.specs.FileMap.{Triples, AreNamed, run_at}
+use Rattle.file_map.specs.Run.{holds, sector_at, run_bytes}
 use Rattle.file_map.proofs.Searches.{names_at}
 
 module _ (n pages : ℕ) (b : List ℕ) (named : Triples) (is : AreNamed n (TellsTree 24 12 pages (λ c. c ≡ b)) named) where

@@ -11,9 +11,7 @@ use Rattle.labelled_disk.specs.declared.evidence.Evidence.TheVariants.{Mismatch,
 use Rattle.labelled_disk.specs.declared.evidence.Halt.{Halt}
 use Rattle.labelled_disk.specs.declared.evidence.Halt.TheVariants as halt
 use Rattle.labelled_disk.specs.declared.layout.Layout.{Layout}
-use Rattle.labelled_disk.specs.Label.{page_label}
 use Rattle.labelled_disk.specs.Layout.{vfm}
-use Rattle.labelled_disk.specs.Runs.{zero_bytes}
 use Rattle.labelled_disk.specs.Sectors.{Sector, free_label}
 use Rattle.labelled_disk.specs.State.{DiskState}
 use Rattle.frame_pool.specs.declared.home.Home.{Home}
@@ -44,7 +42,7 @@ use Rattle.filer_kernel.specs.Triples.{MapIs, AreOf}
 use Rattle.file_manager.specs.CountedRuns.{counted_runs, first_named, firsts_apart}
 use Rattle.file_manager.specs.Grounds.{IsMapsHome, IsUnframed}
 use Rattle.file_manager.specs.Looking.{Looks}
-use Rattle.file_manager.specs.Reasons.{Outset, IsSince, WasMade, WasGiven, WasGivenUp, WasTaken, Gives, Lets, IsAtHome, IsLet, IsTakenUp, IsFilledUp, AreHomes, MayBeFree, KeepsTo, HasReason, ShowsReason}
+use Rattle.file_manager.specs.Reasons.{Outset, IsSince, WasMade, WasGivenUp, WasTaken, Gives, Lets, IsAtHome, IsLet, IsTakenUp, IsFilledUp, AreHomes, MayBeFree, KeepsTo, HasReason, ShowsReason}
 
 -- ---- Writes in a row.
 
@@ -228,11 +226,18 @@ module _ (o : Outset) {pages : Pages} {a b : DiskState} {s t : Slots} (makes : M
   let_before home h = record {
     outset = λ is. elim (h.outset is) [ inl tables ↦ inl tables | inr (v, lets, made) ↦ inr (v, lets, made_before v made (lets_label home v lets)) ];
     since = λ more told turn w at gives.
-        let l = h.since (more ++ makes.wrote.writes) (told_later o makes more told) turn w (get_front more makes.wrote.writes turn w at) gives in
-        (l.0, l.1, (l.2.0, l.2.1, elim (get_either more makes.wrote.writes l.0 l.2.0 l.2.2) [
-          | inl was ↦ was
-          | inr (j, here) ↦ absurd (no_label makes.wrote.writes j l.2.0 makes.wrote.labels here (lets_label home l.2.0 l.2.1))
-        ]));
+        let l = h.since (more ++ makes.wrote.writes) (told_later o makes more told) turn w (get_front more makes.wrote.writes turn w at) gives in (
+          l.0,
+          l.1,
+          (
+            l.2.0,
+            l.2.1,
+            elim (get_either more makes.wrote.writes l.0 l.2.0 l.2.2) [
+              | inl was ↦ was
+              | inr (j, here) ↦ absurd (no_label makes.wrote.writes j l.2.0 makes.wrote.labels here (lets_label home l.2.0 l.2.1))
+            ],
+          ),
+        );
   }
 
   reason_before : (x : Layout) (e : Evidence) → HasReason o x b e → HasReason o x a e
@@ -421,27 +426,29 @@ module _ {o : Outset} {x : Layout} {k : List Run} {a : DiskState} {s : Slots} {n
 
   -- a page that the map does not name is told as missing
   pub missing_reason : (id page : ℕ) → MayBeMissing id page → ((m : List Sector) (named : Triples) → Stands a s m → MapIs x named m → IsNowhere named id page) → HasReason o x b (Missing id page)
-  missing_reason id page may nowhere = inr (may, λ sector from.
-      let home : Home = record { sector = sector; id = id; page = page } in
-      elim (h.rest home from may) [
-        | inl is ↦ absurd (true≢false (sym is ∙ nowhere h.memory named h.stands h.map sector))
-        | inr let_go ↦ let_later o makes h.since home (λ k w at gives. none-some w at) let_go
-      ])
+  missing_reason id page may nowhere = inr (
+    may,
+    λ sector from.
+        let home : Home = record { sector = sector; id = id; page = page } in
+        elim (h.rest home from may) [
+          | inl is ↦ absurd (true≢false (sym is ∙ nowhere h.memory named h.stands h.map sector))
+          | inr let_go ↦ let_later o makes h.since home (λ k w at gives. none-some w at) let_go
+        ],
+  )
 
--- ---- What is full.
+-- ---- No data sector is free.
 
 module _ {o : Outset} {x : Layout} {k : List Run} {a : DiskState} {s : Slots} {named : Triples} (h : KeepsTo o x k a s named) {pages : Pages} {run : List DiskWrite} {b : DiskState} {t : Slots} (makes : Makes pages run a s b t) where
   -- the allocation map has each data sector as used
   pub room_reason : ((sector : ℕ) → x.first ≤ sector → sector < x.sectors → h.marks sector ≡ true) → HasReason o x b (Missing 3 0)
-  room_reason all = inl (refl, refl, λ sector from below free. elim (h.used sector from below (all sector from below)) [
-    | inl outset ↦ absurd (true≢false (sym outset ∙ free))
-    | inr taken ↦ taken_later o makes sector taken
-  ])
-
-  -- the file map counts as many records as it may
-  pub full_reason : IsLayout x → MapCounts x a s (most_records x.sectors) → HasReason o x b (Malformed 2 0)
-  full_reason is counts = let h' = named_homes is h.size h.stands h.map (most_records x.sectors) counts in
-      inl (refl, refl, record { homes = h'.homes; counted = h'.counted; each = λ j home at. at_home_later o makes home (h.homes home (h'.each j home at)); apart = h'.apart })
+  room_reason all = inl (
+    refl,
+    refl,
+    λ sector from below free. elim (h.used sector from below (all sector from below)) [
+      | inl outset ↦ absurd (true≢false (sym outset ∙ free))
+      | inr taken ↦ taken_later o makes sector taken
+    ],
+  )
 
 module _ {o : Outset} {x : Layout} {k : List Run} {a : DiskState} {s : Slots} {named : Triples} (h : KeepsTo o x k a s named) {b : DiskState} {t : Slots} where
   -- a look at files

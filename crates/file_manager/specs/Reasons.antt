@@ -112,9 +112,9 @@ pub record AreHomes (are : Homes) (count : ℕ) : Type 0 where
   pub each : (k : ℕ) (home : Home) → slice_get homes k ≡ Some home → are home
   pub apart : (j k : ℕ) (x y : Home) → slice_get homes j ≡ Some x → slice_get homes k ≡ Some y → j < k → x.id ≡ y.id → x.page ≢ y.page
 
--- as many pages are or were at home as the file map may have records
+-- as many pages are or were at home as the file map may have records, and one more
 abbrev pub IsFilledUp : Outset → Layout → DiskState → Type 0
-IsFilledUp o layout disk = AreHomes (IsAtHome o disk) (most_records layout.sectors)
+IsFilledUp o layout disk = AreHomes (IsAtHome o disk) (most_records layout.sectors + 1)
 
 -- Disk and frames make a memory whose file map is in form. Each page that it names is or was at home there, and so is each page of
 -- a frame, unless the layout has it there; runs that are kept are the map's; and each data sector that the allocation map has as
@@ -137,7 +137,7 @@ pub record KeepsTo (o : Outset) (layout : Layout) (runs : List Run) (disk : Disk
   pub used : (sector : ℕ) → layout.first ≤ sector → sector < layout.sectors → marks sector ≡ true → (o.marks sector ≡ true) ⊎ WasTaken o disk sector
 
 -- A label is told where the layout has the page of a map there, where the wanted page is or was at home, or where nobody's is
--- wanted and the sector may be free. Of the file map page 0 alone is told as broken, where as many pages are or were at home as it
+-- wanted and the sector may be free. Of the file map page 0 alone is told as broken, where more pages are or were at home than it
 -- may have records; of the space tables any page is. A page is told as missing that nothing makes be at home anywhere, or page 0
 -- of the space tables where each sector that had been free was given to a page.
 abbrev pub HasReason : Outset → Layout → DiskState → Evidence → Type 0

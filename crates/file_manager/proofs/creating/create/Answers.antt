@@ -24,10 +24,9 @@ use Rattle.file_manager.specs.Grounds.{CreateHalts}
 use Rattle.file_manager.specs.Taking.{every_page}
 use Rattle.file_manager.proofs.RootCalls.{created_root, created_some_root}
 use Rattle.file_map.specs.FileMap.{without_from}
-use Rattle.file_manager.proofs.KeepCut.{keeps_cut}
 use Rattle.file_manager.proofs.KeepSteps.{keeps_at}
 use Rattle.file_manager.proofs.ReasonCauses.{cut_reasons}
-use Rattle.file_manager.proofs.RootKeeps.{none_left}
+use Rattle.file_manager.proofs.RootKeeps.{none_left, root_lets, whole_cut}
 use Rattle.file_manager.proofs.creating.create.Goals as goal
 
 pub returns-in-Err-clause-sound : goal.returns-in-Err-clause-sound
@@ -197,12 +196,14 @@ returns-in-Err-make_file-clause-reasons g c = λ o named h.
     let rooted = c.in-Ok.ensures.keeps_to o named h in
     let lay : c.cut.new.self.swapper.layout ≡ c.args.filer.now.swapper.layout = c.in-Ok-cut.ensures.beside.layout ∙ c.in-Ok.ensures.layout in
     let id = c.next_id-id.result in
-    let cut = keeps_at c.cut.new.self.runs c.in-Ok-cut.ensures.beside.layout (keeps_cut rooted c.in-Ok-cut.ensures.beside id 0 (c.in-Ok-cut.ensures.runs c.write_over.new.filer.swapper.layout.sectors) c.in-Ok-cut.ensures.cut) in
+    let cut = keeps_at c.cut.new.self.runs c.in-Ok-cut.ensures.beside.layout (whole_cut rooted c.in-Ok-cut.ensures.beside id (c.in-Ok-cut.ensures.runs c.write_over.new.filer.swapper.layout.sectors)
+    (λ home from may same was. root_lets c.args.volume.now.root c.args.filer.now.swapper.accepted h c.in-Ok.ensures.made.makes home (rw c.in-Ok.ensures.layout at from) (same ∙ c.next_id-id.ensures.next)) c.in-Ok-cut.ensures.cut) in
     (rw (c.frames_of.ensures.same, lay) at c.in-Err-make_file.ensures.reasons) o (without_from named id 0) (rw lay at cut) (none_left named id)
 
 pub returns-clause-keeps_to : goal.returns-clause-keeps_to
 returns-clause-keeps_to g c = λ o named h.
     let rooted = c.in-Ok.ensures.keeps_to o named h in
     let id = c.next_id-id.result in
-    let cut = keeps_at c.cut.new.self.runs c.in-Ok-cut.ensures.beside.layout (keeps_cut rooted c.in-Ok-cut.ensures.beside id 0 (c.in-Ok-cut.ensures.runs c.write_over.new.filer.swapper.layout.sectors) c.in-Ok-cut.ensures.cut) in
+    let cut = keeps_at c.cut.new.self.runs c.in-Ok-cut.ensures.beside.layout (whole_cut rooted c.in-Ok-cut.ensures.beside id (c.in-Ok-cut.ensures.runs c.write_over.new.filer.swapper.layout.sectors)
+    (λ home from may same was. root_lets c.args.volume.now.root c.args.filer.now.swapper.accepted h c.in-Ok.ensures.made.makes home (rw c.in-Ok.ensures.layout at from) (same ∙ c.next_id-id.ensures.next)) c.in-Ok-cut.ensures.cut) in
     (rw c.frames_of.ensures.same at c.in-Ok-make_file.ensures.keeps_to) o (without_from named id 0) cut (none_left named id)

@@ -24,4 +24,4 @@ returns-in-Err-clause-stopped g c =
     (λ d told. g.met.D.Disk.whole c.args.filer.now.swapper.under d told ∙ c.requires.size) moves either
 
 pub returns-in-Ok-clause-keeps_to : goal.returns-in-Ok-clause-keeps_to
-returns-in-Ok-clause-keeps_to g c = λ o named h. root_keeps c.args.root h (returns-in-Ok-clause-made g c)
+returns-in-Ok-clause-keeps_to g c = λ o named h. root_keeps c.args.root c.args.filer.now.swapper.accepted h (returns-in-Ok-clause-made g c)

@@ -19,9 +19,9 @@ use Rattle.file_manager.proofs.CutCauses.{cut_halts_behind, shrink_of_cut, shrin
 use Rattle.filer_kernel.specs.Cached.{runs_of}
 use Rattle.file_manager.specs.Grounds.{IsUnframed}
 use Rattle.file_manager.proofs.KeepSteps.{keeps_at}
-use Rattle.file_manager.proofs.KeepCut.{keeps_cut, keeps_led}
-use Rattle.file_manager.proofs.ReasonCauses.{cut_reasons, add_reasons}
-use Rattle.file_manager.specs.Reasons.{ShowsReason}
+use Rattle.file_manager.proofs.CutReasons.{added_reasons, has_leader}
+use Rattle.file_manager.proofs.KeepCut.{keeps_led, less_named}
+use Rattle.file_manager.proofs.ReasonCauses.{cut_reasons}
 use Rattle.file_manager.proofs.cutting.cut_to.Goals as goal
 
 pub returns-in-Err-clause-sound : goal.returns-in-Err-clause-sound
@@ -114,11 +114,16 @@ returns-in-Err-add-clause-reasons g c = λ o named k led.
     let fits = c.ranges.from.fits in
     let few : c.args.from ≤ leader_page = omega (arith, fits) in
     let layout = c.args.filer.now.swapper.layout in
-    let now = keeps_at c.cut.new.self.runs c.cut.ensures.beside.layout (keeps_cut k c.cut.ensures.beside c.args.id c.args.from (c.cut.ensures.runs layout.sectors) c.in-Ok.ensures.cut) in
-    subst (λ (l : Layout). ShowsReason o l (g.D.Disk.state c.add.new.self.swapper.under) c.in-Err-add.halt) c.cut.ensures.beside.layout
-    (add_reasons now c.add.ensures.beside.goes.makes c.in-Err-add.halt c.in-Err-add.ensures.cause (c.in-Err-add.ensures.right now.memory _ now.stands now.map (leader_new named c.args.id c.args.from c.args.leader few)))
+    let is = c.args.filer.now.swapper.accepted in
+    let lay = c.cut.ensures.beside.layout in
+    let cut = c.in-Ok.ensures.cut k.memory named k.stands k.map in
+    let beside = rw lay at c.add.ensures.beside in
+    let new = leader_new named c.args.id c.args.from c.args.leader few in
+    let right = rw lay at c.in-Err-add.ensures.right in
+    added_reasons k is c.cut.ensures.beside cut (less_named named c.args.id c.args.from) beside.goes.makes (record { sector = c.args.leader; id = c.args.id; page = leader_page }) led (λ sector. new leader_page sector (has_leader c.args.id c.args.leader))
+    c.in-Err-add.halt (rw lay at c.in-Err-add.ensures.cause) (right cut.memory (without_from named c.args.id c.args.from) cut.stands cut.is new)
 
 pub returns-clause-keeps_to : goal.returns-clause-keeps_to
-returns-clause-keeps_to g c = λ o named k led.
+returns-clause-keeps_to g c = λ o named k led let_go.
     let layout = c.args.filer.now.swapper.layout in
-    (_, keeps_at c.frames_of.new.filer.runs (returns-clause-beside g c).layout (keeps_led k (returns-clause-beside g c) c.args.id c.args.from (returns-clause-runs g c layout.sectors) c.args.leader led (returns-clause-cut g c)))
+    (_, keeps_at c.frames_of.new.filer.runs (returns-clause-beside g c).layout (keeps_led k (returns-clause-beside g c) c.args.id c.args.from (returns-clause-runs g c layout.sectors) c.args.leader led let_go (returns-clause-cut g c)))

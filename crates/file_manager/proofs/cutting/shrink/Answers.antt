@@ -5,7 +5,8 @@ use Rattle.file_manager.proofs.ShrinkLemmas.{may_free, leader_is_alone, named_ap
 use Rattle.file_manager.proofs.CutCauses.{shrink_of_free, shrink_halts_behind}
 use Rattle.filer_kernel.specs.Cached.{runs_of}
 use Rattle.file_manager.specs.Grounds.{IsUnframed}
-use Rattle.std.proofs.Common.{◌≤◌, ◌<◌, subst}
+use Rattle.std.proofs.Common.{◌≤◌, ◌<◌, inl, inr, sym, ◌∙◌, subst}
+use Rattle.std.proofs.lemmas.Bool.{cases_lt, true≢false}
 use Rattle.file_manager.proofs.OwnSteps.{map_own, freed_own, own_after}
 use Rattle.labelled_disk.specs.declared.layout.Layout.{Layout}
 use Rattle.file_manager.specs.Reasons.{ShowsReason}
@@ -94,4 +95,10 @@ returns-in-Err-cut_to-clause-reasons g c = λ o named k led.
     subst (λ (l : Layout). ShowsReason o l (g.D.Disk.state c.cut_to.new.filer.swapper.under) c.in-Err-cut_to.halt) c.in-Ok.ensures.layout (c.in-Err-cut_to.ensures.reasons o named (c.in-Ok.ensures.keeps_to o named k) led)
 
 pub returns-clause-keeps_to : goal.returns-clause-keeps_to
-returns-clause-keeps_to g c = λ o named k led. c.in-Ok-cut_to.ensures.keeps_to o named (c.in-Ok.ensures.keeps_to o named k) led
+returns-clause-keeps_to g c = λ o named k led none.
+    c.in-Ok-cut_to.ensures.keeps_to o named (c.in-Ok.ensures.keeps_to o named k) led (λ page sector own is.
+    let from = own.0 in
+    elim (cases_lt page c.args.size) [
+      | inl below ↦ c.in-Ok.ensures.let_go o named k page sector (from, below) is
+      | inr above ↦ absurd (true≢false (sym is ∙ none page sector (above, own.1)))
+    ])

@@ -18,7 +18,7 @@ use Rattle.file_manager.proofs.OwnSteps.{map_own, freed_own, some_own, own_after
 use Rattle.file_manager.proofs.RootCalls.{freed_some_root, deleted_root}
 use Rattle.labelled_disk.specs.declared.layout.Layout.{Layout}
 use Rattle.file_manager.proofs.KeepSteps.{keeps_at, keeps_asked}
-use Rattle.file_manager.proofs.KeepCut.{keeps_cut}
+use Rattle.file_manager.proofs.KeepCut.{keeps_cut, all_pages}
 use Rattle.file_manager.proofs.ReasonCauses.{cut_reasons}
 use Rattle.file_manager.specs.ReasonLaws.{map_reasons}
 use Rattle.file_manager.specs.Reasons.{ShowsReason}
@@ -303,5 +303,11 @@ returns-in-Err-cut-clause-reasons g c = λ o named k.
 
 pub returns-clause-keeps_to : goal.returns-clause-keeps_to
 returns-clause-keeps_to g c = λ o named k.
-    let now = c.in-Ok-free_all.ensures.keeps_to o named (keeps_asked c.args.filer.now.runs c.size.new.self.runs c.size.ensures.runs k c.size.ensures.beside c.size.ensures.same) in
-    rw c.frames_of-volume.ensures.same (_, keeps_at c.cut.new.self.runs c.cut.ensures.beside.layout (keeps_cut now c.cut.ensures.beside c.args.id 0 (c.cut.ensures.runs c.free_all.new.filer.swapper.layout.sectors) c.in-Ok-cut.ensures.cut))
+    let asked = keeps_asked c.args.filer.now.runs c.size.new.self.runs c.size.ensures.runs k c.size.ensures.beside c.size.ensures.same in
+    let now = c.in-Ok-free_all.ensures.keeps_to o named asked in
+    let sized = c.in-Ok.ensures.size k.memory named k.stands k.map in
+    rw c.frames_of-volume.ensures.same (
+      _,
+      keeps_at c.cut.new.self.runs c.cut.ensures.beside.layout (keeps_cut now c.cut.ensures.beside c.args.id 0 (c.cut.ensures.runs c.free_all.new.filer.swapper.layout.sectors)
+          (λ page sector may from is. c.in-Ok-free_all.ensures.let_go o named asked page sector (all_pages sized k.map page sector is) is) c.in-Ok-cut.ensures.cut),
+    )

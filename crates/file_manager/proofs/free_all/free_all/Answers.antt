@@ -8,6 +8,8 @@ use Rattle.file_manager.proofs.Keeping.{keeps_none, keeps_then, free_halts_befor
 use Rattle.filer_kernel.specs.Cached.{runs_of}
 use Rattle.file_manager.specs.Grounds.{IsUnframed}
 use Rattle.file_manager.proofs.OwnSteps.{freed_own, some_own, own_after}
+use Rattle.file_manager.specs.ReasonLaws.{let_later}
+use Rattle.file_manager.proofs.FreedReasons.{frees_give_not}
 use Rattle.file_manager.proofs.free_all.free_all.Goals as goal
 
 pub returns-in-Err-clause-sound : goal.returns-in-Err-clause-sound
@@ -80,10 +82,22 @@ pub returns-in-Err-free_up-clause-so : goal.returns-in-Err-free_up-clause-so
 returns-in-Err-free_up-clause-so g c = c.in-Err-free_up.ensures.so (λ page below. inr c.requires.of_file)
 
 pub returns-in-Err-clause-reasons : goal.returns-in-Err-clause-reasons
-returns-in-Err-clause-reasons g c = λ o named h. c.in-Err.ensures.reasons o named h
+returns-in-Err-clause-reasons g c = λ o named h. c.in-Err.ensures.reasons o named h (inr c.requires.of_file)
 
 pub returns-in-Err-free_up-clause-reasons : goal.returns-in-Err-free_up-clause-reasons
-returns-in-Err-free_up-clause-reasons g c = λ o named h. rw c.in-Ok.ensures.layout at (c.in-Err-free_up.ensures.reasons o named (c.in-Ok.ensures.keeps_to o named h))
+returns-in-Err-free_up-clause-reasons g c = λ o named h. rw c.in-Ok.ensures.layout at (c.in-Err-free_up.ensures.reasons o named (c.in-Ok.ensures.keeps_to o named h) (λ page below. inr c.requires.of_file))
 
 pub returns-in-Ok-free_up-clause-keeps_to : goal.returns-in-Ok-free_up-clause-keeps_to
 returns-in-Ok-free_up-clause-keeps_to g c = λ o named h. c.in-Ok-free_up.ensures.keeps_to o named (c.in-Ok.ensures.keeps_to o named h)
+
+pub returns-in-Ok-free_up-clause-let_go : goal.returns-in-Ok-free_up-clause-let_go
+returns-in-Ok-free_up-clause-let_go g c = λ o named h page sector own is.
+    let now = c.in-Ok.ensures.keeps_to o named h in
+    let led = c.in-Ok.ensures.let_go o named h in
+    let made = c.in-Ok-free_up.ensures.makes in
+    elim own [
+      | inl leads ↦
+          let some = c.in-Ok.ensures.some in
+          let_later o made.makes now.since _ (frees_give_not made.sectors _) (led page sector (let n = some.0 in (omega (arith, leads), omega (arith, leads, n))) is)
+      | inr below ↦ c.in-Ok-free_up.ensures.let_go o named now page sector (omega arith, below) is
+    ]

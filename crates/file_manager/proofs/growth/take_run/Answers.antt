@@ -6,8 +6,7 @@ use Rattle.file_manager.proofs.Faults.{counted, no_fault}
 use Rattle.swapper_kernel.specs.declared.manager.Manager.TheVariants.{AllocationMap}
 use Rattle.filer_kernel.specs.EvidenceLaws.{fits, map_homes_placed, so_of_halts}
 use Rattle.file_manager.proofs.MakeStops.{taken_halt}
-use Rattle.file_manager.specs.ReasonLaws.{keeps_as}
-use Rattle.file_manager.proofs.MadeReasons.{take_keeps, take_reasons}
+use Rattle.file_manager.proofs.MadeReasons.{room_reasons, take_reasons}
 use Rattle.file_manager.proofs.growth.take_run.Goals as goal
 
 pub returns-in-Err-NoRoom-clause-sound : goal.returns-in-Err-NoRoom-clause-sound
@@ -46,10 +45,9 @@ returns-in-Err-Mem-clause-cause g c =
     let cause = c.in-Err-Mem.ensures.cause in
     taken_halt c.args.filer.now.swapper.layout (g.D.Disk.state c.args.filer.now.swapper.under) (g.D.Disk.state c.take.new.self.swapper.under) c.args.filer.now.swapper.pool c.take.new.self.swapper.pool _ (rw (c.in-Err-Mem.field-0-is, c.in-Err-Mem.halt-is) at cause)
 
-pub returns-in-Ok-clause-keeps_to : goal.returns-in-Ok-clause-keeps_to
-returns-in-Ok-clause-keeps_to g c = λ o named h.
-    let kept = c.take.ensures.kept in
-    keeps_as kept.layout c.take.ensures.runs (take_keeps h kept c.in-Ok.run'.0 c.in-Ok.run'.1 (λ m marks stands bits. c.in-Ok.ensures.taken m marks stands bits))
+pub returns-in-Err-NoRoom-clause-reasons : goal.returns-in-Err-NoRoom-clause-reasons
+returns-in-Err-NoRoom-clause-reasons g c = λ o named h.
+    room_reasons h c.take.ensures.kept (λ m marks stands bits. (rw (c.in-Err-NoRoom.is, c.in-Err-NoRoom.field-0-is) at c.take.ensures.no_room) m marks stands bits refl)
 
 pub returns-in-Err-Mem-clause-reasons : goal.returns-in-Err-Mem-clause-reasons
 returns-in-Err-Mem-clause-reasons g c = λ o named h.

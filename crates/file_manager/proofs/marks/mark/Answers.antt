@@ -20,6 +20,7 @@ use Rattle.file_manager.proofs.OwnSteps.{leader_own, own_after}
 use Rattle.file_manager.proofs.RootCalls.{quiet_root, marked_root}
 use Rattle.labelled_disk.specs.declared.layout.Layout.{Layout}
 use Rattle.file_manager.specs.Reasons.{ShowsReason}
+use Rattle.file_manager.specs.ReasonLaws.{missing_reason}
 use Rattle.file_manager.proofs.KeepSteps.{keeps_at}
 use Rattle.file_manager.proofs.KeepCut.{keeps_marked}
 use Rattle.file_manager.proofs.ReasonCauses.{mark_reasons}
@@ -133,6 +134,9 @@ returns-clause-root g c = marked_root c.args.mark (returns-clause-makes g c)
 
 pub returns-in-Err-clause-reasons : goal.returns-in-Err-clause-reasons
 returns-in-Err-clause-reasons g c = c.in-Err.ensures.reasons
+
+pub returns-in-Ok-None-clause-reasons : goal.returns-in-Ok-None-clause-reasons
+returns-in-Ok-None-clause-reasons g c = λ o named k. missing_reason k c.leader_of.ensures.makes c.args.id leader_page (inr c.requires.client) (c.leader_of.ensures.missing (search rules))
 
 pub returns-in-Err-mark_leader-clause-reasons : goal.returns-in-Err-mark_leader-clause-reasons
 returns-in-Err-mark_leader-clause-reasons g c = λ o named k.

@@ -1,4 +1,4 @@
-use Rattle.std.proofs.Common.{rules, ◌≡◌, ◌<◌}
+use Rattle.std.proofs.Common.{arith, rules, ◌≡◌, ◌<◌}
 use Rattle.file_manager.proofs.FreedRun.{stops_then}
 use Rattle.file_manager.proofs.FreedUpTo.{to_reason, to_none, to_then, to_rest, to_all, to_made, to_spent, to_stopped_cost, to_halts}
 use Rattle.file_manager.proofs.StoppedFree.{some_then}
@@ -13,7 +13,7 @@ loop-page-init g c = to_none _ _ _ _ _ _ _ c.requires.order c.requires.size
 pub loop-page-preserved : goal.loop-page-preserved
 loop-page-preserved g c =
     let below : c.loop-page.page < c.args.end = search rules in
-    to_then c.loop-page.invariant below c.in-Ok.ensures.some c.in-Ok.ensures.layout c.in-Ok.ensures.spent c.in-Ok.ensures.makes c.in-Ok.ensures.keeps c.in-Ok.ensures.freed c.in-Ok.ensures.own c.in-Ok.ensures.keeps_to
+    to_then c.loop-page.invariant below c.in-Ok.ensures.some c.in-Ok.ensures.layout c.in-Ok.ensures.spent c.in-Ok.ensures.makes c.in-Ok.ensures.keeps c.in-Ok.ensures.freed c.in-Ok.ensures.own c.in-Ok.ensures.keeps_to c.in-Ok.ensures.let_go
 
 pub returns-in-Err-clause-sound : goal.returns-in-Err-clause-sound
 returns-in-Err-clause-sound g c = λ named spaces m may.
@@ -73,7 +73,15 @@ returns-in-Err-clause-so g c = λ there.
     c.in-Err.ensures.so (there c.loop-page.page below)
 
 pub returns-in-Err-clause-reasons : goal.returns-in-Err-clause-reasons
-returns-in-Err-clause-reasons g c = to_reason c.loop-page.invariant (g.D.Disk.state c.free_run.new.filer.swapper.under) c.in-Err.halt c.in-Err.ensures.reasons
+returns-in-Err-clause-reasons g c = λ o named h there.
+    let below : c.loop-page.page < c.args.end = search rules in
+    to_reason c.loop-page.invariant (g.D.Disk.state c.free_run.new.filer.swapper.under) c.in-Err.halt (λ o named k. c.in-Err.ensures.reasons o named k (there c.loop-page.page below)) o named h
+
+pub returns-clause-let_go : goal.returns-clause-let_go
+returns-clause-let_go g c = λ o named h page sector own is.
+    let all : c.loop-page.page ≡ c.args.end = search rules in
+    let last = own.1 in
+    c.loop-page.invariant.let_go o named h page sector (own.0, omega (arith, last, all)) is
 
 pub returns-clause-keeps_to : goal.returns-clause-keeps_to
 returns-clause-keeps_to g c = c.loop-page.invariant.keeps_to

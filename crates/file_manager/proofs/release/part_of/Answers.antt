@@ -12,7 +12,7 @@ use Rattle.file_map.specs.declared.run.Run.{Run}
 use Rattle.file_map.specs.Run.{IsRun, holds}
 use Rattle.filer_kernel.specs.Causes.{IsGiven}
 use Rattle.file_manager.specs.Grounds.{IsUnframed}
-use Rattle.file_manager.specs.ReasonLaws.{map_reasons}
+use Rattle.file_manager.specs.ReasonLaws.{map_reasons, missing_reason}
 use Rattle.file_manager.proofs.FreedReasons.{found_keeps}
 use Rattle.file_manager.proofs.release.part_of.Goals as goal
 
@@ -79,7 +79,7 @@ pub returns-in-Ok-Some-clause-keeps_to : goal.returns-in-Ok-Some-clause-keeps_to
 returns-in-Ok-Some-clause-keeps_to g c = λ o named h. found_keeps c.args.filer.now.runs c.find.new.self.runs c.find.ensures.beside c.find.ensures.same c.find.ensures.runs_are h
 
 pub returns-in-Err-clause-reasons : goal.returns-in-Err-clause-reasons
-returns-in-Err-clause-reasons g c = λ o named h. map_reasons h c.find.ensures.beside.goes.makes c.args.filer.now.swapper.accepted c.in-Err.halt c.in-Err.ensures.cause
+returns-in-Err-clause-reasons g c = λ o named h may. map_reasons h c.find.ensures.beside.goes.makes c.args.filer.now.swapper.accepted c.in-Err.halt c.in-Err.ensures.cause
 
 pub returns-in-Ok-None-clause-reasons : goal.returns-in-Ok-None-clause-reasons
-returns-in-Ok-None-clause-reasons g c = λ o named h. tt
+returns-in-Ok-None-clause-reasons g c = λ o named h may. missing_reason h c.find.ensures.beside.goes.makes c.args.id c.args.page may (λ m named stands map. c.find.ensures.nowhere m named stands map (search rules))

@@ -23,6 +23,7 @@ use Rattle.file_manager.proofs.RootCalls.{quiet_root, file_no_root, resized_root
 use Rattle.labelled_disk.specs.declared.layout.Layout.{Layout}
 use Rattle.labelled_disk.specs.Label.{leader_page}
 use Rattle.file_manager.specs.Reasons.{ShowsReason}
+use Rattle.file_manager.specs.ReasonLaws.{missing_reason}
 use Rattle.file_manager.proofs.KeepCut.{none_above}
 use Rattle.file_manager.proofs.resizing.set_size.Goals as goal
 
@@ -379,22 +380,26 @@ returns-in-Err-shrink-clause-root g c = resized_some_root c.args.pages (file_no_
 pub returns-in-Err-clause-reasons : goal.returns-in-Err-clause-reasons
 returns-in-Err-clause-reasons g c = c.in-Err.ensures.reasons
 
+pub returns-in-Ok-None-clause-reasons : goal.returns-in-Ok-None-clause-reasons
+returns-in-Ok-None-clause-reasons g c = λ o named k. missing_reason k c.find_file.ensures.makes c.args.id leader_page (inr (file_id c.args.id c.requires.of_file)) (c.find_file.ensures.missing (search rules))
+
 pub returns-in-Ok-clause-keeps_to : goal.returns-in-Ok-clause-keeps_to
 returns-in-Ok-clause-keeps_to g c = λ o named k.
     let sized = subst (λ (o : Option FoundFile). IfSome o (λ file. IsSize named c.args.id file.pages)) c.in-Ok-Some.field-0-is (c.in-Ok-Some.ensures.size k.memory named k.stands k.map) in
-    let none = none_above named c.args.id c.in-Ok-Some.file.pages c.args.pages c.requires.numbers sized in
+    let none = none_above named c.args.id c.in-Ok-Some.file.pages c.args.pages (let few = c.requires.numbers in omega (arith, few)) sized in
     c.in-Ok.ensures.keeps_to o named (c.in-Ok-Some.ensures.keeps_to o named k) none
 
 pub returns-in-Err-grow-clause-reasons : goal.returns-in-Err-grow-clause-reasons
 returns-in-Err-grow-clause-reasons g c = λ o named k.
     let sized = subst (λ (o : Option FoundFile). IfSome o (λ file. IsSize named c.args.id file.pages)) c.in-Ok-Some.field-0-is (c.in-Ok-Some.ensures.size k.memory named k.stands k.map) in
-    let none = none_above named c.args.id c.in-Ok-Some.file.pages c.args.pages c.requires.numbers sized in
+    let none = none_above named c.args.id c.in-Ok-Some.file.pages c.args.pages (let few = c.requires.numbers in omega (arith, few)) sized in
     subst (λ (l : Layout). ShowsReason o l (g.D.Disk.state c.grow.new.filer.swapper.under) c.in-Err-grow.halt) c.find_file.ensures.layout (c.in-Err-grow.ensures.reasons o named (c.in-Ok-Some.ensures.keeps_to o named k) none)
 
 pub returns-in-Ok-shrink-clause-keeps_to : goal.returns-in-Ok-shrink-clause-keeps_to
 returns-in-Ok-shrink-clause-keeps_to g c = λ o named k.
     let led = subst (λ (o : Option FoundFile). IfSome o (λ file. named c.args.id leader_page file.sector ≡ true)) c.in-Ok-Some.field-0-is (c.in-Ok-Some.ensures.names k.memory named k.stands k.map k.kept) in
-    c.in-Ok-shrink.ensures.keeps_to o named (c.in-Ok-Some.ensures.keeps_to o named k) led
+    let sized = subst (λ (o : Option FoundFile). IfSome o (λ file. IsSize named c.args.id file.pages)) c.in-Ok-Some.field-0-is (c.in-Ok-Some.ensures.size k.memory named k.stands k.map) in
+    c.in-Ok-shrink.ensures.keeps_to o named (c.in-Ok-Some.ensures.keeps_to o named k) led (none_above named c.args.id c.in-Ok-Some.file.pages 4294967295 (omega arith) sized)
 
 pub returns-in-Err-shrink-clause-reasons : goal.returns-in-Err-shrink-clause-reasons
 returns-in-Err-shrink-clause-reasons g c = λ o named k.

@@ -1,4 +1,4 @@
-use Rattle.std.proofs.Common.{rules, ◌≡◌, ◌<◌}
+use Rattle.std.proofs.Common.{arith, rules, ◌≡◌, ◌<◌, ◌≤◌}
 use Rattle.file_manager.proofs.FreedRun.{stops_then}
 use Rattle.file_manager.proofs.DownTo.{down_reason, down_none, down_then, down_rest, down_freed, down_made, down_spent, down_stopped_cost, down_broken_off, down_halts}
 use Rattle.label_calls.specs.OwnLaws.{relabels_own}
@@ -11,7 +11,7 @@ loop-page-init g c = down_none _ _ _ _ _ _ _ c.requires.order c.requires.size
 pub loop-page-preserved : goal.loop-page-preserved
 loop-page-preserved g c =
     let below : c.args.from < c.loop-page.page = search rules in
-    down_then c.loop-page.invariant below c.in-Ok.ensures.some c.in-Ok.ensures.layout c.in-Ok.ensures.spent c.in-Ok.ensures.makes c.in-Ok.ensures.keeps c.in-Ok.ensures.freed c.in-Ok.ensures.own c.in-Ok.ensures.keeps_to
+    down_then c.loop-page.invariant below c.in-Ok.ensures.some c.in-Ok.ensures.layout c.in-Ok.ensures.spent c.in-Ok.ensures.makes c.in-Ok.ensures.keeps c.in-Ok.ensures.freed c.in-Ok.ensures.own c.in-Ok.ensures.keeps_to c.in-Ok.ensures.let_go
 
 pub returns-in-Err-clause-sound : goal.returns-in-Err-clause-sound
 returns-in-Err-clause-sound g c = λ named spaces m may.
@@ -63,3 +63,9 @@ returns-in-Err-clause-reasons g c = down_reason c.loop-page.invariant (g.D.Disk.
 
 pub returns-clause-keeps_to : goal.returns-clause-keeps_to
 returns-clause-keeps_to g c = c.loop-page.invariant.keeps_to
+
+pub returns-clause-let_go : goal.returns-clause-let_go
+returns-clause-let_go g c = λ o named h page sector own is.
+    let none : c.loop-page.page ≤ c.args.from = search rules in
+    let first = own.0 in
+    c.loop-page.invariant.let_go o named h page sector (omega (arith, first, none), own.1) is

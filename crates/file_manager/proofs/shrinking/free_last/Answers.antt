@@ -1,4 +1,4 @@
-use Rattle.std.proofs.Common.{◌≡◌, inr, ◌-◌, sym, ◌∙◌, ap, subst, arith, rules}
+use Rattle.std.proofs.Common.{◌≡◌, ◌<◌, ◌≤◌, inr, ◌-◌, sym, ◌∙◌, ap, subst, arith, rules}
 use Rattle.labelled_disk.specs.declared.layout.Layout.{Layout}
 use Rattle.swapper_kernel.specs.declared.manager.Manager.TheVariants.{AllocationMap, FileMap}
 use Rattle.filer_kernel.specs.declared.cached.CachedRuns.{CachedRuns}
@@ -16,7 +16,7 @@ use Rattle.file_manager.specs.Grounds.{IsUnframed, KeepsMap}
 use Rattle.label_calls.specs.OwnLaws.{relabels_own, wrote_own, own_then, quiet_own}
 use Rattle.file_manager.proofs.OwnSteps.{map_own, own_after, same_id}
 use Rattle.file_manager.specs.ReasonLaws.{keeps_as}
-use Rattle.file_manager.proofs.FreedReasons.{labels_reason, marks_reason, marks_keep}
+use Rattle.file_manager.proofs.FreedReasons.{labels_reason, marks_reason, marks_keep, let_of_run, marks_let}
 use Rattle.file_manager.proofs.shrinking.free_last.Given as given
 use Rattle.file_manager.proofs.shrinking.free_last.Goals as goal
 use Rattle.file_manager.proofs.shrinking.free_last.Goals.{After-forget_run}
@@ -202,6 +202,9 @@ returns-clause-own g c =
     let f = behind g (goal.at.returns-clause-own g c).After-forget_run in
     own_after (quiet_own c.args.id f.makes) (own_then (wrote_own c.in-Ok-free_labels_down.ensures.freed.makes (same_id c.in-Ok.ensures.form.same_id c.in-Ok-free_labels_down.ensures.own)) (map_own c.args.id c.in-Ok-give.ensures.kept))
 
+pub returns-in-Err-clause-reasons : goal.returns-in-Err-clause-reasons
+returns-in-Err-clause-reasons g c = λ o named h. c.in-Err.ensures.reasons o named h (inr c.requires.of_file)
+
 pub returns-in-Err-free_labels_down-clause-reasons : goal.returns-in-Err-free_labels_down-clause-reasons
 returns-in-Err-free_labels_down-clause-reasons g c = λ o named h.
     let f = behind g (goal.at.returns-in-Err-free_labels_down-clause-reasons g c).After-forget_run in
@@ -230,3 +233,18 @@ returns-clause-keeps_to g c = λ o named h.
     keeps_as beside.layout same_runs
     (marks_keep (f.keeps_to o named h) c.args.filer.now.swapper.accepted c.in-Ok.run' c.in-Ok.ensures.form.form (run_down c.in-Ok.run') (down_has c.in-Ok.run') (down_all c.in-Ok.run')
     c.in-Ok-free_labels_down.ensures.freed c.in-Ok-free_labels_down.ensures.were f.gone beside (λ m marks stands bits. given m marks stands bits))
+
+pub returns-clause-let_go : goal.returns-clause-let_go
+returns-clause-let_go g c = λ o named h.
+    let f = behind g (goal.at.returns-clause-let_go g c).After-forget_run in
+    let run = c.in-Ok.run' in
+    let form = c.in-Ok.ensures.form in
+    let layout = c.args.filer.now.swapper.layout in
+    let frames = c.in-Ok-free_labels_down.ensures.frames in
+    let lay : c.free_labels_down.new.filer.swapper.layout ≡ layout = c.in-Ok-free_labels_down.ensures.layout ∙ f.same_layout in
+    let beside = rw (frames, lay) at c.in-Ok-give.ensures.kept in
+    let all = c.in-Ok.ensures.named h.memory named h.stands h.map h.kept in
+    let reaches = form.reaches in
+    let_of_run named run c.args.id (λ p. (c.args.end - run.pages ≤ p) × (p < c.args.end)) form.same_id (λ p own. let from = own.0 in let below = own.1 in (omega (arith, from, reaches), omega (arith, below, reaches)))
+    (marks_let (f.keeps_to o named h) c.args.filer.now.swapper.accepted run form.form (run_down run) (down_has run) (down_all run)
+    c.in-Ok-free_labels_down.ensures.freed c.in-Ok-free_labels_down.ensures.were f.gone beside all)

@@ -16,7 +16,7 @@ use Rattle.file_manager.proofs.RootCalls.{freed_some_root, freed_root}
 use Rattle.labelled_disk.specs.declared.layout.Layout.{Layout}
 use Rattle.filer_kernel.specs.declared.cached.CachedRuns.{CachedRuns}
 use Rattle.file_manager.proofs.KeepSteps.{keeps_at}
-use Rattle.file_manager.proofs.KeepCut.{keeps_cut}
+use Rattle.file_manager.proofs.KeepCut.{keeps_cut, table_page}
 use Rattle.file_manager.proofs.ReasonCauses.{cut_reasons}
 use Rattle.file_manager.specs.Reasons.{KeepsTo, ShowsReason}
 use Rattle.file_manager.proofs.tables.free_tables.Goals as goal
@@ -148,7 +148,7 @@ returns-in-Err-clause-reasons g c = λ o named k.
     let f = c.forget_tables.ensures in
     let forgot = keeps_at c.forget_tables.new.filer.runs f.layout (subst (λ (r : CachedRuns). KeepsTo o c.args.filer.now.swapper.layout (runs_of c.args.filer.now.swapper.layout.sectors r) (g.D.Disk.state c.forget_tables.new.filer.swapper.under) c.forget_tables.new.filer.swapper.pool named) (sym f.runs)
     (forgotten_keeps [] c.args.filer.now.swapper.accepted c.args.filer.now.swapper.placed f.gone f.left f.goes (ap g.D.Disk.state f.under) k)) in
-    subst (λ (l : Layout). ShowsReason o l (g.D.Disk.state c.free_up.new.filer.swapper.under) c.in-Err.halt) f.layout (c.in-Err.ensures.reasons o named forgot)
+    subst (λ (l : Layout). ShowsReason o l (g.D.Disk.state c.free_up.new.filer.swapper.under) c.in-Err.halt) f.layout (c.in-Err.ensures.reasons o named forgot (λ page below. inl (refl, below)))
 
 pub returns-in-Err-cut-clause-reasons : goal.returns-in-Err-cut-clause-reasons
 returns-in-Err-cut-clause-reasons g c = λ o named k.
@@ -165,4 +165,8 @@ returns-clause-keeps_to g c = λ o named k.
     let forgot = keeps_at c.forget_tables.new.filer.runs f.layout (subst (λ (r : CachedRuns). KeepsTo o c.args.filer.now.swapper.layout (runs_of c.args.filer.now.swapper.layout.sectors r) (g.D.Disk.state c.forget_tables.new.filer.swapper.under) c.forget_tables.new.filer.swapper.pool named) (sym f.runs)
     (forgotten_keeps [] c.args.filer.now.swapper.accepted c.args.filer.now.swapper.placed f.gone f.left f.goes (ap g.D.Disk.state f.under) k)) in
     let now = c.in-Ok.ensures.keeps_to o named forgot in
-    rw c.frames_of.ensures.same (_, keeps_at c.cut.new.self.runs c.cut.ensures.beside.layout (keeps_cut now c.cut.ensures.beside 3 0 (c.cut.ensures.runs c.free_up.new.filer.swapper.layout.sectors) c.in-Ok-cut.ensures.cut))
+    rw c.frames_of.ensures.same (
+      _,
+      keeps_at c.cut.new.self.runs c.cut.ensures.beside.layout (keeps_cut now c.cut.ensures.beside 3 0 (c.cut.ensures.runs c.free_up.new.filer.swapper.layout.sectors)
+          (λ page sector may from is. c.in-Ok.ensures.let_go o named forgot page sector (from, table_page may) is) c.in-Ok-cut.ensures.cut),
+    )

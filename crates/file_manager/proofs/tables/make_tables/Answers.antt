@@ -14,11 +14,10 @@ use Rattle.session_words.specs.Parts.{Shapes}
 use Rattle.file_manager.specs.Tables.{MayBegin}
 use Rattle.file_manager.proofs.CreateStops.{create_of_cut, create_of_make, nothing_behind}
 use Rattle.file_manager.proofs.Faults.{counted, counted_then}
-use Rattle.file_manager.proofs.KeepCut.{keeps_cut}
 use Rattle.file_manager.proofs.KeepSteps.{keeps_at}
 use Rattle.file_manager.proofs.ReasonCauses.{cut_reasons}
 use Rattle.file_manager.proofs.RootCalls.{grew_root, grown_root}
-use Rattle.file_manager.proofs.RootKeeps.{none_left}
+use Rattle.file_manager.proofs.RootKeeps.{none_left, tables_let, whole_cut}
 use Rattle.file_manager.proofs.RunStages.{map_is, maps_named}
 use Rattle.file_manager.proofs.TablesCut.{may_begin_cut, begun_behind, tables_unmade, tables_some_behind, tables_made_behind}
 use Rattle.file_manager.proofs.tables.make_tables.Given as given
@@ -60,7 +59,7 @@ returns-in-Err-clause-cause g c =
     c.in-Err.ensures.begun c.in-Err.ensures.cause
 
 pub returns-in-Err-clause-reasons : goal.returns-in-Err-clause-reasons
-returns-in-Err-clause-reasons g c = λ o named h.
+returns-in-Err-clause-reasons g c = λ o named h let_go.
     cut_reasons h c.cut.ensures.beside.goes.makes c.in-Err.halt c.in-Err.ensures.cause (c.in-Err.ensures.right h.memory named h.stands h.map)
 
 pub returns-in-Err-clause-so : goal.returns-in-Err-clause-so
@@ -92,8 +91,8 @@ returns-in-Err-make_pages-clause-cause g c =
     (rw (c.frames_of.ensures.same, c.in-Ok.ensures.beside.layout) at c.in-Err-make_pages.ensures.cause)
 
 pub returns-in-Err-make_pages-clause-reasons : goal.returns-in-Err-make_pages-clause-reasons
-returns-in-Err-make_pages-clause-reasons g c = λ o named h.
-    let cut = keeps_at c.cut.new.self.runs c.in-Ok.ensures.beside.layout (keeps_cut h c.in-Ok.ensures.beside 3 0 (c.in-Ok.ensures.runs c.args.filer.now.swapper.layout.sectors) c.in-Ok.ensures.cut) in
+returns-in-Err-make_pages-clause-reasons g c = λ o named h let_go.
+    let cut = keeps_at c.cut.new.self.runs c.in-Ok.ensures.beside.layout (whole_cut h c.in-Ok.ensures.beside 3 (c.in-Ok.ensures.runs c.args.filer.now.swapper.layout.sectors) (tables_let c.args.filer.now.swapper.layout named let_go) c.in-Ok.ensures.cut) in
     (rw (c.frames_of.ensures.same, c.in-Ok.ensures.beside.layout) at c.in-Err-make_pages.ensures.reasons) o (without_from named 3 0) (rw c.in-Ok.ensures.beside.layout at cut) (λ page sector own. none_left named 3 page sector tt)
 
 pub returns-in-Err-make_pages-clause-counted : goal.returns-in-Err-make_pages-clause-counted
@@ -118,8 +117,8 @@ pub returns-clause-makes : goal.returns-clause-makes
 returns-clause-makes g c = tables_made_behind c.in-Ok.ensures.beside (rw c.frames_of.ensures.same at c.in-Ok-make_pages.ensures.makes)
 
 pub returns-clause-keeps_to : goal.returns-clause-keeps_to
-returns-clause-keeps_to g c = λ o named h.
-    let cut = keeps_at c.cut.new.self.runs c.in-Ok.ensures.beside.layout (keeps_cut h c.in-Ok.ensures.beside 3 0 (c.in-Ok.ensures.runs c.args.filer.now.swapper.layout.sectors) c.in-Ok.ensures.cut) in
+returns-clause-keeps_to g c = λ o named h let_go.
+    let cut = keeps_at c.cut.new.self.runs c.in-Ok.ensures.beside.layout (whole_cut h c.in-Ok.ensures.beside 3 (c.in-Ok.ensures.runs c.args.filer.now.swapper.layout.sectors) (tables_let c.args.filer.now.swapper.layout named let_go) c.in-Ok.ensures.cut) in
     (rw c.frames_of.ensures.same at c.in-Ok-make_pages.ensures.keeps_to) o (without_from named 3 0) cut (λ page sector own. none_left named 3 page sector tt)
 
 pub returns-clause-root : goal.returns-clause-root
