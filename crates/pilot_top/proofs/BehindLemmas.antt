@@ -15,7 +15,7 @@ use Rattle.pilot_engine.specs.Closing.{HasShut}
 use Rattle.frame_pool.specs.declared.home.Home.{Home}
 use Rattle.swapper_kernel.specs.Homes.{home_at}
 use Rattle.filer_kernel.specs.Evidence.{IsSo}
-use Rattle.file_manager.specs.Reasons.{HasReason, IsAtHome, MayBeFree, Outset, WasMade, outset}
+use Rattle.file_manager.specs.Reasons.{HasReason, IsAtHome, IsLet, MayBeFree, Outset, WasMade, outset}
 use Rattle.pilot_top.specs.Headline.{IsLeftOpen, Run, TellsDamage}
 use Rattle.pilot_top.specs.Moments.{Lawfully, Moments}
 use Rattle.pilot_top.specs.Outset.{FromOutset}
@@ -32,7 +32,7 @@ none_rose_behind state before x y none same = subst (λ z. Rose before (state z)
 made_there : (o : Outset) (a b : DiskState) (w : DiskWrite) → a.writes ≡ b.writes → WasMade o a w → WasMade o b w
 made_there o a b w same made = record { more = made.more; told = sym same ∙ made.told; turn = made.turn; is = made.is }
 
--- so a page is at home there, a sector may be free, and evidence has its reason
+-- so a page is at home there, a sector may be free, a home is let, and evidence has its reason
 home_there : (o : Outset) (a b : DiskState) (home : Home) → a.writes ≡ b.writes → IsAtHome o a home → IsAtHome o b home
 home_there o a b home same (inl named) = inl named
 home_there o a b home same (inr given) = inr (given.0, made_there o a b _ same given.1)
@@ -41,12 +41,22 @@ free_there : (o : Outset) (a b : DiskState) (sector : ℕ) → a.writes ≡ b.wr
 free_there o a b sector same (inl free) = inl free
 free_there o a b sector same (inr given) = inr (made_there o a b _ same given)
 
+let_there : (o : Outset) (a b : DiskState) (home : Home) → a.writes ≡ b.writes → IsLet o a home → IsLet o b home
+let_there o a b home same h = record {
+  outset = λ is. elim (h.outset is) [ inl tables ↦ inl tables | inr (v, lets, made) ↦ inr (v, lets, made_there o a b v same made) ];
+  since = λ more told turn w at gives. h.since more (same ∙ told) turn w at gives;
+}
+
 reason_there : (o : Outset) (l : Layout) (a b : DiskState) (e : Evidence) → a.writes ≡ b.writes → HasReason o l a e → HasReason o l b e
 reason_there o l a b (Mismatch sector wanted found) same (inl map) = inl map
 reason_there o l a b (Mismatch sector wanted found) same (inr (inl home)) = inr (inl (home_there o a b (home_at sector wanted) same home))
 reason_there o l a b (Mismatch sector wanted found) same (inr (inr free)) = inr (inr (free.0, free_there o a b sector same free.1))
-reason_there o l a b (Malformed window page) same is = is
-reason_there o l a b (Missing id page) same is = is
+reason_there o l a b (Malformed window page) same (inl (second, first, full)) =
+    inl (second, first, record { homes = full.homes; counted = full.counted; each = λ k home at. home_there o a b home same (full.each k home at); apart = full.apart })
+reason_there o l a b (Malformed window page) same (inr third) = inr third
+reason_there o l a b (Missing id page) same (inl (tables, first, up)) =
+    inl (tables, first, λ sector from below free. let taken = up sector from below free in (taken.0, taken.1, (taken.2.0, made_there o a b _ same taken.2.1)))
+reason_there o l a b (Missing id page) same (inr (may, gone)) = inr (may, λ sector from. let_there o a b _ same (gone sector from))
 
 module _ {D : Type 0} (state : D → DiskState) (x y : D) (same : x ≡ y) where
   pub rose_behind : (before : ℕ) → Rose before (state y).faults → Rose before (state x).faults
