@@ -1,6 +1,6 @@
 -- How a session keeps to what stood when it began: at its start, where the space tables are begun, and where maps are written.
-use Rattle.std.proofs.Common.{◌≡◌, ◌⊎◌, inl, inr, ℕ, ◌*◌, ◌<◌, Bool, true, false, List, [], ◌∷◌, ◌++◌, drop, length, Some, refl, suc, sym, zero, ◌∙◌, ap, append-nil, subst, arith}
-use Rattle.std.specs.Prelude.{slice_get, ◌&&◌, ◌==◌}
+use Rattle.std.proofs.Common.{◌≡◌, ◌⊎◌, inl, inr, ℕ, ◌*◌, ◌<◌, Bool, true, false, List, [], ◌∷◌, ◌++◌, drop, length, Some, refl, suc, sym, zero, ◌∙◌, ap, append-nil, subst, arith, ◌+◌, ◌≤◌}
+use Rattle.std.specs.Prelude.{slice_get, ◌&&◌, ◌==◌, filter, not, option_map}
 use Rattle.std.proofs.lemmas.Bool.{true≢false}
 use Rattle.std.proofs.lemmas.Option.{none-some, same_Some}
 use Rattle.labelled_disk.specs.declared.disk.DiskWrite.{DiskWrite}
@@ -9,7 +9,7 @@ use Rattle.labelled_disk.specs.declared.evidence.Halt.{Halt}
 use Rattle.labelled_disk.specs.declared.layout.Layout.{Layout}
 use Rattle.labelled_disk.specs.Calls.{OnlyReads}
 use Rattle.labelled_disk.specs.Layout.{vam}
-use Rattle.labelled_disk.specs.Sectors.{Sector, AreSectors}
+use Rattle.labelled_disk.specs.Sectors.{Sector, AreSectors, free_label}
 use Rattle.labelled_disk.specs.State.{DiskState}
 use Rattle.alloc_map.specs.Bits.{is_used}
 use Rattle.frame_pool.specs.declared.home.Home.{Home}
@@ -19,7 +19,7 @@ use Rattle.file_map.specs.FileMap.{Triples}
 use Rattle.swapper_kernel.specs.declared.manager.Manager.TheVariants.{AllocationMap}
 use Rattle.swapper_kernel.specs.Differs.{Differs}
 use Rattle.swapper_kernel.specs.DiffersLaws.{differs_wider}
-use Rattle.swapper_kernel.specs.Goes.{Makes, Pages, Swaps}
+use Rattle.swapper_kernel.specs.Goes.{Makes, Pages, Swaps, is_page_write, no_page}
 use Rattle.swapper_kernel.specs.GoesLaws.{goes_wider}
 use Rattle.swapper_kernel.specs.HaltLaws.{brings_same, brings_wider}
 use Rattle.swapper_kernel.specs.Halts.{Halts}
@@ -38,13 +38,18 @@ use Rattle.session_words.proofs.ShownLemmas.{shown_laws}
 use Rattle.volume_root.specs.declared.root.Root.{Root}
 use Rattle.volume_root.specs.RootPage.{root_write}
 use Rattle.file_manager.specs.ReasonLaws.{GivesNot, beside_keeps, label_reasons, let_later, since_later}
-use Rattle.file_manager.specs.Reasons.{AreLet, IsLet, IsSince, KeepsTo, Outset, ShowsReason, outset}
+use Rattle.file_manager.specs.Reasons.{AreLet, IsLet, IsSince, KeepsTo, Outset, ShowsReason, outset, WasMade}
 use Rattle.fault_core.specs.Reach.{IsReached, Reaches, ReachHalts, no_break}
 use Rattle.fault_core.specs.Touch.{on_data}
 use Rattle.fault_core.specs.View.{View, kept_by}
 use Rattle.fault_core.proofs.ReachLemmas.{reaches_itself}
 use Rattle.fault_core.proofs.TurnLemmas.{brought_halt, reaches_brought}
 use Rattle.running_words.specs.Moving.{Moves, ViewKeepsTo, any_page}
+use Rattle.running_words.specs.MovingLaws.{keeps_bare, moves_of_reaches}
+use Rattle.labelled_disk.specs.Label.{page_label}
+use Rattle.labelled_disk.specs.Runs.{zero_bytes}
+use Rattle.swapper_kernel.proofs.PlacedLemmas.{parts}
+use Rattle.labelled_disk.specs.declared.label.Wanted.{Wanted}
 use Rattle.pilot_engine.specs.Opening.{IsBare}
 use Rattle.pilot_engine.specs.Reasons.{IsBegun}
 use Rattle.pilot_engine.proofs.StartStands.{bare_stands}
@@ -101,30 +106,78 @@ begun_keeps layout d named ws disk slots kept is size sectors long bare none beg
 
 -- ---- The root is written, and the allocation map is looked at.
 
--- the identifier in a label that is written with its page
-id_written : DiskWrite → ℕ
-id_written (write.Whole sector label bytes) = label.id
-id_written (write.LabelOnly sector label) = 0
-id_written (write.Page sector wanted bytes) = 0
+-- what stands behind the same writes is the same
+one_end : (xs ys zs : List DiskWrite) → xs ++ ys ≡ xs ++ zs → ys ≡ zs
+one_end [] ys zs same = same
+one_end (x ∷ xs) ys zs same = one_end xs ys zs (ap (λ (l : List DiskWrite). drop 1 l) same)
 
--- the root's label gives no page of the space tables a sector
-root_gives_not : (root : Root) (home : Home) → home.id ≡ 3 → GivesNot (root_write root ∷ []) home
-unfolding id_written
-root_gives_not root home tables zero w at (kind, is) =
-    let four : 4 ≡ id_written w = ap id_written (same_Some (root_write root) w at) in
-    let own : id_written w ≡ home.id = ap id_written is in
-    omega (arith, four, own, tables)
-root_gives_not root home tables (suc k) w at gives = absurd (none-some w at)
+-- What was written since is the root alone.
+only_root : (o : Outset) (w : DiskWrite) {disk : DiskState} → disk.writes ≡ Some (o.writes ++ (w ∷ [])) → (v : DiskWrite) → WasMade o disk v → v ≡ w
+only_root o w {disk = disk} told v made = first made.turn (one_end o.writes made.more (w ∷ []) (same_Some (o.writes ++ made.more) (o.writes ++ (w ∷ [])) (sym made.told ∙ told))) made.is
+  where
+    first : (turn : ℕ) {more : List DiskWrite} → more ≡ w ∷ [] → slice_get more turn ≡ Some v → v ≡ w
+    first zero same is = sym (same_Some w v (sym (ap (λ (l : List DiskWrite). slice_get l 0) same) ∙ is))
+    first (suc turn) same is = absurd (none-some v (sym (ap (λ (l : List DiskWrite). slice_get l (suc turn)) same) ∙ is))
 
--- so nothing makes a page of the space tables be at home behind it
-pub rooted_let : (d : List Sector) (named : Triples) (ws : List DiskWrite) (root : Root) {p q : Pages} {a b c : DiskState} {s t u v : Slots} → a.writes ≡ Some ws
-    → Makes p (root_write root ∷ []) a s b t → Makes q [] b u c v → AreLet (outset d named ws) c named 3 (λ page. page < 96)
-rooted_let d named ws root {a = a} writes made counted = λ page sector below is_named.
-    let o = outset d named ws in
-    let home : Home = record { sector = sector; id = 3; page = page } in
-    let since : IsSince o a = ([], writes ∙ ap (λ (l : List DiskWrite). Some l) (sym (append-nil ws))) in
-    let first : IsLet o a home = record { outset = λ was. inl refl; since = λ more told turn w at gives. absurd (nothing_more ws a writes more told turn w at) } in
-    let_later o counted (since_later o made since) home (λ k w at gives. none-some w at) (let_later o made since home (root_gives_not root home refl) first)
+-- where no page was written, each write is of a label
+all_labels : (ws : List DiskWrite) → ((k sector : ℕ) (wanted : Wanted) (bytes : List ℕ) → slice_get ws k ≡ Some (write.Page sector wanted bytes) → ⊥) → filter (λ w. not (is_page_write w)) ws ≡ ws
+all_labels [] none = refl
+all_labels (write.Page sector wanted bytes ∷ ws) none = absurd (none 0 sector wanted bytes refl)
+all_labels (write.Whole sector label bytes ∷ ws) none = ap (λ (l : List DiskWrite). write.Whole sector label bytes ∷ l) (all_labels ws (λ k sector wanted bytes at. none (suc k) sector wanted bytes at))
+all_labels (write.LabelOnly sector label ∷ ws) none = ap (λ (l : List DiskWrite). write.LabelOnly sector label ∷ l) (all_labels ws (λ k sector wanted bytes at. none (suc k) sector wanted bytes at))
+
+-- without frames one write of a label is all that was written
+pub rooted_writes : (ws : List DiskWrite) (w : DiskWrite) {a b : DiskState} {s t : Slots} → Makes no_page (w ∷ []) a s b t → IsBare s → a.writes ≡ Some ws → b.writes ≡ Some (ws ++ (w ∷ []))
+rooted_writes ws w makes bare told =
+    makes.wrote.appended.told ∙ ap (option_map (λ (earlier : List DiskWrite). earlier ++ makes.wrote.writes)) told ∙ ap (λ (l : List DiskWrite). Some (ws ++ l))
+    (sym (all_labels makes.wrote.writes (λ k sector wanted bytes at. elim (makes.wrote.of_dirty k sector wanted bytes at) [ inl dirty ↦ bare dirty.slot dirty.frame dirty.has | inr none ↦ none ])) ∙ makes.wrote.labels)
+
+-- a sector is in it
+sector_written : DiskWrite → ℕ
+sector_written (write.Whole sector label bytes) = sector
+sector_written (write.LabelOnly sector label) = sector
+sector_written (write.Page sector wanted bytes) = sector
+
+-- A session begins with the root's write: what keeps to what stood before it keeps to what stood behind it.
+pub rooted : (layout : Layout) (d : List Sector) (named : Triples) (ws : List DiskWrite) (root : Root) (disk : DiskState) (slots : Slots) (kept : List Run) → IsLayout layout → IsBare slots → disk.writes ≡ Some (ws ++ (root_write root ∷ []))
+    → KeepsTo (outset d named ws) layout kept disk slots named → KeepsTo (outset d named (ws ++ (root_write root ∷ []))) layout kept disk slots named
+unfolding sector_written, zero_bytes
+rooted layout d named ws root disk slots kept is bare told k = record {
+  since = ([], told ∙ ap (λ (l : List DiskWrite). Some l) (sym (append-nil (ws ++ (root_write root ∷ [])))));
+  memory = k.memory;
+  stands = k.stands;
+  size = k.size;
+  map = k.map;
+  homes = λ home at. inl at;
+  kept = k.kept;
+  frames = λ home held. absurd (bare held.slot held.frame held.has);
+  unframed = k.unframed;
+  marks = k.marks;
+  bits = k.bits;
+  free = λ sector from below clear. elim (k.free sector from below clear) [
+    | inl was ↦ inl was
+    | inr up ↦ absurd (no_data sector from (ap sector_written (only_root (outset d named ws) (root_write root) told (write.LabelOnly sector free_label) up)))
+  ];
+  rest = λ home from client. rest home (decided (named home.id home.page home.sector));
+  used = λ sector from below is_used. elim (k.used sector from below is_used) [
+    | inl was ↦ inl was
+    | inr (id, page, (kind, made)) ↦ absurd (no_data sector from (ap sector_written (only_root (outset d named ws) (root_write root) told (write.Whole sector (page_label id kind page) zero_bytes) made)))
+  ];
+}
+  where
+    no_data : (sector : ℕ) → layout.first ≤ sector → sector ≡ 0 → ⊥
+    no_data sector from same = let first : layout.first ≡ 1 + layout.vam + layout.vfm = (parts layout is).0 in omega (arith, from, same, first)
+
+    decided : (b : Bool) → (b ≡ true) ⊎ (b ≡ false)
+    decided true = inl refl
+    decided false = inr refl
+
+    rest : (home : Home) → (named home.id home.page home.sector ≡ true) ⊎ (named home.id home.page home.sector ≡ false) → (named home.id home.page home.sector ≡ true) ⊎ IsLet (outset d named (ws ++ (root_write root ∷ []))) disk home
+    rest home (inl is_named) = inl is_named
+    rest home (inr none) = inr (record {
+      outset = λ was. absurd (true≢false (sym was ∙ none));
+      since = λ more tells turn w at gives. absurd (nothing_more (ws ++ (root_write root ∷ [])) disk told more tells turn w at);
+    })
 
 -- ---- The space tables are begun.
 
@@ -152,17 +205,32 @@ module _ (v w : View) where
   pub written_halt : (halt : Halt) → Halts no_home v.disk v.slots w.disk halt → ReachHalts no_break v w halt
   written_halt halt is = brought_halt v v w (reaches_itself v) no_home (λ home none. absurd none) halt is
 
+-- ---- What is kept without the space tables.
+
+-- what is seen keeps to the outset, whether or not the space tables are named
+abbrev pub ViewKeepsBare : Outset → View → Triples → Type 0
+ViewKeepsBare o v named = KeepsTo o v.layout (kept_by v) v.disk v.slots named
+
+-- at a start, of the outset behind the root's write
+pub rooted_at : (d : List Sector) (named : Triples) (ws : List DiskWrite) (root : Root) (v : View) → IsLayout v.layout → IsBare v.slots → v.disk.writes ≡ Some (ws ++ (root_write root ∷ []))
+    → ViewKeepsBare (outset d named ws) v named → ViewKeepsBare (outset d named (ws ++ (root_write root ∷ []))) v named
+rooted_at d named ws root v is bare told k = rooted v.layout d named ws root v.disk v.slots (kept_by v) is bare told k
+
+-- it does so where frames were written out
+pub keeps_written : (o : Outset) (v w : View) (named : Triples) → IsLayout v.layout → ViewKeepsBare o v named → Reaches v w → ViewKeepsBare o w named
+keeps_written o v w named is keeps reaches = keeps_bare o v w named is keeps (moves_of_reaches v w reaches)
+
 -- ---- The allocation map is looked at.
 
 -- its bits are told as they were, so the memory stands still
-pub keeps_counted : (o : Outset) (v w : View) (named : Triples) → ViewKeepsTo o v named → Beside AllocationMap v.disk v.slots v.layout w.disk w.slots w.layout
-    → ((m : List Sector) (marks : Marks) → Stands v.disk v.slots m → BitsAre v.layout marks m → Stands w.disk w.slots m) → w.runs ≡ v.runs → ViewKeepsTo o w named
+pub keeps_counted : (o : Outset) (v w : View) (named : Triples) → ViewKeepsBare o v named → Beside AllocationMap v.disk v.slots v.layout w.disk w.slots w.layout
+    → ((m : List Sector) (marks : Marks) → Stands v.disk v.slots m → BitsAre v.layout marks m → Stands w.disk w.slots m) → w.runs ≡ v.runs → ViewKeepsBare o w named
 keeps_counted o v w named keeps beside still runs =
     let now = beside_keeps keeps AllocationMap beside (still keeps.memory keeps.marks keeps.stands keeps.bits) (kept_by v) keeps.kept in
     subst (λ (r : CachedRuns). KeepsTo o w.layout (runs_of w.layout.sectors r) w.disk w.slots named) (sym runs)
     (subst (λ (l : Layout). KeepsTo o l (runs_of l.sectors v.runs) w.disk w.slots named) (sym beside.layout) now)
 
 -- a label is another than that of a page of the map, or of a frame
-pub counted_reasons : (o : Outset) (v w : View) (named : Triples) → ViewKeepsTo o v named → Beside AllocationMap v.disk v.slots v.layout w.disk w.slots w.layout
+pub counted_reasons : (o : Outset) (v w : View) (named : Triples) → ViewKeepsBare o v named → Beside AllocationMap v.disk v.slots v.layout w.disk w.slots w.layout
     → (halt : Halt) → Halts (IsMapHome AllocationMap v.layout) v.disk v.slots w.disk halt → ShowsReason o v.layout w.disk halt
 counted_reasons o v w named keeps beside halt is = label_reasons keeps beside.goes.makes (IsMapHome AllocationMap v.layout) (λ home own. inl (AllocationMap, own)) halt is

@@ -1,12 +1,14 @@
 -- Why a session that does not start tells damage, from what the disk had before.
-use Rattle.std.specs.Prelude.{◌≡◌, List, Some}
+use Rattle.std.specs.Prelude.{◌≡◌, List, [], ◌∷◌, ◌++◌, Some}
 use Rattle.labelled_disk.specs.declared.disk.DiskWrite.{DiskWrite}
 use Rattle.labelled_disk.specs.declared.layout.Layout.{Layout}
 use Rattle.labelled_disk.specs.Sectors.{Sector}
 use Rattle.labelled_disk.specs.State.{DiskState}
 use Rattle.file_map.specs.FileMap.{Triples}
 use Rattle.file_map.specs.InSectors.{MapNames}
-use Rattle.file_manager.specs.Reasons.{Outset, ShowsReason}
+use Rattle.volume_root.specs.declared.root.Root.{Root}
+use Rattle.volume_root.specs.RootPage.{root_write}
+use Rattle.file_manager.specs.Reasons.{Outset, ShowsReason, outset}
 use Rattle.pilot_engine.specs.declared.fault.StartFault.{StartFault}
 use Rattle.pilot_engine.specs.declared.fault.StartFault.TheVariants.{Root as NoRoot, NoMemory, Halt as Halted}
 
@@ -15,6 +17,10 @@ pub record IsBegun (d : List Sector) (named : Triples) (ws : List DiskWrite) (di
   pub contents : disk.contents ≡ Some d
   pub writes : disk.writes ≡ Some ws
   pub map : MapNames d named
+
+-- A session begins with a root's write: this is so of the outset behind it, with what both maps said before.
+abbrev pub FromStart : List Sector → Triples → List DiskWrite → (Outset → Type 0) → Type 0
+FromStart d named ws holds = (root : Root) × holds (outset d named (ws ++ (root_write root ∷ [])))
 
 -- where a halt is why no session started, it has such a reason
 abbrev pub ShowsReasonAtStart : Outset → Layout → DiskState → StartFault → Type 0

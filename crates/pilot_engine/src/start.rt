@@ -1,5 +1,5 @@
 //! A session is started on a volume that was closed.
-ghost use Rattle.std.specs.Prelude.{◌≡◌, ◌⊎◌, ℕ, ◌+◌, ◌-◌, ◌*◌, ◌^◌, ◌<◌, ◌≤◌, min, true, List, [], length, Some, Err, IfOk, IfErr, OnOk, MatchResult};
+ghost use Rattle.std.specs.Prelude.{◌≡◌, ◌⊎◌, ℕ, ◌+◌, ◌-◌, ◌*◌, ◌^◌, ◌<◌, ◌≤◌, min, true, List, [], ◌∷◌, ◌++◌, length, Some, Err, IfOk, IfErr, OnOk, MatchResult};
 ghost use Rattle.labelled_disk.specs.declared.evidence.Halt.TheVariants as halt;
 ghost use Rattle.labelled_disk.specs.declared.layout.RootFault.TheVariants as fault;
 ghost use Rattle.labelled_disk.specs.Calls.{OnlyReads, ReadsAtMost, Rose};
@@ -15,7 +15,7 @@ ghost use Rattle.flat_machine.specs.Start.{start};
 ghost use Rattle.swapper_kernel.specs.Goes.{Makes};
 ghost use Rattle.session_words.specs.Volume.{volume_page};
 ghost use Rattle.volume_root.specs.Flag.{IsRefused};
-ghost use Rattle.volume_root.specs.RootPage.{IsValidRoot, root_in};
+ghost use Rattle.volume_root.specs.RootPage.{IsValidRoot, root_in, root_write};
 ghost use Rattle.volume_root.specs.Sound.{Sound};
 ghost use Rattle.running_words.specs.Bound.{CostsOther};
 ghost use Rattle.pilot_engine.specs.declared.fault.StartFault.TheVariants as start_fault;
@@ -24,7 +24,7 @@ ghost use Rattle.running_words.specs.Running.{IsRunning, Runs};
 ghost use Rattle.running_words.specs.Session.{IsOpen, IsSession};
 ghost use Rattle.pilot_engine.specs.Beginning.{HasStartCause, StartHalts, TablesHalts};
 ghost use Rattle.file_manager.specs.Reasons.{KeepsOn, Outset, ShowsReason, outset};
-ghost use Rattle.pilot_engine.specs.Reasons.{IsBegun, ShowsReasonAtStart};
+ghost use Rattle.pilot_engine.specs.Reasons.{FromStart, IsBegun, ShowsReasonAtStart};
 
 use crate::frames::look_at_frames;
 use crate::{SessionOver, StartFault};
@@ -102,9 +102,9 @@ pub(crate) fn begin<D: Disk, A: Allocator>(
     ensures counted { result ≡ Err halt.Disk → Rose (D.state filer.old.swapper.under).faults (D.state filer.new.swapper.under).faults }
     ensures cause { IfErr result (StartHalts root (view_of filer.old) (view_of filer.new)) }
     ensures keeps_to { (d : List Sector) (named : Triples) (ws : List DiskWrite) → IsBegun d named ws (D.state filer.old.swapper.under)
-        → IfOk result (λ volume. KeepsOn (outset d named ws) filer.new) }
+        → IfOk result (λ volume. KeepsOn (outset d named (ws ++ (root_write (in_use root) ∷ []))) filer.new) }
     ensures reasons { (d : List Sector) (named : Triples) (ws : List DiskWrite) → IsBegun d named ws (D.state filer.old.swapper.under)
-        → IfErr result (ShowsReason (outset d named ws) filer.old.swapper.layout (D.state filer.new.swapper.under)) }
+        → IfErr result (ShowsReason (outset d named (ws ++ (root_write (in_use root) ∷ []))) filer.old.swapper.layout (D.state filer.new.swapper.under)) }
     ensures so { IfErr result (ShowsSo (D.state filer.new.swapper.under)) }
     ensures left_open { MatchResult result (λ volume. IsUnset (D.state filer.new.swapper.under)) (LeavesOpen (D.state filer.new.swapper.under)) }
     ensures serial { root.serial < 2 ^ 32 }
@@ -199,9 +199,9 @@ impl<D: Disk, A: Allocator> SessionOver<D, A> {
         ensures counted { IfErr result (λ e. IsDiskFault e.0 → Rose (D.state disk).faults (D.state e.1).faults) }
         ensures cause { IfErr result (λ e. HasStartCause (D.state disk) (D.state e.1) e.0) }
         ensures keeps_to { (d : List Sector) (named : Triples) (ws : List DiskWrite) → IsBegun d named ws (D.state disk)
-            → IfOk result (λ s. KeepsOn (outset d named ws) s.core.filer) }
+            → IfOk result (λ s. FromStart d named ws (λ o. KeepsOn o s.core.filer)) }
         ensures reasons { (d : List Sector) (named : Triples) (ws : List DiskWrite) → IsBegun d named ws (D.state disk)
-            → IfErr result (λ e. ShowsReasonAtStart (outset d named ws) (layout_of (length d)) (D.state e.1) e.0) }
+            → IfErr result (λ e. FromStart d named ws (λ o. ShowsReasonAtStart o (layout_of (length d)) (D.state e.1) e.0)) }
         ensures so { IfErr result (λ e. IsSoAtStart (D.state e.1) e.0) }
 
         // What was written, whether or not one starts.

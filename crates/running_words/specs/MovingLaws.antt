@@ -129,17 +129,17 @@ moves_then u v w is h k = record {
 
 -- ---- The outset.
 
-module _ (o : Outset) (v : View) (named : Triples) (is : IsLayout v.layout) (keeps : ViewKeepsTo o v named) where
+module _ (o : Outset) (v : View) (named : Triples) (is : IsLayout v.layout) (keeps : KeepsTo o v.layout (kept_by v) v.disk v.slots named) where
   -- a page that is reached is one of a map, or is named
   reached_named : (home : Home) → IsReached v home → IsMapsHome v.layout home ⊎ (named home.id home.page home.sector ≡ true)
   reached_named home reached = elim reached [
     | inl own ↦ inl (FileMap, own)
-    | inr found ↦ inr (run_home_named is keeps.0.size keeps.0.stands keeps.0.map (kept_by v) keeps.0.kept home found.by_run)
+    | inr found ↦ inr (run_home_named is keeps.size keeps.stands keeps.map (kept_by v) keeps.kept home found.by_run)
   ]
 
   -- so it is at home
   reached_home : (home : Home) → IsReached v home → IsMapsHome v.layout home ⊎ IsAtHome o v.disk home
-  reached_home home reached = elim (reached_named home reached) [ inl own ↦ inl own | inr is_named ↦ inr (keeps.0.homes home is_named) ]
+  reached_home home reached = elim (reached_named home reached) [ inl own ↦ inl own | inr is_named ↦ inr (keeps.homes home is_named) ]
 
   -- it is none that a free label would name
   reached_some : (home : Home) → IsReached v home → home.id ≡ 0 → ⊥
@@ -150,20 +150,21 @@ module _ (o : Outset) (v : View) (named : Triples) (is : IsLayout v.layout) (kee
 
   unframed_moved : (t : Slots) → Brings (IsReached v) v.slots t → IsUnframed t 0
   unframed_moved t brings page there = elim (brings.homes there.frame.home (record { slot = there.slot; frame = there.frame; has = there.has; at = refl })) [
-    | inl was ↦ keeps.0.unframed page (record { slot = was.slot; frame = was.frame; has = was.has; same_id = ap (λ (h : Home). h.id) was.at ∙ there.same_id; same_page = ap (λ (h : Home). h.page) was.at ∙ there.same_page })
+    | inl was ↦ keeps.unframed page (record { slot = was.slot; frame = was.frame; has = was.has; same_id = ap (λ (h : Home). h.id) was.at ∙ there.same_id; same_page = ap (λ (h : Home). h.page) was.at ∙ there.same_page })
     | inr came ↦ reached_some there.frame.home came there.same_id
   ]
 
   module _ (w : View) (h : Moves v w) where
     keeps_there : KeepsTo o v.layout (kept_by w) w.disk w.slots named
     keeps_there =
-        let now = h.goes.memory keeps.0.memory keeps.0.stands in
-        keeps_after keeps.0 h.goes.makes now.0 now.1 named (map_still v.layout is named keeps.0.memory now.0 now.2 keeps.0.map) (λ home one. inl one)
-        (kept_by w) (h.runs_are keeps.0.memory named keeps.0.stands keeps.0.map keeps.0.kept)
+        let now = h.goes.memory keeps.memory keeps.stands in
+        keeps_after keeps h.goes.makes now.0 now.1 named (map_still v.layout is named keeps.memory now.0 now.2 keeps.map) (λ home one. inl one)
+        (kept_by w) (h.runs_are keeps.memory named keeps.stands keeps.map keeps.kept)
         (λ home held. elim (h.brings.homes home held) [ inl was ↦ inl was | inr came ↦ inr (reached_named home came) ])
-        (unframed_moved w.slots h.brings) keeps.0.marks (marks_still v.layout is keeps.0.marks keeps.0.memory now.0 now.2 keeps.0.bits) (λ sector from below free. inl free)
+        (unframed_moved w.slots h.brings) keeps.marks (marks_still v.layout is keeps.marks keeps.memory now.0 now.2 keeps.bits) (λ sector from below free. inl free)
         (λ home from may one. inl one) (λ home from may. inr (λ k write at gives. none-some write at)) (λ sector from below used. inl used)
 
+module _ (o : Outset) (v : View) (named : Triples) (is : IsLayout v.layout) (keeps : ViewKeepsTo o v named) where
   -- a page that the file map does not name is missing with reason
   pub unnamed_missing : (id page : ℕ) → MayBeMissing id page → ((m : List Sector) (triples : Triples) → Stands v.disk v.slots m → MapIs v.layout triples m → IsNowhere triples id page) → HasReason o v.layout v.disk (Missing id page)
   unnamed_missing id page (inl (tables, below)) nowhere =
@@ -181,7 +182,7 @@ module _ (o : Outset) (v : View) (named : Triples) (is : IsLayout v.layout) (kee
     evidence_shows (Mismatch sector wanted found) cause = elim cause.reason [
       | inl (inl held) ↦ elim (keeps.0.frames (home_at sector wanted) held) [ inl own ↦ inl own | inr at ↦ inr (inl at) ]
       | inl (inr own) ↦ inl (FileMap, own)
-      | inr came ↦ elim (reached_home (home_at sector wanted) (inr came)) [ inl own ↦ inl own | inr at ↦ inr (inl at) ]
+      | inr came ↦ elim (reached_home o v named is keeps.0 (home_at sector wanted) (inr came)) [ inl own ↦ inl own | inr at ↦ inr (inl at) ]
     ]
     evidence_shows (Malformed window page) cause = elim cause [
       | inl (second, broken) ↦ absurd (in_form is keeps.0.size keeps.0.stands keeps.0.map page broken)
@@ -193,9 +194,13 @@ module _ (o : Outset) (v : View) (named : Triples) (is : IsLayout v.layout) (kee
     halt_shows Disk cause = tt
     halt_shows (Damaged evidence) cause = evidence_shows evidence cause
 
--- what is seen afterwards keeps to it too
+-- what is seen afterwards keeps to it too, whether or not the space tables are named
+pub keeps_bare : (o : Outset) (v w : View) (named : Triples) → IsLayout v.layout → KeepsTo o v.layout (kept_by v) v.disk v.slots named → Moves v w → KeepsTo o w.layout (kept_by w) w.disk w.slots named
+keeps_bare o v w named is keeps h = subst (λ (l : Layout). KeepsTo o l (kept_by w) w.disk w.slots named) (sym h.layout) (keeps_there o v named is keeps w h)
+
+-- and where they are
 pub keeps_moved : (o : Outset) (v w : View) (named : Triples) → IsLayout v.layout → ViewKeepsTo o v named → Moves v w → ViewKeepsTo o w named
-keeps_moved o v w named is keeps h = (subst (λ (l : Layout). KeepsTo o l (kept_by w) w.disk w.slots named) (sym h.layout) (keeps_there o v named is keeps w h), keeps.1)
+keeps_moved o v w named is keeps h = (keeps_bare o v w named is keeps.0 h, keeps.1)
 
 -- a reason that stands after it stood before
 pub moved_before : (o : Outset) (v w : View) (named : Triples) → ViewKeepsTo o v named → Moves v w → (halt : Halt) → ShowsReason o v.layout w.disk halt → ShowsReason o v.layout v.disk halt

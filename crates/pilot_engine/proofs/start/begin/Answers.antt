@@ -1,9 +1,11 @@
-use Rattle.std.proofs.Common.{◌≡◌, ◌-◌, min, [], ◌∷◌, refl, ◌∙◌, subst, inl, inr, rules}
+use Rattle.std.proofs.Common.{◌≡◌, ◌-◌, min, [], ◌∷◌, refl, ◌∙◌, subst, inl, inr, rules, ◌++◌, List, sym}
 use Rattle.labelled_disk.specs.FilesOn.{files_on}
 use Rattle.flat_machine.specs.Space.{root}
 use Rattle.session_words.specs.Parts.{shapes_of}
 use Rattle.file_manager.specs.declared.volume.Volume.{Volume}
 use Rattle.swapper_kernel.proofs.PlacedLemmas.{parts}
+use Rattle.volume_root.specs.RootPage.{root_write}
+use Rattle.pilot_engine.specs.Opening.{IsBare, in_use}
 use Rattle.pilot_engine.proofs.StartStands.{bare_stands, opened, opened_stands, marks, bits, map_named, free_are, may_begin, session_begun}
 use Rattle.pilot_engine.proofs.StartWrites.{root_some, count_some, tables_some, tables_all}
 use Rattle.swapper_kernel.specs.declared.manager.Manager.TheVariants.{AllocationMap}
@@ -17,7 +19,7 @@ use Rattle.fault_core.specs.View.{view_of}
 use Rattle.pilot_engine.proofs.BeginLemmas.{rooted}
 use Rattle.labelled_disk.specs.declared.layout.Layout.{Layout}
 use Rattle.file_manager.specs.Reasons.{ShowsReason, outset}
-use Rattle.pilot_engine.proofs.OutsetLemmas.{begun_keeps, counted_reasons, keeps_counted, rooted_let}
+use Rattle.pilot_engine.proofs.OutsetLemmas.{begun_keeps, counted_reasons, keeps_counted, rooted_at, rooted_writes}
 use Rattle.pilot_engine.proofs.start.begin.Goals as goal
 
 pub used_of-requires-clause-first : goal.used_of-requires-clause-first
@@ -199,10 +201,14 @@ returns-in-Err-clause-reasons g c = λ d named ws begun. rw c.in-Err.ensures.fau
 pub returns-in-Err-free_count-clause-reasons : goal.returns-in-Err-free_count-clause-reasons
 returns-in-Err-free_count-clause-reasons g c = λ d named ws begun.
     let filer = c.args.filer.now in
-    let o = outset d named ws in
+    let first_outset = outset d named ws in
+    let root = in_use c.args.root in
+    let o = outset d named (ws ++ (root_write root ∷ [])) in
     let first = begun_keeps filer.swapper.layout d named ws (g.D.Disk.state filer.swapper.under) filer.swapper.pool filer.runs filer.swapper.accepted c.requires.size (g.met.D.Disk.in_form filer.swapper.under d begun.contents)
     (g.met.D.Disk.whole filer.swapper.under d begun.contents ∙ c.requires.size) c.requires.bare (c.requires.no_runs filer.swapper.layout.sectors) begun in
-    let rooted_keeps = c.in-Ok.ensures.keeps_to o named first in
+    let written = rooted_writes ws (root_write root) (rw c.in_use-root.ensures.root at c.in-Ok.ensures.made).makes c.requires.bare begun.writes in
+    let bare = subst IsBare (sym c.in-Ok.ensures.frames) c.requires.bare in
+    let rooted_keeps = rooted_at d named ws root (view_of c.write_over.new.filer) (rw c.in-Ok.ensures.layout at filer.swapper.accepted) bare written (c.in-Ok.ensures.keeps_to first_outset named first) in
     let v = view_of c.write_over.new.filer in
     let w = view_of c.free_count.new.self in
     subst (λ (l : Layout). ShowsReason o l w.disk c.in-Err-free_count.halt) c.in-Ok.ensures.layout (counted_reasons o v w named rooted_keeps c.in-Err-free_count.ensures.kept c.in-Err-free_count.halt c.in-Err-free_count.ensures.cause)
@@ -210,33 +216,45 @@ returns-in-Err-free_count-clause-reasons g c = λ d named ws begun.
 pub returns-in-Err-make_tables-clause-reasons : goal.returns-in-Err-make_tables-clause-reasons
 returns-in-Err-make_tables-clause-reasons g c = λ d named ws begun.
     let filer = c.args.filer.now in
-    let o = outset d named ws in
+    let first_outset = outset d named ws in
+    let root = in_use c.args.root in
+    let o = outset d named (ws ++ (root_write root ∷ [])) in
     let first = begun_keeps filer.swapper.layout d named ws (g.D.Disk.state filer.swapper.under) filer.swapper.pool filer.runs filer.swapper.accepted c.requires.size (g.met.D.Disk.in_form filer.swapper.under d begun.contents)
     (g.met.D.Disk.whole filer.swapper.under d begun.contents ∙ c.requires.size) c.requires.bare (c.requires.no_runs filer.swapper.layout.sectors) begun in
-    let rooted_keeps = c.in-Ok.ensures.keeps_to o named first in
+    let written = rooted_writes ws (root_write root) (rw c.in_use-root.ensures.root at c.in-Ok.ensures.made).makes c.requires.bare begun.writes in
+    let bare = subst IsBare (sym c.in-Ok.ensures.frames) c.requires.bare in
+    let rooted_keeps = rooted_at d named ws root (view_of c.write_over.new.filer) (rw c.in-Ok.ensures.layout at filer.swapper.accepted) bare written (c.in-Ok.ensures.keeps_to first_outset named first) in
     let counted = keeps_counted o (view_of c.write_over.new.filer) (view_of c.free_count.new.self) named rooted_keeps c.in-Ok-free_count.ensures.kept c.in-Ok-free_count.ensures.same c.in-Ok-free_count.ensures.runs in
     subst (λ (l : Layout). ShowsReason o l (g.D.Disk.state c.make_tables.new.filer.swapper.under) c.in-Err-make_tables.halt) (c.in-Ok-free_count.ensures.kept.layout ∙ c.in-Ok.ensures.layout)
-    (c.in-Err-make_tables.ensures.reasons o named counted (rooted_let d named ws c.in_use-root.result begun.writes c.in-Ok.ensures.made.makes c.in-Ok-free_count.ensures.kept.goes.makes))
+    (c.in-Err-make_tables.ensures.reasons o named counted)
 
 pub returns-in-Err-write_tables-clause-reasons : goal.returns-in-Err-write_tables-clause-reasons
 returns-in-Err-write_tables-clause-reasons g c = λ d named ws begun.
     let filer = c.args.filer.now in
-    let o = outset d named ws in
+    let first_outset = outset d named ws in
+    let root = in_use c.args.root in
+    let o = outset d named (ws ++ (root_write root ∷ [])) in
     let first = begun_keeps filer.swapper.layout d named ws (g.D.Disk.state filer.swapper.under) filer.swapper.pool filer.runs filer.swapper.accepted c.requires.size (g.met.D.Disk.in_form filer.swapper.under d begun.contents)
     (g.met.D.Disk.whole filer.swapper.under d begun.contents ∙ c.requires.size) c.requires.bare (c.requires.no_runs filer.swapper.layout.sectors) begun in
-    let rooted_keeps = c.in-Ok.ensures.keeps_to o named first in
+    let written = rooted_writes ws (root_write root) (rw c.in_use-root.ensures.root at c.in-Ok.ensures.made).makes c.requires.bare begun.writes in
+    let bare = subst IsBare (sym c.in-Ok.ensures.frames) c.requires.bare in
+    let rooted_keeps = rooted_at d named ws root (view_of c.write_over.new.filer) (rw c.in-Ok.ensures.layout at filer.swapper.accepted) bare written (c.in-Ok.ensures.keeps_to first_outset named first) in
     let counted = keeps_counted o (view_of c.write_over.new.filer) (view_of c.free_count.new.self) named rooted_keeps c.in-Ok-free_count.ensures.kept c.in-Ok-free_count.ensures.same c.in-Ok-free_count.ensures.runs in
-    let made = c.in-Ok-make_tables.ensures.keeps_to o named counted (rooted_let d named ws c.in_use-root.result begun.writes c.in-Ok.ensures.made.makes c.in-Ok-free_count.ensures.kept.goes.makes) in
+    let made = c.in-Ok-make_tables.ensures.keeps_to o named counted in
     subst (λ (l : Layout). ShowsReason o l (g.D.Disk.state c.write_tables.new.filer.swapper.under) c.in-Err-write_tables.halt) (c.in-Ok-make_tables.ensures.layout ∙ c.in-Ok-free_count.ensures.kept.layout ∙ c.in-Ok.ensures.layout)
     (c.in-Err-write_tables.ensures.reasons o made)
 
 pub returns-clause-keeps_to : goal.returns-clause-keeps_to
 returns-clause-keeps_to g c = λ d named ws begun.
     let filer = c.args.filer.now in
-    let o = outset d named ws in
+    let first_outset = outset d named ws in
+    let root = in_use c.args.root in
+    let o = outset d named (ws ++ (root_write root ∷ [])) in
     let first = begun_keeps filer.swapper.layout d named ws (g.D.Disk.state filer.swapper.under) filer.swapper.pool filer.runs filer.swapper.accepted c.requires.size (g.met.D.Disk.in_form filer.swapper.under d begun.contents)
     (g.met.D.Disk.whole filer.swapper.under d begun.contents ∙ c.requires.size) c.requires.bare (c.requires.no_runs filer.swapper.layout.sectors) begun in
-    let rooted_keeps = c.in-Ok.ensures.keeps_to o named first in
+    let written = rooted_writes ws (root_write root) (rw c.in_use-root.ensures.root at c.in-Ok.ensures.made).makes c.requires.bare begun.writes in
+    let bare = subst IsBare (sym c.in-Ok.ensures.frames) c.requires.bare in
+    let rooted_keeps = rooted_at d named ws root (view_of c.write_over.new.filer) (rw c.in-Ok.ensures.layout at filer.swapper.accepted) bare written (c.in-Ok.ensures.keeps_to first_outset named first) in
     let counted = keeps_counted o (view_of c.write_over.new.filer) (view_of c.free_count.new.self) named rooted_keeps c.in-Ok-free_count.ensures.kept c.in-Ok-free_count.ensures.same c.in-Ok-free_count.ensures.runs in
-    let made = c.in-Ok-make_tables.ensures.keeps_to o named counted (rooted_let d named ws c.in_use-root.result begun.writes c.in-Ok.ensures.made.makes c.in-Ok-free_count.ensures.kept.goes.makes) in
+    let made = c.in-Ok-make_tables.ensures.keeps_to o named counted in
     c.in-Ok-write_tables.ensures.keeps_to o made

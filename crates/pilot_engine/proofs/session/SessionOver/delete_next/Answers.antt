@@ -127,15 +127,15 @@ returns-in-Err-delete_unless_permanent-clause-cause g c = inr (state (record c.a
 -- ---- What began stays a reason.
 
 pub returns-in-Ok-None-clause-keeps_to : goal.returns-in-Ok-None-clause-keeps_to
-returns-in-Ok-None-clause-keeps_to g c = λ o keeps. (keeps.0, c.in-Ok-None.ensures.keeps_to o keeps.0 keeps.1)
+returns-in-Ok-None-clause-keeps_to g c = λ o keeps. (keeps.0, (c.in-Ok-None.ensures.keeps_to o keeps.0 keeps.1.0, keeps.1.1))
 
 pub returns-in-Err-clause-reasons : goal.returns-in-Err-clause-reasons
-returns-in-Err-clause-reasons g c = λ o keeps. c.in-Err.ensures.reasons o keeps.0 keeps.1
+returns-in-Err-clause-reasons g c = λ o keeps. c.in-Err.ensures.reasons o keeps.0 keeps.1.0
 
 pub returns-in-Ok-clause-keeps_to : goal.returns-in-Ok-clause-keeps_to
-returns-in-Ok-clause-keeps_to g c = λ o keeps. c.in-Ok.ensures.keeps_to o (keeps.0, c.in-Ok-Some.ensures.keeps_to o keeps.0 keeps.1)
+returns-in-Ok-clause-keeps_to g c = λ o keeps. c.in-Ok.ensures.keeps_to o (keeps.0, (c.in-Ok-Some.ensures.keeps_to o keeps.0 keeps.1.0, keeps.1.1))
 
 pub returns-in-Err-delete_unless_permanent-clause-reasons : goal.returns-in-Err-delete_unless_permanent-clause-reasons
 returns-in-Err-delete_unless_permanent-clause-reasons g c = λ o keeps.
     subst (λ (l : Layout). ShowsReason o l (g.D.Disk.state c.delete_unless_permanent.new.self.core.filer.swapper.under) c.in-Err-delete_unless_permanent.halt) c.next.ensures.layout
-    (c.in-Err-delete_unless_permanent.ensures.reasons o (keeps.0, c.in-Ok-Some.ensures.keeps_to o keeps.0 keeps.1))
+    (c.in-Err-delete_unless_permanent.ensures.reasons o (keeps.0, (c.in-Ok-Some.ensures.keeps_to o keeps.0 keeps.1.0, keeps.1.1)))

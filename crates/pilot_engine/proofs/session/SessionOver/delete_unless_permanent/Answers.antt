@@ -132,18 +132,18 @@ returns-in-Err-delete-clause-cause g c = inr (state (record c.args.self.now.core
 -- ---- What began stays a reason.
 
 pub returns-in-Ok-None-clause-keeps_to : goal.returns-in-Ok-None-clause-keeps_to
-returns-in-Ok-None-clause-keeps_to g c = λ o keeps. (keeps.0, c.in-Ok-None.ensures.keeps_to o keeps.0 keeps.1)
+returns-in-Ok-None-clause-keeps_to g c = λ o keeps. (keeps.0, (c.in-Ok-None.ensures.keeps_to o keeps.0 keeps.1.0, keeps.1.1))
 
 pub returns-then-found-clause-keeps_to : goal.returns-then-found-clause-keeps_to
-returns-then-found-clause-keeps_to g c = λ o keeps. (keeps.0, c.in-Ok-Some.ensures.keeps_to o keeps.0 keeps.1)
+returns-then-found-clause-keeps_to g c = λ o keeps. (keeps.0, (c.in-Ok-Some.ensures.keeps_to o keeps.0 keeps.1.0, keeps.1.1))
 
 pub returns-in-Err-clause-reasons : goal.returns-in-Err-clause-reasons
-returns-in-Err-clause-reasons g c = λ o keeps. c.in-Err.ensures.reasons o keeps.0 keeps.1
+returns-in-Err-clause-reasons g c = λ o keeps. c.in-Err.ensures.reasons o keeps.0 keeps.1.0
 
 pub returns-in-Ok-clause-keeps_to : goal.returns-in-Ok-clause-keeps_to
-returns-in-Ok-clause-keeps_to g c = λ o keeps. c.in-Ok.ensures.keeps_to o keeps.0 (c.in-Ok-Some.ensures.keeps_to o keeps.0 keeps.1)
+returns-in-Ok-clause-keeps_to g c = λ o keeps. let from = c.in-Ok.ensures.keeps_to o keeps.0 (c.in-Ok-Some.ensures.keeps_to o keeps.0 keeps.1.0) in (from.0, (from.1, from.2 keeps.1.1))
 
 pub returns-in-Err-delete-clause-reasons : goal.returns-in-Err-delete-clause-reasons
 returns-in-Err-delete-clause-reasons g c = λ o keeps.
     subst (λ (l : Layout). ShowsReason o l (g.D.Disk.state c.delete.new.filer.swapper.under) c.in-Err-delete.halt) c.attributes_of.ensures.layout
-    (c.in-Err-delete.ensures.reasons o keeps.0 (c.in-Ok-Some.ensures.keeps_to o keeps.0 keeps.1))
+    (c.in-Err-delete.ensures.reasons o keeps.0 (c.in-Ok-Some.ensures.keeps_to o keeps.0 keeps.1.0))

@@ -128,15 +128,15 @@ returns-in-Err-delete-clause-cause g c = inr (state (record c.args.self.now.core
 -- ---- The outset.
 
 pub returns-in-Ok-None-clause-keeps_to : goal.returns-in-Ok-None-clause-keeps_to
-returns-in-Ok-None-clause-keeps_to g c = λ o k. (k.0, c.in-Ok-None.ensures.keeps_to o k.0 k.1)
+returns-in-Ok-None-clause-keeps_to g c = λ o k. (k.0, (c.in-Ok-None.ensures.keeps_to o k.0 k.1.0, k.1.1))
 
 pub returns-in-Ok-clause-keeps_to : goal.returns-in-Ok-clause-keeps_to
-returns-in-Ok-clause-keeps_to g c = λ o k. c.in-Ok.ensures.keeps_to o k.0 (c.in-Ok-Some.ensures.keeps_to o k.0 k.1)
+returns-in-Ok-clause-keeps_to g c = λ o k. let from = c.in-Ok.ensures.keeps_to o k.0 (c.in-Ok-Some.ensures.keeps_to o k.0 k.1.0) in (from.0, (from.1, from.2 k.1.1))
 
 pub returns-in-Err-clause-reasons : goal.returns-in-Err-clause-reasons
-returns-in-Err-clause-reasons g c = λ o k. c.in-Err.ensures.reasons o k.0 k.1
+returns-in-Err-clause-reasons g c = λ o k. c.in-Err.ensures.reasons o k.0 k.1.0
 
 pub returns-in-Err-delete-clause-reasons : goal.returns-in-Err-delete-clause-reasons
 returns-in-Err-delete-clause-reasons g c = λ o k.
     shows_since o (g.D.Disk.state c.delete.new.filer.swapper.under) c.in-Err-delete.halt c.attributes_of.ensures.layout
-    (c.in-Err-delete.ensures.reasons o k.0 (c.in-Ok-Some.ensures.keeps_to o k.0 k.1))
+    (c.in-Err-delete.ensures.reasons o k.0 (c.in-Ok-Some.ensures.keeps_to o k.0 k.1.0))

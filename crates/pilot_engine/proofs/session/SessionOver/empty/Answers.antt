@@ -84,9 +84,9 @@ returns-in-Err-free_tables-clause-cause g c = (state c.delete_temporary.new.self
 -- ---- What began stays a reason.
 
 pub returns-in-Ok-free_tables-clause-keeps_to : goal.returns-in-Ok-free_tables-clause-keeps_to
-returns-in-Ok-free_tables-clause-keeps_to g c = λ o keeps. let mid = c.in-Ok.ensures.keeps_to o keeps in c.in-Ok-free_tables.ensures.keeps_to o mid.0 mid.1
+returns-in-Ok-free_tables-clause-keeps_to g c = λ o keeps. let mid = c.in-Ok.ensures.keeps_to o keeps in c.in-Ok-free_tables.ensures.keeps_to o mid.0 mid.1.0
 
 pub returns-in-Err-free_tables-clause-reasons : goal.returns-in-Err-free_tables-clause-reasons
 returns-in-Err-free_tables-clause-reasons g c = λ o keeps.
     let mid = c.in-Ok.ensures.keeps_to o keeps in
-    subst (λ (l : Layout). ShowsReason o l (g.D.Disk.state c.free_tables.new.filer.swapper.under) c.in-Err-free_tables.halt) c.delete_temporary.ensures.layout (c.in-Err-free_tables.ensures.reasons o mid.0 mid.1)
+    subst (λ (l : Layout). ShowsReason o l (g.D.Disk.state c.free_tables.new.filer.swapper.under) c.in-Err-free_tables.halt) c.delete_temporary.ensures.layout (c.in-Err-free_tables.ensures.reasons o mid.0 mid.1.0 mid.1.1)

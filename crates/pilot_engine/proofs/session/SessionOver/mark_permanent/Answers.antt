@@ -94,15 +94,15 @@ returns-in-Err-make_permanent-clause-cause g c = inr (state (record c.args.self.
 -- ---- The outset.
 
 pub returns-in-Ok-None-clause-keeps_to : goal.returns-in-Ok-None-clause-keeps_to
-returns-in-Ok-None-clause-keeps_to g c = λ o k. (k.0, c.in-Ok-None.ensures.keeps_to o k.0 k.1)
+returns-in-Ok-None-clause-keeps_to g c = λ o k. (k.0, (c.in-Ok-None.ensures.keeps_to o k.0 k.1.0, k.1.1))
 
 pub returns-in-Ok-clause-keeps_to : goal.returns-in-Ok-clause-keeps_to
-returns-in-Ok-clause-keeps_to g c = λ o k. (k.0, c.in-Ok.ensures.keeps_to o k.0 (c.in-Ok-Some.ensures.keeps_to o k.0 k.1))
+returns-in-Ok-clause-keeps_to g c = λ o k. (k.0, (c.in-Ok.ensures.keeps_to o k.0 (c.in-Ok-Some.ensures.keeps_to o k.0 k.1.0), k.1.1))
 
 pub returns-in-Err-clause-reasons : goal.returns-in-Err-clause-reasons
-returns-in-Err-clause-reasons g c = λ o k. c.in-Err.ensures.reasons o k.0 k.1
+returns-in-Err-clause-reasons g c = λ o k. c.in-Err.ensures.reasons o k.0 k.1.0
 
 pub returns-in-Err-make_permanent-clause-reasons : goal.returns-in-Err-make_permanent-clause-reasons
 returns-in-Err-make_permanent-clause-reasons g c = λ o k.
     shows_since o (g.D.Disk.state c.make_permanent.new.filer.swapper.under) c.in-Err-make_permanent.halt c.attributes_of.ensures.layout
-    (c.in-Err-make_permanent.ensures.reasons o k.0 (c.in-Ok-Some.ensures.keeps_to o k.0 k.1))
+    (c.in-Err-make_permanent.ensures.reasons o k.0 (c.in-Ok-Some.ensures.keeps_to o k.0 k.1.0))

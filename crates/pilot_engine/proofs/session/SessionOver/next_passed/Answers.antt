@@ -121,18 +121,18 @@ returns-in-Err-sight-clause-reaches g c =
 -- ---- The outset.
 
 pub returns-in-Ok-None-clause-keeps_to : goal.returns-in-Ok-None-clause-keeps_to
-returns-in-Ok-None-clause-keeps_to g c = λ o k. (k.0, c.in-Ok-None.ensures.keeps_to o k.0 k.1)
+returns-in-Ok-None-clause-keeps_to g c = λ o k. (k.0, (c.in-Ok-None.ensures.keeps_to o k.0 k.1.0, k.1.1))
 
 pub returns-in-Ok-Hidden-clause-keeps_to : goal.returns-in-Ok-Hidden-clause-keeps_to
-returns-in-Ok-Hidden-clause-keeps_to g c = λ o k. c.in-Ok-Hidden.ensures.keeps_to o (k.0, c.in-Ok-Some.ensures.keeps_to o k.0 k.1)
+returns-in-Ok-Hidden-clause-keeps_to g c = λ o k. c.in-Ok-Hidden.ensures.keeps_to o (k.0, (c.in-Ok-Some.ensures.keeps_to o k.0 k.1.0, k.1.1))
 
 pub returns-in-Ok-By-clause-keeps_to : goal.returns-in-Ok-By-clause-keeps_to
-returns-in-Ok-By-clause-keeps_to g c = λ o k. c.in-Ok-By.ensures.keeps_to o (k.0, c.in-Ok-Some.ensures.keeps_to o k.0 k.1)
+returns-in-Ok-By-clause-keeps_to g c = λ o k. c.in-Ok-By.ensures.keeps_to o (k.0, (c.in-Ok-Some.ensures.keeps_to o k.0 k.1.0, k.1.1))
 
 pub returns-in-Err-clause-reasons : goal.returns-in-Err-clause-reasons
-returns-in-Err-clause-reasons g c = λ o k. c.in-Err.ensures.reasons o k.0 k.1
+returns-in-Err-clause-reasons g c = λ o k. c.in-Err.ensures.reasons o k.0 k.1.0
 
 pub returns-in-Err-sight-clause-reasons : goal.returns-in-Err-sight-clause-reasons
 returns-in-Err-sight-clause-reasons g c = λ o k.
     shows_since o (g.D.Disk.state c.sight.new.self.core.filer.swapper.under) c.in-Err-sight.halt c.next.ensures.layout
-    (c.in-Err-sight.ensures.reasons o (k.0, c.in-Ok-Some.ensures.keeps_to o k.0 k.1))
+    (c.in-Err-sight.ensures.reasons o (k.0, (c.in-Ok-Some.ensures.keeps_to o k.0 k.1.0, k.1.1)))

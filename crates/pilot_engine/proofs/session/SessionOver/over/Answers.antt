@@ -1,5 +1,8 @@
-use Rattle.std.proofs.Common.{◌≡◌, ap, length, subst, sym, ◌∙◌, refl}
+use Rattle.std.proofs.Common.{◌≡◌, ap, length, subst, sym, ◌∙◌, refl, [], ◌∷◌, ◌++◌, false}
 use Rattle.flat_machine.specs.Start.{start}
+use Rattle.volume_root.specs.RootPage.{root_write}
+use Rattle.volume_root.specs.declared.root.Root.{Root}
+use Rattle.pilot_engine.specs.Opening.{in_use}
 use Rattle.pilot_engine.proofs.StartFaults.{early_left, early_outside, early_so, early_cause, early_reason}
 use Rattle.pilot_engine.proofs.StartRuns.{runs_over}
 use Rattle.pilot_engine.proofs.StartWrites.{read_wrote, read_keeps, start_wrote, start_keeps}
@@ -86,19 +89,24 @@ returns-in-Err-begin-clause-cause g c =
 
 -- ---- What the disk had before is a reason.
 
+-- a root where none was written
+some_root : Root
+some_root = record { version = 0; clean = false; sectors = 0; serial = 0; counter = 0 }
+
 pub returns-in-Err-clause-reasons : goal.returns-in-Err-clause-reasons
-returns-in-Err-clause-reasons g c = λ d named ws begun. early_reason (outset d named ws) (layout_of (length d)) (g.D.Disk.state c.in-Err.fault.1) c.in-Err.fault.0 c.in-Err.ensures.early
+returns-in-Err-clause-reasons g c = λ d named ws begun. (some_root, early_reason (outset d named (ws ++ (root_write some_root ∷ []))) (layout_of (length d)) (g.D.Disk.state c.in-Err.fault.1) c.in-Err.fault.0 c.in-Err.ensures.early)
 
 pub returns-in-Err-begin-clause-reasons : goal.returns-in-Err-begin-clause-reasons
 returns-in-Err-begin-clause-reasons g c = λ d named ws begun.
     let layout = c.in-Ok.opened.0.swapper.layout in
     let long = g.met.D.Disk.whole c.args.disk d begun.contents ∙ sym c.in-Ok.ensures.reads.only.sectors ∙ c.in-Ok.ensures.size in
     let same : layout ≡ layout_of (length d) = c.in-Ok.opened.0.swapper.accepted.1 ∙ ap layout_of (sym long) in
-    rw c.into_disk.ensures (subst (λ (l : Layout). ShowsReason (outset d named ws) l (g.D.Disk.state c.begin.new.filer.swapper.under) c.in-Err-begin.halt) same
+    let root = in_use c.in-Ok.opened.2 in
+    rw c.into_disk.ensures (root, subst (λ (l : Layout). ShowsReason (outset d named (ws ++ (root_write root ∷ []))) l (g.D.Disk.state c.begin.new.filer.swapper.under) c.in-Err-begin.halt) same
     (c.in-Err-begin.ensures.reasons d named ws (begun_read c.in-Ok.ensures.reads.only begun)))
 
 pub returns-in-Ok-begin-clause-keeps_to : goal.returns-in-Ok-begin-clause-keeps_to
-returns-in-Ok-begin-clause-keeps_to g c = λ d named ws begun. rw c.over.ensures.filer (c.in-Ok-begin.ensures.keeps_to d named ws (begun_read c.in-Ok.ensures.reads.only begun))
+returns-in-Ok-begin-clause-keeps_to g c = λ d named ws begun. rw c.over.ensures.filer (in_use c.in-Ok.opened.2, c.in-Ok-begin.ensures.keeps_to d named ws (begun_read c.in-Ok.ensures.reads.only begun))
 
 -- ---- What it spends.
 

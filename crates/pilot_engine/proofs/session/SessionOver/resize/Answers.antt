@@ -191,24 +191,24 @@ returns-in-Err-set_size-clause-cause g c = inr (state (record c.args.self.now.co
 -- ---- The outset.
 
 pub returns-in-Ok-None-clause-keeps_to : goal.returns-in-Ok-None-clause-keeps_to
-returns-in-Ok-None-clause-keeps_to g c = λ o k. (k.0, c.in-Ok-None.ensures.keeps_to o k.0 k.1)
+returns-in-Ok-None-clause-keeps_to g c = λ o k. (k.0, (c.in-Ok-None.ensures.keeps_to o k.0 k.1.0, k.1.1))
 
 pub returns-then-found-clause-keeps_to : goal.returns-then-found-clause-keeps_to
-returns-then-found-clause-keeps_to g c = λ o k. (k.0, c.in-Ok-Some.ensures.keeps_to o k.0 k.1)
+returns-then-found-clause-keeps_to g c = λ o k. (k.0, (c.in-Ok-Some.ensures.keeps_to o k.0 k.1.0, k.1.1))
 
 pub returns-in-Some-clause-keeps_to : goal.returns-in-Some-clause-keeps_to
-returns-in-Some-clause-keeps_to g c = λ o k. (k.0, c.in-Ok-Some.ensures.keeps_to o k.0 k.1)
+returns-in-Some-clause-keeps_to g c = λ o k. (k.0, (c.in-Ok-Some.ensures.keeps_to o k.0 k.1.0, k.1.1))
 
 pub returns-then-not-has_room-clause-keeps_to : goal.returns-then-not-has_room-clause-keeps_to
-returns-then-not-has_room-clause-keeps_to g c = λ o k. (k.0, c.in-Ok-Some.ensures.keeps_to o k.0 k.1)
+returns-then-not-has_room-clause-keeps_to g c = λ o k. (k.0, (c.in-Ok-Some.ensures.keeps_to o k.0 k.1.0, k.1.1))
 
 pub returns-in-Ok-clause-keeps_to : goal.returns-in-Ok-clause-keeps_to
-returns-in-Ok-clause-keeps_to g c = λ o k. c.in-Ok.ensures.keeps_to o k.0 (c.in-Ok-Some.ensures.keeps_to o k.0 k.1)
+returns-in-Ok-clause-keeps_to g c = λ o k. let from = c.in-Ok.ensures.keeps_to o k.0 (c.in-Ok-Some.ensures.keeps_to o k.0 k.1.0) in (from.0, (from.1, from.2 k.1.1))
 
 pub returns-in-Err-clause-reasons : goal.returns-in-Err-clause-reasons
-returns-in-Err-clause-reasons g c = λ o k. c.in-Err.ensures.reasons o k.0 k.1
+returns-in-Err-clause-reasons g c = λ o k. c.in-Err.ensures.reasons o k.0 k.1.0
 
 pub returns-in-Err-set_size-clause-reasons : goal.returns-in-Err-set_size-clause-reasons
 returns-in-Err-set_size-clause-reasons g c = λ o k.
     shows_since o (g.D.Disk.state c.set_size.new.filer.swapper.under) c.in-Err-set_size.halt c.attributes_of.ensures.layout
-    (c.in-Err-set_size.ensures.reasons o k.0 (c.in-Ok-Some.ensures.keeps_to o k.0 k.1))
+    (c.in-Err-set_size.ensures.reasons o k.0 (c.in-Ok-Some.ensures.keeps_to o k.0 k.1.0))

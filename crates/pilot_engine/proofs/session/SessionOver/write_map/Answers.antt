@@ -5,10 +5,10 @@ use Rattle.pilot_engine.proofs.EndLemmas.{map_clean}
 use Rattle.filer_kernel.specs.EvidenceLaws.{fits, so_of_halts}
 use Rattle.swapper_kernel.specs.Homes.{no_home}
 use Rattle.fault_core.specs.Core.{state}
-use Rattle.fault_core.specs.Reach.{no_break}
 use Rattle.fault_core.specs.View.{View}
-use Rattle.running_words.specs.MovingLaws.{keeps_moved, moves_of_reaches, reach_reasons}
-use Rattle.pilot_engine.proofs.OutsetLemmas.{written_halt, written_reaches}
+use Rattle.swapper_kernel.specs.Homes.{no_home}
+use Rattle.file_manager.specs.ReasonLaws.{label_reasons}
+use Rattle.pilot_engine.proofs.OutsetLemmas.{keeps_written, written_reaches}
 use Rattle.pilot_engine.proofs.session.SessionOver.write_map.Goals as goal
 
 pub returns-in-Ok-clause-clean : goal.returns-in-Ok-clause-clean
@@ -47,7 +47,7 @@ returns-in-Ok-clause-keeps_to g c = λ o keeps.
     let swaps = (rw c.swapper_over-swapper.ensures.value at c.force.ensures.swaps) in
     let run = (rw c.swapper_over-swapper.ensures.value at c.force.ensures.run) in
     let layout = (rw c.swapper_over-swapper.ensures.value at c.force.ensures.layout) in
-    (keeps.0, keeps_moved o v w keeps.0 c.args.self.now.core.filer.swapper.accepted keeps.1 (moves_of_reaches v w (written_reaches v w swaps run.frames layout refl)))
+    (keeps.0, keeps_written o v w keeps.0 c.args.self.now.core.filer.swapper.accepted keeps.1 (written_reaches v w swaps run.frames layout refl))
 
 pub returns-in-Err-clause-reasons : goal.returns-in-Err-clause-reasons
 returns-in-Err-clause-reasons g c = λ o keeps.
@@ -55,4 +55,4 @@ returns-in-Err-clause-reasons g c = λ o keeps.
     let w : View = record v { disk = g.D.Disk.state c.force.new.swapper.under; slots = c.force.new.swapper.pool; layout = c.force.new.swapper.layout } in
     let swaps = (rw c.swapper_over-swapper.ensures.value at c.force.ensures.swaps) in
     let halts = (rw c.swapper_over-swapper.ensures.value at c.in-Err.ensures.cause) in
-    reach_reasons o v w keeps.0 no_break c.args.self.now.core.filer.swapper.accepted keeps.1 swaps.makes c.in-Err.halt (written_halt v w c.in-Err.halt halts)
+    label_reasons keeps.1 swaps.makes no_home (λ home none. absurd none) c.in-Err.halt halts
