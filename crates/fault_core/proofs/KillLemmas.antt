@@ -24,6 +24,7 @@ use Rattle.session_words.proofs.FoundLemmas.{above_reserved}
 use Rattle.swap_units.specs.Unit.{has_page}
 use Rattle.fault_core.specs.Kept.{AreFound}
 use Rattle.fault_core.specs.Kill.{AreWritableSo, BreaksWithin, LeavesCore, is_absent}
+use Rattle.fault_core.specs.Lack.{Sees}
 use Rattle.fault_core.specs.Range.{IsNextPart}
 use Rattle.fault_core.specs.Reach.{BringsOwn, ReachHalts}
 use Rattle.fault_core.specs.Told.{BreaksTables, Told}
@@ -70,6 +71,7 @@ pub record IsKilling (v : View) (kept : List Interval) (count first pages stop :
   pub size : w.disk.sectors ≡ w.layout.sectors
   pub touches : Touches no_page v w
   pub came : BringsOwn v.slots w.slots
+  pub sees : (ss : List Space) → Sees v kept count ss → Sees w now later ss
   pub left : (m : List Sector) (named : Triples) (ss : List Space) (range : Space) → Told v kept count m named ss → range.first ≡ first → range.pages ≡ pages → LeavesKilled v m named ss range w now later
   pub intervals : later ≡ count
   pub gone : (m : List Sector) (named : Triples) (ss : List Space) → Told v kept count m named ss → AreWritableSo (is_absent w.slots) ss first page
@@ -83,6 +85,7 @@ killing_none v kept count first pages stop size = record {
   size = size;
   touches = touches_of no_page (reaches_itself v);
   came = brings_itself (λ home. (1 ≤ home.id) × (home.id ≤ 3)) v.slots;
+  sees = λ ss s. s;
   left = λ m named ss range told from_first so_many. record { memory = m; changed = differs_itself (is_killed v.layout.sectors ss range) m; told = told };
   intervals = refl;
   gone = λ m named ss told p from below. absurd (omega (arith, from, below));
@@ -115,16 +118,17 @@ module _ {v : View} {kept : List Interval} {count first pages stop : ℕ} {w : V
         let changed : Differs (is_killed v.layout.sectors ss range) l.memory k.memory = subst (λ (n : ℕ). Differs (is_killed n ss range) l.memory k.memory) (ap (λ y. y.sectors) h.touches.layout) k.changed in
         record { memory = k.memory; changed = differs_then (is_killed v.layout.sectors ss range) m l.memory k.memory l.changed changed; told = k.told }
 
-    pub killing_more : (next : ℕ) → page < stop → page < next → Touches no_page w x → BringsOwn w.slots x.slots → last ≡ later
+    pub killing_more : (next : ℕ) → page < stop → page < next → Touches no_page w x → BringsOwn w.slots x.slots → ((ss : List Space) → Sees w now later ss → Sees x after last ss) → last ≡ later
         → ((m : List Sector) (named : Triples) (ss : List Space) → Told w now later m named ss → AreWritableSo (is_absent x.slots) ss page next)
         → ((m : List Sector) (named : Triples) (ss : List Space) → Told w now later m named ss → IsNextPart ss page stop next)
         → ((y : Interval) → find (has_page page) now ≡ Some y → (x.disk ≡ w.disk) × (after ≡ now))
         → x.disk.transfers ≤ w.disk.transfers + 196 → IsKilling v kept count first pages stop x after last next (k + 1)
-    killing_more next inside more touches came intervals gone part idle cost = record {
+    killing_more next inside more touches came next_sees intervals gone part idle cost = record {
       from = let from = h.from in omega (arith, from, more);
       size = touches.goes.makes.went.sectors ∙ h.size ∙ ap (λ l. l.sectors) (sym touches.layout);
       touches = touches_then v w is h.touches x touches;
       came = brings_then h.came came;
+      sees = λ ss s. next_sees ss (h.sees ss s);
       left = killing_left;
       intervals = intervals ∙ h.intervals;
       gone = λ m named ss told p from below u shown writable. elim (cases_lt p page) [

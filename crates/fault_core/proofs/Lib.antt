@@ -30,4 +30,5 @@ mod ActivateLemmas
 mod RoomLemmas
 mod AttemptLemmas
 mod MovedLemmas
-mod LackLemmas
+pub mod LackLemmas
+pub mod SparesLemmas

@@ -21,6 +21,7 @@ use Rattle.fault_core.specs.declared.range.Way.{Way}
 use Rattle.frame_pool.specs.Frames.{Slots}
 use Rattle.fault_core.specs.declared.range.Way.TheVariants.{Force}
 use Rattle.fault_core.specs.Kill.{BreaksWithin}
+use Rattle.fault_core.specs.Lack.{Sees}
 use Rattle.fault_core.specs.Range.{AreAtRest, IsNextPart, LeavesFrames}
 use Rattle.fault_core.specs.Unit.{file_page}
 use Rattle.fault_core.specs.Reach.{Reaches, ReachHalts, BringsOwn, StayOrYield}
@@ -99,6 +100,7 @@ pub record IsResting (v : View) (kept : List Interval) (count : ℕ) (way : Way)
   pub size : w.disk.sectors ≡ w.layout.sectors
   pub reaches : Reaches v w
   pub came : BringsOwn v.slots w.slots
+  pub sees : (ss : List Space) → Sees v kept count ss → Sees w now still ss
   pub stay : way ≡ Force → StayOrYield v.slots w.slots
   pub from : first ≤ page
   pub same_count : still ≡ count
@@ -111,6 +113,7 @@ resting_none v kept count way first stop size = record {
   size = size;
   reaches = reaches_itself v;
   came = brings_itself (λ home. (1 ≤ home.id) × (home.id ≤ 3)) v.slots;
+  sees = λ ss s. s;
   stay = λ is. yield_itself v.slots;
   from = omega arith;
   same_count = refl;
@@ -156,11 +159,12 @@ module _ {v : View} {kept : List Interval} {count : ℕ} {way : Way} {first stop
       → ((m : List Sector) (named : Triples) (ss : List Space) → Told w now still m named ss → Told x later left m named ss)
       → ((y : Interval) → find (has_page page) now ≡ Some y → stop ≤ y.first + y.pages → LeavesFrames way y.id (file_page y page) (stop - page) w.slots x.slots)
       → ((y : Interval) → find (has_page page) now ≡ Some y → stop ≤ y.first + y.pages → next ≡ stop) → (way ≡ Force → StayOrYield w.slots x.slots)
-      → Reaches w x → BringsOwn w.slots x.slots → left ≡ still → x.disk.transfers ≤ w.disk.transfers + (196 + length w.slots) → IsResting v kept count way first stop x later left next (k + 1)
-  resting_more x later left next below further rest part same frames all stay next_reaches came same_left cost = record {
+      → ((ss : List Space) → Sees w now still ss → Sees x later left ss) → Reaches w x → BringsOwn w.slots x.slots → left ≡ still → x.disk.transfers ≤ w.disk.transfers + (196 + length w.slots) → IsResting v kept count way first stop x later left next (k + 1)
+  resting_more x later left next below further rest part same frames all stay next_sees next_reaches came same_left cost = record {
     size = next_reaches.goes.makes.went.sectors ∙ h.size ∙ ap (λ l. l.sectors) (sym next_reaches.layout);
     reaches = reaches_then v w is h.reaches x next_reaches;
     came = brings_then h.came came;
+    sees = λ ss s. next_sees ss (h.sees ss s);
     stay = λ forced. yield_then (h.stay forced) (stay forced);
     from = let front = h.from in omega (arith, front, further);
     same_count = same_left ∙ h.same_count;

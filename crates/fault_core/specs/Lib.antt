@@ -17,3 +17,4 @@ pub mod Activate
 pub mod Attempt
 pub mod Room
 pub mod Lack
+pub mod Spares

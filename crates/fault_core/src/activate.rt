@@ -14,6 +14,7 @@ ghost use Rattle.fault_core.specs.Reach.{Reaches, ReachHalts, BringsOwn};
 ghost use Rattle.fault_core.specs.Told.{BreaksTables};
 ghost use Rattle.fault_core.specs.Room.{KeepsWhileEmpty};
 ghost use Rattle.fault_core.specs.Lack.{LacksPage, Sees, range_units, shown_unit};
+ghost use Rattle.fault_core.specs.Spares.{SparesTables};
 ghost use Rattle.swapper_kernel.specs.Goes.{no_page};
 
 use crate::CoreOver;
@@ -174,6 +175,8 @@ impl<D: Disk, A: Allocator> CoreOver<D, A> {
         ensures units { (m : List Sector) (named : Triples) (ss : List Space) → Knows self.old m named ss → IfOk result (AreBrought ss (kept self.new) self.new.filer.swapper.pool first (first + pages) (length self.old.filer.swapper.pool / 2)) }
         ensures cause { IfErr result (ReachHalts (BreaksWithin (state self.old) self.old.intervals first (first + pages)) (state self.old) (state self.new)) }
         ensures missing { (ss : List Space) → Sees (state self.old) (kept self.old) self.old.intervals ss → IfErr result (LacksPage (range_units ss first (first + pages))) }
+        ensures sees { (ss : List Space) → Sees (state self.old) (kept self.old) self.old.intervals ss → Sees (state self.new) (kept self.new) self.new.intervals ss }
+        ensures right { (ss : List Space) → Sees (state self.old) (kept self.old) self.old.intervals ss → IfErr result SparesTables }
         ensures sound { (m : List Sector) (named : Triples) (ss : List Space) → Knows self.old m named ss → IfErr result (λ e. e ≡ halt.Disk) }
         ensures same { (m : List Sector) (named : Triples) (ss : List Space) → Knows self.old m named ss → Knows self.new m named ss }
         ensures reaches { Reaches (state self.old) (state self.new) }

@@ -18,6 +18,7 @@ ghost use Rattle.fault_core.specs.Reach.{Reaches, ReachHalts, BringsOwn, StayOrY
 ghost use Rattle.fault_core.specs.Told.{Known, BreaksTables};
 ghost use Rattle.fault_core.specs.Room.{KeepsWhileEmpty};
 ghost use Rattle.fault_core.specs.Lack.{LacksPage, Sees};
+ghost use Rattle.fault_core.specs.Spares.{SparesTables};
 ghost use Rattle.swapper_kernel.specs.Goes.{no_page};
 
 use crate::CoreOver;
@@ -103,6 +104,7 @@ impl<D: Disk, A: Allocator> CoreOver<D, A> {
         ensures cause { IfErr result (ReachHalts (BreaksTables (state self.old) self.old.intervals page) (state self.old) (state self.new)) }
         ensures lacks { IfErr result (LacksPage no_page) }
         ensures sees { (ss : List Space) → Sees (state self.old) (kept self.old) self.old.intervals ss → Sees (state self.new) (kept self.new) self.new.intervals ss }
+        ensures right { (ss : List Space) → Sees (state self.old) (kept self.old) self.old.intervals ss → IfErr result SparesTables }
         ensures interval { (m : List Sector) (named : Triples) (ss : List Space) → Knows self.old m named ss → IfOk result (λ o. IfSome o (IsIntervalAt ss page)) }
         ensures sound { (m : List Sector) (named : Triples) (ss : List Space) → Knows self.old m named ss → IfErr result (λ e. e ≡ halt.Disk) }
         ensures same { (m : List Sector) (named : Triples) (ss : List Space) → Knows self.old m named ss → Knows self.new m named ss }

@@ -21,6 +21,8 @@ ghost use Rattle.fault_core.specs.Told.{BreaksTables, Known};
 ghost use Rattle.fault_core.specs.Touch.{Touches};
 ghost use Rattle.fault_core.specs.Unit.{file_page};
 ghost use Rattle.fault_core.specs.View.{view_of};
+ghost use Rattle.fault_core.specs.Lack.{Sees};
+ghost use Rattle.fault_core.specs.Spares.{SparesTables};
 
 use crate::CoreOver;
 use crate::walk::end_of;
@@ -71,6 +73,7 @@ impl<D: Disk, A: Allocator> CoreOver<D, A> {
         ensures part { (m : List Sector) (named : Triples) (ss : List Space) → Knows self.old m named ss → IfOk result (IsNextPart ss page end) }
         ensures gone { (m : List Sector) (named : Triples) (ss : List Space) → Knows self.old m named ss → IfOk result (AreWritableSo (is_absent self.new.filer.swapper.pool) ss page) }
         ensures cause { IfErr result (ReachHalts (BreaksTables (state self.old) self.old.intervals page) (state self.old) (state self.new)) }
+        ensures sees { (ss : List Space) → Sees (state self.old) (kept self.old) self.old.intervals ss → Sees (state self.new) (kept self.new) self.new.intervals ss }
         ensures sound { (m : List Sector) (named : Triples) (ss : List Space) → Knows self.old m named ss → IfErr result (λ e. e ≡ halt.Disk) }
         ensures left { (m : List Sector) (named : Triples) (ss : List Space) (range : Space) → Knows self.old m named ss → range.first ≤ page → end ≤ range.first + range.pages
             → LeavesCore (Differs (is_killed self.old.filer.swapper.layout.sectors ss range)) m named ss (state self.new) (kept self.new) self.new.intervals }
@@ -98,6 +101,8 @@ impl<D: Disk, A: Allocator> CoreOver<D, A> {
         requires size { (D.state self.old.filer.swapper.under).sectors ≡ self.old.filer.swapper.layout.sectors }
         ensures gone { (m : List Sector) (named : Triples) (ss : List Space) → Knows self.old m named ss → OnOk result (AreWritableSo (is_absent self.new.filer.swapper.pool) ss first (first + pages)) }
         ensures cause { IfErr result (ReachHalts (BreaksWithin (state self.old) self.old.intervals first (first + pages)) (state self.old) (state self.new)) }
+        ensures sees { (ss : List Space) → Sees (state self.old) (kept self.old) self.old.intervals ss → Sees (state self.new) (kept self.new) self.new.intervals ss }
+        ensures right { (ss : List Space) → Sees (state self.old) (kept self.old) self.old.intervals ss → IfErr result SparesTables }
         ensures sound { (m : List Sector) (named : Triples) (ss : List Space) → Knows self.old m named ss → IfErr result (λ e. e ≡ halt.Disk) }
         ensures killed { (m : List Sector) (named : Triples) (ss : List Space) (range : Space) → Knows self.old m named ss → range.first ≡ first → range.pages ≡ pages
             → Goes (Kills ss range) volume_page [] (D.state self.old.filer.swapper.under) self.old.filer.swapper.pool (D.state self.new.filer.swapper.under) self.new.filer.swapper.pool }

@@ -15,6 +15,7 @@ ghost use Rattle.fault_core.specs.Reach.{BringsOwn, Reaches, ReachHalts, no_brea
 ghost use Rattle.fault_core.specs.Told.{Known};
 ghost use Rattle.fault_core.specs.Unit.{AreShownStored, BringsBoth, BringsShown, IsReady, IsWhole, file_page};
 ghost use Rattle.fault_core.specs.Lack.{LacksPage, Sees, both_units, shown_units, unit_pages};
+ghost use Rattle.fault_core.specs.Spares.{SparesTables};
 ghost use Rattle.swapper_kernel.specs.Goes.{no_page};
 
 use crate::CoreOver;
@@ -111,6 +112,8 @@ impl<D: Disk, A: Allocator> CoreOver<D, A> {
         ensures ready { IfOk result (λ a. a ≡ access.Done → IsReady (kept self.new) self.new.filer.swapper.pool (last_page address (length into.old))) }
         ensures cause { IfErr result (ReachHalts (BreaksFor (state self.old) self.old.intervals address (length into.old)) (state self.old) (state self.new)) }
         ensures missing { (ss : List Space) → Sees (state self.old) (kept self.old) self.old.intervals ss → IfErr result (LacksPage (shown_units ss address (length into.old))) }
+        ensures sees { (ss : List Space) → Sees (state self.old) (kept self.old) self.old.intervals ss → Sees (state self.new) (kept self.new) self.new.intervals ss }
+        ensures right { (ss : List Space) → Sees (state self.old) (kept self.old) self.old.intervals ss → IfErr result SparesTables }
         ensures sound { (m : List Sector) (named : Triples) (ss : List Space) → Knows self.old m named ss → IfErr result (λ e. e ≡ halt.Disk) }
         ensures same { (m : List Sector) (named : Triples) (ss : List Space) → Knows self.old m named ss → Knows self.new m named ss }
         ensures reaches { Reaches (state self.old) (state self.new) }
@@ -148,6 +151,8 @@ impl<D: Disk, A: Allocator> CoreOver<D, A> {
         ensures here { IfOk result (λ t. t ≡ moved → IsHere (kept self.new) self.new.filer.swapper.pool (last_page address (length into.old))) }
         ensures cause { IfErr result (ReachHalts (BreaksFor (state self.old) self.old.intervals address (length into.old)) (state self.old) (state self.new)) }
         ensures lacks { IfErr result (LacksPage no_page) }
+        ensures sees { (ss : List Space) → Sees (state self.old) (kept self.old) self.old.intervals ss → Sees (state self.new) (kept self.new) self.new.intervals ss }
+        ensures right { (ss : List Space) → Sees (state self.old) (kept self.old) self.old.intervals ss → IfErr result SparesTables }
         ensures sound { (m : List Sector) (named : Triples) (ss : List Space) → Knows self.old m named ss → IfErr result (λ e. e ≡ halt.Disk) }
         ensures same { (m : List Sector) (named : Triples) (ss : List Space) → Knows self.old m named ss → Knows self.new m named ss }
         ensures reaches { Reaches (state self.old) (state self.new) }

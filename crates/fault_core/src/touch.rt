@@ -15,6 +15,7 @@ ghost use Rattle.fault_core.specs.Told.{BreaksTables, Known};
 ghost use Rattle.fault_core.specs.Unit.{AreShownStored, BringsShown, IsReady, IsSlotOf, IsTouched, IsWhole, file_page};
 ghost use Rattle.fault_core.specs.Room.{KeepsWhileEmpty};
 ghost use Rattle.fault_core.specs.Lack.{LacksPage, Sees, kept_unit, shown_unit, unit_pages};
+ghost use Rattle.fault_core.specs.Spares.{SparesTables};
 
 use crate::CoreOver;
 use crate::unit::{bring_run, is_there, slot_of, unit_run};
@@ -88,6 +89,7 @@ impl<D: Disk, A: Allocator> CoreOver<D, A> {
         ensures lacks { IfErr result (LacksPage (kept_unit (kept self.new) page)) }
         ensures missing { (ss : List Space) → Sees (state self.old) (kept self.old) self.old.intervals ss → IfErr result (LacksPage (shown_unit ss page)) }
         ensures sees { (ss : List Space) → Sees (state self.old) (kept self.old) self.old.intervals ss → Sees (state self.new) (kept self.new) self.new.intervals ss }
+        ensures right { (ss : List Space) → Sees (state self.old) (kept self.old) self.old.intervals ss → IfErr result SparesTables }
         ensures sound { (m : List Sector) (named : Triples) (ss : List Space) → Knows self.old m named ss → IfErr result (λ e. e ≡ halt.Disk) }
         ensures same { (m : List Sector) (named : Triples) (ss : List Space) → Knows self.old m named ss → Knows self.new m named ss }
         ensures reaches { Reaches (state self.old) (state self.new) }

@@ -1,2 +1,3 @@
 mod HaltingLemmas
 mod AskedLemmas
+mod SeenLemmas

@@ -13,7 +13,9 @@ ghost use Rattle.space_tables.specs.Stored.{TellSpaces};
 ghost use Rattle.filer_kernel.specs.Tables.{BesideTables, IsTableAccounted};
 ghost use Rattle.fault_core.specs.View.{view_of, TablesAre};
 ghost use Rattle.fault_core.specs.Reach.{ReachHalts};
-ghost use Rattle.fault_core.specs.Core.{state, Knows};
+ghost use Rattle.fault_core.specs.Lack.{Sees};
+ghost use Rattle.fault_core.specs.Spares.{SparesTables};
+ghost use Rattle.fault_core.specs.Core.{kept, state, Knows};
 ghost use Rattle.table_calls.specs.Answers.{Changes, Retabled, TablesBreak};
 
 use crate::halting::refused_or_halted;
@@ -60,6 +62,9 @@ pub fn add<D: Disk, A: Allocator>(
     ensures answer { (m : List Sector) (named : Triples) (ss : List Space) → Knows core.old m named ss
         → IfOk result (Changes (first_of (add_row ss parent pages first)) (λ at. TellSpaces (TablesAre (state core.new)) core.new.intervals (put_space (made ss parent pages first) ss) × (at.0 ≡ (made ss parent pages first).handle) × (at.1 ≡ (made ss parent pages first).first)) (TellSpaces (TablesAre (state core.new)) core.new.intervals ss)) }
     ensures cause { IfErr result (ReachHalts (TablesBreak (state core.old) (λ b page. BreaksHierarchy b page ⊎ (BreaksAt first core.old.intervals b page ⊎ MakesTooMany core.old.intervals b parent pages first page))) (state core.old) (state core.new)) }
+    ensures sees { (ss : List Space) → Sees (state core.old) (kept core.old) core.old.intervals ss
+        → IfOk result (Changes (first_of (add_row ss parent pages first)) (λ at. Sees (state core.new) (kept core.new) core.new.intervals (put_space (made ss parent pages first) ss) × (at.0 ≡ (made ss parent pages first).handle) × (at.1 ≡ (made ss parent pages first).first)) (Sees (state core.new) (kept core.new) core.new.intervals ss)) }
+    ensures right { (ss : List Space) → Sees (state core.old) (kept core.old) core.old.intervals ss → IfErr result SparesTables }
     ensures sound { (m : List Sector) (named : Triples) (ss : List Space) → Knows core.old m named ss → IfErr result (λ e. e ≡ halt.Disk) }
     ensures retabled { Retabled core.old core.new }
     ensures cost { (D.state core.new.filer.swapper.under).transfers ≤ (D.state core.old.filer.swapper.under).transfers + 50204 }
@@ -100,6 +105,9 @@ pub fn remove<D: Disk, A: Allocator>(
     ensures answer { (m : List Sector) (named : Triples) (ss : List Space) → Knows core.old m named ss
         → IfOk result (Changes (first_of (remove_row ss space)) (λ _. TellSpaces (TablesAre (state core.new)) core.new.intervals (without_space space ss)) (TellSpaces (TablesAre (state core.new)) core.new.intervals ss)) }
     ensures cause { IfErr result (ReachHalts (TablesBreak (state core.old) (λ b page. BreaksFor (first_in_slot b space) core.old.intervals b page)) (state core.old) (state core.new)) }
+    ensures sees { (ss : List Space) → Sees (state core.old) (kept core.old) core.old.intervals ss
+        → IfOk result (Changes (first_of (remove_row ss space)) (λ _. Sees (state core.new) (kept core.new) core.new.intervals (without_space space ss)) (Sees (state core.new) (kept core.new) core.new.intervals ss)) }
+    ensures right { (ss : List Space) → Sees (state core.old) (kept core.old) core.old.intervals ss → IfErr result SparesTables }
     ensures sound { (m : List Sector) (named : Triples) (ss : List Space) → Knows core.old m named ss → IfErr result (λ e. e ≡ halt.Disk) }
     ensures retabled { Retabled core.old core.new }
     ensures cost { (D.state core.new.filer.swapper.under).transfers ≤ (D.state core.old.filer.swapper.under).transfers + 21924 }

@@ -14,7 +14,9 @@ ghost use Rattle.space_tables.specs.Stored.{TellSpaces};
 ghost use Rattle.filer_kernel.specs.Tables.{BesideTables, IsTableAccounted};
 ghost use Rattle.fault_core.specs.View.{view_of, TablesAre};
 ghost use Rattle.fault_core.specs.Reach.{ReachHalts};
-ghost use Rattle.fault_core.specs.Core.{state, Knows};
+ghost use Rattle.fault_core.specs.Lack.{Sees};
+ghost use Rattle.fault_core.specs.Spares.{SparesTables};
+ghost use Rattle.fault_core.specs.Core.{kept, state, Knows};
 ghost use Rattle.table_calls.specs.Answers.{Asked, IfGiven, Tells, TablesBreak, TablesSay};
 
 use crate::halting::refused_or_halted;
@@ -57,6 +59,9 @@ pub fn bounds<D: Disk, A: Allocator>(
     ensures form { IfOk result (IfGiven (λ run. lies_in_root run.0 run.1 ≡ true)) }
     ensures read { IfOk result (IfGiven (TablesSay (state core.old) (λ b. IsRunAt b space))) }
     ensures cause { IfErr result (ReachHalts (TablesBreak (state core.old) (λ b page. BreaksSlot b page space)) (state core.old) (state core.new)) }
+    ensures seen { (ss : List Space) → Sees (state core.old) (kept core.old) core.old.intervals ss → IfOk result (Tells (no_space ss space) (λ run. (s : Space) × (space_at ss space ≡ Some s) × (run ≡ (s.first, s.pages)))) }
+    ensures sees { (ss : List Space) → Sees (state core.old) (kept core.old) core.old.intervals ss → Sees (state core.new) (kept core.new) core.new.intervals ss }
+    ensures right { (ss : List Space) → Sees (state core.old) (kept core.old) core.old.intervals ss → IfErr result SparesTables }
     ensures sound { (m : List Sector) (named : Triples) (ss : List Space) → Knows core.old m named ss → IfErr result (λ e. e ≡ halt.Disk) }
     ensures asked { Asked core.old core.new }
     ensures cost { (D.state core.new.filer.swapper.under).transfers ≤ (D.state core.old.filer.swapper.under).transfers + 28 }
@@ -95,6 +100,9 @@ pub fn place<D: Disk, A: Allocator>(
     ensures answer { (m : List Sector) (named : Triples) (ss : List Space) → Knows core.old m named ss → IfOk result (Tells (first_of (past_root page ∷ [])) (λ at. (s : Space) × (innermost ss page ≡ Some s) × (at ≡ (s.handle, s.first, s.pages)))) }
     ensures form { IfOk result (IfGiven (λ at. lies_in_root at.1 at.2 ≡ true)) }
     ensures cause { IfErr result (ReachHalts (TablesBreak (state core.old) (λ b broken. BreaksFor page core.old.intervals b broken)) (state core.old) (state core.new)) }
+    ensures seen { (ss : List Space) → Sees (state core.old) (kept core.old) core.old.intervals ss → IfOk result (Tells (first_of (past_root page ∷ [])) (λ at. (s : Space) × (innermost ss page ≡ Some s) × (at ≡ (s.handle, s.first, s.pages)))) }
+    ensures sees { (ss : List Space) → Sees (state core.old) (kept core.old) core.old.intervals ss → Sees (state core.new) (kept core.new) core.new.intervals ss }
+    ensures right { (ss : List Space) → Sees (state core.old) (kept core.old) core.old.intervals ss → IfErr result SparesTables }
     ensures sound { (m : List Sector) (named : Triples) (ss : List Space) → Knows core.old m named ss → IfErr result (λ e. e ≡ halt.Disk) }
     ensures asked { Asked core.old core.new }
     ensures cost { (D.state core.new.filer.swapper.under).transfers ≤ (D.state core.old.filer.swapper.under).transfers + 224 }
@@ -133,6 +141,9 @@ pub fn can_map<D: Disk, A: Allocator>(
     ensures answer { (m : List Sector) (named : Triples) (ss : List Space) → Knows core.old m named ss → IfOk result (Tells (first_of (map_row ss space)) (λ run. (s : Space) × (space_at ss space ≡ Some s) × (run ≡ (s.first, s.pages)))) }
     ensures form { IfOk result (IfGiven (λ run. lies_in_root run.0 run.1 ≡ true)) }
     ensures cause { IfErr result (ReachHalts (TablesBreak (state core.old) (λ b page. BreaksHierarchy b page)) (state core.old) (state core.new)) }
+    ensures seen { (ss : List Space) → Sees (state core.old) (kept core.old) core.old.intervals ss → IfOk result (Tells (first_of (map_row ss space)) (λ run. (s : Space) × (space_at ss space ≡ Some s) × (run ≡ (s.first, s.pages)))) }
+    ensures sees { (ss : List Space) → Sees (state core.old) (kept core.old) core.old.intervals ss → Sees (state core.new) (kept core.new) core.new.intervals ss }
+    ensures right { (ss : List Space) → Sees (state core.old) (kept core.old) core.old.intervals ss → IfErr result SparesTables }
     ensures sound { (m : List Sector) (named : Triples) (ss : List Space) → Knows core.old m named ss → IfErr result (λ e. e ≡ halt.Disk) }
     ensures asked { Asked core.old core.new }
     ensures cost { (D.state core.new.filer.swapper.under).transfers ≤ (D.state core.old.filer.swapper.under).transfers + 14364 }

@@ -8,6 +8,8 @@ ghost use Rattle.space_tables.specs.Answer.{FromMemory, IfMem};
 ghost use Rattle.space_tables.specs.Stored.{TellSpaces};
 ghost use Rattle.filer_kernel.specs.Tables.{BesideTables, IsTableAccounted};
 ghost use Rattle.fault_core.specs.Reach.{ReachHalts, BringsOwn};
+ghost use Rattle.fault_core.specs.Lack.{Sees};
+ghost use Rattle.fault_core.specs.Spares.{SparesTables};
 ghost use Rattle.fault_core.specs.Told.{Known};
 ghost use Rattle.fault_core.specs.View.{view_of, TablesAre};
 
@@ -33,7 +35,9 @@ fn begin_in<D: Disk, A: Allocator>(filer: &mut FilerOver<D, A>) -> Result<(), Sp
 pub fn begin<D: Disk, A: Allocator>(filer: &mut FilerOver<D, A>) -> Result<(), Halt>
     requires size { (D.state filer.old.swapper.under).sectors ≡ filer.old.swapper.layout.sectors }
     ensures begun { (b : List ℕ) → TablesAre (view_of filer.old) b → OnOk result (TellSpaces (TablesAre (view_of filer.new)) 1 (root ∷ [])) }
+    ensures sees { (b : List ℕ) → TablesAre (view_of filer.old) b → OnOk result (Sees (view_of filer.new) [] 1 (root ∷ [])) }
     ensures cause { IfErr result (ReachHalts (λ page. ⊥) (view_of filer.old) (view_of filer.new)) }
+    ensures right { (b : List ℕ) → TablesAre (view_of filer.old) b → IfErr result SparesTables }
     ensures sound { (m : List Sector) (named : Triples) (b : List ℕ) → Known (view_of filer.old) m named b → IfErr result (λ e. e ≡ halt.Disk) }
     ensures came { BringsOwn filer.old.swapper.pool filer.new.swapper.pool }
     ensures kept { BesideTables (D.state filer.old.swapper.under) filer.old.swapper.pool filer.old.swapper.layout filer.old.runs (D.state filer.new.swapper.under) filer.new.swapper.pool filer.new.swapper.layout filer.new.runs }

@@ -16,7 +16,9 @@ ghost use Rattle.space_tables.specs.Stored.{TellSpaces};
 ghost use Rattle.filer_kernel.specs.Tables.{BesideTables, IsTableAccounted};
 ghost use Rattle.fault_core.specs.View.{view_of, TablesAre};
 ghost use Rattle.fault_core.specs.Reach.{ReachHalts};
-ghost use Rattle.fault_core.specs.Core.{state, Knows};
+ghost use Rattle.fault_core.specs.Lack.{Sees};
+ghost use Rattle.fault_core.specs.Spares.{SparesTables};
+ghost use Rattle.fault_core.specs.Core.{kept, state, Knows};
 ghost use Rattle.table_calls.specs.Answers.{Changes, IsDone, Retabled, TablesBreak};
 
 use crate::halting::refused_or_halted;
@@ -58,6 +60,9 @@ pub fn set_unit<D: Disk, A: Allocator>(
     ensures answer { (m : List Sector) (named : Triples) (ss : List Space) → Knows core.old m named ss
         → IfOk result (Changes (first_of (unit_row ss space unit)) (λ _. TellSpaces (TablesAre (state core.new)) core.new.intervals (change_space space (λ s. record s { unit = unit }) ss)) (TellSpaces (TablesAre (state core.new)) core.new.intervals ss)) }
     ensures cause { IfErr result (ReachHalts (TablesBreak (state core.old) (λ b page. Breaks core.old.intervals b page)) (state core.old) (state core.new)) }
+    ensures sees { (ss : List Space) → Sees (state core.old) (kept core.old) core.old.intervals ss
+        → IfOk result (Changes (first_of (unit_row ss space unit)) (λ _. Sees (state core.new) (kept core.new) core.new.intervals (change_space space (λ s. record s { unit = unit }) ss)) (Sees (state core.new) (kept core.new) core.new.intervals ss)) }
+    ensures right { (ss : List Space) → Sees (state core.old) (kept core.old) core.old.intervals ss → IfErr result SparesTables }
     ensures sound { (m : List Sector) (named : Triples) (ss : List Space) → Knows core.old m named ss → IfErr result (λ e. e ≡ halt.Disk) }
     ensures retabled { Retabled core.old core.new }
     ensures intervals { core.new.intervals ≡ core.old.intervals }
@@ -101,6 +106,9 @@ pub fn set_window<D: Disk, A: Allocator>(
     ensures sound { (m : List Sector) (named : Triples) (ss : List Space) (x : Space) → Knows core.old m named ss → MayHaveWindow ss x → x.handle ≡ space → IfSome shown (λ w. WindowFits x.pages (window_of w))
         → IfErr result (λ e. e ≡ halt.Disk) }
     ensures cause { IfErr result (ReachHalts (TablesBreak (state core.old) (Breaks core.old.intervals)) (state core.old) (state core.new)) }
+    ensures sees { (ss : List Space) (x : Space) → Sees (state core.old) (kept core.old) core.old.intervals ss → MayHaveWindow ss x → x.handle ≡ space → IfSome shown (λ w. WindowFits x.pages (window_of w))
+        → IfOk result (IsDone (Sees (state core.new) (kept core.new) core.new.intervals (set_window space (option_map window_of shown) ss))) }
+    ensures right { (ss : List Space) → Sees (state core.old) (kept core.old) core.old.intervals ss → IfErr result SparesTables }
     ensures retabled { Retabled core.old core.new }
     ensures intervals { core.new.intervals ≡ core.old.intervals }
     ensures cost { (D.state core.new.filer.swapper.under).transfers ≤ (D.state core.old.filer.swapper.under).transfers + 57344 }

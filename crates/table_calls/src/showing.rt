@@ -14,7 +14,9 @@ ghost use Rattle.space_tables.specs.Stored.{TellSpaces};
 ghost use Rattle.filer_kernel.specs.Tables.{BesideTables, IsTableAccounted};
 ghost use Rattle.fault_core.specs.View.{view_of, TablesAre};
 ghost use Rattle.fault_core.specs.Reach.{ReachHalts};
-ghost use Rattle.fault_core.specs.Core.{state, Knows};
+ghost use Rattle.fault_core.specs.Lack.{Sees};
+ghost use Rattle.fault_core.specs.Spares.{SparesTables};
+ghost use Rattle.fault_core.specs.Core.{kept, state, Knows};
 ghost use Rattle.table_calls.specs.Answers.{Asked, IfGiven, Tells, TablesBreak, TablesSay};
 
 use crate::halting::refused_or_halted;
@@ -57,6 +59,9 @@ pub fn shown<D: Disk, A: Allocator>(
     ensures form { IfOk result (IfGiven (λ x. 16 ≤ x.id)) }
     ensures read { IfOk result (IfGiven (TablesSay (state core.old) (λ b. IsShownAt b space))) }
     ensures cause { IfErr result (ReachHalts (TablesBreak (state core.old) (λ b page. BreaksSlot b page space)) (state core.old) (state core.new)) }
+    ensures seen { (ss : List Space) → Sees (state core.old) (kept core.old) core.old.intervals ss → IfOk result (Tells (first_of (window_row ss space)) (λ x. (s : Space) × (space_at ss space ≡ Some s) × (s.window ≡ Some (window_of x)))) }
+    ensures sees { (ss : List Space) → Sees (state core.old) (kept core.old) core.old.intervals ss → Sees (state core.new) (kept core.new) core.new.intervals ss }
+    ensures right { (ss : List Space) → Sees (state core.old) (kept core.old) core.old.intervals ss → IfErr result SparesTables }
     ensures sound { (m : List Sector) (named : Triples) (ss : List Space) → Knows core.old m named ss → IfErr result (λ e. e ≡ halt.Disk) }
     ensures asked { Asked core.old core.new }
     ensures cost { (D.state core.new.filer.swapper.under).transfers ≤ (D.state core.old.filer.swapper.under).transfers + 28 }
@@ -99,6 +104,9 @@ pub fn shows_file<D: Disk, A: Allocator>(
     ensures answer { (m : List Sector) (named : Triples) (ss : List Space) → Knows core.old m named ss → IfOk result (IsFirstWith (shows id writable_only) ss) }
     ensures form { IfOk result (λ o. IfSome o (λ at. (16 ≤ at.1.id) × (at.1.id ≡ id) × (writable_only ≡ true → at.1.writable ≡ true))) }
     ensures cause { IfErr result (ReachHalts (TablesBreak (state core.old) BreaksHierarchy) (state core.old) (state core.new)) }
+    ensures seen { (ss : List Space) → Sees (state core.old) (kept core.old) core.old.intervals ss → IfOk result (IsFirstWith (shows id writable_only) ss) }
+    ensures sees { (ss : List Space) → Sees (state core.old) (kept core.old) core.old.intervals ss → Sees (state core.new) (kept core.new) core.new.intervals ss }
+    ensures right { (ss : List Space) → Sees (state core.old) (kept core.old) core.old.intervals ss → IfErr result SparesTables }
     ensures sound { (m : List Sector) (named : Triples) (ss : List Space) → Knows core.old m named ss → IfErr result (λ e. e ≡ halt.Disk) }
     ensures asked { Asked core.old core.new }
     ensures cost { (D.state core.new.filer.swapper.under).transfers ≤ (D.state core.old.filer.swapper.under).transfers + 14336 }

@@ -1,4 +1,4 @@
-use Rattle.std.proofs.Common.{refl, subst, ℕ}
+use Rattle.std.proofs.Common.{inl, refl, subst, ℕ}
 use Rattle.std.specs.Prelude.{IfErr}
 use Rattle.space_tables.specs.Answer.{IfMalformed}
 use Rattle.space_tables.specs.Form.{BreaksFor}
@@ -6,6 +6,8 @@ use Rattle.fault_core.specs.Core.{state}
 use Rattle.fault_core.specs.View.{view_of}
 use Rattle.table_calls.proofs.AskedLemmas.{asked}
 use Rattle.table_calls.proofs.HaltingLemmas.{answered, halted, whole, sound, known_spaces}
+use Rattle.fault_core.proofs.LackLemmas.{sees_after}
+use Rattle.table_calls.proofs.SeenLemmas.{seen_spaces, spared}
 use Rattle.table_calls.proofs.asking.place.Goals as goal
 
 pub returns-clause-answer : goal.returns-clause-answer
@@ -20,3 +22,14 @@ returns-clause-sound g c = λ m named ss knows.
 
 pub returns-clause-asked : goal.returns-clause-asked
 returns-clause-asked g c = asked c.args.core.now _ c.ask_place.ensures.kept c.ask_place.ensures.same refl refl
+
+-- ---- The tables are told.
+
+pub returns-clause-seen : goal.returns-clause-seen
+returns-clause-seen g c = λ ss s. rw c.refused_or_halted.ensures (answered c.ask_place.result _ _ _ (c.ask_place.ensures.answer ss (rw c.interval_count-intervals.ensures (seen_spaces s))))
+
+pub returns-clause-sees : goal.returns-clause-sees
+returns-clause-sees g c = λ ss s. sees_after s _ _ (returns-clause-asked g c).reaches (λ x one. inl one)
+
+pub returns-clause-right : goal.returns-clause-right
+returns-clause-right g c = λ ss s. rw c.refused_or_halted.ensures (spared c.ask_place.result (view_of c.ask_place.new.filer) s.told (whole c.ask_place.result _ _ _ (c.ask_place.ensures.answer ss (rw c.interval_count-intervals.ensures (seen_spaces s)))) c.ask_place.ensures.cause)

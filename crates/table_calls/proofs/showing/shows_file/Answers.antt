@@ -1,4 +1,4 @@
-use Rattle.std.proofs.Common.{◌∙◌, refl, sym, subst, Result, Option, ℕ, ◌≡◌}
+use Rattle.std.proofs.Common.{◌∙◌, inl, refl, sym, subst, Result, Option, ℕ, ◌≡◌}
 use Rattle.std.specs.Prelude.{IfOk, IfErr}
 use Rattle.labelled_disk.specs.declared.evidence.Halt.{Halt}
 use Rattle.labelled_disk.specs.declared.evidence.Halt.TheVariants.{Disk}
@@ -12,6 +12,9 @@ use Rattle.fault_core.specs.View.{view_of}
 use Rattle.table_calls.specs.Answers.{IfGiven, TablesBreak}
 use Rattle.table_calls.proofs.AskedLemmas.{asked}
 use Rattle.table_calls.proofs.HaltingLemmas.{given, halted, from_memory, sound, known_spaces}
+use Rattle.fault_core.specs.Spares.{SparesTables}
+use Rattle.fault_core.proofs.LackLemmas.{sees_after}
+use Rattle.table_calls.proofs.SeenLemmas.{seen_spaces, spared}
 use Rattle.table_calls.proofs.showing.shows_file.Goals as goal
 
 abbrev Answer : Type 0
@@ -40,3 +43,22 @@ returns-in-Err-clause-sound g c = λ m named ss knows.
 
 pub returns-in-Err-clause-asked : goal.returns-in-Err-clause-asked
 returns-in-Err-clause-asked g c = asked c.args.core.now _ c.ask_shows_file.ensures.kept c.ask_shows_file.ensures.same refl refl
+
+-- ---- The tables are told.
+
+pub returns-in-Ok-Ok-clause-seen : goal.returns-in-Ok-Ok-clause-seen
+returns-in-Ok-Ok-clause-seen g c = λ ss s.
+    let first = IsFirstWith (shows c.args.id c.args.writable_only) ss in
+    subst (IfGiven first) c.in-Ok-Ok.field-0-is
+    (subst (λ (x : Answer). IfOk x (IfGiven first)) (sym c.refused_or_halted.ensures ∙ c.in-Ok-Ok.is) (given c.ask_shows_file.result first (c.ask_shows_file.ensures.answer ss (rw c.interval_count-intervals.ensures (seen_spaces s)))))
+
+pub returns-in-Ok-Ok-clause-sees : goal.returns-in-Ok-Ok-clause-sees
+returns-in-Ok-Ok-clause-sees g c = λ ss s. sees_after s _ _ (returns-in-Ok-Ok-clause-asked g c).reaches (λ x one. inl one)
+
+pub returns-in-Err-clause-sees : goal.returns-in-Err-clause-sees
+returns-in-Err-clause-sees g c = λ ss s. sees_after s _ _ (returns-in-Err-clause-asked g c).reaches (λ x one. inl one)
+
+pub returns-in-Err-clause-right : goal.returns-in-Err-clause-right
+returns-in-Err-clause-right g c = λ ss s.
+    let right = from_memory c.ask_shows_file.result (c.ask_shows_file.ensures.right ss (rw c.interval_count-intervals.ensures (seen_spaces s))) in
+    subst (λ (x : Answer). IfErr x SparesTables) (sym c.refused_or_halted.ensures ∙ c.in-Err.is) (spared c.ask_shows_file.result (view_of c.ask_shows_file.new.filer) s.told right c.ask_shows_file.ensures.cause)

@@ -10,6 +10,7 @@ use Rattle.fault_core.proofs.ReachLemmas.{reaches_then, halts_before}
 use Rattle.fault_core.proofs.WholeLemmas.{whole_stays}
 use Rattle.fault_core.specs.Lack.{range_units, shown_unit}
 use Rattle.fault_core.proofs.LackLemmas.{lacks_wider}
+use Rattle.fault_core.proofs.SparesLemmas.{range_spares}
 use Rattle.fault_core.proofs.core_over.CoreOver.activate.Goals as goal
 
 -- ---- No window shows a page of the range.
@@ -102,3 +103,17 @@ returns-in-Err-touch2-clause-missing g c = λ ss s.
     let page = c.in-Ok.brought.1 in
     let within = c.in-Ok.ensures.within c.if-units-eq0.false in
     lacks_wider (shown_unit ss page) (range_units ss c.args.first (c.args.first + c.args.pages)) (λ id number own. (page, within.0, within.1, own)) c.in-Err-touch2.halt (c.in-Err-touch2.ensures.missing ss (c.bring_units.ensures.sees ss s))
+
+-- ---- The tables are told.
+
+pub returns-in-Ok-touch2-clause-sees : goal.returns-in-Ok-touch2-clause-sees
+returns-in-Ok-touch2-clause-sees g c = λ ss s. c.touch2.ensures.sees ss (c.bring_units.ensures.sees ss s)
+
+pub returns-in-Err-touch2-clause-sees : goal.returns-in-Err-touch2-clause-sees
+returns-in-Err-touch2-clause-sees g c = λ ss s. c.touch2.ensures.sees ss (c.bring_units.ensures.sees ss s)
+
+pub returns-in-Err-clause-right : goal.returns-in-Err-clause-right
+returns-in-Err-clause-right g c = λ ss s. range_spares s c.args.self.now.some (state c.bring_units.new.self) c.in-Err.halt c.args.first (c.args.first + c.args.pages) c.in-Err.ensures.cause
+
+pub returns-in-Err-touch2-clause-right : goal.returns-in-Err-touch2-clause-right
+returns-in-Err-touch2-clause-right g c = λ ss s. range_spares s c.args.self.now.some (state c.touch2.new.self) c.in-Err-touch2.halt c.args.first (c.args.first + c.args.pages) (returns-in-Err-touch2-clause-cause g c)

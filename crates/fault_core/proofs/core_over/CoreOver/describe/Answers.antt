@@ -15,6 +15,7 @@ use Rattle.fault_core.proofs.ToldLemmas.{told_after, tables_told, interval_of, i
 use Rattle.fault_core.proofs.YieldLemmas.{yield_itself}
 use Rattle.fault_core.proofs.core_over.CoreOver.describe.Given as given
 use Rattle.fault_core.proofs.LackLemmas.{sees_after}
+use Rattle.fault_core.proofs.SparesLemmas.{table_spares}
 use Rattle.fault_core.proofs.core_over.CoreOver.describe.Goals as goal
 
 -- ---- A kept interval has the page.
@@ -116,3 +117,8 @@ returns-in-Some-found-clause-sees g c = λ ss s.
 
 pub returns-in_default-found-clause-sees : goal.returns-in_default-found-clause-sees
 returns-in_default-found-clause-sees g c = λ ss s. sees_after s _ _ c.look_up.ensures.reaches (λ x one. inl (subst (λ (l : List Interval). IsKept l x) c.look.ensures.kept one))
+
+pub returns-in_err-found-clause-right : goal.returns-in_err-found-clause-right
+returns-in_err-found-clause-right g c = λ ss s.
+    let failed : c.from_residual.result ≡ Err c.in_err-found.field-0.0 = search rules in
+    rw failed (table_spares s c.args.self.now.some (view_of c.look_up.new.filer) c.in_err-found.field-0.0 c.args.page c.in_err-found.ensures.cause)

@@ -3,6 +3,7 @@ use Rattle.swapper_kernel.specs.HaltLaws.{brings_then}
 use Rattle.fault_core.specs.Core.{kept, state}
 use Rattle.fault_core.proofs.BeforeLemmas.{touches_then}
 use Rattle.fault_core.proofs.KillLemmas.{killing_none, killing_more, killing_left, killing_halt, killing_sound, killing_cost, killing_found, killed_all, killed_cost, killed_goes, killed_known, killed_most, range_of}
+use Rattle.fault_core.proofs.SparesLemmas.{range_spares}
 use Rattle.fault_core.proofs.core_over.CoreOver.kill.Goals as goal
 
 pub loop-part-init : goal.loop-part-init
@@ -14,7 +15,7 @@ kill_part-requires-clause-size g c = c.loop-part.invariant.size
 pub loop-part-preserved : goal.loop-part-preserved
 loop-part-preserved g c =
     killing_more c.args.self.now.filer.swapper.accepted c.loop-part.invariant (state c.kill_part.new.self) (kept c.kill_part.new.self) c.kill_part.new.self.intervals c.end_of-end.ensures.within c.kill_part.ensures.left
-    c.in-Ok.next c.if-page-end.false c.in-Ok.ensures.next.0 c.kill_part.ensures.touches c.kill_part.ensures.came c.kill_part.ensures.intervals c.in-Ok.ensures.gone c.in-Ok.ensures.part
+    c.in-Ok.next c.if-page-end.false c.in-Ok.ensures.next.0 c.kill_part.ensures.touches c.kill_part.ensures.came c.kill_part.ensures.sees c.kill_part.ensures.intervals c.in-Ok.ensures.gone c.in-Ok.ensures.part
     (λ y found. let e = c.in-Ok.ensures.idle y found in (e.1, e.2)) c.kill_part.ensures.cost
 
 -- ---- A page could not be looked up.
@@ -120,3 +121,17 @@ returns-then-page-end-clause-idle g c = λ found. let was = c.loop-part.invarian
 
 pub returns-clause-idle : goal.returns-clause-idle
 returns-clause-idle g c = λ found. let was = c.loop-part.invariant.idle found in (refl, was.0, was.1)
+
+-- ---- The tables are told.
+
+pub returns-then-page-end-clause-sees : goal.returns-then-page-end-clause-sees
+returns-then-page-end-clause-sees g c = c.loop-part.invariant.sees
+
+pub returns-clause-sees : goal.returns-clause-sees
+returns-clause-sees g c = c.loop-part.invariant.sees
+
+pub returns-in-Err-clause-sees : goal.returns-in-Err-clause-sees
+returns-in-Err-clause-sees g c = λ ss s. c.kill_part.ensures.sees ss (c.loop-part.invariant.sees ss s)
+
+pub returns-in-Err-clause-right : goal.returns-in-Err-clause-right
+returns-in-Err-clause-right g c = λ ss s. range_spares s c.args.self.now.some (state c.kill_part.new.self) c.in-Err.halt c.args.first (c.args.first + c.args.pages) (returns-in-Err-clause-cause g c)

@@ -1,6 +1,7 @@
 use Rattle.std.proofs.Common.{◌≡◌, ◌∙◌, rules, true, false, refl, subst, ap, ℕ, arith}
 use Rattle.swapper_kernel.specs.Differs.{Differs}
 use Rattle.swapper_kernel.specs.DiffersLaws.{differs_itself}
+use Rattle.swapper_kernel.specs.Goes.{no_page}
 use Rattle.session_words.specs.CellLaws.{is_killed}
 use Rattle.fault_core.specs.Kill.{LeavesCore, is_absent, may_store}
 use Rattle.fault_core.specs.Core.{kept, state}
@@ -8,6 +9,7 @@ use Rattle.fault_core.specs.View.{view_of}
 use Rattle.fault_core.proofs.BeforeLemmas.{touches_of, touches_then}
 use Rattle.fault_core.proofs.KilledLemmas.{part_kept, part_left, part_stored}
 use Rattle.fault_core.proofs.ToldLemmas.{interval_of}
+use Rattle.fault_core.proofs.SparesLemmas.{sees_touched}
 use Rattle.fault_core.proofs.core_over.CoreOver.kill_part.Goals as goal
 
 pub returns-in-Err-clause-left : goal.returns-in-Err-clause-left
@@ -68,3 +70,8 @@ pub returns-clause-idle : goal.returns-clause-idle
 returns-clause-idle g c = λ x found.
     let e = c.in-Ok.ensures.idle x found in
     (refl, (λ i. g.D.Disk.state (c.forget_shown.ensures.under i)) ∙ (λ i. g.D.Disk.state (e.1 i).swapper.under), e.2)
+
+-- ---- The tables are told.
+
+pub returns-clause-sees : goal.returns-clause-sees
+returns-clause-sees g c = λ ss s. sees_touched (c.part_at.ensures.sees ss s) no_page (view_of c.forget_shown.new.filer) c.forget_shown.ensures.touches

@@ -11,8 +11,9 @@ use Rattle.fault_core.proofs.ReachLemmas.{reaches_then, halts_before}
 use Rattle.fault_core.proofs.ShowLemmas.{own_came, both_came}
 use Rattle.fault_core.proofs.ToldLemmas.{told_after}
 use Rattle.fault_core.specs.Lack.{both_units, shown_units}
-use Rattle.fault_core.proofs.LackLemmas.{lacks_wider, none_lacks, unit_shown}
+use Rattle.fault_core.proofs.LackLemmas.{lacks_wider, none_lacks, sees_after, unit_shown}
 use Rattle.space_tables.specs.SpaceTables.{IsIntervalAt}
+use Rattle.fault_core.proofs.SparesLemmas.{reference_spares}
 use Rattle.fault_core.proofs.core_over.CoreOver.load.Goals as goal
 
 -- ---- It is refused.
@@ -155,3 +156,17 @@ returns-in-Err-load_shown-clause-missing g c = λ ss s.
       | inl own ↦ inl (unit_shown mid x (a / 512) at.0 form.0.mapped id number own)
       | inr own ↦ inr (unit_shown mid y (last_page a n) at.1 form.1.mapped id number own)
     ]) c.in-Err-load_shown.halt c.in-Err-load_shown.ensures.lacks
+
+-- ---- The tables are told.
+
+pub returns-in-Ok-clause-sees : goal.returns-in-Ok-clause-sees
+returns-in-Ok-clause-sees g c = λ ss s. sees_after (c.in-Ok-Shown.ensures.sees ss s) _ _ c.load_shown.ensures.reaches (λ x one. inl one)
+
+pub returns-in-Err-load_shown-clause-sees : goal.returns-in-Err-load_shown-clause-sees
+returns-in-Err-load_shown-clause-sees g c = λ ss s. sees_after (c.in-Ok-Shown.ensures.sees ss s) _ _ c.load_shown.ensures.reaches (λ x one. inl one)
+
+pub returns-in-Err-clause-right : goal.returns-in-Err-clause-right
+returns-in-Err-clause-right g c = λ ss s. reference_spares s c.args.self.now.some (state c.refer.new.self) c.in-Err.halt c.args.address (length c.args.into.now) c.in-Err.ensures.cause
+
+pub returns-in-Err-load_shown-clause-right : goal.returns-in-Err-load_shown-clause-right
+returns-in-Err-load_shown-clause-right g c = λ ss s. reference_spares s c.args.self.now.some (view_of c.load_shown.new.filer) c.in-Err-load_shown.halt c.args.address (length c.args.into.now) (returns-in-Err-load_shown-clause-cause g c)

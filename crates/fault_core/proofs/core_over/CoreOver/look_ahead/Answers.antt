@@ -128,3 +128,8 @@ pub returns-clause-idle : goal.returns-clause-idle
 returns-clause-idle g c = λ first last apart.
     let one = c.in-Ok-Shown.ensures.idle first last apart in
     (refl, c.look_for.ensures.same ∙ one.2, one.3)
+
+-- ---- The tables are told.
+
+pub returns-clause-sees : goal.returns-clause-sees
+returns-clause-sees g c = λ ss s. rw c.look_for.ensures.same (c.in-Ok-Shown.ensures.sees ss s)

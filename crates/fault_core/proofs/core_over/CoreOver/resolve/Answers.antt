@@ -11,11 +11,12 @@ use Rattle.fault_core.proofs.ReachLemmas.{reaches_then, halts_before}
 use Rattle.fault_core.proofs.ShowLemmas.{shown_is, all_stored}
 use Rattle.fault_core.proofs.ToldLemmas.{interval_of, told_after}
 use Rattle.fault_core.specs.Lack.{kept_unit, run_pages, shown_unit}
-use Rattle.fault_core.proofs.LackLemmas.{lacks_wider, none_lacks, run_unit, seen_at, unit_shown}
+use Rattle.fault_core.proofs.LackLemmas.{lacks_wider, none_lacks, run_unit, seen_at, sees_after, unit_shown}
 use Rattle.fault_core.proofs.UnitLemmas.{unit_run_is}
 use Rattle.std.specs.Prelude.{IfSome}
 use Rattle.swap_units.specs.declared.interval.Interval.{Interval}
 use Rattle.fault_core.specs.Kept.{IsKept}
+use Rattle.fault_core.proofs.SparesLemmas.{table_spares}
 use Rattle.fault_core.proofs.core_over.CoreOver.resolve.Goals as goal
 
 pub returns-in-Ok-None-clause-none : goal.returns-in-Ok-None-clause-none
@@ -109,3 +110,17 @@ returns-in-Err-homes_of-clause-missing g c = λ ss s.
     lacks_wider (run_pages x.id (x.page + (unit.0 - x.first)) unit.1) (shown_unit ss page)
     (λ id number one. unit_shown mid x page (seen_at mid x page is_kept shows) shows.mapped id number (run_unit x page (x.page + (unit.0 - x.first), unit.1) run id number one))
     c.in-Err-homes_of.halt c.in-Err-homes_of.ensures.lacks
+
+-- ---- The tables are told.
+
+pub returns-in-Ok-clause-sees : goal.returns-in-Ok-clause-sees
+returns-in-Ok-clause-sees g c = λ ss s. sees_after (c.in-Ok-Some.ensures.sees ss s) _ _ c.homes_of.ensures.reaches (λ x one. inl one)
+
+pub returns-in-Err-homes_of-clause-sees : goal.returns-in-Err-homes_of-clause-sees
+returns-in-Err-homes_of-clause-sees g c = λ ss s. sees_after (c.in-Ok-Some.ensures.sees ss s) _ _ c.homes_of.ensures.reaches (λ x one. inl one)
+
+pub returns-in-Err-clause-right : goal.returns-in-Err-clause-right
+returns-in-Err-clause-right g c = λ ss s. table_spares s c.args.self.now.some (state c.shown.new.self) c.in-Err.halt c.args.page c.in-Err.ensures.cause
+
+pub returns-in-Err-homes_of-clause-right : goal.returns-in-Err-homes_of-clause-right
+returns-in-Err-homes_of-clause-right g c = λ ss s. table_spares s c.args.self.now.some (view_of c.homes_of.new.filer) c.in-Err-homes_of.halt c.args.page (returns-in-Err-homes_of-clause-cause g c)

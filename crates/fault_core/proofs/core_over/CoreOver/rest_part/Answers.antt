@@ -8,6 +8,7 @@ use Rattle.fault_core.proofs.ReachLemmas.{reaches_then, halts_before}
 use Rattle.fault_core.proofs.KeptLemmas.{same_answer}
 use Rattle.fault_core.proofs.RestLemmas.{run_yields, none_at_rest, bare_at_rest, run_at_rest, next_of, leaves_same, part_all, part_leaves}
 use Rattle.fault_core.proofs.ToldLemmas.{interval_of, told_after}
+use Rattle.fault_core.proofs.LackLemmas.{sees_after}
 use Rattle.fault_core.proofs.core_over.CoreOver.rest_part.Goals as goal
 
 pub returns-in-Ok-None-clause-rest : goal.returns-in-Ok-None-clause-rest
@@ -146,3 +147,11 @@ returns-in-Ok-clause-stay g c = run_yields c.args.way _ _ _ c.args.self.now.file
 
 pub returns-in-Err-rest_run-clause-stay : goal.returns-in-Err-rest_run-clause-stay
 returns-in-Err-rest_run-clause-stay g c = run_yields c.args.way _ _ _ c.args.self.now.filer.swapper.pool c.describe.new.self.filer.swapper.pool c.rest_run.new.filer.swapper.pool c.describe.ensures.stay c.rest_run.ensures.frames
+
+-- ---- The tables are told.
+
+pub returns-in-Ok-clause-sees : goal.returns-in-Ok-clause-sees
+returns-in-Ok-clause-sees g c = λ ss s. sees_after (c.in-Ok-Some.ensures.sees ss s) _ _ c.rest_run.ensures.reaches (λ x one. inl one)
+
+pub returns-in-Err-rest_run-clause-sees : goal.returns-in-Err-rest_run-clause-sees
+returns-in-Err-rest_run-clause-sees g c = λ ss s. sees_after (c.in-Ok-Some.ensures.sees ss s) _ _ c.rest_run.ensures.reaches (λ x one. inl one)

@@ -3,6 +3,7 @@ use Rattle.swapper_kernel.specs.HaltLaws.{brings_then}
 use Rattle.fault_core.specs.Core.{kept, state}
 use Rattle.fault_core.proofs.YieldLemmas.{yield_then}
 use Rattle.fault_core.proofs.RangeLemmas.{resting_none, resting_more, resting_halt, resting_stopped, resting_done, resting_all, resting_cost, stopped_cost, frames_stopped, frames_done}
+use Rattle.fault_core.proofs.SparesLemmas.{range_spares}
 use Rattle.fault_core.proofs.core_over.CoreOver.rest_range.Goals as goal
 
 pub loop-part-init : goal.loop-part-init
@@ -45,7 +46,7 @@ loop-part-preserved g c =
     let further = c.in-Ok.ensures.further in
     resting_more c.args.self.now.filer.swapper.accepted c.loop-part.invariant (state new) (kept new) new.intervals c.in-Ok.next c.if-page-end.false further.0 c.in-Ok.ensures.rest c.in-Ok.ensures.part c.in-Ok.ensures.same
     c.rest_part.ensures.frames c.in-Ok.ensures.all c.rest_part.ensures.stay
-    c.rest_part.ensures.reaches c.rest_part.ensures.came c.rest_part.ensures.intervals c.rest_part.ensures.cost
+    c.rest_part.ensures.sees c.rest_part.ensures.reaches c.rest_part.ensures.came c.rest_part.ensures.intervals c.rest_part.ensures.cost
 
 -- ---- The disk failed.
 
@@ -108,3 +109,17 @@ returns-clause-cost g c = resting_cost c.args.self.now.filer.swapper.accepted c.
 
 pub returns-clause-frames : goal.returns-clause-frames
 returns-clause-frames g c = frames_done c.args.self.now.filer.swapper.accepted c.loop-part.invariant c.args.self.now.formed c.args.pages c.end_of-end.ensures.within c.end_of-end.ensures.all
+
+-- ---- The tables are told.
+
+pub returns-then-page-end-clause-sees : goal.returns-then-page-end-clause-sees
+returns-then-page-end-clause-sees g c = c.loop-part.invariant.sees
+
+pub returns-clause-sees : goal.returns-clause-sees
+returns-clause-sees g c = c.loop-part.invariant.sees
+
+pub returns-in-Err-clause-sees : goal.returns-in-Err-clause-sees
+returns-in-Err-clause-sees g c = λ ss s. c.rest_part.ensures.sees ss (c.loop-part.invariant.sees ss s)
+
+pub returns-in-Err-clause-right : goal.returns-in-Err-clause-right
+returns-in-Err-clause-right g c = λ ss s. range_spares s c.args.self.now.some (state c.rest_part.new.self) c.in-Err.halt c.args.first (c.args.first + c.args.pages) (returns-in-Err-clause-cause g c)

@@ -17,6 +17,7 @@ use Rattle.fault_core.proofs.ShowLemmas.{own_came, both_came}
 use Rattle.fault_core.specs.Lack.{both_units, shown_units}
 use Rattle.fault_core.proofs.LackLemmas.{lacks_wider, none_lacks, unit_shown}
 use Rattle.space_tables.specs.SpaceTables.{IsIntervalAt}
+use Rattle.fault_core.proofs.SparesLemmas.{reference_spares, sees_touched}
 use Rattle.fault_core.proofs.core_over.CoreOver.store.Goals as goal
 
 -- ---- It is refused.
@@ -233,3 +234,23 @@ returns-in-Err-store_shown-clause-missing g c = λ ss s.
       | inl own ↦ inl (unit_shown mid x (a / 512) at.0 form.0.mapped id number own)
       | inr own ↦ inr (unit_shown mid y (last_page a n) at.1 form.1.mapped id number own)
     ]) c.in-Err-store_shown.halt c.in-Err-store_shown.ensures.lacks
+
+-- ---- The tables are told.
+
+pub returns-in-Ok-clause-sees : goal.returns-in-Ok-clause-sees
+returns-in-Ok-clause-sees g c =
+    let x = c.in-Ok-Shown.first in
+    let y = c.in-Ok-Shown.last in
+    λ ss s. sees_touched (c.in-Ok-Shown.ensures.sees ss s) (of_reference x y c.args.address (length c.args.bytes.now)) (view_of c.store_shown.new.filer) c.store_shown.ensures.touches
+
+pub returns-in-Err-store_shown-clause-sees : goal.returns-in-Err-store_shown-clause-sees
+returns-in-Err-store_shown-clause-sees g c =
+    let x = c.in-Ok-Shown.first in
+    let y = c.in-Ok-Shown.last in
+    λ ss s. sees_touched (c.in-Ok-Shown.ensures.sees ss s) (of_reference x y c.args.address (length c.args.bytes.now)) (view_of c.store_shown.new.filer) c.store_shown.ensures.touches
+
+pub returns-in-Err-clause-right : goal.returns-in-Err-clause-right
+returns-in-Err-clause-right g c = λ ss s. reference_spares s c.args.self.now.some (state c.refer.new.self) c.in-Err.halt c.args.address (length c.args.bytes.now) c.in-Err.ensures.cause
+
+pub returns-in-Err-store_shown-clause-right : goal.returns-in-Err-store_shown-clause-right
+returns-in-Err-store_shown-clause-right g c = λ ss s. reference_spares s c.args.self.now.some (view_of c.store_shown.new.filer) c.in-Err-store_shown.halt c.args.address (length c.args.bytes.now) (returns-in-Err-store_shown-clause-cause g c)

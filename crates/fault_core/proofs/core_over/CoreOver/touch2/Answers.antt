@@ -16,6 +16,7 @@ use Rattle.fault_core.proofs.ShowLemmas.{shown_is, all_stored, known_came, own_c
 use Rattle.fault_core.proofs.ToldLemmas.{interval_of, told_after}
 use Rattle.fault_core.specs.Lack.{kept_unit, shown_unit, unit_pages}
 use Rattle.fault_core.proofs.LackLemmas.{lacks_wider, none_lacks, seen_at, sees_after, unit_shown}
+use Rattle.fault_core.proofs.SparesLemmas.{table_spares}
 use Rattle.fault_core.proofs.core_over.CoreOver.touch2.Goals as goal
 
 pub returns-in-Ok-None-clause-none : goal.returns-in-Ok-None-clause-none
@@ -159,3 +160,11 @@ returns-in-Ok-clause-sees g c = λ ss s. sees_after (c.in-Ok-Some.ensures.sees s
 
 pub returns-in-Err-touch-clause-sees : goal.returns-in-Err-touch-clause-sees
 returns-in-Err-touch-clause-sees g c = λ ss s. sees_after (c.in-Ok-Some.ensures.sees ss s) _ _ c.touch.ensures.reaches (λ x one. inl one)
+
+-- ---- The tables are told.
+
+pub returns-in-Err-clause-right : goal.returns-in-Err-clause-right
+returns-in-Err-clause-right g c = λ ss s. table_spares s c.args.self.now.some (state c.shown.new.self) c.in-Err.halt c.args.page c.in-Err.ensures.cause
+
+pub returns-in-Err-touch-clause-right : goal.returns-in-Err-touch-clause-right
+returns-in-Err-touch-clause-right g c = λ ss s. table_spares s c.args.self.now.some (view_of c.touch.new.filer) c.in-Err-touch.halt c.args.page (returns-in-Err-touch-clause-cause g c)

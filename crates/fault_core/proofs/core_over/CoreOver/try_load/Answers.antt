@@ -2,9 +2,10 @@ use Rattle.std.proofs.Common.{◌≡◌, ◌≢◌, ◌∙◌, ◌/◌, false, l
 use Rattle.fault_core.specs.declared.reference.Access.TheVariants as access
 use Rattle.fault_core.specs.Access.{access_of, last_page}
 use Rattle.fault_core.specs.Attempt.{HasClient, IfAbsent, IfAccess, IsAbsent, IsHere, IsReferred, moved}
-use Rattle.fault_core.specs.Core.{kept}
+use Rattle.fault_core.specs.Core.{kept, state}
 use Rattle.fault_core.specs.Unit.{IsSlotOf}
 use Rattle.fault_core.proofs.AttemptLemmas.{all_present, at_ready, at_settled}
+use Rattle.fault_core.proofs.SparesLemmas.{reference_spares}
 use Rattle.fault_core.proofs.core_over.CoreOver.try_load.Goals as goal
 
 -- ---- No byte is moved.
@@ -84,3 +85,11 @@ pub returns-clause-idle : goal.returns-clause-idle
 returns-clause-idle g c = λ first last apart.
     let one = c.in-Ok-Ready.ensures.idle first last apart in
     (refl, c.copy_pages.ensures.same ∙ one.1, one.2)
+
+-- ---- The tables are told.
+
+pub returns-clause-sees : goal.returns-clause-sees
+returns-clause-sees g c = λ ss s. rw c.copy_pages.ensures.same (c.in-Ok-Ready.ensures.sees ss s)
+
+pub returns-in-Err-clause-right : goal.returns-in-Err-clause-right
+returns-in-Err-clause-right g c = λ ss s. reference_spares s c.args.self.now.some (state c.look_ahead.new.self) c.in-Err.halt c.args.address (length c.args.into.now) c.in-Err.ensures.cause

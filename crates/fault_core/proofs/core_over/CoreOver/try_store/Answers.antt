@@ -12,6 +12,7 @@ use Rattle.fault_core.proofs.AttemptLemmas.{all_present, at_ready, at_settled, h
 use Rattle.fault_core.proofs.BeforeLemmas.{touches_of, touches_then, touches_wider}
 use Rattle.fault_core.proofs.LeaveLemmas.{goes_refused, goes_told, told_leaves, told_stands}
 use Rattle.fault_core.proofs.MovedLemmas.{either_client, either_touched, of_a_client}
+use Rattle.fault_core.proofs.SparesLemmas.{reference_spares, sees_touched}
 use Rattle.fault_core.proofs.core_over.CoreOver.try_store.Goals as goal
 
 -- ---- No byte is moved.
@@ -154,3 +155,16 @@ pub returns-clause-idle : goal.returns-clause-idle
 returns-clause-idle g c = λ first last apart.
     let one = c.in-Ok-Ready.ensures.idle first last apart in
     (refl, ap g.D.Disk.state c.change_pages.ensures.under ∙ ap (λ f. g.D.Disk.state f.swapper.under) one.1, one.2)
+
+-- ---- The tables are told.
+
+pub returns-clause-sees : goal.returns-clause-sees
+returns-clause-sees g c =
+    let pool = c.look_ahead.new.self.filer.swapper.pool in
+    let own = at_ready (λ i j. HasClient pool i × HasClient pool j) c.in-Ok-Ready.field-0 c.in-Ok-Ready.first c.in-Ok-Ready.last c.in-Ok-Ready.field-0-is c.in-Ok-Ready.ensures.clients in
+    let p = own.0 in
+    let q = own.1 in
+    λ ss s. sees_touched (c.in-Ok-Ready.ensures.sees ss s) (either p.id p.page q.id q.page) (view_of c.change_pages.new.filer) (c.change_pages.ensures.touches p.id p.page q.id q.page p.has q.has p.client q.client)
+
+pub returns-in-Err-clause-right : goal.returns-in-Err-clause-right
+returns-in-Err-clause-right g c = λ ss s. reference_spares s c.args.self.now.some (state c.look_ahead.new.self) c.in-Err.halt c.args.address (length c.args.bytes.now) c.in-Err.ensures.cause
