@@ -141,7 +141,7 @@ sector_written (write.Page sector wanted bytes) = sector
 -- A session begins with the root's write: what keeps to what stood before it keeps to what stood behind it.
 pub rooted : (layout : Layout) (d : List Sector) (named : Triples) (ws : List DiskWrite) (root : Root) (disk : DiskState) (slots : Slots) (kept : List Run) → IsLayout layout → IsBare slots → disk.writes ≡ Some (ws ++ (root_write root ∷ []))
     → KeepsTo (outset d named ws) layout kept disk slots named → KeepsTo (outset d named (ws ++ (root_write root ∷ []))) layout kept disk slots named
-unfolding sector_written, zero_bytes
+unfolding sector_written zero_bytes
 rooted layout d named ws root disk slots kept is bare told k = record {
   since = ([], told ∙ ap (λ (l : List DiskWrite). Some l) (sym (append-nil (ws ++ (root_write root ∷ [])))));
   memory = k.memory;
