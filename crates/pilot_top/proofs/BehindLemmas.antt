@@ -43,7 +43,7 @@ free_there o a b sector same (inr given) = inr (made_there o a b _ same given)
 
 let_there : (o : Outset) (a b : DiskState) (home : Home) → a.writes ≡ b.writes → IsLet o a home → IsLet o b home
 let_there o a b home same h = record {
-  outset = λ is. elim (h.outset is) [ inl tables ↦ inl tables | inr (v, lets, made) ↦ inr (v, lets, made_there o a b v same made) ];
+  outset = λ is. let was = h.outset is in (was.0, was.1, made_there o a b was.0 same was.2);
   since = λ more told turn w at gives. h.since more (same ∙ told) turn w at gives;
 }
 
