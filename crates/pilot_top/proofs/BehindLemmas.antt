@@ -1,5 +1,5 @@
 -- What holds of the state behind a reference holds of the state.
-use Rattle.std.proofs.Common.{◌≡◌, inl, inr, ℕ, ◌≤◌, List, ◌∷◌, length, Option, sym, ap, ◌∙◌, subst, drop}
+use Rattle.std.proofs.Common.{◌≡◌, inl, inr, ℕ, ◌≤◌, List, [], ◌∷◌, ◌++◌, length, Option, sym, ap, ◌∙◌, subst, drop}
 use Rattle.labelled_disk.specs.declared.disk.DiskWrite.{DiskWrite}
 use Rattle.labelled_disk.specs.declared.evidence.Evidence.{Evidence}
 use Rattle.labelled_disk.specs.declared.evidence.Evidence.TheVariants.{Mismatch, Malformed, Missing}
@@ -11,6 +11,7 @@ use Rattle.labelled_disk.specs.Sectors.{Sector}
 use Rattle.flat_machine.specs.After.{TraceLine}
 use Rattle.flat_machine.specs.Machine.{Machine}
 use Rattle.trace_io.specs.Reading.{reading}
+use Rattle.volume_root.specs.RootPage.{root_write}
 use Rattle.pilot_engine.specs.Closing.{HasShut}
 use Rattle.frame_pool.specs.declared.home.Home.{Home}
 use Rattle.swapper_kernel.specs.Homes.{home_at}
@@ -130,8 +131,9 @@ module _ {D : Type 0} (state : D → DiskState) (x y : D) (same : x ≡ y) where
     -- evidence that has its reason behind the references has it here
     pub from_behind : (e : Evidence) → FromOutset (lent_state m first) (lent_state n (state y)) e → FromOutset first (state x) e
     from_behind e from d named ws begun =
-        reason_there (outset d named ws) (layout_of (length d)) (lent_state n (state y)) (state x) e (ap (λ z. (state z).writes) (sym same))
-        (from d named ws (record { contents = begun.contents; writes = begun.writes; map = begun.map }))
+        let there = from d named ws (record { contents = begun.contents; writes = begun.writes; map = begun.map }) in
+        (there.0, reason_there (outset d named (ws ++ (root_write there.0 ∷ []))) (layout_of (length d)) (lent_state n (state y)) (state x) e (ap (λ z. (state z).writes) (sym same)) there.1)
+
 
     pub reads_behind : OnlyReads (lent_state m first) (lent_state n (state y)) → OnlyReads first (state x)
     reads_behind reads = rw same (record {

@@ -1,5 +1,5 @@
 -- The reason of what is told of damage, from a session back to the disk at the start.
-use Rattle.std.proofs.Common.{◌≡◌, ℕ, List, length, Option, Some, sym, ap, ◌∙◌, subst}
+use Rattle.std.proofs.Common.{◌≡◌, ℕ, List, [], ◌∷◌, ◌++◌, length, Option, Some, sym, ap, ◌∙◌, subst}
 use Rattle.labelled_disk.specs.declared.disk.Disk.{Ghosts}
 use Rattle.labelled_disk.specs.declared.disk.DiskWrite.{DiskWrite}
 use Rattle.labelled_disk.specs.declared.evidence.Evidence.{Evidence}
@@ -13,7 +13,8 @@ use Rattle.swapper_kernel.specs.Homes.{IsLayout}
 use Rattle.file_map.specs.FileMap.{Triples}
 use Rattle.filer_kernel.specs.declared.filer.FilerOver.{FilerOver}
 use Rattle.file_manager.specs.Reasons.{HasReason, KeepsOn, Outset, ShowsReason, outset}
-use Rattle.pilot_engine.specs.Reasons.{IsBegun, ShowsReasonAtStart}
+use Rattle.volume_root.specs.RootPage.{root_write}
+use Rattle.pilot_engine.specs.Reasons.{FromStart, IsBegun, ShowsReasonAtStart}
 use Rattle.pilot_engine.specs.declared.fault.StartFault.{StartFault}
 use Rattle.pilot_engine.specs.declared.fault.StartFault.TheVariants as start_fault
 use Rattle.pilot_top.specs.Outset.{FromEachOutset, FromOutset}
@@ -35,17 +36,21 @@ module _ {D A : Type 0} {G : Ghosts D} where
   -- a session that started keeps to what stood when it did
   pub reason_started : (filer : FilerOver D A G) (before after : DiskState) (e : Evidence) → IsLayout filer.swapper.layout → filer.swapper.layout.sectors ≡ before.sectors
       → ((d : List Sector) → before.contents ≡ Some d → length d ≡ before.sectors)
-      → ((d : List Sector) (named : Triples) (ws : List DiskWrite) → IsBegun d named ws before → KeepsOn (outset d named ws) filer)
+      → ((d : List Sector) (named : Triples) (ws : List DiskWrite) → IsBegun d named ws before → FromStart d named ws (λ o. KeepsOn o filer))
       → FromEachOutset filer after e → FromOutset before after e
   reason_started filer before after e accepted size whole keeps from d named ws begun =
       let same : filer.swapper.layout ≡ layout_of (length d) = accepted.1 ∙ ap layout_of (size ∙ sym (whole d begun.contents)) in
-      subst (λ (l : Layout). HasReason (outset d named ws) l after e) same (from (outset d named ws) (keeps d named ws begun))
+      let kept = keeps d named ws begun in
+      let o = outset d named (ws ++ (root_write kept.0 ∷ [])) in
+      (kept.0, subst (λ (l : Layout). HasReason o l after e) same (from o kept.1))
 
 -- no session started
 pub reason_refused : (before after : DiskState) (f : StartFault)
-    → ((d : List Sector) (named : Triples) (ws : List DiskWrite) → IsBegun d named ws before → ShowsReasonAtStart (outset d named ws) (layout_of (length d)) after f)
+    → ((d : List Sector) (named : Triples) (ws : List DiskWrite) → IsBegun d named ws before → FromStart d named ws (λ o. ShowsReasonAtStart o (layout_of (length d)) after f))
     → (e : Evidence) → f ≡ start_fault.Halt (halt.Damaged e) → FromOutset before after e
-reason_refused before after f shows e is d named ws begun = subst (λ (why : StartFault). ShowsReasonAtStart (outset d named ws) (layout_of (length d)) after why) is (shows d named ws begun)
+reason_refused before after f shows e is d named ws begun =
+    let shown = shows d named ws begun in
+    (shown.0, subst (λ (why : StartFault). ShowsReasonAtStart (outset d named (ws ++ (root_write shown.0 ∷ []))) (layout_of (length d)) after why) is shown.1)
 
 -- what was replied, with another word for the reason
 pub replied_reasoned : (s : Status) (b t : List ℕ) (left took : Option (List ℕ)) (failed : Type 0) (disk : DiskState) (reasoned wanted : Evidence → Type 0) → ((e : Evidence) → reasoned e → wanted e)

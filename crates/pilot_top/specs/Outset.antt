@@ -8,14 +8,15 @@ use Rattle.labelled_disk.specs.Sectors.{Sector}
 use Rattle.labelled_disk.specs.State.{DiskState}
 use Rattle.file_map.specs.FileMap.{Triples}
 use Rattle.filer_kernel.specs.declared.filer.FilerOver.{FilerOver}
-use Rattle.file_manager.specs.Reasons.{HasReason, KeepsOn, Outset, outset}
-use Rattle.pilot_engine.specs.Reasons.{IsBegun}
+use Rattle.file_manager.specs.Reasons.{HasReason, KeepsOn, Outset}
+use Rattle.pilot_engine.specs.Reasons.{FromStart, IsBegun}
 
 -- Where the disk told at the start its sectors and the writes that were made, and its file map was in form, a label that is told has
--- its reason in the layout, in what both maps said then, or in what the run gave and gave up, and of the file map page 0 alone is
--- told as broken.
+-- its reason in the layout, in what both maps said then, or in what the run gave and gave up, behind its first write, which is a
+-- root's; of the file map page 0 alone is told as broken, where it is full; and a page is told as missing that nothing of all this
+-- makes be at home, or page 0 of the space tables where no data sector was left.
 abbrev pub FromOutset : DiskState → DiskState → Evidence → Type 0
-FromOutset before after evidence = (d : List Sector) (named : Triples) (ws : List DiskWrite) → IsBegun d named ws before → HasReason (outset d named ws) (layout_of (length d)) after evidence
+FromOutset before after evidence = (d : List Sector) (named : Triples) (ws : List DiskWrite) → IsBegun d named ws before → FromStart d named ws (λ o. HasReason o (layout_of (length d)) after evidence)
 
 module _ {D A : Type 0} {G : Ghosts D} where
   -- of a session: whichever outset its filer kept to, the evidence has its reason in that

@@ -208,7 +208,7 @@ returns-in-Err-free_count-clause-reasons g c = λ d named ws begun.
     (g.met.D.Disk.whole filer.swapper.under d begun.contents ∙ c.requires.size) c.requires.bare (c.requires.no_runs filer.swapper.layout.sectors) begun in
     let written = rooted_writes ws (root_write root) (rw c.in_use-root.ensures.root at c.in-Ok.ensures.made).makes c.requires.bare begun.writes in
     let bare = subst IsBare (sym c.in-Ok.ensures.frames) c.requires.bare in
-    let rooted_keeps = rooted_at d named ws root (view_of c.write_over.new.filer) (rw c.in-Ok.ensures.layout at filer.swapper.accepted) bare written (c.in-Ok.ensures.keeps_to first_outset named first) in
+    let rooted_keeps = rooted_at d named ws root (view_of c.write_over.new.filer) c.write_over.new.filer.swapper.accepted bare written (c.in-Ok.ensures.keeps_to first_outset named first) in
     let v = view_of c.write_over.new.filer in
     let w = view_of c.free_count.new.self in
     subst (λ (l : Layout). ShowsReason o l w.disk c.in-Err-free_count.halt) c.in-Ok.ensures.layout (counted_reasons o v w named rooted_keeps c.in-Err-free_count.ensures.kept c.in-Err-free_count.halt c.in-Err-free_count.ensures.cause)
@@ -223,7 +223,7 @@ returns-in-Err-make_tables-clause-reasons g c = λ d named ws begun.
     (g.met.D.Disk.whole filer.swapper.under d begun.contents ∙ c.requires.size) c.requires.bare (c.requires.no_runs filer.swapper.layout.sectors) begun in
     let written = rooted_writes ws (root_write root) (rw c.in_use-root.ensures.root at c.in-Ok.ensures.made).makes c.requires.bare begun.writes in
     let bare = subst IsBare (sym c.in-Ok.ensures.frames) c.requires.bare in
-    let rooted_keeps = rooted_at d named ws root (view_of c.write_over.new.filer) (rw c.in-Ok.ensures.layout at filer.swapper.accepted) bare written (c.in-Ok.ensures.keeps_to first_outset named first) in
+    let rooted_keeps = rooted_at d named ws root (view_of c.write_over.new.filer) c.write_over.new.filer.swapper.accepted bare written (c.in-Ok.ensures.keeps_to first_outset named first) in
     let counted = keeps_counted o (view_of c.write_over.new.filer) (view_of c.free_count.new.self) named rooted_keeps c.in-Ok-free_count.ensures.kept c.in-Ok-free_count.ensures.same c.in-Ok-free_count.ensures.runs in
     subst (λ (l : Layout). ShowsReason o l (g.D.Disk.state c.make_tables.new.filer.swapper.under) c.in-Err-make_tables.halt) (c.in-Ok-free_count.ensures.kept.layout ∙ c.in-Ok.ensures.layout)
     (c.in-Err-make_tables.ensures.reasons o named counted)
@@ -238,7 +238,7 @@ returns-in-Err-write_tables-clause-reasons g c = λ d named ws begun.
     (g.met.D.Disk.whole filer.swapper.under d begun.contents ∙ c.requires.size) c.requires.bare (c.requires.no_runs filer.swapper.layout.sectors) begun in
     let written = rooted_writes ws (root_write root) (rw c.in_use-root.ensures.root at c.in-Ok.ensures.made).makes c.requires.bare begun.writes in
     let bare = subst IsBare (sym c.in-Ok.ensures.frames) c.requires.bare in
-    let rooted_keeps = rooted_at d named ws root (view_of c.write_over.new.filer) (rw c.in-Ok.ensures.layout at filer.swapper.accepted) bare written (c.in-Ok.ensures.keeps_to first_outset named first) in
+    let rooted_keeps = rooted_at d named ws root (view_of c.write_over.new.filer) c.write_over.new.filer.swapper.accepted bare written (c.in-Ok.ensures.keeps_to first_outset named first) in
     let counted = keeps_counted o (view_of c.write_over.new.filer) (view_of c.free_count.new.self) named rooted_keeps c.in-Ok-free_count.ensures.kept c.in-Ok-free_count.ensures.same c.in-Ok-free_count.ensures.runs in
     let made = c.in-Ok-make_tables.ensures.keeps_to o named counted in
     subst (λ (l : Layout). ShowsReason o l (g.D.Disk.state c.write_tables.new.filer.swapper.under) c.in-Err-write_tables.halt) (c.in-Ok-make_tables.ensures.layout ∙ c.in-Ok-free_count.ensures.kept.layout ∙ c.in-Ok.ensures.layout)
@@ -254,7 +254,7 @@ returns-clause-keeps_to g c = λ d named ws begun.
     (g.met.D.Disk.whole filer.swapper.under d begun.contents ∙ c.requires.size) c.requires.bare (c.requires.no_runs filer.swapper.layout.sectors) begun in
     let written = rooted_writes ws (root_write root) (rw c.in_use-root.ensures.root at c.in-Ok.ensures.made).makes c.requires.bare begun.writes in
     let bare = subst IsBare (sym c.in-Ok.ensures.frames) c.requires.bare in
-    let rooted_keeps = rooted_at d named ws root (view_of c.write_over.new.filer) (rw c.in-Ok.ensures.layout at filer.swapper.accepted) bare written (c.in-Ok.ensures.keeps_to first_outset named first) in
+    let rooted_keeps = rooted_at d named ws root (view_of c.write_over.new.filer) c.write_over.new.filer.swapper.accepted bare written (c.in-Ok.ensures.keeps_to first_outset named first) in
     let counted = keeps_counted o (view_of c.write_over.new.filer) (view_of c.free_count.new.self) named rooted_keeps c.in-Ok-free_count.ensures.kept c.in-Ok-free_count.ensures.same c.in-Ok-free_count.ensures.runs in
     let made = c.in-Ok-make_tables.ensures.keeps_to o named counted in
     c.in-Ok-write_tables.ensures.keeps_to o made
