@@ -59,7 +59,11 @@ module _ {o : Outset} {x : Layout} {c d : DiskState} {t : Slots} {named : Triple
     | inr (same, counts) ↦
         let full = named_homes is size stands map (most_records x.sectors) counts in
         let at_home : AreHomes (IsAtHome o d) (most_records x.sectors) = record { homes = full.homes; counted = full.counted; each = λ j home here. homes home (full.each j home here); apart = full.apart } in
-        inl (cause.0, ap page_in same, one_more at_home extra at (λ k home here same_id same_page.
-        true≢false (sym (full.each k home here) ∙ (λ i. named (sym same_id i) (sym same_page i) home.sector) ∙ none home.sector)))
+        inl (
+          cause.0,
+          ap page_in same,
+          one_more at_home extra at (λ k home here same_id same_page.
+              true≢false (sym (full.each k home here) ∙ (λ i. named (sym same_id i) (sym same_page i) home.sector) ∙ none home.sector)),
+        )
   ]
   add_at (Damaged (Missing id page)) cause right = absurd cause

@@ -427,12 +427,15 @@ module _ {o : Outset} {x : Layout} {k : List Run} {a : DiskState} {s : Slots} {n
 
   -- a page that the map does not name is told as missing
   pub missing_reason : (id page : ℕ) → 16 ≤ id → ((m : List Sector) (named : Triples) → Stands a s m → MapIs x named m → IsNowhere named id page) → HasReason o x b (Missing id page)
-  missing_reason id page client nowhere = inr (client, λ sector from.
-      let home : Home = record { sector = sector; id = id; page = page } in
-      elim (h.rest home from client) [
-        | inl is ↦ absurd (true≢false (sym is ∙ nowhere h.memory named h.stands h.map sector))
-        | inr let_go ↦ let_later o makes h.since home (λ k w at gives. none-some w at) let_go
-      ])
+  missing_reason id page client nowhere = inr (
+    client,
+    λ sector from.
+        let home : Home = record { sector = sector; id = id; page = page } in
+        elim (h.rest home from client) [
+          | inl is ↦ absurd (true≢false (sym is ∙ nowhere h.memory named h.stands h.map sector))
+          | inr let_go ↦ let_later o makes h.since home (λ k w at gives. none-some w at) let_go
+        ],
+  )
 
   -- one of the space tables, which are all named, is not
   pub lack_reason : (id page : ℕ) → MayLack named id page → ((m : List Sector) (named : Triples) → Stands a s m → MapIs x named m → IsNowhere named id page) → HasReason o x b (Missing id page)

@@ -134,7 +134,6 @@ module _ {D : Type 0} (state : D → DiskState) (x y : D) (same : x ≡ y) where
         let there = from d named ws (record { contents = begun.contents; writes = begun.writes; map = begun.map }) in
         (there.0, reason_there (outset d named (ws ++ (root_write there.0 ∷ []))) (layout_of (length d)) (lent_state n (state y)) (state x) e (ap (λ z. (state z).writes) (sym same)) there.1)
 
-
     pub reads_behind : OnlyReads (lent_state m first) (lent_state n (state y)) → OnlyReads first (state x)
     reads_behind reads = rw same (record {
       sectors = reads.sectors;

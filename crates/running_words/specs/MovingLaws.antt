@@ -170,11 +170,14 @@ module _ (o : Outset) (v : View) (named : Triples) (is : IsLayout v.layout) (kee
   unnamed_missing id page (inl (tables, below)) nowhere =
       let at = keeps.1 page below in
       absurd (true≢false (sym at.1 ∙ subst (λ (i : ℕ). named i page at.0 ≡ false) tables (nowhere keeps.0.memory named keeps.0.stands keeps.0.map at.0)))
-  unnamed_missing id page (inr client) nowhere = inr (client, λ sector from.
-      elim (keeps.0.rest (record { sector = sector; id = id; page = page }) from client) [
-        | inl is_named ↦ absurd (true≢false (sym is_named ∙ nowhere keeps.0.memory named keeps.0.stands keeps.0.map sector))
-        | inr let_go ↦ let_go
-      ])
+  unnamed_missing id page (inr client) nowhere = inr (
+    client,
+    λ sector from.
+        elim (keeps.0.rest (record { sector = sector; id = id; page = page }) from client) [
+          | inl is_named ↦ absurd (true≢false (sym is_named ∙ nowhere keeps.0.memory named keeps.0.stands keeps.0.map sector))
+          | inr let_go ↦ let_go
+        ],
+  )
 
   -- what stops a search for pages has a reason before it
   module _ (breaks : ℕ → Type 0) (w : View) where

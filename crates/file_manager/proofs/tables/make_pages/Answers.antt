@@ -60,7 +60,7 @@ pub returns-clause-root : goal.returns-clause-root
 returns-clause-root g c = grown_root {id = 3} (λ same. omega (arith, same)) (returns-clause-makes g c)
 
 pub returns-clause-keeps_to : goal.returns-clause-keeps_to
-returns-clause-keeps_to g c = λ o named h none. 
+returns-clause-keeps_to g c = λ o named h none.
     let all : 96 ≤ c.loop-page.page = search rules in
     let now = c.loop-page.invariant.up.keeps o named h (λ p sector own. none p sector own.1) in
     (now.0, (now.1, λ page below. now.4 page (omega arith) (omega (arith, below, all))))

@@ -102,8 +102,11 @@ returns-in-Err-begin-clause-reasons g c = λ d named ws begun.
     let long = g.met.D.Disk.whole c.args.disk d begun.contents ∙ sym c.in-Ok.ensures.reads.only.sectors ∙ c.in-Ok.ensures.size in
     let same : layout ≡ layout_of (length d) = c.in-Ok.opened.0.swapper.accepted.1 ∙ ap layout_of (sym long) in
     let root = in_use c.in-Ok.opened.2 in
-    rw c.into_disk.ensures (root, subst (λ (l : Layout). ShowsReason (outset d named (ws ++ (root_write root ∷ []))) l (g.D.Disk.state c.begin.new.filer.swapper.under) c.in-Err-begin.halt) same
-    (c.in-Err-begin.ensures.reasons d named ws (begun_read c.in-Ok.ensures.reads.only begun)))
+    rw c.into_disk.ensures (
+      root,
+      subst (λ (l : Layout). ShowsReason (outset d named (ws ++ (root_write root ∷ []))) l (g.D.Disk.state c.begin.new.filer.swapper.under) c.in-Err-begin.halt) same
+          (c.in-Err-begin.ensures.reasons d named ws (begun_read c.in-Ok.ensures.reads.only begun)),
+    )
 
 pub returns-in-Ok-begin-clause-keeps_to : goal.returns-in-Ok-begin-clause-keeps_to
 returns-in-Ok-begin-clause-keeps_to g c = λ d named ws begun. rw c.over.ensures.filer (in_use c.in-Ok.opened.2, c.in-Ok-begin.ensures.keeps_to d named ws (begun_read c.in-Ok.ensures.reads.only begun))
