@@ -86,11 +86,11 @@ AreLetGo home ws =
     (turn : ℕ) (w : DiskWrite) → slice_get ws turn ≡ Some w → Gives home w
     → (later : ℕ) × (turn < later) × ((v : DiskWrite) × Lets home v × (slice_get ws later ≡ Some v))
 
--- Nothing makes the page be at home there now: what the file map said at the outset was let since; and wherever the sector was
--- given to the page, it was let after that.
+-- Nothing makes the page be at home there: what the file map said at the outset was let since; and behind each write since then
+-- that gave the sector to the page there is one that lets it.
 pub record IsLet (o : Outset) (disk : DiskState) (home : Home) : Type 0 where
   pub outset : o.named home.id home.page home.sector ≡ true → (v : DiskWrite) × Lets home v × WasMade o disk v
-  pub since : (more : List DiskWrite) → disk.writes ≡ Some (o.writes ++ more) → AreLetGo home more
+  pub since : (more : List DiskWrite) × (disk.writes ≡ Some (o.writes ++ more)) × AreLetGo home more
 
 -- so is each home that these triples have of some pages of a file
 abbrev pub AreLet : Outset → DiskState → Triples → ℕ → (ℕ → Type 0) → Type 0

@@ -60,17 +60,6 @@ use Rattle.pilot_engine.proofs.StartStands.{bare_stands}
 pub begun_read : {d : List Sector} {named : Triples} {ws : List DiskWrite} {a b : DiskState} → OnlyReads a b → IsBegun d named ws a → IsBegun d named ws b
 begun_read reads b = record { contents = reads.contents ∙ b.contents; writes = reads.writes ∙ b.writes; map = b.map }
 
--- what adds nothing to a list is the empty one
-ends_bare : (ws more : List DiskWrite) → ws ++ more ≡ ws → more ≡ []
-ends_bare [] more same = same
-ends_bare (w ∷ ws) more same = ends_bare ws more (ap (λ (l : List DiskWrite). drop 1 l) same)
-
--- nothing is told behind the writes that a disk tells
-nothing_more : (ws : List DiskWrite) (disk : DiskState) → disk.writes ≡ Some ws → (more : List DiskWrite) → disk.writes ≡ Some (ws ++ more) → (turn : ℕ) (w : DiskWrite) → slice_get more turn ≡ Some w → ⊥
-nothing_more ws disk writes more told turn w at =
-    let bare : more ≡ [] = ends_bare ws more (same_Some (ws ++ more) ws (sym told ∙ writes)) in
-    none-some w (sym (ap (λ (l : List DiskWrite). slice_get l turn) bare) ∙ at)
-
 -- without frames and runs, a disk keeps to what it tells
 pub begun_keeps : (layout : Layout) (d : List Sector) (named : Triples) (ws : List DiskWrite) (disk : DiskState) (slots : Slots) (kept : CachedRuns) → IsLayout layout → disk.sectors ≡ layout.sectors → AreSectors d
     → length d ≡ layout.sectors → IsBare slots → runs_of layout.sectors kept ≡ [] → IsBegun d named ws disk → KeepsTo (outset d named ws) layout (runs_of layout.sectors kept) disk slots named
@@ -95,7 +84,7 @@ begun_keeps layout d named ws disk slots kept is size sectors long bare none beg
     let_or_named true home is_so = inl is_so
     let_or_named false home is_so = inr (record {
       outset = λ was. absurd (true≢false (sym was ∙ is_so));
-      since = λ more told turn w at gives. absurd (nothing_more ws disk begun.writes more told turn w at);
+      since = ([], begun.writes ∙ ap (λ (l : List DiskWrite). Some l) (sym (append-nil ws)), λ turn w at gives. absurd (none-some w at));
     })
 
     shown : Shows AllocationMap d layout (map_bytes AllocationMap layout d)
@@ -176,7 +165,7 @@ rooted layout d named ws root disk slots kept is bare told k = record {
     rest home (inl is_named) = inl is_named
     rest home (inr none) = inr (record {
       outset = λ was. absurd (true≢false (sym was ∙ none));
-      since = λ more tells turn w at gives. absurd (nothing_more (ws ++ (root_write root ∷ [])) disk told more tells turn w at);
+      since = ([], told ∙ ap (λ (l : List DiskWrite). Some l) (sym (append-nil (ws ++ (root_write root ∷ [])))), λ turn w at gives. absurd (none-some w at));
     })
 
 -- ---- The space tables are begun.

@@ -18,7 +18,8 @@ pub record IsBegun (d : List Sector) (named : Triples) (ws : List DiskWrite) (di
   pub writes : disk.writes ≡ Some ws
   pub map : MapNames d named
 
--- A session begins with a root's write: this is so of the outset behind it, with what both maps said before.
+-- A session's first write is a root's: this is so of an outset with such a write behind those that had been made, and with what both
+-- maps said before it.
 abbrev pub FromStart : List Sector → Triples → List DiskWrite → (Outset → Type 0) → Type 0
 FromStart d named ws holds = (root : Root) × holds (outset d named (ws ++ (root_write root ∷ [])))
 

@@ -45,7 +45,7 @@ free_there o a b sector same (inr given) = inr (made_there o a b _ same given)
 let_there : (o : Outset) (a b : DiskState) (home : Home) → a.writes ≡ b.writes → IsLet o a home → IsLet o b home
 let_there o a b home same h = record {
   outset = λ is. let was = h.outset is in (was.0, was.1, made_there o a b was.0 same was.2);
-  since = λ more told turn w at gives. h.since more (same ∙ told) turn w at gives;
+  since = (h.since.0, sym same ∙ h.since.1, h.since.2);
 }
 
 reason_there : (o : Outset) (l : Layout) (a b : DiskState) (e : Evidence) → a.writes ≡ b.writes → HasReason o l a e → HasReason o l b e

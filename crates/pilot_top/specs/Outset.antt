@@ -13,8 +13,9 @@ use Rattle.pilot_engine.specs.Reasons.{FromStart, IsBegun}
 
 -- Where the disk told at the start its sectors and the writes that were made, and its file map was in form, a label that is told has
 -- its reason in the layout, in what both maps said then, or in what the run gave and gave up, behind its first write, which is a
--- root's; of the file map page 0 alone is told as broken, where it is full; and a page is told as missing that nothing of all this
--- makes be at home, or page 0 of the space tables where no data sector was left.
+-- root's. Of the file map page 0 alone is told as broken, where more pages are or were at home than it may have records. A page of a
+-- file is told as missing that nothing of all this makes be at home; of the space tables page 0 alone, where each data sector that
+-- had been free was given to a page.
 abbrev pub FromOutset : DiskState → DiskState → Evidence → Type 0
 FromOutset before after evidence = (d : List Sector) (named : Triples) (ws : List DiskWrite) → IsBegun d named ws before → FromStart d named ws (λ o. HasReason o (layout_of (length d)) after evidence)
 

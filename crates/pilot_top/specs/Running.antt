@@ -41,8 +41,8 @@ pub record Ran (s : Status) (before after : World) : Type 0 where
   -- How many transfers its start, its lines and its end may make.
   pub transfers : (d : List Sector) (b : List ℕ) → Holds before d → Sound d → Gives before b → after.disk.transfers ≤ before.disk.transfers + run_bound before.disk.sectors (reading b)
   -- Over any contents each write is lawful at its moment, and the volume stays open between the first and the last. What is told
-  -- of a damaged volume is so; and where the file map was in form at the start, a label was wanted there for a reason: the layout,
-  -- what both maps said then, or what the run gave and gave up.
+  -- of a damaged volume is so; and where the file map was in form at the start, a label was wanted there, or a page told as missing,
+  -- for a reason: the layout, what both maps said then, or what the run gave and gave up.
   pub lawful : Lawfully before.disk after.disk
   pub damage : (t : List ℕ) → Took before t → s ≡ status.Damaged → (told : TellsDamage t after.took (SinkFailed before after) after.disk) × FromOutset before.disk after.disk told.evidence
   -- A sound volume is not refused, and shows no damage, whatever source and sink tell.
