@@ -1,9 +1,8 @@
 -- Calls on spaces where nothing is known but that the tables are told and in form.
 use Rattle.std.proofs.Common.{◌≡◌, inl, inr, ℕ, ◌≤◌, ◌<◌, Bool, true, false, List, Option, Some, None, Result, Ok, Err, refl, sym, ◌∙◌, subst, arith}
-use Rattle.std.specs.Prelude.{IfErr, IfOk, IfSome, OnOk, nat_lt}
+use Rattle.std.specs.Prelude.{IfOk, IfSome, OnOk, nat_lt}
 use Rattle.std.proofs.lemmas.Bool.Decides.{nat_tests}
-use Rattle.std.proofs.lemmas.Option.{none-some, same_Some}
-use Rattle.labelled_disk.specs.declared.disk.Disk.{Ghosts}
+use Rattle.std.proofs.lemmas.Option.{same_Some}
 use Rattle.labelled_disk.specs.declared.evidence.Evidence.TheVariants.{Mismatch, Malformed, Missing}
 use Rattle.labelled_disk.specs.declared.evidence.Halt.{Halt}
 use Rattle.labelled_disk.specs.declared.evidence.Halt.TheVariants.{Disk, Damaged}
@@ -17,11 +16,9 @@ use Rattle.flat_machine.specs.Spaces.{AreSpaces}
 use Rattle.flat_machine.proofs.Lists.{all_in, looked_up}
 use Rattle.projection_laws.specs.Laws.{WindowFits, WindowsFit}
 use Rattle.projection_laws.specs.Spaces.{MayHaveWindow}
-use Rattle.projection_laws.specs.Tests.{map_row, window_row}
+use Rattle.projection_laws.specs.Tests.{map_row}
 use Rattle.projection_laws.proofs.Passes.{map_passes, window_passes}
 use Rattle.swap_units.specs.declared.interval.Interval.{Interval}
-use Rattle.fault_core.specs.declared.core_over.CoreOver.{CoreOver}
-use Rattle.fault_core.specs.Core.{kept, state}
 use Rattle.fault_core.specs.Lack.{Sees}
 use Rattle.fault_core.specs.Reach.{Reaches}
 use Rattle.fault_core.specs.Spares.{SparesTables}
@@ -30,8 +27,6 @@ use Rattle.fault_core.proofs.LackLemmas.{sees_after}
 use Rattle.table_calls.specs.Answers.{Changes, IsDone}
 use Rattle.file_manager.specs.declared.attributes.Attributes.{Attributes}
 use Rattle.space_calls.specs.Halts.{LookHalts}
-use Rattle.space_calls.specs.Mapping.{MayShow}
-use Rattle.space_calls.specs.Sees.{SeesOn, StillSees}
 use Rattle.space_calls.proofs.TakenMachine.{row_passed}
 
 -- ---- What is seen after a call.
@@ -93,7 +88,7 @@ module _ {v : View} {cached : List Interval} {count : ℕ} {ss : List Space} (s 
 
 -- ---- Answers.
 
--- what is so, is so where there is no error
+-- what is so anyway is so where there is no error
 pub on_ok : {A : Type 0} (r : Result A Halt) (X : Type 0) → X → OnOk r X
 on_ok (Ok answer) X x = x
 on_ok (Err e) X x = tt

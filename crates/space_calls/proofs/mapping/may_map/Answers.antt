@@ -385,8 +385,7 @@ returns-clause-seen g c = λ ss s.
     let small = c.page_count.type_inv in
     let inside = c.if-from.false in
     let fits : c.args.page + x.pages ≤ c.in-Ok-Some.found.pages = omega (arith, inside, first, more, whole, count, long) in
-    let client = subst (λ (o : Option Attributes). IfSome o (λ a. 16 ≤ c.args.id)) c.in-Ok-Some.field-0-is c.in-Ok-Some.ensures.client in
-    (
+    let client = subst (λ (o : Option Attributes). IfSome o (λ a. 16 ≤ c.args.id)) c.in-Ok-Some.field-0-is c.in-Ok-Some.ensures.client in (
       x,
       free_may ss c.args.space (are_seen s) x free.1.1 free.0,
       handle_so ss c.args.space (are_seen s) x free.1.1,
