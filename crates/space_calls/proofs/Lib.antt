@@ -25,3 +25,4 @@ pub mod TakenMachine
 pub mod AwayLemmas
 pub mod FileLemmas
 pub mod TakeLemmas
+pub mod SeesLemmas

@@ -4,3 +4,4 @@ pub mod Mapping
 pub mod Ranges
 pub mod Halts
 pub mod ReasonLaws
+pub mod Sees

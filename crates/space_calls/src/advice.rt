@@ -18,6 +18,8 @@ ghost use Rattle.running_words.specs.Stages.{Passes};
 ghost use Rattle.filer_kernel.specs.Evidence.{ShowsSo};
 ghost use Rattle.space_calls.specs.Ranges.{BreaksRange};
 ghost use Rattle.running_words.specs.Moving.{Moves};
+ghost use Rattle.fault_core.specs.Spares.{SparesTables};
+ghost use Rattle.space_calls.specs.Sees.{SeesOn};
 
 use fault_core::CoreOver;
 use flat_machine::Reply;
@@ -35,6 +37,8 @@ pub fn activate<D: Disk, A: Allocator>(core: &mut CoreOver<D, A>, space: u32) ->
     ensures cause { IfErr result (ReachHalts (BreaksRange (state core.old) core.old.intervals space) (state core.old) (state core.new)) }
     ensures so { IfErr result (ShowsSo (D.state core.new.filer.swapper.under)) }
     ensures wrote { WroteIn (volume_page) (D.state core.old.filer.swapper.under) core.old.filer.swapper.pool (D.state core.new.filer.swapper.under) core.new.filer.swapper.pool }
+    ensures sees { SeesOn core.old → OnOk result (SeesOn core.new) }
+    ensures right { SeesOn core.old → IfErr result SparesTables }
     ensures moves { Moves (state core.old) (state core.new) }
     ensures layout { core.new.filer.swapper.layout ≡ core.old.filer.swapper.layout }
     ensures cost { CostsOther (D.state core.old.filer.swapper.under) (D.state core.new.filer.swapper.under) }

@@ -14,6 +14,8 @@ ghost use Rattle.filer_kernel.specs.Evidence.{ShowsSo};
 ghost use Rattle.fault_core.specs.Core.{state};
 ghost use Rattle.fault_core.specs.Reach.{Reaches, ReachHalts};
 ghost use Rattle.fault_core.specs.Told.{BreaksTables};
+ghost use Rattle.fault_core.specs.Spares.{SparesTables};
+ghost use Rattle.space_calls.specs.Sees.{SeesOn, StillSees};
 
 use fault_core::CoreOver;
 use labelled_disk::{Disk, Halt};
@@ -29,6 +31,8 @@ pub(crate) fn shows_nothing<D: Disk, A: Allocator>(core: &mut CoreOver<D, A>) ->
     ensures counted { result ≡ Err halt.Disk → Rose (D.state core.old.filer.swapper.under).faults (D.state core.new.filer.swapper.under).faults }
     ensures cause { IfErr result (ReachHalts (BreaksTables (state core.old) core.old.intervals 0) (state core.old) (state core.new)) }
     ensures so { IfErr result (ShowsSo (D.state core.new.filer.swapper.under)) }
+    ensures still { StillSees core.old core.new }
+    ensures right { SeesOn core.old → IfErr result SparesTables }
     ensures reaches { Reaches (state core.old) (state core.new) }
     ensures makes { Makes volume_page [] (D.state core.old.filer.swapper.under) core.old.filer.swapper.pool (D.state core.new.filer.swapper.under) core.new.filer.swapper.pool }
     ensures layout { core.new.filer.swapper.layout ≡ core.old.filer.swapper.layout }

@@ -20,13 +20,16 @@ ghost use Rattle.projection_laws.specs.Spaces.{MayHaveWindow};
 ghost use Rattle.space_tables.specs.Shows.{window_of};
 ghost use Rattle.swapper_kernel.specs.Goes.{Makes};
 ghost use Rattle.flat_machine.specs.declared.call.Reply.TheVariants as answer;
-ghost use Rattle.table_calls.specs.Answers.{Tells};
-ghost use Rattle.space_calls.specs.Mapping.{IsInReach};
+ghost use Rattle.table_calls.specs.Answers.{Tells, IfGiven};
+ghost use Rattle.space_calls.specs.Mapping.{IsInReach, MayShow};
 ghost use Rattle.filer_kernel.specs.Evidence.{ShowsSo};
-ghost use Rattle.fault_core.specs.Core.{state};
+ghost use Rattle.fault_core.specs.Core.{state, kept};
 ghost use Rattle.fault_core.specs.Reach.{Reaches};
 ghost use Rattle.space_calls.specs.Halts.{ChangeHalts, MapFileHalts};
 ghost use Rattle.running_words.specs.Moving.{Moves};
+ghost use Rattle.fault_core.specs.Spares.{SparesTables};
+ghost use Rattle.space_calls.specs.Sees.{SeesOn, StillSees};
+ghost use Rattle.fault_core.specs.Lack.{Sees};
 
 use crate::framing::frame_count;
 use crate::naming::named_file;
@@ -53,6 +56,8 @@ pub fn give_window<D: Disk, A: Allocator>(
     ensures cause { IfErr result (ChangeHalts core.old.intervals (state core.old) (state core.new)) }
     ensures so { IfErr result (ShowsSo (D.state core.new.filer.swapper.under)) }
     ensures makes { Makes volume_page [] (D.state core.old.filer.swapper.under) core.old.filer.swapper.pool (D.state core.new.filer.swapper.under) core.new.filer.swapper.pool }
+    ensures sees { (ss : List Space) (x : Space) → Sees (state core.old) (kept core.old) core.old.intervals ss → MayHaveWindow ss x → x.handle ≡ space → WindowFits x.pages (window_of shown) → OnOk result (SeesOn core.new) }
+    ensures right { SeesOn core.old → IfErr result SparesTables }
     ensures moves { Moves (state core.old) (state core.new) }
     ensures layout { core.new.filer.swapper.layout ≡ core.old.filer.swapper.layout }
     ensures cost { (D.state core.new.filer.swapper.under).transfers ≤ (D.state core.old.filer.swapper.under).transfers + 57344 }
@@ -90,6 +95,9 @@ fn may_map<D: Disk, A: Allocator>(
     ensures counted { result ≡ Err halt.Disk → Rose (D.state core.old.filer.swapper.under).faults (D.state core.new.filer.swapper.under).faults }
     ensures cause { IfErr result (MapFileHalts space id core.old.intervals (state core.old) (state core.new)) }
     ensures so { IfErr result (ShowsSo (D.state core.new.filer.swapper.under)) }
+    ensures still { StillSees core.old core.new }
+    ensures seen { (ss : List Space) → Sees (state core.old) (kept core.old) core.old.intervals ss → IfOk result (IfGiven (λ _. MayShow ss space id page writable)) }
+    ensures right { SeesOn core.old → IfErr result SparesTables }
     ensures reaches { Reaches (state core.old) (state core.new) }
     ensures makes { Makes volume_page [] (D.state core.old.filer.swapper.under) core.old.filer.swapper.pool (D.state core.new.filer.swapper.under) core.new.filer.swapper.pool }
     ensures layout { core.new.filer.swapper.layout ≡ core.old.filer.swapper.layout }
@@ -139,6 +147,8 @@ pub fn map<D: Disk, A: Allocator>(
     ensures cause { IfErr result (MapFileHalts space id core.old.intervals (state core.old) (state core.new)) }
     ensures so { IfErr result (ShowsSo (D.state core.new.filer.swapper.under)) }
     ensures wrote { WroteIn (volume_page) (D.state core.old.filer.swapper.under) core.old.filer.swapper.pool (D.state core.new.filer.swapper.under) core.new.filer.swapper.pool }
+    ensures sees { SeesOn core.old → OnOk result (SeesOn core.new) }
+    ensures right { SeesOn core.old → IfErr result SparesTables }
     ensures moves { Moves (state core.old) (state core.new) }
     ensures layout { core.new.filer.swapper.layout ≡ core.old.filer.swapper.layout }
     ensures cost { CostsOther (D.state core.old.filer.swapper.under) (D.state core.new.filer.swapper.under) }

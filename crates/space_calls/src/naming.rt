@@ -1,5 +1,5 @@
 //! Files that calls may name.
-ghost use Rattle.std.specs.Prelude.{◌≡◌, ◌≤◌, ◌+◌, ℕ, true, length, List, Some, None, Ok, Err, IfOk, IfErr, OnOk};
+ghost use Rattle.std.specs.Prelude.{◌≡◌, ◌≤◌, ◌+◌, ℕ, true, length, List, Some, None, Ok, Err, IfOk, IfErr, OnOk, IfSome};
 ghost use Rattle.labelled_disk.specs.declared.evidence.Halt.TheVariants as halt;
 ghost use Rattle.labelled_disk.specs.Calls.{Rose};
 ghost use Rattle.flat_machine.specs.declared.call.Call.TheVariants as call;
@@ -21,6 +21,8 @@ ghost use Rattle.filer_kernel.specs.Evidence.{ShowsSo};
 ghost use Rattle.fault_core.specs.Core.{state};
 ghost use Rattle.fault_core.specs.Reach.{Reaches};
 ghost use Rattle.space_calls.specs.Halts.{NamedHalts, SightHalts};
+ghost use Rattle.fault_core.specs.Spares.{SparesTables};
+ghost use Rattle.space_calls.specs.Sees.{SeesOn, StillSees};
 
 use crate::bare::shows_nothing;
 use fault_core::CoreOver;
@@ -43,6 +45,9 @@ pub fn window_on<D: Disk, A: Allocator>(
     ensures counted { result ≡ Err halt.Disk → Rose (D.state core.old.filer.swapper.under).faults (D.state core.new.filer.swapper.under).faults }
     ensures cause { IfErr result (SightHalts core.old.intervals (state core.old) (state core.new)) }
     ensures so { IfErr result (ShowsSo (D.state core.new.filer.swapper.under)) }
+    ensures sees { SeesOn core.old → OnOk result (SeesOn core.new) }
+    ensures still { StillSees core.old core.new }
+    ensures right { SeesOn core.old → IfErr result SparesTables }
     ensures reaches { Reaches (state core.old) (state core.new) }
     ensures makes { Makes volume_page [] (D.state core.old.filer.swapper.under) core.old.filer.swapper.pool (D.state core.new.filer.swapper.under) core.new.filer.swapper.pool }
     ensures layout { core.new.filer.swapper.layout ≡ core.old.filer.swapper.layout }
@@ -66,6 +71,8 @@ fn may_be_named<D: Disk, A: Allocator>(core: &mut CoreOver<D, A>, id: FileId) ->
     ensures counted { result ≡ Err halt.Disk → Rose (D.state core.old.filer.swapper.under).faults (D.state core.new.filer.swapper.under).faults }
     ensures cause { IfErr result (SightHalts core.old.intervals (state core.old) (state core.new)) }
     ensures so { IfErr result (ShowsSo (D.state core.new.filer.swapper.under)) }
+    ensures still { StillSees core.old core.new }
+    ensures right { SeesOn core.old → IfErr result SparesTables }
     ensures reaches { Reaches (state core.old) (state core.new) }
     ensures makes { Makes volume_page [] (D.state core.old.filer.swapper.under) core.old.filer.swapper.pool (D.state core.new.filer.swapper.under) core.new.filer.swapper.pool }
     ensures layout { core.new.filer.swapper.layout ≡ core.old.filer.swapper.layout }
@@ -91,6 +98,10 @@ pub fn named_file<D: Disk, A: Allocator>(
     ensures counted { result ≡ Err halt.Disk → Rose (D.state core.old.filer.swapper.under).faults (D.state core.new.filer.swapper.under).faults }
     ensures cause { IfErr result (NamedHalts id core.old.intervals (state core.old) (state core.new)) }
     ensures so { IfErr result (ShowsSo (D.state core.new.filer.swapper.under)) }
+    ensures sees { SeesOn core.old → OnOk result (SeesOn core.new) }
+    ensures still { StillSees core.old core.new }
+    ensures client { IfOk result (λ o. IfSome o (λ _. 16 ≤ id)) }
+    ensures right { SeesOn core.old → IfErr result SparesTables }
     ensures reaches { Reaches (state core.old) (state core.new) }
     ensures makes { Makes volume_page [] (D.state core.old.filer.swapper.under) core.old.filer.swapper.pool (D.state core.new.filer.swapper.under) core.new.filer.swapper.pool }
     ensures layout { core.new.filer.swapper.layout ≡ core.old.filer.swapper.layout }

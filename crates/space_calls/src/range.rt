@@ -28,6 +28,8 @@ ghost use Rattle.projection_laws.specs.Tests.{no_space};
 ghost use Rattle.table_calls.specs.Answers.{Asked, IfGiven, TablesBreak, TablesSay, Tells};
 ghost use Rattle.filer_kernel.specs.Evidence.{ShowsSo};
 ghost use Rattle.running_words.specs.Moving.{Moves};
+ghost use Rattle.fault_core.specs.Spares.{SparesTables};
+ghost use Rattle.space_calls.specs.Sees.{SeesOn, StillSees};
 
 use crate::framing::frame_count;
 use crate::settle::settle;
@@ -49,6 +51,8 @@ fn range_of<D: Disk, A: Allocator>(
     ensures sound { (m : List Sector) (named : Triples) (ss : List Space) → Knows core.old m named ss → IfErr result (λ e. e ≡ halt.Disk) }
     ensures cause { IfErr result (ReachHalts (TablesBreak (state core.old) (λ b page. BreaksSlot b page space)) (state core.old) (state core.new)) }
     ensures so { IfErr result (ShowsSo (D.state core.new.filer.swapper.under)) }
+    ensures still { StillSees core.old core.new }
+    ensures right { SeesOn core.old → IfErr result SparesTables }
     ensures asked { Asked core.old core.new }
     ensures frames { length core.old.filer.swapper.pool ≤ 4096 }
     ensures cost { (D.state core.new.filer.swapper.under).transfers ≤ (D.state core.old.filer.swapper.under).transfers + 28 }
@@ -68,6 +72,8 @@ pub fn deactivate<D: Disk, A: Allocator>(
     ensures passes { (volume : Volume) (m : Machine) → Runs core.old volume m → Passes m (call.Deactivate space) (D.state core.old.filer.swapper.under) (D.state core.new.filer.swapper.under) }
     ensures counted { result ≡ Err halt.Disk → Rose (D.state core.old.filer.swapper.under).faults (D.state core.new.filer.swapper.under).faults }
     ensures wrote { WroteIn (volume_page) (D.state core.old.filer.swapper.under) core.old.filer.swapper.pool (D.state core.new.filer.swapper.under) core.new.filer.swapper.pool }
+    ensures sees { SeesOn core.old → OnOk result (SeesOn core.new) }
+    ensures right { SeesOn core.old → IfErr result SparesTables }
     ensures moves { Moves (state core.old) (state core.new) }
     ensures layout { core.new.filer.swapper.layout ≡ core.old.filer.swapper.layout }
     ensures cost { CostsOther (D.state core.old.filer.swapper.under) (D.state core.new.filer.swapper.under) }
@@ -96,6 +102,8 @@ pub fn kill<D: Disk, A: Allocator>(core: &mut CoreOver<D, A>, space: u32) -> Res
     ensures passes { (volume : Volume) (m : Machine) → Runs core.old volume m → Passes m (call.Kill space) (D.state core.old.filer.swapper.under) (D.state core.new.filer.swapper.under) }
     ensures counted { result ≡ Err halt.Disk → Rose (D.state core.old.filer.swapper.under).faults (D.state core.new.filer.swapper.under).faults }
     ensures wrote { WroteIn (volume_page) (D.state core.old.filer.swapper.under) core.old.filer.swapper.pool (D.state core.new.filer.swapper.under) core.new.filer.swapper.pool }
+    ensures sees { SeesOn core.old → OnOk result (SeesOn core.new) }
+    ensures right { SeesOn core.old → IfErr result SparesTables }
     ensures moves { Moves (state core.old) (state core.new) }
     ensures layout { core.new.filer.swapper.layout ≡ core.old.filer.swapper.layout }
     ensures cost { CostsOther (D.state core.old.filer.swapper.under) (D.state core.new.filer.swapper.under) }
@@ -129,6 +137,8 @@ pub fn force_out<D: Disk, A: Allocator>(
     ensures passes { (volume : Volume) (m : Machine) → Runs core.old volume m → Passes m (call.ForceOut space) (D.state core.old.filer.swapper.under) (D.state core.new.filer.swapper.under) }
     ensures counted { result ≡ Err halt.Disk → Rose (D.state core.old.filer.swapper.under).faults (D.state core.new.filer.swapper.under).faults }
     ensures wrote { WroteIn (volume_page) (D.state core.old.filer.swapper.under) core.old.filer.swapper.pool (D.state core.new.filer.swapper.under) core.new.filer.swapper.pool }
+    ensures sees { SeesOn core.old → OnOk result (SeesOn core.new) }
+    ensures right { SeesOn core.old → IfErr result SparesTables }
     ensures moves { Moves (state core.old) (state core.new) }
     ensures layout { core.new.filer.swapper.layout ≡ core.old.filer.swapper.layout }
     ensures cost { CostsOther (D.state core.old.filer.swapper.under) (D.state core.new.filer.swapper.under) }

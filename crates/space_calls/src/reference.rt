@@ -17,6 +17,8 @@ ghost use Rattle.fault_core.specs.Unit.{IsReady};
 ghost use Rattle.running_words.specs.Stages.{client_or_own};
 ghost use Rattle.filer_kernel.specs.Evidence.{ShowsSo};
 ghost use Rattle.running_words.specs.Moving.{Moves};
+ghost use Rattle.fault_core.specs.Spares.{SparesTables};
+ghost use Rattle.space_calls.specs.Sees.{SeesOn};
 
 use fault_core::{Access, CoreOver};
 use flat_machine::{Piece, Refusal, Reply};
@@ -37,6 +39,8 @@ pub fn load<D: Disk, A: Allocator>(
     ensures passes { (volume : Volume) (m : Machine) → Runs core.old volume m → Passes m (call.Load address count) (D.state core.old.filer.swapper.under) (D.state core.new.filer.swapper.under) }
     ensures counted { result ≡ Err halt.Disk → Rose (D.state core.old.filer.swapper.under).faults (D.state core.new.filer.swapper.under).faults }
     ensures wrote { WroteIn (volume_page) (D.state core.old.filer.swapper.under) core.old.filer.swapper.pool (D.state core.new.filer.swapper.under) core.new.filer.swapper.pool }
+    ensures sees { SeesOn core.old → OnOk result (SeesOn core.new) }
+    ensures right { SeesOn core.old → IfErr result SparesTables }
     ensures moves { Moves (state core.old) (state core.new) }
     ensures layout { core.new.filer.swapper.layout ≡ core.old.filer.swapper.layout }
     ensures cost { (D.state core.new.filer.swapper.under).transfers ≤ (D.state core.old.filer.swapper.under).transfers + 1680 }
@@ -70,6 +74,8 @@ pub fn store<D: Disk, A: Allocator>(
     ensures passes { (volume : Volume) (m : Machine) → Runs core.old volume m → Passes m (call.Store address bytes.now) (D.state core.old.filer.swapper.under) (D.state core.new.filer.swapper.under) }
     ensures counted { result ≡ Err halt.Disk → Rose (D.state core.old.filer.swapper.under).faults (D.state core.new.filer.swapper.under).faults }
     ensures wrote { WroteIn (client_or_own) (D.state core.old.filer.swapper.under) core.old.filer.swapper.pool (D.state core.new.filer.swapper.under) core.new.filer.swapper.pool }
+    ensures sees { SeesOn core.old → OnOk result (SeesOn core.new) }
+    ensures right { SeesOn core.old → IfErr result SparesTables }
     ensures moves { Moves (state core.old) (state core.new) }
     ensures layout { core.new.filer.swapper.layout ≡ core.old.filer.swapper.layout }
     ensures cost { (D.state core.new.filer.swapper.under).transfers ≤ (D.state core.old.filer.swapper.under).transfers + 1680 }

@@ -8,6 +8,8 @@ ghost use Rattle.flat_machine.specs.declared.space.Space.{Space};
 ghost use Rattle.fault_core.specs.Core.{kept, state, Knows};
 ghost use Rattle.fault_core.specs.Reach.{Reaches};
 ghost use Rattle.filer_kernel.specs.Evidence.{ShowsSo};
+ghost use Rattle.fault_core.specs.Spares.{SparesTables};
+ghost use Rattle.space_calls.specs.Sees.{SeesOn, StillSees};
 
 use fault_core::CoreOver;
 use labelled_disk::{Disk, Halt};
@@ -16,6 +18,9 @@ use std::alloc::Allocator;
 /// Waits until all that was written is on the medium.
 pub fn settle<D: Disk, A: Allocator>(core: &mut CoreOver<D, A>) -> Result<(), Halt>
     ensures synced { OnOk result ((D.state core.new.filer.swapper.under).synced ≡ true) }
+    ensures sees { SeesOn core.old → OnOk result (SeesOn core.new) }
+    ensures still { StillSees core.old core.new }
+    ensures right { SeesOn core.old → IfErr result SparesTables }
     ensures reaches { Reaches (state core.old) (state core.new) }
     ensures known { (m : List Sector) (named : Triples) (ss : List Space) → Knows core.old m named ss → Knows core.new m named ss }
     ensures same { TellsSame (D.state core.old.filer.swapper.under) (D.state core.new.filer.swapper.under) }

@@ -23,10 +23,13 @@ ghost use Rattle.flat_machine.specs.declared.call.Reply.TheVariants as reply;
 ghost use Rattle.space_calls.specs.Halts.{ProtectHalts, TakeWindowHalts, WritableHalts};
 ghost use Rattle.space_calls.specs.Unmapping.{IsGivenUp, IsRefused, IsTaken, Reshapes};
 ghost use Rattle.filer_kernel.specs.Evidence.{ShowsSo};
-ghost use Rattle.fault_core.specs.Core.{state};
+ghost use Rattle.fault_core.specs.Core.{state, kept};
 ghost use Rattle.fault_core.specs.Reach.{ReachHalts};
 ghost use Rattle.space_calls.specs.Ranges.{BreaksPart};
 ghost use Rattle.running_words.specs.Moving.{Moves};
+ghost use Rattle.fault_core.specs.Spares.{SparesTables};
+ghost use Rattle.space_calls.specs.Sees.{SeesOn};
+ghost use Rattle.fault_core.specs.Lack.{Sees};
 
 use crate::settle::settle;
 use crate::windows::{change_window, find_window, force_range, let_range_go, shows_immutable};
@@ -49,6 +52,8 @@ pub fn take_window<D: Disk, A: Allocator>(
     ensures counted { result ≡ Err halt.Disk → Rose (D.state core.old.filer.swapper.under).faults (D.state core.new.filer.swapper.under).faults }
     ensures cause { IfErr result (TakeWindowHalts space core.old.intervals (state core.old) (state core.new)) }
     ensures so { IfErr result (ShowsSo (D.state core.new.filer.swapper.under)) }
+    ensures sees { SeesOn core.old → OnOk result (SeesOn core.new) }
+    ensures right { SeesOn core.old → IfErr result SparesTables }
     ensures reshapes { Reshapes (state core.old) (state core.new) }
     ensures makes { Makes volume_page [] (D.state core.old.filer.swapper.under) core.old.filer.swapper.pool (D.state core.new.filer.swapper.under) core.new.filer.swapper.pool }
     ensures synced { IfOk result (IsGivenUp ((D.state core.new.filer.swapper.under).synced ≡ true)) }
@@ -88,6 +93,8 @@ fn protect_writable<D: Disk, A: Allocator>(
     ensures cause { IfErr result (WritableHalts shown.id core.old.intervals (state core.old) (state core.new)) }
     ensures so { IfErr result (ShowsSo (D.state core.new.filer.swapper.under)) }
     ensures makes { Makes volume_page [] (D.state core.old.filer.swapper.under) core.old.filer.swapper.pool (D.state core.new.filer.swapper.under) core.new.filer.swapper.pool }
+    ensures sees { (ss : List Space) (s : Space) → Sees (state core.old) (kept core.old) core.old.intervals ss → space_at ss space ≡ Some s → s.window ≡ Some (window_of shown) → OnOk result (SeesOn core.new) }
+    ensures right { SeesOn core.old → IfErr result SparesTables }
     ensures moves { Moves (state core.old) (state core.new) }
     ensures layout { core.new.filer.swapper.layout ≡ core.old.filer.swapper.layout }
     ensures cost { (D.state core.new.filer.swapper.under).transfers ≤ (D.state core.old.filer.swapper.under).transfers + 57373 }
@@ -125,6 +132,8 @@ fn protect_read_only<D: Disk, A: Allocator>(
     ensures cause { IfErr result (ReachHalts (BreaksPart (state core.old) core.old.intervals first (first + pages)) (state core.old) (state core.new)) }
     ensures so { IfErr result (ShowsSo (D.state core.new.filer.swapper.under)) }
     ensures makes { Makes volume_page [] (D.state core.old.filer.swapper.under) core.old.filer.swapper.pool (D.state core.new.filer.swapper.under) core.new.filer.swapper.pool }
+    ensures sees { (ss : List Space) (s : Space) → Sees (state core.old) (kept core.old) core.old.intervals ss → space_at ss space ≡ Some s → s.window ≡ Some (window_of shown) → OnOk result (SeesOn core.new) }
+    ensures right { SeesOn core.old → IfErr result SparesTables }
     ensures moves { Moves (state core.old) (state core.new) }
     ensures layout { core.new.filer.swapper.layout ≡ core.old.filer.swapper.layout }
     ensures cost { (D.state core.new.filer.swapper.under).transfers ≤ (D.state core.old.filer.swapper.under).transfers + 4452352 }
@@ -162,6 +171,8 @@ pub fn protect<D: Disk, A: Allocator>(
     ensures cause { IfErr result (ProtectHalts space writable core.old.intervals (state core.old) (state core.new)) }
     ensures so { IfErr result (ShowsSo (D.state core.new.filer.swapper.under)) }
     ensures wrote { WroteIn (volume_page) (D.state core.old.filer.swapper.under) core.old.filer.swapper.pool (D.state core.new.filer.swapper.under) core.new.filer.swapper.pool }
+    ensures sees { SeesOn core.old → OnOk result (SeesOn core.new) }
+    ensures right { SeesOn core.old → IfErr result SparesTables }
     ensures moves { Moves (state core.old) (state core.new) }
     ensures layout { core.new.filer.swapper.layout ≡ core.old.filer.swapper.layout }
     ensures cost { CostsOther (D.state core.old.filer.swapper.under) (D.state core.new.filer.swapper.under) }

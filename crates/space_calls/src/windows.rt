@@ -24,10 +24,13 @@ ghost use Rattle.fault_core.specs.Range.{AreClean, AreGone};
 ghost use Rattle.table_calls.specs.Answers.{IfGiven, IsDone, TablesSay, Tells};
 ghost use Rattle.space_calls.specs.Unmapping.{IsWindowIn, Reshapes};
 ghost use Rattle.filer_kernel.specs.Evidence.{ShowsSo};
-ghost use Rattle.fault_core.specs.Core.{state};
+ghost use Rattle.fault_core.specs.Core.{state, kept};
 ghost use Rattle.fault_core.specs.Kill.{BreaksWithin};
 ghost use Rattle.fault_core.specs.Reach.{Reaches, ReachHalts};
 ghost use Rattle.space_calls.specs.Halts.{ChangeHalts, LookHalts, SlotHalts};
+ghost use Rattle.fault_core.specs.Spares.{SparesTables};
+ghost use Rattle.space_calls.specs.Sees.{SeesOn, StillSees};
+ghost use Rattle.fault_core.specs.Lack.{Sees};
 
 use crate::framing::frame_count;
 use fault_core::CoreOver;
@@ -52,6 +55,9 @@ pub(crate) fn find_window<D: Disk, A: Allocator>(
     ensures counted { result ≡ Err halt.Disk → Rose (D.state core.old.filer.swapper.under).faults (D.state core.new.filer.swapper.under).faults }
     ensures cause { IfErr result (SlotHalts space (state core.old) (state core.new)) }
     ensures so { IfErr result (ShowsSo (D.state core.new.filer.swapper.under)) }
+    ensures still { StillSees core.old core.new }
+    ensures seen { (ss : List Space) → Sees (state core.old) (kept core.old) core.old.intervals ss → IfOk result (Tells (first_of (window_row ss space)) (IsWindowIn ss space)) }
+    ensures right { SeesOn core.old → IfErr result SparesTables }
     ensures reaches { Reaches (state core.old) (state core.new) }
     ensures intervals { core.new.intervals ≡ core.old.intervals }
     ensures makes { Makes volume_page [] (D.state core.old.filer.swapper.under) core.old.filer.swapper.pool (D.state core.new.filer.swapper.under) core.new.filer.swapper.pool }
@@ -83,6 +89,8 @@ pub(crate) fn let_range_go<D: Disk, A: Allocator>(
     ensures counted { result ≡ Err halt.Disk → Rose (D.state core.old.filer.swapper.under).faults (D.state core.new.filer.swapper.under).faults }
     ensures cause { IfErr result (ReachHalts (BreaksWithin (state core.old) core.old.intervals first (first + pages)) (state core.old) (state core.new)) }
     ensures so { IfErr result (ShowsSo (D.state core.new.filer.swapper.under)) }
+    ensures still { StillSees core.old core.new }
+    ensures right { SeesOn core.old → IfErr result SparesTables }
     ensures reaches { Reaches (state core.old) (state core.new) }
     ensures intervals { core.new.intervals ≡ core.old.intervals }
     ensures makes { Makes volume_page [] (D.state core.old.filer.swapper.under) core.old.filer.swapper.pool (D.state core.new.filer.swapper.under) core.new.filer.swapper.pool }
@@ -106,6 +114,8 @@ pub(crate) fn force_range<D: Disk, A: Allocator>(
     ensures counted { result ≡ Err halt.Disk → Rose (D.state core.old.filer.swapper.under).faults (D.state core.new.filer.swapper.under).faults }
     ensures cause { IfErr result (ReachHalts (BreaksWithin (state core.old) core.old.intervals first (first + pages)) (state core.old) (state core.new)) }
     ensures so { IfErr result (ShowsSo (D.state core.new.filer.swapper.under)) }
+    ensures still { StillSees core.old core.new }
+    ensures right { SeesOn core.old → IfErr result SparesTables }
     ensures reaches { Reaches (state core.old) (state core.new) }
     ensures intervals { core.new.intervals ≡ core.old.intervals }
     ensures makes { Makes volume_page [] (D.state core.old.filer.swapper.under) core.old.filer.swapper.pool (D.state core.new.filer.swapper.under) core.new.filer.swapper.pool }
@@ -130,6 +140,8 @@ pub(crate) fn change_window<D: Disk, A: Allocator>(
     ensures counted { result ≡ Err halt.Disk → Rose (D.state core.old.filer.swapper.under).faults (D.state core.new.filer.swapper.under).faults }
     ensures cause { IfErr result (ChangeHalts core.old.intervals (state core.old) (state core.new)) }
     ensures so { IfErr result (ShowsSo (D.state core.new.filer.swapper.under)) }
+    ensures sees { (ss : List Space) (x : Space) → Sees (state core.old) (kept core.old) core.old.intervals ss → MayHaveWindow ss x → x.handle ≡ space → IfSome shown (λ w. WindowFits x.pages (window_of w)) → OnOk result (SeesOn core.new) }
+    ensures right { SeesOn core.old → IfErr result SparesTables }
     ensures reshapes { Reshapes (state core.old) (state core.new) }
     ensures makes { Makes volume_page [] (D.state core.old.filer.swapper.under) core.old.filer.swapper.pool (D.state core.new.filer.swapper.under) core.new.filer.swapper.pool }
     ensures layout { core.new.filer.swapper.layout ≡ core.old.filer.swapper.layout }
@@ -155,6 +167,8 @@ pub(crate) fn shows_immutable<D: Disk, A: Allocator>(
     ensures counted { result ≡ Err halt.Disk → Rose (D.state core.old.filer.swapper.under).faults (D.state core.new.filer.swapper.under).faults }
     ensures cause { IfErr result (LookHalts id (state core.old) (state core.new)) }
     ensures so { IfErr result (ShowsSo (D.state core.new.filer.swapper.under)) }
+    ensures still { StillSees core.old core.new }
+    ensures right { SeesOn core.old → IfErr result SparesTables }
     ensures reaches { Reaches (state core.old) (state core.new) }
     ensures makes { Makes volume_page [] (D.state core.old.filer.swapper.under) core.old.filer.swapper.pool (D.state core.new.filer.swapper.under) core.new.filer.swapper.pool }
     ensures layout { core.new.filer.swapper.layout ≡ core.old.filer.swapper.layout }

@@ -155,3 +155,17 @@ returns-in-Ok-clause-moves g c = moves_twice (state c.args.core.now) (state c.bo
 
 pub returns-in-Err-activate-clause-moves : goal.returns-in-Err-activate-clause-moves
 returns-in-Err-activate-clause-moves g c = moves_twice (state c.args.core.now) (state c.bounds.new.core) (state c.activate.new.self) c.args.core.now.filer.swapper.accepted c.bounds.ensures.asked.reaches c.activate.ensures.reaches
+
+-- ---- The tables are told.
+
+pub returns-in-Ok-Err-clause-sees : goal.returns-in-Ok-Err-clause-sees
+returns-in-Ok-Err-clause-sees g c = λ s. (s.0, c.bounds.ensures.sees s.0 s.1)
+
+pub returns-in-Err-clause-right : goal.returns-in-Err-clause-right
+returns-in-Err-clause-right g c = λ s. c.in-Err.ensures.right s.0 s.1
+
+pub returns-in-Ok-clause-sees : goal.returns-in-Ok-clause-sees
+returns-in-Ok-clause-sees g c = λ s. (s.0, c.activate.ensures.sees s.0 (c.bounds.ensures.sees s.0 s.1))
+
+pub returns-in-Err-activate-clause-right : goal.returns-in-Err-activate-clause-right
+returns-in-Err-activate-clause-right g c = λ s. c.in-Err-activate.ensures.right s.0 (c.bounds.ensures.sees s.0 s.1)

@@ -39,3 +39,8 @@ returns-in-Err-clause-so g c = shows_so _ (state c.args.core.now) (state c.descr
 
 pub returns-then-interval_count-ne1-clause-reaches : goal.returns-then-interval_count-ne1-clause-reaches
 returns-then-interval_count-ne1-clause-reaches g c = reaches_itself (state c.args.core.now)
+
+-- ---- The tables are told.
+
+pub returns-in-Err-clause-right : goal.returns-in-Err-clause-right
+returns-in-Err-clause-right g c = λ s. c.in-Err.ensures.right s.0 s.1

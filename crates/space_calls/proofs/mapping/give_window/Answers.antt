@@ -5,6 +5,8 @@ use Rattle.fault_core.specs.Core.{state}
 use Rattle.filer_kernel.specs.EvidenceLaws.{fits}
 use Rattle.fault_core.proofs.EvidenceLemmas.{shows_so}
 use Rattle.space_calls.proofs.MovesLemmas.{moves_tables}
+use Rattle.space_calls.specs.Sees.{SeesOn}
+use Rattle.space_calls.proofs.SeesLemmas.{set_so}
 use Rattle.space_calls.proofs.mapping.give_window.Goals as goal
 
 pub returns-in-Err-clause-sound : goal.returns-in-Err-clause-sound
@@ -39,3 +41,14 @@ returns-in-Ok-answer-clause-moves g c = rw c.frame_count-frames.ensures.same (mo
 
 pub returns-in-Err-answer-clause-moves : goal.returns-in-Err-answer-clause-moves
 returns-in-Err-answer-clause-moves g c = rw c.frame_count-frames.ensures.same (moves_tables (state c.args.core.now) (state c.set_window.new.core) c.set_window.ensures.retabled.beside)
+
+-- ---- The tables are told.
+
+pub returns-in-Ok-answer-clause-sees : goal.returns-in-Ok-answer-clause-sees
+returns-in-Ok-answer-clause-sees g c = λ ss x s may named fits. rw c.frame_count-frames.ensures.same (set_so _ (SeesOn c.set_window.new.core) (λ h. (_, h)) c.in-Ok.answer (c.in-Ok.ensures.sees ss x s may named fits))
+
+pub returns-in-Err-answer-clause-sees : goal.returns-in-Err-answer-clause-sees
+returns-in-Err-answer-clause-sees g c = λ ss x s may named fits. rw c.frame_count-frames.ensures.same (set_so _ (SeesOn c.set_window.new.core) (λ h. (_, h)) c.in-Ok.answer (c.in-Ok.ensures.sees ss x s may named fits))
+
+pub returns-in-Err-clause-right : goal.returns-in-Err-clause-right
+returns-in-Err-clause-right g c = λ s. c.in-Err.ensures.right s.0 s.1

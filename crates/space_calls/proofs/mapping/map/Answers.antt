@@ -10,6 +10,8 @@ use Rattle.space_calls.specs.Halts.{ChangeHalts, MapFileHalts}
 use Rattle.space_calls.proofs.HaltLemmas.{given_map}
 use Rattle.running_words.specs.MovingLaws.{moves_of_reaches}
 use Rattle.space_calls.proofs.MovesLemmas.{moves_behind}
+use Rattle.space_calls.specs.Mapping.{MayShow}
+use Rattle.space_calls.proofs.RangeLemmas.{given_so}
 use Rattle.space_calls.proofs.mapping.map.Goals as goal
 
 pub returns-in-Ok-Err-clause-carried : goal.returns-in-Ok-Err-clause-carried
@@ -64,3 +66,16 @@ returns-in-Err-clause-moves g c = moves_of_reaches (state c.args.core.now) (stat
 
 pub returns-clause-moves : goal.returns-clause-moves
 returns-clause-moves g c = moves_behind (state c.args.core.now) (state c.may_map.new.core) (state c.give_window.new.core) c.args.core.now.filer.swapper.accepted c.may_map.ensures.reaches c.give_window.ensures.moves
+
+-- ---- The tables are told.
+
+pub returns-in-Ok-Err-clause-sees : goal.returns-in-Ok-Err-clause-sees
+returns-in-Ok-Err-clause-sees g c = λ s. (s.0, c.may_map.ensures.still s.0 s.1)
+
+pub returns-clause-sees : goal.returns-clause-sees
+returns-clause-sees g c = λ s.
+    let may = given_so (λ u. MayShow s.0 c.args.space c.args.id c.args.page c.args.writable) c.in-Ok-Ok.field-0-0 c.in-Ok-Ok.field-0 c.in-Ok-Ok.field-0-is (c.in-Ok-Ok.ensures.seen s.0 s.1) in
+    c.give_window.ensures.sees s.0 may.0 (c.may_map.ensures.still s.0 s.1) may.1 may.2 may.3
+
+pub returns-clause-right : goal.returns-clause-right
+returns-clause-right g c = λ s. c.give_window.ensures.right (s.0, c.may_map.ensures.still s.0 s.1)

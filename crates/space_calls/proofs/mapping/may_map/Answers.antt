@@ -12,6 +12,8 @@ use Rattle.filer_kernel.specs.EvidenceLaws.{fits}
 use Rattle.fault_core.proofs.EvidenceLemmas.{shows_so}
 use Rattle.fault_core.proofs.ReachLemmas.{reaches_then}
 use Rattle.space_calls.proofs.HaltLemmas.{given_map, named_map, path_change}
+use Rattle.std.specs.Prelude.{IfSome}
+use Rattle.space_calls.proofs.SeesLemmas.{are_seen, free_may, handle_so}
 use Rattle.space_calls.proofs.mapping.may_map.Goals as goal
 use Rattle.space_calls.proofs.mapping.may_map.Goals.{else-writable-via-then-writable+else-found, else-writable-via-else-writable}
 
@@ -329,3 +331,63 @@ returns-clause-reaches g c =
     let is = c.args.core.now.filer.swapper.accepted in
     let found = reaches_then v (state c.bounds.new.core) is c.bounds.ensures.asked.reaches x c.named_file.ensures.reaches in
     reaches_then v x is found (state c.can_map.new.core) c.can_map.ensures.asked.reaches
+
+-- ---- The tables are told.
+
+pub returns-in-Ok-Err-clause-still : goal.returns-in-Ok-Err-clause-still
+returns-in-Ok-Err-clause-still g c = λ ss s. c.bounds.ensures.sees ss s
+
+pub returns-in-Err-clause-still : goal.returns-in-Err-clause-still
+returns-in-Err-clause-still g c = λ ss s. c.bounds.ensures.sees ss s
+
+pub returns-then-space-eq0-clause-still : goal.returns-then-space-eq0-clause-still
+returns-then-space-eq0-clause-still g c = λ ss s. c.bounds.ensures.sees ss s
+
+pub returns-in-Ok-None-clause-still : goal.returns-in-Ok-None-clause-still
+returns-in-Ok-None-clause-still g c = λ ss s. c.named_file.ensures.still ss (c.bounds.ensures.sees ss s)
+
+pub returns-in-Err-named_file-clause-still : goal.returns-in-Err-named_file-clause-still
+returns-in-Err-named_file-clause-still g c = λ ss s. c.named_file.ensures.still ss (c.bounds.ensures.sees ss s)
+
+pub returns-in-Ok-Err-can_map-clause-still : goal.returns-in-Ok-Err-can_map-clause-still
+returns-in-Ok-Err-can_map-clause-still g c = λ ss s. c.can_map.ensures.sees ss (c.named_file.ensures.still ss (c.bounds.ensures.sees ss s))
+
+pub returns-in-Err-can_map-clause-still : goal.returns-in-Err-can_map-clause-still
+returns-in-Err-can_map-clause-still g c = λ ss s. c.can_map.ensures.sees ss (c.named_file.ensures.still ss (c.bounds.ensures.sees ss s))
+
+pub returns-then-from-clause-still : goal.returns-then-from-clause-still
+returns-then-from-clause-still g c = λ ss s. c.can_map.ensures.sees ss (c.named_file.ensures.still ss (c.bounds.ensures.sees ss s))
+
+pub returns-then-found-clause-still : goal.returns-then-found-clause-still
+returns-then-found-clause-still g c = λ ss s. c.can_map.ensures.sees ss (c.named_file.ensures.still ss (c.bounds.ensures.sees ss s))
+
+pub returns-clause-still : goal.returns-clause-still
+returns-clause-still g c = λ ss s. c.can_map.ensures.sees ss (c.named_file.ensures.still ss (c.bounds.ensures.sees ss s))
+
+pub returns-in-Err-clause-right : goal.returns-in-Err-clause-right
+returns-in-Err-clause-right g c = λ s. c.in-Err.ensures.right s.0 s.1
+
+pub returns-in-Err-named_file-clause-right : goal.returns-in-Err-named_file-clause-right
+returns-in-Err-named_file-clause-right g c = λ s. c.in-Err-named_file.ensures.right (s.0, c.bounds.ensures.sees s.0 s.1)
+
+pub returns-in-Err-can_map-clause-right : goal.returns-in-Err-can_map-clause-right
+returns-in-Err-can_map-clause-right g c = λ s. c.in-Err-can_map.ensures.right s.0 (c.named_file.ensures.still s.0 (c.bounds.ensures.sees s.0 s.1))
+
+pub returns-clause-seen : goal.returns-clause-seen
+returns-clause-seen g c = λ ss s.
+    let free = map_told ss c.args.space c.in-Ok-Ok-can_map.field-0 c.in-Ok-Ok-can_map.run' c.in-Ok-Ok-can_map.field-0-is (c.in-Ok-Ok-can_map.ensures.seen ss (c.named_file.ensures.still ss (c.bounds.ensures.sees ss s))) in
+    let x : Space = free.1.0 in
+    let long : c.in-Ok-Ok-can_map.run'.1 ≡ x.pages = ap (λ (run : ℕ × ℕ). run.1) free.1.2 in
+    let first = c.from.ensures in
+    let more = c.from-2.ensures in
+    let whole = c.from-3.ensures in
+    let count = c.page_count.ensures.same in
+    let small = c.page_count.type_inv in
+    let inside = c.if-from.false in
+    let fits : c.args.page + x.pages ≤ c.in-Ok-Some.found.pages = omega (arith, inside, first, more, whole, count, long) in
+    let client = subst (λ (o : Option Attributes). IfSome o (λ a. 16 ≤ c.args.id)) c.in-Ok-Some.field-0-is c.in-Ok-Some.ensures.client in (
+      x,
+      free_may ss c.args.space (are_seen s) x free.1.1 free.0,
+      handle_so ss c.args.space (are_seen s) x free.1.1,
+      record { above_reserved = client; small = c.ranges.id.fits; pages_fit = omega (arith, fits, count, small) },
+    )

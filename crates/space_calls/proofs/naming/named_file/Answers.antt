@@ -1,4 +1,4 @@
-use Rattle.std.proofs.Common.{inl, inr}
+use Rattle.std.proofs.Common.{inl, inr, refl}
 use Rattle.session_words.specs.Parts.{shapes_of}
 use Rattle.swapper_kernel.specs.GoesLaws.{makes_then}
 use Rattle.space_calls.proofs.NameLemmas.{seen_not, seen_told}
@@ -8,6 +8,8 @@ use Rattle.space_calls.specs.Halts.{LookHalts, NamedHalts}
 use Rattle.filer_kernel.proofs.Outcomes.{err_wider}
 use Rattle.fault_core.proofs.ReachLemmas.{reaches_then}
 use Rattle.space_calls.proofs.HaltLemmas.{look_reaches}
+use Rattle.fault_core.specs.Spares.{SparesTables}
+use Rattle.space_calls.proofs.SeesLemmas.{client_so, look_spares, on_ok, reached_sees}
 use Rattle.space_calls.proofs.naming.named_file.Goals as goal
 
 pub returns-in-Ok-false-clause-answer : goal.returns-in-Ok-false-clause-answer
@@ -48,3 +50,26 @@ returns-clause-reaches g c =
     let u = c.may_be_named.new.core in
     let w = state (record u { filer = c.attributes_of.new.filer }) in
     reaches_then (state old) (state u) old.filer.swapper.accepted c.may_be_named.ensures.reaches w (look_reaches (state u) w c.attributes_of.ensures.looks c.attributes_of.ensures.layout)
+
+-- ---- The tables are told.
+
+pub returns-in-Ok-false-clause-sees : goal.returns-in-Ok-false-clause-sees
+returns-in-Ok-false-clause-sees g c = λ s. (s.0, c.may_be_named.ensures.still s.0 s.1)
+
+pub returns-clause-still : goal.returns-clause-still
+returns-clause-still g c = λ ss s.
+    let u = c.may_be_named.new.core in
+    let w = state (record u { filer = c.attributes_of.new.filer }) in
+    reached_sees (look_reaches (state u) w c.attributes_of.ensures.looks c.attributes_of.ensures.layout) refl refl (c.may_be_named.ensures.still ss s)
+
+pub returns-clause-sees : goal.returns-clause-sees
+returns-clause-sees g c = λ s. on_ok c.attributes_of.result _ (s.0, returns-clause-still g c s.0 s.1)
+
+pub returns-clause-client : goal.returns-clause-client
+returns-clause-client g c = client_so c.args.id c.attributes_of.result (λ low. (c.attributes_of.ensures.reserved low).0)
+
+pub returns-clause-right : goal.returns-clause-right
+returns-clause-right g c = λ s.
+    let u = c.may_be_named.new.core in
+    let w = state (record u { filer = c.attributes_of.new.filer }) in
+    err_wider c.attributes_of.result (LookHalts c.args.id (state u) w) SparesTables (look_spares (state u) w c.args.id) c.attributes_of.ensures.cause

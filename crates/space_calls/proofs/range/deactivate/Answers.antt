@@ -141,3 +141,14 @@ returns-in-Err-let_go-clause-moves g c = moves_twice (state c.args.core.now) (st
 
 pub returns-clause-moves : goal.returns-clause-moves
 returns-clause-moves g c = moves_twice (state c.args.core.now) (state c.range_of.new.core) (state c.let_go.new.self) c.args.core.now.filer.swapper.accepted c.range_of.ensures.asked.reaches c.let_go.ensures.reaches
+
+-- ---- The tables are told.
+
+pub returns-in-Ok-Err-clause-sees : goal.returns-in-Ok-Err-clause-sees
+returns-in-Ok-Err-clause-sees g c = λ s. (s.0, c.range_of.ensures.still s.0 s.1)
+
+pub returns-in-Err-let_go-clause-right : goal.returns-in-Err-let_go-clause-right
+returns-in-Err-let_go-clause-right g c = λ s. c.in-Err-let_go.ensures.right s.0 (c.range_of.ensures.still s.0 s.1)
+
+pub returns-clause-sees : goal.returns-clause-sees
+returns-clause-sees g c = λ s. (s.0, c.let_go.ensures.sees s.0 (c.range_of.ensures.still s.0 s.1))

@@ -194,3 +194,17 @@ returns-in-Err-settle-clause-moves g c = moves_before (state c.args.core.now) (s
 
 pub returns-in-Ok-settle-clause-moves : goal.returns-in-Ok-settle-clause-moves
 returns-in-Ok-settle-clause-moves g c = moves_before (state c.args.core.now) (state c.force.new.self) (state c.settle.new.core) c.args.core.now.filer.swapper.accepted (moves_twice (state c.args.core.now) (state c.range_of.new.core) (state c.force.new.self) c.args.core.now.filer.swapper.accepted c.range_of.ensures.asked.reaches c.force.ensures.reaches) c.settle.ensures.reaches
+
+-- ---- The tables are told.
+
+pub returns-in-Ok-Err-clause-sees : goal.returns-in-Ok-Err-clause-sees
+returns-in-Ok-Err-clause-sees g c = λ s. (s.0, c.range_of.ensures.still s.0 s.1)
+
+pub returns-in-Err-force-clause-right : goal.returns-in-Err-force-clause-right
+returns-in-Err-force-clause-right g c = λ s. c.in-Err-force.ensures.right s.0 (c.range_of.ensures.still s.0 s.1)
+
+pub returns-in-Ok-settle-clause-sees : goal.returns-in-Ok-settle-clause-sees
+returns-in-Ok-settle-clause-sees g c = λ s. (s.0, c.settle.ensures.still s.0 (c.force.ensures.sees s.0 (c.range_of.ensures.still s.0 s.1)))
+
+pub returns-in-Err-settle-clause-right : goal.returns-in-Err-settle-clause-right
+returns-in-Err-settle-clause-right g c = λ s. c.in-Err-settle.ensures.right (s.0, c.force.ensures.sees s.0 (c.range_of.ensures.still s.0 s.1))

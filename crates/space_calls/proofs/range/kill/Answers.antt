@@ -183,3 +183,14 @@ returns-in-Err-kill-clause-moves g c = moves_behind (state c.args.core.now) (sta
 
 pub returns-clause-moves : goal.returns-clause-moves
 returns-clause-moves g c = moves_behind (state c.args.core.now) (state c.range_of.new.core) (state c.kill.new.self) c.args.core.now.filer.swapper.accepted c.range_of.ensures.asked.reaches (moves_of_touches (state c.range_of.new.core) (state c.kill.new.self) no_page c.kill.ensures.touches)
+
+-- ---- The tables are told.
+
+pub returns-in-Ok-Err-clause-sees : goal.returns-in-Ok-Err-clause-sees
+returns-in-Ok-Err-clause-sees g c = λ s. (s.0, c.range_of.ensures.still s.0 s.1)
+
+pub returns-in-Err-kill-clause-right : goal.returns-in-Err-kill-clause-right
+returns-in-Err-kill-clause-right g c = λ s. c.in-Err-kill.ensures.right s.0 (c.range_of.ensures.still s.0 s.1)
+
+pub returns-clause-sees : goal.returns-clause-sees
+returns-clause-sees g c = λ s. (s.0, c.kill.ensures.sees s.0 (c.range_of.ensures.still s.0 s.1))

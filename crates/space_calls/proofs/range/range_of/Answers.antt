@@ -20,3 +20,11 @@ returns-clause-cause g c = rw c.frame_count-frames.ensures.same at c.bounds.ensu
 
 pub returns-clause-so : goal.returns-clause-so
 returns-clause-so g c = if_so c.bounds.result _ (state c.frame_count-frames.new.core) (state c.bounds.new.core) (fits c.frame_count-frames.new.core.filer.swapper (search rules)) c.bounds.ensures.asked.reaches.goes.makes c.bounds.ensures.cause
+
+-- ---- The tables are told.
+
+pub returns-clause-still : goal.returns-clause-still
+returns-clause-still g c = rw c.frame_count-frames.ensures.same at c.bounds.ensures.sees
+
+pub returns-clause-right : goal.returns-clause-right
+returns-clause-right g c = λ s. (rw c.frame_count-frames.ensures.same at c.bounds.ensures.right) s.0 s.1

@@ -159,3 +159,17 @@ returns-in-Ok-ReadOnly-clause-moves g c = moves_of_reaches (state c.args.core.no
 
 pub returns-in-Err-clause-moves : goal.returns-in-Err-clause-moves
 returns-in-Err-clause-moves g c = moves_of_reaches (state c.args.core.now) (state c.load.new.self) c.load.ensures.reaches
+
+-- ---- The tables are told.
+
+pub returns-in-Ok-Done-clause-sees : goal.returns-in-Ok-Done-clause-sees
+returns-in-Ok-Done-clause-sees g c = λ s. (s.0, c.load.ensures.sees s.0 s.1)
+
+pub returns-in-Ok-NoMap-clause-sees : goal.returns-in-Ok-NoMap-clause-sees
+returns-in-Ok-NoMap-clause-sees g c = λ s. (s.0, c.load.ensures.sees s.0 s.1)
+
+pub returns-in-Ok-ReadOnly-clause-sees : goal.returns-in-Ok-ReadOnly-clause-sees
+returns-in-Ok-ReadOnly-clause-sees g c = λ s. (s.0, c.load.ensures.sees s.0 s.1)
+
+pub returns-in-Err-clause-right : goal.returns-in-Err-clause-right
+returns-in-Err-clause-right g c = λ s. c.in-Err.ensures.right s.0 s.1

@@ -1,7 +1,8 @@
-use Rattle.std.proofs.Common.{rules}
+use Rattle.std.proofs.Common.{rules, refl}
 use Rattle.labelled_disk.specs.Calls.{Settles}
 use Rattle.fault_core.specs.Core.{state}
 use Rattle.space_calls.proofs.SettledCore.{settled_reaches, settled_went}
+use Rattle.space_calls.proofs.SeesLemmas.{reached_sees}
 use Rattle.space_calls.proofs.settle.settle.Goals as goal
 
 pub returns-in-Ok-clause-reaches : goal.returns-in-Ok-clause-reaches
@@ -13,3 +14,14 @@ pub returns-in-Err-clause-reaches : goal.returns-in-Err-clause-reaches
 returns-in-Err-clause-reaches g c =
     let settles : Settles (g.D.Disk.state c.args.core.now.filer.swapper.under) c.settle.result (g.D.Disk.state c.settle.new.self) = search rules in
     settled_reaches (state c.args.core.now) (g.D.Disk.state c.settle.new.self) (settled_went _ _ c.settle.result settles) settles.same
+
+-- ---- The tables are told.
+
+pub returns-in-Ok-clause-still : goal.returns-in-Ok-clause-still
+returns-in-Ok-clause-still g c = λ ss s. reached_sees (returns-in-Ok-clause-reaches g c) refl refl s
+
+pub returns-in-Ok-clause-sees : goal.returns-in-Ok-clause-sees
+returns-in-Ok-clause-sees g c = λ s. (s.0, returns-in-Ok-clause-still g c s.0 s.1)
+
+pub returns-in-Err-clause-still : goal.returns-in-Err-clause-still
+returns-in-Err-clause-still g c = λ ss s. reached_sees (returns-in-Err-clause-reaches g c) refl refl s

@@ -4,6 +4,8 @@ use Rattle.fault_core.specs.Core.{state}
 use Rattle.filer_kernel.specs.EvidenceLaws.{fits}
 use Rattle.fault_core.proofs.EvidenceLemmas.{shows_so}
 use Rattle.space_calls.proofs.MovesLemmas.{moves_tables}
+use Rattle.space_calls.specs.Sees.{SeesOn}
+use Rattle.space_calls.proofs.SeesLemmas.{either_way}
 use Rattle.space_calls.proofs.spaces.make_space.Goals as goal
 
 pub returns-in-Err-clause-sound : goal.returns-in-Err-clause-sound
@@ -58,3 +60,14 @@ returns-in-Ok-answer-clause-moves g c = rw c.frame_count-frames.ensures.same (mo
 
 pub returns-in-Err-answer-clause-moves : goal.returns-in-Err-answer-clause-moves
 returns-in-Err-answer-clause-moves g c = rw c.frame_count-frames.ensures.same (moves_tables (state c.args.core.now) (state c.add.new.core) c.add.ensures.retabled.beside)
+
+-- ---- The tables are told.
+
+pub returns-in-Ok-answer-clause-sees : goal.returns-in-Ok-answer-clause-sees
+returns-in-Ok-answer-clause-sees g c = λ s. rw c.frame_count-frames.ensures.same (either_way _ _ _ (SeesOn c.add.new.core) (λ a h. (_, h.0)) (λ h. (s.0, h)) c.in-Ok.answer (c.in-Ok.ensures.sees s.0 s.1))
+
+pub returns-in-Err-answer-clause-sees : goal.returns-in-Err-answer-clause-sees
+returns-in-Err-answer-clause-sees g c = λ s. rw c.frame_count-frames.ensures.same (either_way _ _ _ (SeesOn c.add.new.core) (λ a h. (_, h.0)) (λ h. (s.0, h)) c.in-Ok.answer (c.in-Ok.ensures.sees s.0 s.1))
+
+pub returns-in-Err-clause-right : goal.returns-in-Err-clause-right
+returns-in-Err-clause-right g c = λ s. c.in-Err.ensures.right s.0 s.1

@@ -54,3 +54,14 @@ returns-in-Ok-Err-clause-moves g c = moves_of_reaches (state c.args.core.now) (s
 
 pub returns-in-Err-clause-moves : goal.returns-in-Err-clause-moves
 returns-in-Err-clause-moves g c = moves_of_reaches (state c.args.core.now) (state c.place.new.core) c.place.ensures.asked.reaches
+
+-- ---- The tables are told.
+
+pub returns-in-Ok-Ok-clause-sees : goal.returns-in-Ok-Ok-clause-sees
+returns-in-Ok-Ok-clause-sees g c = λ s. (s.0, c.place.ensures.sees s.0 s.1)
+
+pub returns-in-Ok-Err-clause-sees : goal.returns-in-Ok-Err-clause-sees
+returns-in-Ok-Err-clause-sees g c = λ s. (s.0, c.place.ensures.sees s.0 s.1)
+
+pub returns-in-Err-clause-right : goal.returns-in-Err-clause-right
+returns-in-Err-clause-right g c = λ s. c.in-Err.ensures.right s.0 s.1

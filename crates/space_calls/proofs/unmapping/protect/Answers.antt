@@ -127,3 +127,24 @@ returns-then-writable-clause-moves g c = moves_behind (state c.args.core.now) (s
 
 pub returns-clause-moves : goal.returns-clause-moves
 returns-clause-moves g c = moves_behind (state c.args.core.now) (state c.find_window.new.core) (state c.protect_read_only.new.core) c.args.core.now.filer.swapper.accepted c.find_window.ensures.reaches c.protect_read_only.ensures.moves
+
+-- ---- The tables are told.
+
+pub returns-in-Ok-Err-clause-sees : goal.returns-in-Ok-Err-clause-sees
+returns-in-Ok-Err-clause-sees g c = λ s. (s.0, c.find_window.ensures.still s.0 s.1)
+
+pub returns-then-writable-clause-sees : goal.returns-then-writable-clause-sees
+returns-then-writable-clause-sees g c = λ s.
+    let w = (found_told s.0 c.args.space c.in-Ok-Ok.field-0 (c.in-Ok-Ok.ensures.seen s.0 s.1) c.in-Ok-Ok.found c.in-Ok-Ok.field-0-is).1 in
+    c.protect_writable.ensures.sees s.0 w.0 (c.find_window.ensures.still s.0 s.1) w.1 w.2
+
+pub returns-clause-sees : goal.returns-clause-sees
+returns-clause-sees g c = λ s.
+    let w = (found_told s.0 c.args.space c.in-Ok-Ok.field-0 (c.in-Ok-Ok.ensures.seen s.0 s.1) c.in-Ok-Ok.found c.in-Ok-Ok.field-0-is).1 in
+    c.protect_read_only.ensures.sees s.0 w.0 (c.find_window.ensures.still s.0 s.1) w.1 w.2
+
+pub returns-then-writable-clause-right : goal.returns-then-writable-clause-right
+returns-then-writable-clause-right g c = λ s. c.protect_writable.ensures.right (s.0, c.find_window.ensures.still s.0 s.1)
+
+pub returns-clause-right : goal.returns-clause-right
+returns-clause-right g c = λ s. c.protect_read_only.ensures.right (s.0, c.find_window.ensures.still s.0 s.1)

@@ -11,6 +11,9 @@ use Rattle.space_calls.proofs.WindowHalts.{part_change, part_halt}
 use Rattle.running_words.specs.MovingLaws.{moves_of_reaches}
 use Rattle.space_calls.proofs.MovesLemmas.{moves_behind, moves_before}
 use Rattle.space_calls.specs.ReasonLaws.{moves_of_reshapes}
+use Rattle.space_tables.specs.Shows.{window_of}
+use Rattle.space_calls.specs.Sees.{SeesOn}
+use Rattle.space_calls.proofs.SeesLemmas.{are_seen, fault_spares, handle_so, shown_fits, shown_may, windows_seen}
 use Rattle.space_calls.proofs.unmapping.protect_read_only.Goals as goal
 
 pub returns-in-Err-clause-sound : goal.returns-in-Err-clause-sound
@@ -100,3 +103,19 @@ returns-in-Ok-settle-clause-moves g c = moves_before (state c.args.core.now) (st
 
 pub returns-in-Err-settle-clause-moves : goal.returns-in-Err-settle-clause-moves
 returns-in-Err-settle-clause-moves g c = moves_before (state c.args.core.now) (state c.change_window.new.core) (state c.settle.new.core) c.args.core.now.filer.swapper.accepted (moves_behind (state c.args.core.now) (state c.force_range.new.core) (state c.change_window.new.core) c.args.core.now.filer.swapper.accepted c.force_range.ensures.reaches (moves_of_reshapes (state c.force_range.new.core) (state c.change_window.new.core) c.change_window.ensures.reshapes)) c.settle.ensures.reaches
+
+-- ---- The tables are told.
+
+pub returns-in-Ok-Err-clause-sees : goal.returns-in-Ok-Err-clause-sees
+returns-in-Ok-Err-clause-sees g c = λ ss x s at has. c.in-Ok-Err.ensures.sees ss x (c.force_range.ensures.still ss s) (shown_may ss c.args.space (are_seen s) x at (window_of c.args.shown) has) (handle_so ss c.args.space (are_seen s) x at) (shown_fits ss c.args.space (are_seen s) x at (window_of c.args.shown) has (windows_seen s) false)
+
+pub returns-in-Ok-settle-clause-sees : goal.returns-in-Ok-settle-clause-sees
+returns-in-Ok-settle-clause-sees g c = λ ss x s at has.
+    let t : SeesOn c.change_window.new.core = c.in-Ok-Ok.ensures.sees ss x (c.force_range.ensures.still ss s) (shown_may ss c.args.space (are_seen s) x at (window_of c.args.shown) has) (handle_so ss c.args.space (are_seen s) x at) (shown_fits ss c.args.space (are_seen s) x at (window_of c.args.shown) has (windows_seen s) false) in
+    (t.0, c.settle.ensures.still t.0 t.1)
+
+pub returns-in-Err-change_window-clause-right : goal.returns-in-Err-change_window-clause-right
+returns-in-Err-change_window-clause-right g c = λ s. c.in-Err-change_window.ensures.right (s.0, c.force_range.ensures.still s.0 s.1)
+
+pub returns-in-Err-settle-clause-right : goal.returns-in-Err-settle-clause-right
+returns-in-Err-settle-clause-right g c = λ s. fault_spares c.in-Err-settle.halt c.in-Err-settle.ensures.fault

@@ -12,6 +12,8 @@ use Rattle.space_calls.proofs.HaltLemmas.{counted_change}
 use Rattle.running_words.specs.MovingLaws.{moves_of_reaches}
 use Rattle.space_calls.proofs.MovesLemmas.{moves_behind}
 use Rattle.space_calls.specs.ReasonLaws.{moves_of_reshapes}
+use Rattle.space_tables.specs.Shows.{window_of}
+use Rattle.space_calls.proofs.SeesLemmas.{are_seen, handle_so, shown_fits, shown_may, windows_seen}
 use Rattle.space_calls.proofs.unmapping.protect_writable.Goals as goal
 
 pub returns-in-Ok-true-clause-carried : goal.returns-in-Ok-true-clause-carried
@@ -90,3 +92,17 @@ returns-in-Ok-Err-clause-moves g c = moves_behind (state c.args.core.now) (state
 
 pub returns-in-Err-change_window-clause-moves : goal.returns-in-Err-change_window-clause-moves
 returns-in-Err-change_window-clause-moves g c = moves_behind (state c.args.core.now) (state c.shows_immutable.new.core) (state c.change_window.new.core) c.args.core.now.filer.swapper.accepted c.shows_immutable.ensures.reaches (moves_of_reshapes (state c.shows_immutable.new.core) (state c.change_window.new.core) c.change_window.ensures.reshapes)
+
+-- ---- The tables are told.
+
+pub returns-in-Ok-true-clause-sees : goal.returns-in-Ok-true-clause-sees
+returns-in-Ok-true-clause-sees g c = λ ss x s at has. (ss, c.shows_immutable.ensures.still ss s)
+
+pub returns-in-Ok-Ok-clause-sees : goal.returns-in-Ok-Ok-clause-sees
+returns-in-Ok-Ok-clause-sees g c = λ ss x s at has. c.in-Ok-Ok.ensures.sees ss x (c.shows_immutable.ensures.still ss s) (shown_may ss c.args.space (are_seen s) x at (window_of c.args.shown) has) (handle_so ss c.args.space (are_seen s) x at) (shown_fits ss c.args.space (are_seen s) x at (window_of c.args.shown) has (windows_seen s) true)
+
+pub returns-in-Ok-Err-clause-sees : goal.returns-in-Ok-Err-clause-sees
+returns-in-Ok-Err-clause-sees g c = λ ss x s at has. c.in-Ok-Err.ensures.sees ss x (c.shows_immutable.ensures.still ss s) (shown_may ss c.args.space (are_seen s) x at (window_of c.args.shown) has) (handle_so ss c.args.space (are_seen s) x at) (shown_fits ss c.args.space (are_seen s) x at (window_of c.args.shown) has (windows_seen s) true)
+
+pub returns-in-Err-change_window-clause-right : goal.returns-in-Err-change_window-clause-right
+returns-in-Err-change_window-clause-right g c = λ s. c.in-Err-change_window.ensures.right (s.0, c.shows_immutable.ensures.still s.0 s.1)

@@ -4,6 +4,8 @@ use Rattle.fault_core.specs.Core.{state}
 use Rattle.filer_kernel.specs.EvidenceLaws.{fits}
 use Rattle.fault_core.proofs.EvidenceLemmas.{shows_so}
 use Rattle.space_calls.proofs.ReshapeLemmas.{reshapes_tables}
+use Rattle.space_calls.specs.Sees.{SeesOn}
+use Rattle.space_calls.proofs.SeesLemmas.{set_so}
 use Rattle.space_calls.proofs.windows.change_window.Goals as goal
 
 pub returns-in-Err-clause-sound : goal.returns-in-Err-clause-sound
@@ -28,3 +30,11 @@ returns-in-Err-clause-reshapes g c = reshapes_tables (state c.args.core.now) (st
 
 pub returns-clause-reshapes : goal.returns-clause-reshapes
 returns-clause-reshapes g c = rw c.frame_count-frames.ensures.same (reshapes_tables (state c.args.core.now) (state c.set_window.new.core) c.set_window.ensures.retabled.beside)
+
+-- ---- The tables are told.
+
+pub returns-clause-sees : goal.returns-clause-sees
+returns-clause-sees g c = λ ss x s may named fits. rw c.frame_count-frames.ensures.same (set_so _ (SeesOn c.set_window.new.core) (λ h. (_, h)) c.in-Ok.answer (c.in-Ok.ensures.sees ss x s may named fits))
+
+pub returns-in-Err-clause-right : goal.returns-in-Err-clause-right
+returns-in-Err-clause-right g c = λ s. c.in-Err.ensures.right s.0 s.1

@@ -155,3 +155,37 @@ returns-in-Ok-Err-clause-intervals g c = c.shown.ensures.asked.intervals
 
 pub returns-in-Err-clause-intervals : goal.returns-in-Err-clause-intervals
 returns-in-Err-clause-intervals g c = c.shown.ensures.asked.intervals
+
+-- ---- The tables are told.
+
+pub returns-in-Ok-Err-clause-still : goal.returns-in-Ok-Err-clause-still
+returns-in-Ok-Err-clause-still g c = λ ss s. c.shown.ensures.sees ss s
+
+pub returns-in-Err-clause-still : goal.returns-in-Err-clause-still
+returns-in-Err-clause-still g c = λ ss s. c.shown.ensures.sees ss s
+
+pub returns-in-Ok-Ok-bounds-clause-still : goal.returns-in-Ok-Ok-bounds-clause-still
+returns-in-Ok-Ok-bounds-clause-still g c = λ ss s. c.bounds.ensures.sees ss (c.shown.ensures.sees ss s)
+
+pub returns-in-Ok-Err-bounds-clause-still : goal.returns-in-Ok-Err-bounds-clause-still
+returns-in-Ok-Err-bounds-clause-still g c = λ ss s. c.bounds.ensures.sees ss (c.shown.ensures.sees ss s)
+
+pub returns-in-Err-bounds-clause-still : goal.returns-in-Err-bounds-clause-still
+returns-in-Err-bounds-clause-still g c = λ ss s. c.bounds.ensures.sees ss (c.shown.ensures.sees ss s)
+
+pub returns-in-Err-clause-right : goal.returns-in-Err-clause-right
+returns-in-Err-clause-right g c = λ s. c.in-Err.ensures.right s.0 s.1
+
+pub returns-in-Err-bounds-clause-right : goal.returns-in-Err-bounds-clause-right
+returns-in-Err-bounds-clause-right g c = λ s. c.in-Err-bounds.ensures.right s.0 (c.shown.ensures.sees s.0 s.1)
+
+pub returns-in-Ok-Err-clause-seen : goal.returns-in-Ok-Err-clause-seen
+returns-in-Ok-Err-clause-seen g c = λ ss s. (shown_refused ss c.args.space c.in-Ok-Err.field-0 c.in-Ok-Err.word c.in-Ok-Err.field-0-is (c.in-Ok-Err.ensures.seen ss s), tt)
+
+pub returns-in-Ok-Ok-bounds-clause-seen : goal.returns-in-Ok-Ok-bounds-clause-seen
+returns-in-Ok-Ok-bounds-clause-seen g c = λ ss s.
+    window_found ss c.args.space c.in-Ok-Ok.field-0 c.in-Ok-Ok.shows c.in-Ok-Ok.field-0-is (c.in-Ok-Ok.ensures.seen ss s) c.in-Ok-Ok-bounds.field-0 (c.in-Ok-Ok-bounds.ensures.seen ss (c.shown.ensures.sees ss s)) c.in-Ok-Ok-bounds.first c.in-Ok-Ok-bounds.pages c.in-Ok-Ok-bounds.field-0-is
+
+pub returns-in-Ok-Err-bounds-clause-seen : goal.returns-in-Ok-Err-bounds-clause-seen
+returns-in-Ok-Err-bounds-clause-seen g c = λ ss s.
+    absurd (window_lost ss c.args.space c.in-Ok-Ok.field-0 c.in-Ok-Ok.shows c.in-Ok-Ok.field-0-is (c.in-Ok-Ok.ensures.seen ss s) c.in-Ok-Err-bounds.field-0 (c.in-Ok-Err-bounds.ensures.seen ss (c.shown.ensures.sees ss s)) c.in-Ok-Err-bounds.word c.in-Ok-Err-bounds.field-0-is)

@@ -47,3 +47,11 @@ returns-clause-cause g c = rw c.frame_count-frames.ensures.same at c.force.ensur
 
 pub returns-clause-reaches : goal.returns-clause-reaches
 returns-clause-reaches g c = rw c.frame_count-frames.ensures.same at c.force.ensures.reaches
+
+-- ---- The tables are told.
+
+pub returns-clause-still : goal.returns-clause-still
+returns-clause-still g c = rw c.frame_count-frames.ensures.same at c.force.ensures.sees
+
+pub returns-clause-right : goal.returns-clause-right
+returns-clause-right g c = λ s. (rw c.frame_count-frames.ensures.same at c.force.ensures.right) s.0 s.1

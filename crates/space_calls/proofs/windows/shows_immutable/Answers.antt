@@ -3,6 +3,8 @@ use Rattle.space_calls.proofs.FileLemmas.{immutable_told, missing_told}
 use Rattle.space_calls.proofs.RunLemmas.{books_of, looked_runs}
 use Rattle.fault_core.specs.Core.{state}
 use Rattle.space_calls.proofs.HaltLemmas.{look_reaches}
+use Rattle.std.proofs.Common.{refl}
+use Rattle.space_calls.proofs.SeesLemmas.{look_spares, reached_sees}
 use Rattle.space_calls.proofs.windows.shows_immutable.Goals as goal
 
 pub returns-in-Ok-Some-clause-answer : goal.returns-in-Ok-Some-clause-answer
@@ -31,3 +33,17 @@ returns-in-Ok-None-clause-reaches g c = look_reaches (state c.args.core.now) (st
 
 pub returns-in-Err-clause-reaches : goal.returns-in-Err-clause-reaches
 returns-in-Err-clause-reaches g c = look_reaches (state c.args.core.now) (state (record c.args.core.now { filer = c.attributes_of.new.filer })) c.attributes_of.ensures.looks c.attributes_of.ensures.layout
+
+-- ---- The tables are told.
+
+pub returns-in-Ok-Some-clause-still : goal.returns-in-Ok-Some-clause-still
+returns-in-Ok-Some-clause-still g c = λ ss s. reached_sees (returns-in-Ok-Some-clause-reaches g c) refl refl s
+
+pub returns-in-Ok-None-clause-still : goal.returns-in-Ok-None-clause-still
+returns-in-Ok-None-clause-still g c = λ ss s. reached_sees (returns-in-Ok-None-clause-reaches g c) refl refl s
+
+pub returns-in-Err-clause-still : goal.returns-in-Err-clause-still
+returns-in-Err-clause-still g c = λ ss s. reached_sees (returns-in-Err-clause-reaches g c) refl refl s
+
+pub returns-in-Err-clause-right : goal.returns-in-Err-clause-right
+returns-in-Err-clause-right g c = λ s. look_spares (state c.args.core.now) (state (record c.args.core.now { filer = c.attributes_of.new.filer })) c.args.id c.in-Err.halt c.in-Err.ensures.cause
