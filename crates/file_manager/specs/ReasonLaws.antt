@@ -171,34 +171,42 @@ module _ (o : Outset) {pages : Pages} {run : List DiskWrite} {a b : DiskState} {
   pub let_later : IsSince o a → (home : Home) → GivesNot run home → IsLet o a home → IsLet o b home
   let_later since home none h = record {
     outset = λ is. let was = h.outset is in (was.0, was.1, made_later was.2);
-    since = (since.0 ++ makes.wrote.writes, told_later since.0 since.1, λ turn w at gives.
-        let same = same_end o.writes h.since.0 since.0 (same_Some (o.writes ++ h.since.0) (o.writes ++ since.0) (sym h.since.1 ∙ since.1)) in
-        elim (get_either since.0 makes.wrote.writes turn w at) [
-          | inl was ↦
-              let l = h.since.2 turn w (ap (λ (ws : List DiskWrite). slice_get ws turn) same ∙ was) gives in
-              (l.0, l.1, (l.2.0, l.2.1, get_front since.0 makes.wrote.writes l.0 l.2.0 (ap (λ (ws : List DiskWrite). slice_get ws l.0) (sym same) ∙ l.2.2)))
-          | inr (j, here) ↦
-              let back = label_back makes.wrote.writes j w here (gives_label home w gives) in
-              absurd (none back.0 w (ap (λ (ws : List DiskWrite). slice_get ws back.0) (sym makes.wrote.labels) ∙ back.1) gives)
-        ]);
+    since = (
+      since.0 ++ makes.wrote.writes,
+      told_later since.0 since.1,
+      λ turn w at gives.
+          let same = same_end o.writes h.since.0 since.0 (same_Some (o.writes ++ h.since.0) (o.writes ++ since.0) (sym h.since.1 ∙ since.1)) in
+          elim (get_either since.0 makes.wrote.writes turn w at) [
+            | inl was ↦
+                let l = h.since.2 turn w (ap (λ (ws : List DiskWrite). slice_get ws turn) same ∙ was) gives in
+                (l.0, l.1, (l.2.0, l.2.1, get_front since.0 makes.wrote.writes l.0 l.2.0 (ap (λ (ws : List DiskWrite). slice_get ws l.0) (sym same) ∙ l.2.2)))
+            | inr (j, here) ↦
+                let back = label_back makes.wrote.writes j w here (gives_label home w gives) in
+                absurd (none back.0 w (ap (λ (ws : List DiskWrite). slice_get ws back.0) (sym makes.wrote.labels) ∙ back.1) gives)
+          ],
+    );
   }
 
   -- a home is let where the call let it, and gave its sector to its page in no write
   pub let_now : IsSince o a → (home : Home) → GivesNot run home → (k : ℕ) (v : DiskWrite) → slice_get run k ≡ Some v → Lets home v → IsLet o b home
   let_now since home none k v at lets = record {
     outset = λ is. (v, lets, made_now since k v at);
-    since = (since.0 ++ makes.wrote.writes, told_later since.0 since.1, λ turn w here gives.
-        let among = label_among makes.wrote.writes k v (ap (λ (ws : List DiskWrite). slice_get ws k) makes.wrote.labels ∙ at) in
-        let there = get_end_behind since.0 makes.wrote.writes among.0 v among.1 in
-        elim (get_either since.0 makes.wrote.writes turn w here) [
-          | inl was ↦
-              let below : turn < length since.0 = slice_get_within since.0 turn w was in
-              let from = there.1 in
-              (there.0, omega (arith, below, from), (v, lets, there.2))
-          | inr (j, later) ↦
-              let back = label_back makes.wrote.writes j w later (gives_label home w gives) in
-              absurd (none back.0 w (ap (λ (ws : List DiskWrite). slice_get ws back.0) (sym makes.wrote.labels) ∙ back.1) gives)
-        ]);
+    since = (
+      since.0 ++ makes.wrote.writes,
+      told_later since.0 since.1,
+      λ turn w here gives.
+          let among = label_among makes.wrote.writes k v (ap (λ (ws : List DiskWrite). slice_get ws k) makes.wrote.labels ∙ at) in
+          let there = get_end_behind since.0 makes.wrote.writes among.0 v among.1 in
+          elim (get_either since.0 makes.wrote.writes turn w here) [
+            | inl was ↦
+                let below : turn < length since.0 = slice_get_within since.0 turn w was in
+                let from = there.1 in
+                (there.0, omega (arith, below, from), (v, lets, there.2))
+            | inr (j, later) ↦
+                let back = label_back makes.wrote.writes j w later (gives_label home w gives) in
+                absurd (none back.0 w (ap (λ (ws : List DiskWrite). slice_get ws back.0) (sym makes.wrote.labels) ∙ back.1) gives)
+          ],
+    );
   }
 
 -- ---- What is so behind a call that wrote no label was so before.
@@ -221,14 +229,25 @@ module _ (o : Outset) {pages : Pages} {a b : DiskState} {s t : Slots} (makes : M
   let_before : (home : Home) → IsLet o b home → IsLet o a home
   let_before home h = record {
     outset = λ is. let was = h.outset is in (was.0, was.1, made_before was.0 was.2 (lets_label home was.0 was.1));
-    since = (since.0, since.1, λ turn w at gives.
-        let later = told_later o makes since.0 since.1 in
-        let same = same_end o.writes h.since.0 (since.0 ++ makes.wrote.writes) (same_Some (o.writes ++ h.since.0) (o.writes ++ (since.0 ++ makes.wrote.writes)) (sym h.since.1 ∙ later)) in
-        let l = h.since.2 turn w (ap (λ (ws : List DiskWrite). slice_get ws turn) same ∙ get_front since.0 makes.wrote.writes turn w at) gives in
-        (l.0, l.1, (l.2.0, l.2.1, elim (get_either since.0 makes.wrote.writes l.0 l.2.0 (ap (λ (ws : List DiskWrite). slice_get ws l.0) (sym same) ∙ l.2.2)) [
-          | inl was ↦ was
-          | inr (j, here) ↦ absurd (no_label makes.wrote.writes j l.2.0 makes.wrote.labels here (lets_label home l.2.0 l.2.1))
-        ])));
+    since = (
+      since.0,
+      since.1,
+      λ turn w at gives.
+          let later = told_later o makes since.0 since.1 in
+          let same = same_end o.writes h.since.0 (since.0 ++ makes.wrote.writes) (same_Some (o.writes ++ h.since.0) (o.writes ++ (since.0 ++ makes.wrote.writes)) (sym h.since.1 ∙ later)) in
+          let l = h.since.2 turn w (ap (λ (ws : List DiskWrite). slice_get ws turn) same ∙ get_front since.0 makes.wrote.writes turn w at) gives in (
+            l.0,
+            l.1,
+            (
+              l.2.0,
+              l.2.1,
+              elim (get_either since.0 makes.wrote.writes l.0 l.2.0 (ap (λ (ws : List DiskWrite). slice_get ws l.0) (sym same) ∙ l.2.2)) [
+                | inl was ↦ was
+                | inr (j, here) ↦ absurd (no_label makes.wrote.writes j l.2.0 makes.wrote.labels here (lets_label home l.2.0 l.2.1))
+              ],
+            ),
+          ),
+    );
   }
 
   reason_before : (x : Layout) (e : Evidence) → HasReason o x b e → HasReason o x a e
