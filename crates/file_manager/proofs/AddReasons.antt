@@ -19,7 +19,7 @@ use Rattle.swapper_kernel.specs.Stands.{Stands}
 use Rattle.filer_kernel.specs.Causes.{AddHalts, IsFaultOrMost}
 use Rattle.filer_kernel.specs.Triples.{MapIs}
 use Rattle.file_manager.specs.Grounds.{IsMapsHome}
-use Rattle.file_manager.specs.ReasonLaws.{named_homes}
+use Rattle.file_manager.specs.ShownLaws.{named_homes}
 use Rattle.file_manager.specs.Reasons.{AreHomes, IsAtHome, Outset, ShowsReason}
 use Rattle.file_manager.proofs.MakeStops.{page_in}
 

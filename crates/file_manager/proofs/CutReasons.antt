@@ -22,7 +22,7 @@ use Rattle.filer_kernel.specs.Triples.{MapIs}
 use Rattle.file_manager.specs.Grounds.{IsMapsHome}
 use Rattle.file_manager.specs.Reasons.{Outset, IsAtHome, KeepsTo, ShowsReason}
 use Rattle.file_manager.specs.Shrinking.{leader_run}
-use Rattle.file_manager.specs.ReasonLaws.{at_home_later}
+use Rattle.file_manager.specs.LaterLaws.{at_home_later}
 use Rattle.file_manager.proofs.AddReasons.{add_at}
 use Rattle.file_manager.proofs.MadeRun.{maps_come}
 

@@ -1,9 +1,10 @@
 -- Frames of a file's pages that are given up, one page after the other.
 use Rattle.std.proofs.Common.{◌≡◌, ◌≢◌, ◌⊎◌, inl, inr, ⊎_elim, ℕ, ◌+◌, ◌<◌, ◌≤◌, false, List, [], length, None, refl, sym, ◌∙◌, ap, subst, arith}
-use Rattle.std.specs.Prelude.{slice_get, slice_set, nat_le}
+use Rattle.std.specs.Prelude.{slice_get, slice_set}
 use Rattle.std.proofs.lemmas.Bool.{cases_eq}
 use Rattle.std.proofs.lemmas.Bool.Decides.{nat_tests}
-use Rattle.std.proofs.lemmas.Option.{none-some}
+use Rattle.std.proofs.lemmas.Option.{none-some, same_Some}
+use Rattle.labelled_disk.specs.declared.label.Label.{Label}
 use Rattle.labelled_disk.specs.declared.layout.Layout.{Layout}
 use Rattle.labelled_disk.specs.Sectors.{Sector}
 use Rattle.labelled_disk.specs.State.{DiskState}
@@ -14,27 +15,27 @@ use Rattle.frame_pool.specs.ListLaws.{get_other}
 use Rattle.swapper_kernel.specs.declared.manager.Manager.{Manager}
 use Rattle.swapper_kernel.specs.declared.manager.Manager.TheVariants.{AllocationMap, FileMap}
 use Rattle.swapper_kernel.specs.Differs.{Differs}
-use Rattle.swapper_kernel.specs.DiffersLaws.{differs_itself, differs_then, other_sector}
+use Rattle.swapper_kernel.specs.DiffersLaws.{differs_itself, differs_then, names_id, other_sector}
 use Rattle.swapper_kernel.specs.Goes.{Goes, no_page}
 use Rattle.swapper_kernel.specs.GoesLaws.{went_itself, wrote_none, goes_itself, goes_then}
-use Rattle.swapper_kernel.specs.Homes.{ArePlaced}
+use Rattle.swapper_kernel.specs.Homes.{ArePlaced, wanted_at}
 use Rattle.swapper_kernel.specs.Maps.{id_of}
 use Rattle.swapper_kernel.specs.Stands.{Stands}
 use Rattle.swapper_kernel.proofs.MoveLemmas.{move_laws}
 use Rattle.force_calls.specs.Run.{OnlyRun}
 use Rattle.force_calls.proofs.RunLemmas.{within_kept, only_run_itself, only_run_then, cleared_only}
-use Rattle.file_manager.specs.Forgetting.{Forgets, on_data}
+use Rattle.file_manager.specs.Forgetting.{Forgets, on_data_of}
 
 -- no page of a file is one of a map
 no_map : (which : Manager) (id : ℕ) → (id ≡ 3) ⊎ (16 ≤ id) → id ≢ id_of which
 no_map AllocationMap id file same = ⊎_elim (λ (q : id ≡ 3). omega (arith, same, q)) (λ (q : 16 ≤ id). omega (arith, same, q)) file
 no_map FileMap id file same = ⊎_elim (λ (q : id ≡ 3). omega (arith, same, q)) (λ (q : 16 ≤ id). omega (arith, same, q)) file
 
-in_front : (layout : Layout) (k : ℕ) → nat_le layout.first k ≡ false → k < layout.first
-in_front layout k fails = grind (arith, nat_tests)
+in_front : (layout : Layout) (id k : ℕ) (label : Label) → label.id ≡ id → on_data_of layout id k label ≡ false → k < layout.first
+in_front layout id k label same fails = grind (arith, nat_tests)
 
 -- One frame is given up, of a page that stands on a data sector.
-module _ (layout : Layout) (disk : DiskState) (s t : Slots) (slot : ℕ) (f : Frame) (has : Has s slot f) (distinct : HasDistinct s) (from : layout.first ≤ f.home.sector) (is : t ≡ slice_set s slot None) where
+module _ (layout : Layout) (disk : DiskState) (s t : Slots) (slot : ℕ) (f : Frame) (has : Has s slot f) (distinct : HasDistinct s) (id : ℕ) (own : f.home.id ≡ id) (from : layout.first ≤ f.home.sector) (is : t ≡ slice_set s slot None) where
   -- each frame that is left was there, in another slot
   one_left : (i : ℕ) (g : Frame) → Has t i g → (i ≢ slot) × Has s i g
   one_left i g g_has = elim (has_set s slot i None g (has_below s slot f has) (record { is = ap (λ (l : Slots). slice_get l i) (sym is) ∙ g_has.is })) [
@@ -42,7 +43,7 @@ module _ (layout : Layout) (disk : DiskState) (s t : Slots) (slot : ℕ) (f : Fr
     | inr was ↦ was
   ]
 
-  one_memory : (m : List Sector) → Stands disk s m → (n : List Sector) × Stands disk t n × Differs (on_data layout) m n
+  one_memory : (m : List Sector) → Stands disk s m → (n : List Sector) × Stands disk t n × Differs (on_data_of layout id) m n
   one_memory m stands =
       let home = stands.merged.frames slot f has in
       let there = other_sector stands.sectors m stands.merged.labels f.home.sector (home.label, f.bytes) home.keeps in
@@ -51,11 +52,15 @@ module _ (layout : Layout) (disk : DiskState) (s t : Slots) (slot : ℕ) (f : Fr
         record { sectors = stands.sectors; told = stands.told; merged = rw is after },
         record {
           labels = after.labels ∙ sym stands.merged.labels;
-          pages = λ k x here fails. get_other m f.home.sector k there.0 (λ at. let low = in_front layout k fails in omega (arith, low, at, from)) ∙ here;
+          pages = λ k x here fails. get_other m f.home.sector k there.0 (λ at.
+              let shown = stands.merged.frames slot f has in
+              let label : shown.label ≡ x.0 = ap (λ (y : Sector). y.0) (same_Some {A = Sector} (shown.label, f.bytes) x (sym shown.keeps ∙ ap (slice_get m) (sym at) ∙ here)) in
+              let low = in_front layout id k x.0 (ap (λ (l : Label). l.id) (sym label) ∙ names_id shown.label (wanted_at f.home) shown.named ∙ own) fails in
+              omega (arith, low, at, from)) ∙ here;
         },
       )
 
-  one_goes : Goes (Differs (on_data layout)) no_page [] disk s disk t
+  one_goes : Goes (Differs (on_data_of layout id)) no_page [] disk s disk t
   one_goes = record {
     makes = record {
       went = went_itself disk;
@@ -71,7 +76,7 @@ pub forgets_none : (id first : ℕ) (layout : Layout) (disk : DiskState) (s : Sl
 forgets_none id first layout disk s = record {
   gone = λ i f has within. let a = within.1 in let b = within.2 in omega (arith, a, b);
   run = only_run_itself id first 0 s;
-  goes = goes_itself (Differs (on_data layout)) no_page disk s (λ m. differs_itself (on_data layout) m);
+  goes = goes_itself (Differs (on_data_of layout id)) no_page disk s (λ m. differs_itself (on_data_of layout id) m);
 }
 
 -- the page is the next one, or it was before
@@ -113,13 +118,13 @@ forgets_more {id = id} {first = first} {k = k} {layout = layout} {disk = disk} {
     let within : IsWithin id first (k + 1) f.home = (of.0, (let at = of.1 in omega (arith, at)), (let at = of.1 in omega (arith, at))) in
     record {
       gone = λ i g g_has within.
-          let was = one_left layout disk t u slot f has distinct from is i g g_has in
+          let was = one_left layout disk t u slot f has distinct id of.0 from is i g g_has in
           elim (last_or_before id first k g.home within) [
             | inl (same_id, same_page) ↦ was.0 (distinct i slot g f was.1 has (same_id ∙ sym of.0) (same_page ∙ sym of.1))
             | inr before ↦ h.gone i g was.1 before
           ];
       run = only_run_then (only_wider h.run) (cleared_only id first (k + 1) t u slot f has (within_kept id first (k + 1) f within) is);
-      goes = goes_then (Differs (on_data layout)) (Differs (on_data layout)) (Differs (on_data layout)) (λ m n o one two. differs_then (on_data layout) m n o one two) h.goes (one_goes layout disk t u slot f has distinct from is);
+      goes = goes_then (Differs (on_data_of layout id)) (Differs (on_data_of layout id)) (Differs (on_data_of layout id)) (λ m n o one two. differs_then (on_data_of layout id) m n o one two) h.goes (one_goes layout disk t u slot f has distinct id of.0 from is);
     }
 
 -- all pages

@@ -1,6 +1,6 @@
 -- The file map, where the frames of the space tables are given up.
-use Rattle.std.proofs.Common.{◌≡◌, ◌≢◌, inl, ℕ, ◌+◌, ◌<◌, Bool, true, false, List, [], Some, refl, sym, ◌∙◌, ap, arith}
-use Rattle.std.specs.Prelude.{slice_get, ◌==◌, ◌&&◌, nat_le, nat_lt}
+use Rattle.std.proofs.Common.{◌≡◌, ◌≢◌, inl, ℕ, ◌+◌, ◌<◌, Bool, true, false, List, [], Some, refl, sym, ◌∙◌, ap, arith, None, Option, subst}
+use Rattle.std.specs.Prelude.{slice_get, ◌==◌, ◌&&◌, nat_le, nat_lt, IfSome}
 use Rattle.std.proofs.lemmas.Bool.{and_parts}
 use Rattle.std.proofs.lemmas.Bool.Decides.{nat_tests}
 use Rattle.std.proofs.lemmas.Option.{same_Some}
@@ -20,9 +20,9 @@ use Rattle.swapper_kernel.specs.Homes.{IsLayout, ArePlaced, wanted_at}
 use Rattle.swapper_kernel.specs.Maps.{id_of}
 use Rattle.swapper_kernel.specs.Stands.{Stands}
 use Rattle.file_manager.specs.Grounds.{AreTables, KeepsMap}
-use Rattle.file_manager.specs.Reasons.{Outset, KeepsTo}
+use Rattle.file_manager.specs.Reasons.{Outset, AreTabled, KeepsTo}
 use Rattle.file_manager.proofs.FreedRun.{shows_still, first_is}
-use Rattle.file_manager.proofs.KeepSteps.{keeps_front, no_writes}
+use Rattle.file_manager.proofs.KeepSteps.{keeps_front, no_writes, none_up}
 
 -- a label that is that of a page of the space tables has their identifier
 of_tables : (k : ℕ) (l : Label) → of_run 3 0 96 k l ≡ true → l.id ≡ 3
@@ -75,8 +75,8 @@ module _ {layout : Layout} {a b : DiskState} {s t : Slots} (kept : List Run) (is
   }
 
   -- what keeps to an outset still does
-  pub forgotten_keeps : {o : Outset} {runs : List Run} {named : Triples} → KeepsTo o layout runs a s named → KeepsTo o layout runs b t named
-  forgotten_keeps k =
+  pub forgotten_keeps : {o : Outset} {runs : List Run} {named : Triples} → o.tables ≡ None → KeepsTo o layout runs a s named → KeepsTo o layout runs b t named
+  forgotten_keeps {o = o} {named = named} untold k =
       let now = goes.memory k.memory k.stands in
       keeps_front is k goes.makes (λ home held. record { slot = held.slot; frame = held.frame; has = left held.slot held.frame held.has; at = held.at }) now.0 now.1
-      (λ i x low here. stays k.memory now.0 k.stands now.1 i low x here now.2 (of_run 3 0 96 i x.0) refl) no_writes
+      (λ i x low here. stays k.memory now.0 k.stands now.1 i low x here now.2 (of_run 3 0 96 i x.0) refl) no_writes none_up (λ told. subst (λ (t : Option (List ℕ)). IfSome t (AreTabled layout named now.0)) (sym untold) tt)

@@ -1,7 +1,7 @@
 -- A run of a file that was found, and whose frames were given up.
-use Rattle.std.proofs.Common.{◌≡◌, ◌⊎◌, inl, inr, ℕ, ◌+◌, ◌<◌, ◌≤◌, false, List, [], Some, refl, sym, ◌∙◌, ap, subst, arith}
-use Rattle.std.specs.Prelude.{slice_get, nat_le}
-use Rattle.std.proofs.lemmas.Bool.{true≢false}
+use Rattle.std.proofs.Common.{◌≡◌, ◌≢◌, ◌⊎◌, inl, inr, ℕ, ◌+◌, ◌<◌, ◌≤◌, Bool, true, false, List, [], Some, refl, sym, ◌∙◌, ap, subst, arith}
+use Rattle.std.specs.Prelude.{slice_get, nat_le, ◌&&◌, ◌==◌}
+use Rattle.std.proofs.lemmas.Bool.{true≢false, ne_eqb}
 use Rattle.std.proofs.lemmas.Bool.Decides.{nat_tests}
 use Rattle.std.proofs.lemmas.Option.{same_Some}
 use Rattle.labelled_disk.specs.declared.layout.Layout.{Layout}
@@ -24,10 +24,11 @@ use Rattle.filer_kernel.specs.Marks.{Marks, BitsAre}
 use Rattle.filer_kernel.specs.Triples.{MapIs}
 use Rattle.filer_kernel.proofs.MapLemmas.{same_elements}
 use Rattle.session_words.specs.Volume.{volume_page}
-use Rattle.file_manager.specs.Forgetting.{Forgets, on_data}
+use Rattle.file_manager.specs.Forgetting.{Forgets, on_data_of}
 use Rattle.file_manager.specs.Freeing.{MayFree}
 use Rattle.file_manager.specs.Grounds.{IsUnframed, KeepsMap}
-use Rattle.file_manager.specs.Reasons.{Outset, KeepsTo}
+use Rattle.file_manager.specs.Reasons.{Outset, KeepsTo, LeavesTables}
+use Rattle.file_manager.specs.TabledLaws.{KeepsSectors, keeps_undiffering, labels_alike, told_left}
 use Rattle.file_manager.proofs.BookLemmas.{known_after}
 use Rattle.file_manager.proofs.FreedRun.{map_makes, map_brings, hidden_then, shows_still, first_is}
 
@@ -52,11 +53,19 @@ module _ {layout : Layout} (is : IsLayout layout) {m n : List Sector} (stays : S
     are = bits.are;
   }
 
-pub data_differ : (layout : Layout) (m n : List Sector) → Differs (on_data layout) m n → SameFront layout m n
-data_differ layout m n differs k x low here = differs.pages k x here (test layout.first k low)
+pub data_differ : (layout : Layout) (id : ℕ) (m n : List Sector) → Differs (on_data_of layout id) m n → SameFront layout m n
+data_differ layout id m n differs k x low here = differs.pages k x here (test layout.first k x.0.id low)
   where
-    test : (a b : ℕ) → b < a → nat_le a b ≡ false
-    test a b low = grind (arith, nat_tests)
+    test : (a b i : ℕ) → b < a → (nat_le a b && (i == id)) ≡ false
+    test a b i low = grind (arith, nat_tests)
+
+-- those with labels of the space tables are as they were where another's differ
+pub others_differ : (layout : Layout) (id : ℕ) (m n : List Sector) → Differs (on_data_of layout id) m n → id ≢ 3 → KeepsSectors layout m n
+others_differ layout id m n differs other = keeps_undiffering layout m n differs (λ sector l from own. test (nat_le layout.first sector) l.id own)
+  where
+    test : (b : Bool) (i : ℕ) → i ≡ 3 → (b && (i == id)) ≡ false
+    test true i own = ne_eqb i id (λ same. other (sym same ∙ own))
+    test false i own = refl
 
 -- ---- Frames that were given up.
 
@@ -86,10 +95,10 @@ module _ {id first pages : ℕ} {layout : Layout} {d : DiskState} {t u : Slots} 
   }
 
   -- and of an outset
-  pub keeps_to_forgets : IsLayout layout → {o : Outset} {named : Triples} {kept : List Run} → KeepsTo o layout kept d t named → KeepsTo o layout kept d u named
-  keeps_to_forgets is h =
+  pub keeps_to_forgets : IsLayout layout → {o : Outset} {named : Triples} {kept : List Run} → LeavesTables o id → KeepsTo o layout kept d t named → KeepsTo o layout kept d u named
+  keeps_to_forgets is {o = o} {named = named} spares h =
       let now = forgets.goes.memory h.memory h.stands in
-      let stays = data_differ layout h.memory now.0 now.2 in
+      let stays = data_differ layout id h.memory now.0 now.2 in
       record {
         since = h.since;
         memory = now.0;
@@ -105,6 +114,7 @@ module _ {id first pages : ℕ} {layout : Layout} {d : DiskState} {t u : Slots} 
         free = h.free;
         rest = h.rest;
         used = h.used;
+        tabled = told_left layout named named h.memory now.0 o id is h.map spares (labels_alike layout h.memory now.0 now.2) (λ other. others_differ layout id h.memory now.0 now.2 other) (λ other page sector own. own) h.tabled;
       }
 
 -- ---- A run that was found, and whose frames were given up.
@@ -117,7 +127,7 @@ pub record IsFront (layout : Layout) (id : ℕ) (a : DiskState) (s : Slots) (kep
   pub keeps : KeepsMap (IsUnframed s id) layout id a s (runs_of layout.sectors kept) d u (runs_of layout.sectors runs)
   pub gone : (i : ℕ) (f : Frame) → Has u i f → IsWithin run.id run.first run.pages f.home → ⊥
   pub booked : (named : Triples) (spaces : List Space) (from end : ℕ) (m : List Sector) → MayFree a s layout kept named spaces id from end m → Stands d u m × Beside FileMap a s layout d u later
-  pub keeps_to : (o : Outset) (named : Triples) → KeepsTo o layout (runs_of layout.sectors kept) a s named → KeepsTo o layout (runs_of layout.sectors runs) d u named
+  pub keeps_to : (o : Outset) (named : Triples) → KeepsTo o layout (runs_of layout.sectors kept) a s named → LeavesTables o id → KeepsTo o layout (runs_of layout.sectors runs) d u named
 
 -- no frame has a page of a file whose pages may be freed
 none_there : {layout l1 : Layout} {a d : DiskState} {s t : Slots} {kept : CachedRuns} {named : Triples} {spaces : List Space} {id from end : ℕ} {m : List Sector} → (id ≡ 3) ⊎ (16 ≤ id)
@@ -149,5 +159,5 @@ front {layout = layout} {l1 = l1} {l2 = l2} {id = id} {a = a} {b = b} {d = d} {s
             subst (λ (v : Slots). Stands b v m) (sym still) (same m named may.stands may.map),
             subst (λ (l : Layout). Beside FileMap a s layout b u l) beside.layout (subst (λ (v : Slots). Beside FileMap a s layout b v l1) (sym still) beside),
           );
-      keeps_to = λ o named h. keeps_to_forgets there is (subst (λ (l : Layout). KeepsTo o l (runs_of l.sectors mid) b t named) beside.layout (keeps_to o named h));
+      keeps_to = λ o named h spares. keeps_to_forgets there is spares (subst (λ (l : Layout). KeepsTo o l (runs_of l.sectors mid) b t named) beside.layout (keeps_to o named h));
     })))

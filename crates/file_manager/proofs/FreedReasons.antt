@@ -1,6 +1,6 @@
 -- The freeing of a run keeps to an outset, and what it tells as evidence has its reason.
 use Rattle.std.proofs.Common.{◌≡◌, ◌⊎◌, inl, inr, ℕ, zero, suc, ◌+◌, ◌-◌, ◌<◌, ◌≤◌, Bool, true, false, List, [], ◌∷◌, Some, refl, sym, ◌∙◌, ap, subst, arith}
-use Rattle.std.specs.Prelude.{slice_get, nat_le, nat_lt, ◌&&◌, if◌then◌else◌}
+use Rattle.std.specs.Prelude.{slice_get, nat_le, nat_lt, ◌&&◌, if◌then◌else◌, IfSome}
 use Rattle.std.proofs.lemmas.Bool.{and_parts, false≢true, leb-true, ltb-true}
 use Rattle.std.proofs.lemmas.Option.{same_Some, none-some}
 use Rattle.labelled_disk.specs.declared.disk.DiskWrite.{DiskWrite}
@@ -37,11 +37,20 @@ use Rattle.filer_kernel.specs.PlaceLaws.{data_first, one_sector}
 use Rattle.filer_kernel.specs.Triples.{MapIs, AreOf}
 use Rattle.file_manager.specs.Freeing.{NamesAll}
 use Rattle.file_manager.specs.Grounds.{IsMapsHome}
-use Rattle.file_manager.specs.Reasons.{Outset, IsSince, WasGivenUp, IsLet, AreLet, KeepsTo, ShowsReason}
-use Rattle.file_manager.specs.ReasonLaws.{GivesNot, let_later, let_now, at_home_later, made_later, made_now, keeps_after, unframed_still, label_reasons, beside_keeps}
+use Rattle.file_manager.specs.Reasons.{Outset, IsSince, IsLet, AreLet, KeepsTo, LeavesTables, ShowsReason, MayBeFree, AreTabled}
+use Rattle.file_manager.specs.LaterLaws.{GivesNot, let_later, let_now, at_home_later, free_now, takes_not, TakesNot, label_gives_not, since_later, sector_of}
+use Rattle.file_manager.specs.KeepLaws.{keeps_after, unframed_still, beside_keeps}
+use Rattle.file_manager.specs.ReasonLaws.{label_reasons}
+use Rattle.file_manager.specs.TabledLaws.{told_beside, told_left}
+use Rattle.file_manager.proofs.FreedTables.{freed_brings, freed_keeps}
 use Rattle.file_manager.proofs.FreedRun.{shows_still, behind_map}
 use Rattle.file_manager.proofs.FreedSectors.{freed_elsewhere}
 use Rattle.file_manager.proofs.ForgottenRun.{SameFront, map_stays, bits_stay}
+use Rattle.std.proofs.lemmas.Bool.Decides.{nat_tests}
+use Rattle.labelled_disk.specs.WriteRuns.{after_writes}
+use Rattle.session_words.specs.Volume.{volume_page}
+use Rattle.swapper_kernel.specs.GoesLaws.{makes_then, makes_wider}
+use Rattle.file_manager.proofs.RunLeads.{append_none, map_makes}
 
 -- ---- A search of the map.
 
@@ -58,15 +67,7 @@ found_keeps {layout = layout} {b = b} {t = t} kept runs {o = o} {named = named} 
 -- none of these writes gives a sector to a page
 pub frees_give_not : (sectors : List ℕ) (home : Home) → GivesNot (freeing sectors) home
 frees_give_not [] home turn w at gives = none-some w at
-frees_give_not (k ∷ ks) home zero w at (kind, is) = only_label (same_Some (write.LabelOnly k free_label) w at ∙ is)
-  where
-    is_whole : DiskWrite → Bool
-    is_whole (write.Whole sector label bytes) = true
-    is_whole (write.LabelOnly sector label) = false
-    is_whole (write.Page sector wanted bytes) = false
-
-    only_label : {sector : ℕ} {label : Label} {bytes : List ℕ} → write.LabelOnly k free_label ≡ write.Whole sector label bytes → ⊥
-    only_label same = false≢true (ap is_whole same)
+frees_give_not (k ∷ ks) home zero w at (kind, is) = label_gives_not k free_label home (kind, same_Some (write.LabelOnly k free_label) w at ∙ is)
 frees_give_not (k ∷ ks) home (suc turn) w at gives = frees_give_not ks home turn w at gives
 
 -- those of a run's pages are those of some pages of its file
@@ -91,6 +92,12 @@ freeing_at [] j k at = absurd (none-some k at)
 freeing_at (i ∷ is) zero k at = ap (λ (n : ℕ). Some (write.LabelOnly n free_label)) (same_Some i k at)
 freeing_at (i ∷ is) (suc j) k at = freeing_at is j k at
 
+-- and each write is that of a sector of them
+freeing_back : (sectors : List ℕ) (j : ℕ) (w : DiskWrite) → slice_get (freeing sectors) j ≡ Some w → (k : ℕ) × (slice_get sectors j ≡ Some k) × (write.LabelOnly k free_label ≡ w)
+freeing_back [] j w at = absurd (none-some w at)
+freeing_back (i ∷ is) zero w at = (i, refl, same_Some (write.LabelOnly i free_label) w at)
+freeing_back (i ∷ is) (suc j) w at = freeing_back is j w at
+
 -- a sector that the bits say is used then was used
 used_before : (first count : ℕ) (marks : Marks) (sector : ℕ) → marked false first count marks sector ≡ true → marks sector ≡ true
 used_before first count marks sector is = either (nat_le first sector && nat_lt sector (first + count)) refl
@@ -98,6 +105,17 @@ used_before first count marks sector is = either (nat_le first sector && nat_lt 
     either : (b : Bool) → (nat_le first sector && nat_lt sector (first + count)) ≡ b → marks sector ≡ true
     either true within = absurd (false≢true (sym (ap (λ (b : Bool). if b then false else marks sector) within) ∙ is))
     either false out = sym (ap (λ (b : Bool). if b then false else marks sector) out) ∙ is
+
+-- one of the row is not
+cleared : (first count : ℕ) (marks : Marks) (i sector : ℕ) → i < count → sector ≡ first + i → marked false first count marks sector ≡ false
+cleared first count marks i sector below same = ap (λ (b : Bool). if b then false else marks sector) (inside first count i sector below same)
+  where
+    inside : (first n j k : ℕ) → j < n → k ≡ first + j → (nat_le first k && nat_lt k (first + n)) ≡ true
+    inside first n j k below same = grind (arith, nat_tests)
+
+-- the sector of a write of a label
+sector_only : {sector other : ℕ} → write.LabelOnly sector free_label ≡ write.LabelOnly other free_label → sector ≡ other
+sector_only same = ap sector_of same
 
 -- the sector is one of a row, or the bits say of it what they said
 one_of_row : (first count : ℕ) (marks : Marks) (sector : ℕ) → marked false first count marks sector ≡ false → ((i : ℕ) × (i < count) × (sector ≡ first + i)) ⊎ (marks sector ≡ false)
@@ -128,7 +146,7 @@ module _ {o : Outset} {layout : Layout} {runs : List Run} {b : DiskState} {t : S
   module _ (sectors : List ℕ) (has : (j k : ℕ) → slice_get sectors j ≡ Some k → (i : ℕ) × (i < run.pages) × (k ≡ run.sector + i)) (each : (i : ℕ) → i < run.pages → (j : ℕ) × (slice_get sectors j ≡ Some (run.sector + i)))
       {c : DiskState} (made : RelabelsRun run.sector run.pages (freeing sectors) b t c)
       (were : (d : List Sector) → b.contents ≡ Some d → HaveOnes (λ k. ones_of (record { id = run.id; page = run.first + k })) d run.sector run.pages)
-      (gone : (i : ℕ) (f : Frame) → Has t i f → IsWithin run.id run.first run.pages f.home → ⊥) where
+      (gone : (i : ℕ) (f : Frame) → Has t i f → IsWithin run.id run.first run.pages f.home → ⊥) (spares : LeavesTables o run.id) where
     -- no frame is over the run's sectors: its page would be one of the run's
     uncovered : AreUncovered t run.sector run.pages
     uncovered k below i f in_slot at =
@@ -141,18 +159,26 @@ module _ {o : Outset} {layout : Layout} {runs : List Run} {b : DiskState} {t : S
         let pages : f.home.page ≡ run.first + k = sym (names_page home.label (wanted_at f.home) home.named) ∙ ap (λ (l : Label). l.page) label ∙ names_page disk.0.0 (record { id = run.id; page = run.first + k }) disk.2 in
         gone i f in_slot (ids, omega (arith, pages), omega (arith, pages, below))
 
-    pub labels_keep : KeepsTo o layout runs c t named
-    labels_keep =
-        let now = (made.goes uncovered).memory h.memory h.stands in
-        let stays : SameFront layout h.memory now.0 = λ k x low here.
-        ap (λ (l : List Sector). slice_get l k) now.2
-        ∙ freed_elsewhere sectors h.memory k (λ j at. let r = has j k at in let same = r.2 in let above = on_data in omega (arith, low, same, above)) ∙ here in
-        keeps_after h made.makes now.0 now.1 named (map_stays is stays h.map) (λ home is. inl is) runs h.kept (λ home held. inl held) h.unframed h.marks (bits_stay is stays h.bits) (λ sector from below free. inl free)
-        (λ home from may was. inl was) (λ home from may. inr (frees_give_not sectors home)) (λ sector from below used. inl used)
+    -- the memory with these labels
+    mid : (n : List Sector) × Stands c t n × (n ≡ after_writes (freeing sectors) h.memory)
+    mid = (made.goes uncovered).memory h.memory h.stands
 
-    -- each sector was given up
-    given_up : (i : ℕ) → i < run.pages → WasGivenUp o c (run.sector + i)
-    given_up i below = let turn = each i below in made_now o made.makes h.since turn.0 (write.LabelOnly (run.sector + i) free_label) (freeing_at sectors turn.0 (run.sector + i) turn.1)
+    front_stays : SameFront layout h.memory mid.0
+    front_stays k x low here =
+        ap (λ (l : List Sector). slice_get l k) mid.2
+        ∙ freed_elsewhere sectors h.memory k (λ j at. let r = has j k at in let same = r.2 in let above = on_data in omega (arith, low, same, above)) ∙ here
+
+    map_mid : MapIs layout named mid.0
+    map_mid = map_stays is front_stays h.map
+
+    told_mid : IfSome o.tables (AreTabled layout named h.memory) → IfSome o.tables (AreTabled layout named mid.0)
+    told_mid =
+        told_left layout named named h.memory mid.0 o run.id is h.map spares (rw mid.2 (freed_brings layout sectors h.memory))
+        (λ other. rw mid.2 (freed_keeps layout h.memory h.stands.sectors (sym h.stands.merged.labels) run.sector run.pages run.id (λ k. run.first + k) (were h.stands.sectors h.stands.told) sectors has other)) (λ other page sector own. own)
+
+    -- no page got a sector of them
+    none_taken : (sector : ℕ) → TakesNot (freeing sectors) sector
+    none_taken sector = takes_not (freeing sectors) sector (λ id page. frees_give_not sectors (record { sector = sector; id = id; page = page }))
 
     -- so each home that the map has of its pages is let
     pub labels_let : NamesAll named run → AreLet o c named run.id (λ p. (run.first ≤ p) × (p < run.first + run.pages))
@@ -173,31 +199,51 @@ module _ {o : Outset} {layout : Layout} {runs : List Run} {b : DiskState} {t : S
     -- behind accesses to the allocation map too
     pub marks_let : {d : DiskState} {u : Slots} {later : Layout} → Beside AllocationMap c t layout d u later → NamesAll named run → AreLet o d named run.id (λ p. (run.first ≤ p) × (p < run.first + run.pages))
     marks_let beside all page sector own named_so =
-        let_later o beside.goes.makes labels_keep.since _ (λ turn w at gives. none-some w at) (labels_let all page sector own named_so)
+        let_later o beside.goes.makes (since_later o made.makes h.since) _ (λ turn w at gives. none-some w at) (labels_let all page sector own named_so)
 
     pub marks_keep : {d : DiskState} {u : Slots} {later : Layout} → Beside AllocationMap c t layout d u later
         → ((m : List Sector) (marks : Marks) → Stands c t m → BitsAre layout marks m → Becomes AllocationMap layout m (BitsAre layout (marked false run.sector run.pages marks)) d u)
         → KeepsTo o layout runs d u named
-    marks_keep {d = d} beside given =
-        let k = labels_keep in
-        let now = given k.memory k.marks k.stands k.bits in
-        let was = k.map in
-        keeps_after k beside.goes.makes now.memory now.stands named
+    marks_keep {d = d} {u = u} beside given =
+        let both : Makes volume_page (freeing sectors) b t d u =
+        subst (λ (ws : List DiskWrite). Makes volume_page ws b t d u) (append_none (freeing sectors)) (makes_then (makes_wider volume_page (λ id page none. absurd none) made.makes) (map_makes beside)) in
+        let now = given mid.0 h.marks mid.1 (bits_stay is front_stays h.bits) in
+        keeps_after h both now.memory now.stands named
         (record {
-          bytes = was.bytes;
-          shows = shows_still FileMap layout k.memory now.memory was.bytes (λ j x below here. now.differs.pages (1 + layout.vam + j) x here (behind_map AllocationMap layout (1 + layout.vam + j) x.0 (omega arith))) was.shows;
-          names = was.names;
+          bytes = map_mid.bytes;
+          shows = shows_still FileMap layout mid.0 now.memory map_mid.bytes (λ j x below here. now.differs.pages (1 + layout.vam + j) x here (behind_map AllocationMap layout (1 + layout.vam + j) x.0 (omega arith))) map_mid.shows;
+          names = map_mid.names;
         })
-        (λ home is. inl is) runs k.kept
+        (λ home is. inl is) runs h.kept
         (λ home held. elim (beside.brings.homes home held) [ inl before ↦ inl before | inr own ↦ inr (inl (AllocationMap, own)) ])
-        (unframed_still (brings_wider (IsMapsHome layout) (λ home own. (AllocationMap, own)) beside.brings) k.unframed)
-        (marked false run.sector run.pages k.marks) now.is
-        (λ sector from below free. elim (one_of_row run.sector run.pages k.marks sector free) [
-          | inl (i, inside, at) ↦ inr (made_later o beside.goes.makes (subst (λ (n : ℕ). WasGivenUp o c n) (sym at) (given_up i inside)))
-          | inr before ↦ inl before
+        (unframed_still (brings_wider (IsMapsHome layout) (λ home own. (AllocationMap, own)) beside.brings) h.unframed)
+        (marked false run.sector run.pages h.marks) now.is
+        (λ sector from below free. elim (one_of_row run.sector run.pages h.marks sector free) [
+          | inl (i, inside, at) ↦
+              let turn = each i inside in
+              inr (subst (λ (n : ℕ). MayBeFree o d n) (sym at) (free_now o both h.since (run.sector + i) (none_taken (run.sector + i)) turn.0 (freeing_at sectors turn.0 (run.sector + i) turn.1)))
+          | inr before ↦ inl (before, none_taken sector)
         ])
-        (λ home from may was. inl was) (λ home from may. inr (λ turn w at gives. none-some w at)) (λ sector from below used. inl (used_before run.sector run.pages k.marks sector used))
+        (λ home from may was. inl was) (λ home from may. inr (frees_give_not sectors home))
+        (λ sector from below used. inl (
+          used_before run.sector run.pages h.marks sector used,
+          λ turn w got up.
+              let back = freeing_back sectors turn w got in
+              let r = has turn back.0 back.1 in
+              let same : back.0 ≡ sector = sector_only (back.2 ∙ up) in
+              false≢true (sym (cleared run.sector run.pages h.marks r.0 sector r.1 (sym same ∙ r.2)) ∙ used),
+        ))
+        (λ told. told_beside layout named mid.0 now.memory o.tables AllocationMap is map_mid now.differs (told_mid told))
 
     -- where it stops at the allocation map
     pub marks_reason : {pages : Pages} {writes : List DiskWrite} {d : DiskState} {u : Slots} → Makes pages writes c t d u → (halt : Halt) → Halts (IsMapHome AllocationMap layout) c t d halt → ShowsReason o layout d halt
-    marks_reason makes halt why = label_reasons labels_keep makes (IsMapHome AllocationMap layout) (λ home own. inl (AllocationMap, own)) halt why
+    marks_reason makes Disk why = tt
+    marks_reason makes (Damaged (Mismatch sector wanted found)) why = elim why.reason [
+      | inl held ↦ elim (h.frames (home_at sector wanted) held) [
+        | inl own ↦ inl own
+        | inr here ↦ inr (inl (at_home_later o makes (home_at sector wanted) (at_home_later o made.makes (home_at sector wanted) here)))
+      ]
+      | inr own ↦ inl (AllocationMap, own)
+    ]
+    marks_reason makes (Damaged (Malformed window page)) why = absurd why
+    marks_reason makes (Damaged (Missing id page)) why = absurd why

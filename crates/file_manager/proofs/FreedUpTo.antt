@@ -16,7 +16,7 @@ use Rattle.filer_kernel.specs.Cached.{runs_of}
 use Rattle.session_words.specs.Volume.{volume_page}
 use Rattle.file_manager.specs.Freeing.{MayFree, Freed, MakesFree}
 use Rattle.file_manager.specs.Grounds.{IsUnframed, FreeHalts, KeepsMap}
-use Rattle.file_manager.specs.Reasons.{Outset, AreLet, KeepsTo}
+use Rattle.file_manager.specs.Reasons.{AreLet, KeepsTo, LeavesTables, Outset}
 use Rattle.file_manager.proofs.FreedReasons.{let_more}
 use Rattle.file_manager.proofs.FreedRun.{freed_then, freed_none, makes_free_then}
 use Rattle.file_manager.proofs.Keeping.{keeps_none, keeps_then, free_halts_before}
@@ -32,8 +32,8 @@ pub record IsFreedTo (id from end page : ℕ) (d0 : DiskState) (s0 : Slots) (lay
   pub keeps : KeepsMap (IsUnframed s0 id) layout id d0 s0 (runs_of layout.sectors kept) d s (runs_of layout.sectors runs)
   pub told : (named : Triples) (spaces : List Space) (m : List Sector) → MayFree d0 s0 layout kept named spaces id from end m → Freed layout named spaces id from (page - from) end d0 s0 d s runs
   pub own : WroteOwn id d0 d
-  pub keeps_to : (o : Outset) (named : Triples) → KeepsTo o layout (runs_of layout.sectors kept) d0 s0 named → KeepsTo o later (runs_of later.sectors runs) d s named
-  pub let_go : (o : Outset) (named : Triples) → KeepsTo o layout (runs_of layout.sectors kept) d0 s0 named → AreLet o d named id (λ p. (from ≤ p) × (p < page))
+  pub keeps_to : (o : Outset) (named : Triples) → KeepsTo o layout (runs_of layout.sectors kept) d0 s0 named → LeavesTables o id → KeepsTo o later (runs_of later.sectors runs) d s named
+  pub let_go : (o : Outset) (named : Triples) → KeepsTo o layout (runs_of layout.sectors kept) d0 s0 named → LeavesTables o id → AreLet o d named id (λ p. (from ≤ p) × (p < page))
 
 -- what a run costs is at most so much a page
 pub per_page : (p v : ℕ) → 1 ≤ p → 14 + 2 * p + 4 * v ≤ p * (16 + 4 * v)
@@ -63,8 +63,8 @@ to_none id from end d0 s0 layout kept order size =
       keeps = keeps_none (IsUnframed s0 id) layout id d0 s0 (runs_of layout.sectors kept) (λ none. none);
       told = λ named spaces m may. subst (λ (n : ℕ). Freed layout named spaces id from n end d0 s0 d0 s0 kept) z (freed_none m may);
       own = quiet_own id (makes_nothing volume_page d0 s0);
-      keeps_to = λ o named h. h;
-      let_go = λ o named h p sector own is. let above = own.0 in let below = own.1 in absurd (omega (arith, above, below));
+      keeps_to = λ o named h spares. h;
+      let_go = λ o named h spares p sector own is. let above = own.0 in let below = own.1 in absurd (omega (arith, above, below));
     }
 
 -- and a run more
@@ -72,8 +72,8 @@ pub to_then : {id from end page pages : ℕ} {d0 d e : DiskState} {s0 s t : Slot
     → page < end → (1 ≤ pages) × (pages ≤ end - page) → last ≡ later → e.transfers ≤ d.transfers + (14 + 2 * pages + 4 * later.vam) → MakesFree pages d s e t
     → KeepsMap (IsUnframed s id) later id d s (runs_of later.sectors runs) e t (runs_of later.sectors more)
     → ((named : Triples) (spaces : List Space) (m : List Sector) → MayFree d s later runs named spaces id page (page + (end - page)) m → Freed later named spaces id page pages (page + (end - page)) d s e t more)
-    → RelabelsOwn id d e → ((o : Outset) (named : Triples) → KeepsTo o later (runs_of later.sectors runs) d s named → KeepsTo o last (runs_of last.sectors more) e t named)
-    → ((o : Outset) (named : Triples) → KeepsTo o later (runs_of later.sectors runs) d s named → AreLet o e named id (λ p. (page ≤ p) × (p < page + pages)))
+    → RelabelsOwn id d e → ((o : Outset) (named : Triples) → KeepsTo o later (runs_of later.sectors runs) d s named → LeavesTables o id → KeepsTo o last (runs_of last.sectors more) e t named)
+    → ((o : Outset) (named : Triples) → KeepsTo o later (runs_of later.sectors runs) d s named → LeavesTables o id → AreLet o e named id (λ p. (page ≤ p) × (p < page + pages)))
     → IsFreedTo id from end (page + pages) d0 s0 layout kept e t last more
 to_then {id = id} {from = from} {end = end} {page = page} {pages = pages} {d0 = d0} {d = d} {e = e} {s0 = s0} {s = s} {t = t} {layout = layout} {later = later} {last = last} {kept = kept} {runs = runs} {more = more} h under some same cost makes keeps told own keeps_to let_go =
     let few = some.1 in
@@ -99,12 +99,12 @@ to_then {id = id} {from = from} {end = end} {page = page} {pages = pages} {d0 = 
           subst (λ (n : ℕ). Freed layout named spaces id from n end d0 s0 e t more) z
           (freed_then first (subst (λ (n : ℕ). Freed layout named spaces id n pages end d s e t more) (sym y) next_there));
       own = own_then h.own (freed_own makes own);
-      keeps_to = λ o named k. keeps_to o named (h.keeps_to o named k);
-      let_go = λ o named k p sector own is.
-          let now = h.keeps_to o named k in
+      keeps_to = λ o named k spares. keeps_to o named (h.keeps_to o named k spares) spares;
+      let_go = λ o named k spares p sector own is.
+          let now = h.keeps_to o named k spares in
           let first = own.0 in
           let last = own.1 in
-          let_more named makes.sectors id (λ q. (from ≤ q) × (q < page)) (λ q. (page ≤ q) × (q < page + pages)) makes.makes now.since (h.let_go o named k) (let_go o named now) p sector
+          let_more named makes.sectors id (λ q. (from ≤ q) × (q < page)) (λ q. (page ≤ q) × (q < page + pages)) makes.makes now.since (h.let_go o named k spares) (let_go o named now spares) p sector
           (elim (leb_tells page p) [ inl (_, above_it) ↦ inr (above_it, last) | inr (_, not_above) ↦ inl (first, omega (arith, not_above)) ]) is;
     }
 

@@ -1,7 +1,7 @@
 -- What keeps to an outset does so where a file is cut out of the map, and its leader is put in again; and where a leader gets a mark.
-use Rattle.std.proofs.Common.{◌≡◌, ◌⊎◌, inl, inr, ℕ, zero, suc, ◌<◌, ◌≤◌, ◌^◌, true, false, Bool, not, ◌&&◌, ◌||◌, List, [], ◌∷◌, refl, sym, ◌∙◌, ap, subst, arith}
-use Rattle.std.specs.Prelude.{filter, ◌==◌, nat_le}
-use Rattle.std.proofs.lemmas.Bool.{and_parts, cases_lt, eqb-true, false≢true, leb-true}
+use Rattle.std.proofs.Common.{◌≡◌, ◌≢◌, ◌⊎◌, inl, inr, ℕ, zero, suc, ◌<◌, ◌≤◌, ◌^◌, true, false, Bool, not, ◌&&◌, ◌||◌, List, [], ◌∷◌, refl, sym, ◌∙◌, ap, subst, arith}
+use Rattle.std.specs.Prelude.{filter, slice_get, ◌==◌, nat_le}
+use Rattle.std.proofs.lemmas.Bool.{and_parts, cases_eq, cases_lt, eqb-true, false≢true, leb-true}
 use Rattle.std.proofs.lemmas.Bool.Decides.{nat_tests}
 use Rattle.std.proofs.lemmas.Option.{same_Some, none-some}
 use Rattle.labelled_disk.specs.declared.disk.DiskWrite.{DiskWrite}
@@ -9,7 +9,7 @@ use Rattle.labelled_disk.specs.declared.disk.DiskWrite.TheVariants.{LabelOnly, P
 use Rattle.labelled_disk.specs.declared.label.Label.{Label}
 use Rattle.labelled_disk.specs.declared.label.Wanted.{Wanted}
 use Rattle.labelled_disk.specs.declared.layout.Layout.{Layout}
-use Rattle.labelled_disk.specs.Label.{leader_page}
+use Rattle.labelled_disk.specs.Label.{leader_page, names}
 use Rattle.labelled_disk.specs.Sectors.{Sector}
 use Rattle.labelled_disk.specs.State.{DiskState}
 use Rattle.frame_pool.specs.declared.home.Home.{Home}
@@ -27,12 +27,15 @@ use Rattle.filer_kernel.specs.Becomes.{Becomes}
 use Rattle.filer_kernel.specs.Triples.{MapIs, AreOf}
 use Rattle.filer_kernel.proofs.LawLemmas.{are_of_fewer, are_of_more}
 use Rattle.filer_kernel.specs.PlaceLaws.{one_sector}
-use Rattle.file_manager.specs.Reasons.{Outset, AreLet, IsLet, KeepsTo, NamesTables}
+use Rattle.file_manager.specs.Reasons.{Outset, AreLet, IsLet, KeepsTo, LeavesTables, NamesTables}
+use Rattle.file_manager.specs.TabledLaws.{tables_told, told_renamed}
 use Rattle.file_manager.specs.Taking.{NamesNoneOf}
 use Rattle.file_manager.specs.Shrinking.{leader_run, cut_triples}
 use Rattle.file_manager.proofs.MadeReasons.{either_named, run_parts}
-use Rattle.file_manager.proofs.KeepSteps.{GivesNone, keeps_changed, keeps_front}
-use Rattle.file_manager.proofs.MarkStands.{marked_stands}
+use Rattle.file_manager.proofs.KeepSteps.{GivesNone, keeps_changed, keeps_front, UpNone}
+use Rattle.file_manager.proofs.MarkStands.{marked_ids, marked_stands, mark_names}
+use Rattle.file_manager.specs.LaterLaws.{label_gives_not}
+use Rattle.swapper_kernel.specs.DiffersLaws.{names_id}
 
 -- ---- Triples that are left.
 
@@ -104,7 +107,11 @@ tables_more named run all page below = let at = all page below in (at.0, ap (λ 
 -- ---- The map is cut.
 
 module _ {o : Outset} {layout last : Layout} {kept runs : List Run} {a b : DiskState} {s t : Slots} {named : Triples} (k : KeepsTo o layout kept a s named) (beside : Beside FileMap a s layout b t last) (id from : ℕ)
-    (fewer : runs ≡ filter (λ r. not (r.id == id)) kept) where
+    (fewer : runs ≡ filter (λ r. not (r.id == id)) kept) (is : IsLayout layout) (spares : LeavesTables o id) where
+  -- pages of the space tables are named where they were
+  tables_stay : (page sector : ℕ) → id ≢ 3 → named 3 page sector ≡ true → without_from named id from 3 page sector ≡ true
+  tables_stay page sector other was = elim (cut_rest named id from 3 page sector was) [ inl left ↦ left | inr (same, above) ↦ absurd (other (sym same)) ]
+
   -- runs of others are the map's still
   runs_left : AreOf (without_from named id from) runs
   runs_left = subst (AreOf (without_from named id from)) (sym fewer) (are_of_fewer named kept id from k.kept)
@@ -117,6 +124,7 @@ module _ {o : Outset} {layout last : Layout} {kept runs : List Run} {a b : DiskS
         | inr (same, above) ↦ inr (subst (λ (i : ℕ). IsLet o a (record { sector = home.sector; id = i; page = home.page })) (sym same)
             (let_go home.page home.sector (subst (λ (i : ℕ). 16 ≤ i) same may) above (subst (λ (i : ℕ). named i home.page home.sector ≡ true) same is)))
       ])
+      (told_renamed layout named (without_from named id from) k.memory (cut k.memory named k.stands k.map).memory o id is k.map spares (cut k.memory named k.stands k.map).differs (λ other page sector was. tables_stay page sector other was))
 
   -- and has the leader again
   pub keeps_led : (leader : ℕ) → named id leader_page leader ≡ true → AreLet o a named id (λ p. (from ≤ p) × (p < 4294967295)) → ((m : List Sector) (named : Triples) → Stands a s m → MapIs layout named m → Becomes FileMap layout m (MapIs layout (cut_triples named id from leader)) b t)
@@ -126,6 +134,8 @@ module _ {o : Outset} {layout last : Layout} {kept runs : List Run} {a b : DiskS
         | inl left ↦ inl (ap (λ (b : Bool). b || run_names (leader_run id leader) home.id home.page home.sector) left)
         | inr (same, above) ↦ led_or_let home is same above (cases_lt home.page 4294967295)
       ])
+      (told_renamed layout named (cut_triples named id from leader) k.memory (cut k.memory named k.stands k.map).memory o id is k.map spares (cut k.memory named k.stands k.map).differs
+      (λ other page sector was. ap (λ (b : Bool). b || run_names (leader_run id leader) 3 page sector) (tables_stay page sector other was)))
     where
       led_or_let : (home : Home) → named home.id home.page home.sector ≡ true → home.id ≡ id → from ≤ home.page → (home.page < 4294967295) ⊎ (4294967295 ≤ home.page)
           → (cut_triples named id from leader home.id home.page home.sector ≡ true) ⊎ IsLet o a home
@@ -152,20 +162,36 @@ all_pages {layout = layout} {named = named} {m = m} {id = id} sized map page sec
 
 -- such a write gives no page a sector
 mark_gives_not : (sector : ℕ) (label : Label) → GivesNone (LabelOnly sector label ∷ [])
-mark_gives_not sector label home zero w at (kind, is) = only_label (same_Some (LabelOnly sector label) w at ∙ is)
-  where
-    is_whole : DiskWrite → Bool
-    is_whole (Whole sector label bytes) = true
-    is_whole (LabelOnly sector label) = false
-    is_whole (Page sector wanted bytes) = false
-
-    only_label : {other : ℕ} {l : Label} {bytes : List ℕ} → LabelOnly sector label ≡ Whole other l bytes → ⊥
-    only_label same = false≢true (ap is_whole same)
+mark_gives_not sector label home zero w at (kind, is) = label_gives_not sector label home (kind, same_Some (LabelOnly sector label) w at ∙ is)
 mark_gives_not sector label home (suc turn) w at gives = none-some w at
+
+-- nor gives it up one, where its label is none that is free
+mark_not_up : (sector : ℕ) (label : Label) → label.id ≢ 0 → UpNone (LabelOnly sector label ∷ [])
+mark_not_up sector label other place zero w at up = other (ap id_only (same_Some (LabelOnly sector label) w at ∙ up))
+  where
+    id_only : DiskWrite → ℕ
+    id_only (LabelOnly sector label) = label.id
+    id_only (Whole sector label bytes) = label.id
+    id_only (Page sector wanted bytes) = 0
+mark_not_up sector label other place (suc turn) w at up = none-some w at
 
 -- the label with the mark names the page that it named before
 pub keeps_marked : {o : Outset} {layout : Layout} {kept : List Run} {a b : DiskState} {s t : Slots} {named : Triples} → IsLayout layout → KeepsTo o layout kept a s named → (w : Wanted) (sector : ℕ) (mark : Mark) → layout.first ≤ sector
-    → (label : Label) × Relabels (λ l. (l ≡ label) × ones_of w l) sector (LabelOnly sector (with_mark mark label)) a s b → t ≡ s → KeepsTo o layout kept b t named
-keeps_marked {o = o} {layout = layout} {kept = kept} {a = a} {b = b} {s = s} {named = named} is k w sector mark above (label, made) frames =
+    → 16 ≤ w.id → (label : Label) × Relabels (λ l. (l ≡ label) × ones_of w l) sector (LabelOnly sector (with_mark mark label)) a s b → t ≡ s → KeepsTo o layout kept b t named
+keeps_marked {o = o} {layout = layout} {kept = kept} {a = a} {b = b} {s = s} {named = named} is k w sector mark above client (label, made) frames =
+    let other : w.id ≢ 3 = λ same. omega (arith, client, same) in
+    let y = made.found k.stands.sectors k.stands.told in
+    let id_is = names_id (with_mark mark label) w (mark_names mark label w (ap (λ (t : Label). names t w) (sym y.2.0) ∙ y.2.1)) in
     let now = marked_stands a b s k.memory w sector mark label made.appended made.found k.stands in
-    subst (λ (u : Slots). KeepsTo o layout kept b u named) (sym frames) (keeps_front is k made.makes (λ home held. held) now.0 now.1 (λ i x low here. now.2 i (λ same. omega (arith, same, low, above)) ∙ here) (mark_gives_not sector (with_mark mark label)))
+    let ids = marked_ids a b s k.memory w sector mark label made.appended made.found k.stands in
+    subst (λ (u : Slots). KeepsTo o layout kept b u named) (sym frames) (keeps_front is k made.makes (λ home held. held) now.0 now.1 (λ i x low here. now.2 i (λ same. omega (arith, same, low, above)) ∙ here) (mark_gives_not sector (with_mark mark label)) (mark_not_up sector (with_mark mark label) (λ none. omega (arith, client, id_is, none)))
+    (tables_told layout named named k.memory now.0 o.tables is k.map
+    (λ place y from here own. elim (cases_eq place sector) [
+      | inl same ↦ absurd (other (sym (ids.0 y (ap (slice_get now.0) (sym same) ∙ here)) ∙ own))
+      | inr apart ↦ (y, sym (now.2 place apart) ∙ here, refl)
+    ])
+    (λ place y from here own. elim (cases_eq place sector) [
+      | inl same ↦ absurd (other (sym (ids.1 y (ap (slice_get k.memory) (sym same) ∙ here)) ∙ own))
+      | inr apart ↦ now.2 place apart ∙ here
+    ])
+    (λ page place was. was)))

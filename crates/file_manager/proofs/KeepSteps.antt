@@ -1,5 +1,6 @@
 -- What keeps to an outset does so behind single calls: the map is searched or changed, a label is read, frames are given up.
 use Rattle.std.proofs.Common.{◌≡◌, ◌⊎◌, inl, inr, ℕ, ◌+◌, ◌<◌, ◌≤◌, true, false, List, [], sym, ◌∙◌, subst, arith}
+use Rattle.std.specs.Prelude.{IfSome}
 use Rattle.std.proofs.lemmas.Option.{none-some}
 use Rattle.std.proofs.lemmas.Bool.Decides.{nat_tests}
 use Rattle.labelled_disk.specs.declared.disk.DiskWrite.{DiskWrite}
@@ -24,8 +25,9 @@ use Rattle.filer_kernel.specs.Cached.{runs_of}
 use Rattle.filer_kernel.specs.Marks.{Marks, BitsAre}
 use Rattle.filer_kernel.specs.Triples.{MapIs, AreOf}
 use Rattle.file_manager.specs.Grounds.{IsMapsHome}
-use Rattle.file_manager.specs.Reasons.{Outset, IsLet, KeepsTo}
-use Rattle.file_manager.specs.ReasonLaws.{GivesNot, keeps_after, let_later, unframed_still}
+use Rattle.file_manager.specs.Reasons.{Outset, AreTabled, IsLet, KeepsTo}
+use Rattle.file_manager.specs.LaterLaws.{GivesNot, let_later, takes_not, UpNot}
+use Rattle.file_manager.specs.KeepLaws.{keeps_after, unframed_still}
 use Rattle.file_manager.proofs.FreedReasons.{found_keeps}
 use Rattle.file_manager.proofs.ForgottenRun.{SameFront, map_stays, bits_stay}
 use Rattle.file_manager.proofs.FreedRun.{shows_still}
@@ -37,15 +39,20 @@ use Rattle.file_manager.proofs.MadeRun.{maps_come}
 abbrev pub GivesNone : List DiskWrite → Type 0
 GivesNone run = (home : Home) → GivesNot run home
 
+-- none of them gives a sector up
+abbrev pub UpNone : List DiskWrite → Type 0
+UpNone run = (sector : ℕ) → UpNot run sector
+
 -- A later memory that has the same bits, and whose map names nothing else: runs that are kept are the map's.
 pub keeps_stepped : {pages : Pages} {run : List DiskWrite} {o : Outset} {layout : Layout} {kept runs : List Run} {a b : DiskState} {s t : Slots} {named later : Triples} → (k : KeepsTo o layout kept a s named)
     → Makes pages run a s b t → Brings (IsMapsHome layout) s t → (n : List Sector) → Stands b t n → MapIs layout later n → BitsAre layout k.marks n
     → ((id page sector : ℕ) → later id page sector ≡ true → named id page sector ≡ true) → AreOf later runs
-    → ((home : Home) → layout.first ≤ home.sector → 16 ≤ home.id → named home.id home.page home.sector ≡ true → (later home.id home.page home.sector ≡ true) ⊎ IsLet o a home) → GivesNone run → KeepsTo o layout runs b t later
-keeps_stepped {o = o} {runs = runs} {later = later} k makes brings n stands map bits only are still none =
+    → ((home : Home) → layout.first ≤ home.sector → 16 ≤ home.id → named home.id home.page home.sector ≡ true → (later home.id home.page home.sector ≡ true) ⊎ IsLet o a home) → GivesNone run → UpNone run
+    → (IfSome o.tables (AreTabled layout named k.memory) → IfSome o.tables (AreTabled layout later n)) → KeepsTo o layout runs b t later
+keeps_stepped {o = o} {runs = runs} {later = later} k makes brings n stands map bits only are still none up tables =
     keeps_after k makes n stands later map (λ home is. inl (only home.id home.page home.sector is)) runs are (λ home held. elim (brings.homes home held) [ inl was ↦ inl was | inr own ↦ inr (inl own) ])
-    (unframed_still brings k.unframed) k.marks bits (λ sector from below clear. inl clear)
-    (λ home from may was. elim (still home from may was) [ inl is ↦ inl is | inr let_go ↦ inr (let_later o makes k.since home (none home) let_go) ]) (λ home from may. inr (none home)) (λ sector from below is. inl is)
+    (unframed_still brings k.unframed) k.marks bits (λ sector from below clear. inl (clear, takes_not _ sector (λ id page. none (record { sector = sector; id = id; page = page }))))
+    (λ home from may was. elim (still home from may was) [ inl is ↦ inl is | inr let_go ↦ inr (let_later o makes k.since home (none home) let_go) ]) (λ home from may. inr (none home)) (λ sector from below is. inl (is, up sector)) tables
 
 -- what was said by one layout is said by the same
 pub keeps_at : {o : Outset} {layout place : Layout} {b : DiskState} {t : Slots} {named : Triples} (runs : CachedRuns) → place ≡ layout
@@ -56,18 +63,22 @@ keeps_at {o = o} {b = b} {t = t} {named = named} runs same k = subst (λ (l : La
 pub no_writes : GivesNone []
 no_writes home turn w at gives = none-some w at
 
+pub none_up : UpNone []
+none_up sector turn w at up = none-some w at
+
 -- sectors in front of the data are as they were, and no frame came
 pub keeps_front : {pages : Pages} {run : List DiskWrite} {o : Outset} {layout : Layout} {kept : List Run} {a b : DiskState} {s t : Slots} {named : Triples} → IsLayout layout → (k : KeepsTo o layout kept a s named)
-    → Makes pages run a s b t → ((home : Home) → IsHeld t home → IsHeld s home) → (n : List Sector) → Stands b t n → SameFront layout k.memory n → GivesNone run → KeepsTo o layout kept b t named
-keeps_front {layout = layout} {named = named} is k makes left n stands stays none =
-    keeps_stepped k makes (record { homes = λ home held. inl (left home held) }) n stands (map_stays is stays k.map) (bits_stay is stays k.bits) (λ id page sector one. one) k.kept (λ home from may was. inl was) none
+    → Makes pages run a s b t → ((home : Home) → IsHeld t home → IsHeld s home) → (n : List Sector) → Stands b t n → SameFront layout k.memory n → GivesNone run → UpNone run
+    → (IfSome o.tables (AreTabled layout named k.memory) → IfSome o.tables (AreTabled layout named n)) → KeepsTo o layout kept b t named
+keeps_front {layout = layout} {named = named} is k makes left n stands stays none up tables =
+    keeps_stepped k makes (record { homes = λ home held. inl (left home held) }) n stands (map_stays is stays k.map) (bits_stay is stays k.bits) (λ id page sector one. one) k.kept (λ home from may was. inl was) none up tables
 
 -- a label is read
 pub keeps_told : {o : Outset} {layout : Layout} {kept : List Run} {a b : DiskState} {s t : Slots} {named : Triples} → IsLayout layout → KeepsTo o layout kept a s named
     → TellsSame a b → Makes no_page [] a s b t → t ≡ s → KeepsTo o layout kept b t named
 keeps_told {o = o} {layout = layout} {kept = kept} {a = a} {b = b} {s = s} {named = named} is k told makes frames =
     subst (λ (u : Slots). KeepsTo o layout kept b u named) (sym frames)
-    (keeps_front is k (subst (λ (u : Slots). Makes no_page [] a s b u) frames makes) (λ home held. held) k.memory (record { sectors = k.stands.sectors; told = told.contents ∙ k.stands.told; merged = k.stands.merged }) (λ i x below here. here) no_writes)
+    (keeps_front is k (subst (λ (u : Slots). Makes no_page [] a s b u) frames makes) (λ home held. held) k.memory (record { sectors = k.stands.sectors; told = told.contents ∙ k.stands.told; merged = k.stands.merged }) (λ i x below here. here) no_writes none_up (λ tables. tables))
 
 -- ---- Calls on the map.
 
@@ -85,10 +96,11 @@ bits_beside layout marks m n differs bits = record {
 
 -- the map is changed: it names nothing else
 pub keeps_changed : {o : Outset} {layout last : Layout} {kept runs : List Run} {a b : DiskState} {s t : Slots} {named later : Triples} → (k : KeepsTo o layout kept a s named) → Beside FileMap a s layout b t last
-    → Becomes FileMap layout k.memory (MapIs layout later) b t → ((id page sector : ℕ) → later id page sector ≡ true → named id page sector ≡ true) → AreOf later runs
-    → ((home : Home) → layout.first ≤ home.sector → 16 ≤ home.id → named home.id home.page home.sector ≡ true → (later home.id home.page home.sector ≡ true) ⊎ IsLet o a home) → KeepsTo o layout runs b t later
-keeps_changed {layout = layout} k beside becomes only are still =
-    keeps_stepped k beside.goes.makes (maps_come beside) becomes.memory becomes.stands becomes.is (bits_beside layout k.marks k.memory becomes.memory becomes.differs k.bits) only are still no_writes
+    → (becomes : Becomes FileMap layout k.memory (MapIs layout later) b t) → ((id page sector : ℕ) → later id page sector ≡ true → named id page sector ≡ true) → AreOf later runs
+    → ((home : Home) → layout.first ≤ home.sector → 16 ≤ home.id → named home.id home.page home.sector ≡ true → (later home.id home.page home.sector ≡ true) ⊎ IsLet o a home)
+    → (IfSome o.tables (AreTabled layout named k.memory) → IfSome o.tables (AreTabled layout later becomes.memory)) → KeepsTo o layout runs b t later
+keeps_changed {layout = layout} k beside becomes only are still tables =
+    keeps_stepped k beside.goes.makes (maps_come beside) becomes.memory becomes.stands becomes.is (bits_beside layout k.marks k.memory becomes.memory becomes.differs k.bits) only are still no_writes none_up tables
 
 -- ---- The map is searched: the memory stays.
 

@@ -2,7 +2,6 @@ pub mod BookLemmas
 pub mod AddReasons
 pub mod Faults
 pub mod CauseLemmas
-pub mod MapOnce
 pub mod RowLemmas
 pub mod GrowSteps
 pub mod RunStages
@@ -61,5 +60,8 @@ pub mod ForgetSteps
 pub mod ForgottenRun
 pub mod FreedReasons
 pub mod MadeReasons
+pub mod FreedTables
+pub mod TabledRun
+pub mod TabledUpTo
 pub mod KeptUpTo
 pub mod RootKeeps

@@ -1,8 +1,8 @@
 -- A run that is taken, labelled and added keeps to an outset, and what the calls tell as evidence has its reason.
-use Rattle.std.proofs.Common.{◌≡◌, ◌⊎◌, inl, inr, ℕ, zero, suc, ◌+◌, ◌-◌, ◌<◌, ◌≤◌, Bool, true, false, ◌&&◌, ◌||◌, List, Some, refl, sym, ◌∙◌, ap, subst, arith}
-use Rattle.std.specs.Prelude.{slice_get, nat_le, nat_lt, ◌==◌, if◌then◌else◌}
+use Rattle.std.proofs.Common.{◌≡◌, ◌⊎◌, inl, inr, ℕ, zero, suc, ◌+◌, ◌-◌, ◌<◌, ◌≤◌, Bool, true, false, ◌&&◌, ◌||◌, List, Option, Some, None, refl, sym, ◌∙◌, ap, subst, arith, [], ◌∷◌, take}
+use Rattle.std.specs.Prelude.{slice_get, nat_le, nat_lt, ◌==◌, if◌then◌else◌, IfSome, option_map}
 use Rattle.std.specs.List.{range_with_len}
-use Rattle.std.proofs.lemmas.Bool.{and_parts, leb-true, ltb-true, eqb-true, eq-eqb, le-leb, lt-ltb, true≢false}
+use Rattle.std.proofs.lemmas.Bool.{and_parts, leb-true, ltb-true, eqb-true, eq-eqb, le-leb, lt-ltb, true≢false, cases_eq}
 use Rattle.std.proofs.lemmas.Option.{same_Some, none-some}
 use Rattle.labelled_disk.specs.declared.disk.DiskWrite.{DiskWrite}
 use Rattle.labelled_disk.specs.declared.disk.DiskWrite.TheVariants.{Whole, LabelOnly, Page}
@@ -11,10 +11,10 @@ use Rattle.labelled_disk.specs.declared.evidence.Halt.{Halt}
 use Rattle.labelled_disk.specs.declared.evidence.Halt.TheVariants.{Disk, Damaged}
 use Rattle.labelled_disk.specs.declared.label.Label.{Label}
 use Rattle.labelled_disk.specs.declared.layout.Layout.{Layout}
-use Rattle.labelled_disk.specs.Label.{page_label}
+use Rattle.labelled_disk.specs.Label.{page_label, is_free}
 use Rattle.labelled_disk.specs.Runs.{growth, zero_bytes}
 use Rattle.labelled_disk.specs.Sectors.{Sector}
-use Rattle.labelled_disk.specs.State.{DiskState}
+use Rattle.labelled_disk.specs.State.{DiskState, HasLabel}
 use Rattle.frame_pool.specs.declared.home.Home.{Home}
 use Rattle.frame_pool.specs.Frames.{Slots}
 use Rattle.alloc_map.specs.Runs.{IsDataRun}
@@ -22,15 +22,16 @@ use Rattle.file_map.specs.declared.run.Run.{Run}
 use Rattle.file_map.specs.Run.{holds, sector_at}
 use Rattle.file_map.specs.FileMap.{Triples, IsNew, with_run, run_names, most_records}
 use Rattle.swapper_kernel.specs.declared.manager.Manager.TheVariants.{AllocationMap, FileMap}
+use Rattle.swapper_kernel.specs.Differs.{Differs}
 use Rattle.swapper_kernel.specs.Goes.{Makes, Pages}
 use Rattle.swapper_kernel.specs.HaltLaws.{brings_then}
 use Rattle.swapper_kernel.specs.Halts.{Halts, HasCause}
 use Rattle.swapper_kernel.specs.Homes.{IsLayout, IsHeld, Brings, home_at}
 use Rattle.swapper_kernel.specs.Maps.{IsMapHome}
 use Rattle.swapper_kernel.specs.Stands.{Stands}
-use Rattle.swapper_kernel.specs.Window.{Beside}
+use Rattle.swapper_kernel.specs.Window.{Beside, in_map}
 use Rattle.label_calls.specs.Labels.{free_ones}
-use Rattle.label_calls.specs.Runs.{HaveOnes, RelabelsRun, IsOneTaken}
+use Rattle.label_calls.specs.Runs.{HaveOnes, RelabelsRun, IsOneTaken, NamedSome}
 use Rattle.filer_kernel.specs.Becomes.{Becomes}
 use Rattle.filer_kernel.specs.Causes.{AddHalts, IsFaultOrMost}
 use Rattle.filer_kernel.specs.Marks.{Marks, BitsAre, AreAll, marked}
@@ -38,14 +39,19 @@ use Rattle.filer_kernel.specs.Triples.{MapIs, AreOf}
 use Rattle.session_words.specs.Volume.{volume_page}
 use Rattle.file_manager.specs.Grounds.{IsMapsHome}
 use Rattle.file_manager.specs.Making.{sectors_of}
-use Rattle.file_manager.specs.Reasons.{Outset, Gives, IsAtHome, KeepsTo, ShowsReason, WasTaken}
-use Rattle.file_manager.specs.ReasonLaws.{GivesNot, at_home_later, made_now, may_be_free_later, keeps_after, home_later, label_reasons, named_homes, room_reason, unframed_still}
+use Rattle.file_manager.specs.Reasons.{Outset, AreTabled, Gives, IsAtHome, KeepsTo, ShowsReason, IsUsed}
+use Rattle.file_manager.specs.LaterLaws.{GivesNot, at_home_later, made_now, may_be_free_later, TakesNot, takes_not, UpNot, used_now, whole_not_up, sector_of}
+use Rattle.file_manager.specs.ShownLaws.{named_homes}
+use Rattle.file_manager.specs.KeepLaws.{keeps_after, home_later, unframed_still}
+use Rattle.file_manager.specs.ReasonLaws.{label_reasons, room_reason}
+use Rattle.file_manager.specs.TabledLaws.{brings_no_label_then, front_only, keeps_sectors_then, keeps_undiffering, labels_alike, tables_told}
 use Rattle.file_manager.specs.Taking.{NamesNoneOf}
 use Rattle.file_manager.proofs.AddReasons.{add_at}
 use Rattle.file_manager.proofs.KeepSteps.{bits_beside}
 use Rattle.file_manager.proofs.MadeRun.{IsLabelledFor, maps_come, labelled, labelled_bits, map_then, new_run, run_adds}
 use Rattle.file_manager.proofs.MakeStops.{page_in}
 use Rattle.file_manager.proofs.TakingLemmas.{none_later}
+use Rattle.std.proofs.lemmas.Bool.Decides.{nat_tests}
 
 -- ---- What is named with a run more.
 
@@ -68,12 +74,6 @@ growth_turn id kind page first zero turn w at = absurd (none-some w at)
 growth_turn id kind page first (suc n) zero w at = omega arith
 growth_turn id kind page first (suc n) (suc turn) w at = let rest = growth_turn id kind (page + 1) (first + 1) n turn w at in omega (arith, rest)
 
--- where a write goes
-abbrev pub sector_of : DiskWrite → ℕ
-sector_of (Whole sector label bytes) = sector
-sector_of (LabelOnly sector label) = sector
-sector_of (Page sector wanted bytes) = sector
-
 -- the label that it gives
 abbrev label_of : DiskWrite → Label
 label_of (Whole sector label bytes) = label
@@ -81,7 +81,7 @@ label_of (LabelOnly sector label) = label
 label_of (Page sector wanted bytes) = page_label 0 0 0
 
 -- a run names the page of each turn
-names_turn : (run : Run) (id page sector j : ℕ) → run.id ≡ id → run.first + j ≡ page → j < run.pages → run.sector + j ≡ sector → run_names run id page sector ≡ true
+pub names_turn : (run : Run) (id page sector j : ℕ) → run.id ≡ id → run.first + j ≡ page → j < run.pages → run.sector + j ≡ sector → run_names run id page sector ≡ true
 names_turn run id page sector j same of below at =
     let place : sector ≡ sector_at run page = omega (arith, of, at) in
     (λ i. (eq-eqb run.id id same i && (le-leb run.first page (omega (arith, of)) i && lt-ltb page (run.first + run.pages) (omega (arith, of, below)) i)) && eq-eqb sector (sector_at run page) place i)
@@ -124,7 +124,17 @@ none_with_run run named id first q same_id same_first apart none =
 pub few_none : (run : Run) (named : Triples) (most : ℕ) → run.pages ≤ most → NamesNoneOf run.id (λ page. (run.first ≤ page) × (page < run.first + most)) named → NamesNoneOf run.id (λ page. (run.first ≤ page) × (page < run.first + run.pages)) named
 few_none run named most few none page sector (from, below) = none page sector (from, omega (arith, below, few))
 
+-- the first of some writes
+get_taken : (n : ℕ) (ws : List DiskWrite) (k : ℕ) (w : DiskWrite) → slice_get (take n ws) k ≡ Some w → (k < n) × (slice_get ws k ≡ Some w)
+get_taken zero ws k w at = absurd (none-some w at)
+get_taken (suc n) [] k w at = absurd (none-some w at)
+get_taken (suc n) (v ∷ ws) zero w at = (omega arith, at)
+get_taken (suc n) (v ∷ ws) (suc k) w at = let rest = get_taken n ws k w at in let below = rest.0 in (omega (arith, below), rest.1)
+
 -- ---- Sectors are taken.
+
+in_row : (first n j k : ℕ) → j < n → k ≡ first + j → (nat_le first k && nat_lt k (first + n)) ≡ true
+in_row first n j k below same = grind (arith, nat_tests)
 
 -- a sector that is free then was free
 free_before : (first count k : ℕ) (marks : Marks) → marked true first count marks k ≡ false → marks k ≡ false
@@ -152,15 +162,31 @@ module _ {o : Outset} {x l1 : Layout} {k : List Run} {a b : DiskState} {s t : Sl
 
   -- ---- Labels are written.
 
-  pub label_reasons_taken : {run : List DiskWrite} {pages : Pages} {c : DiskState} {u : Slots} (sector count : ℕ) → x.first ≤ sector → sector + count ≤ x.sectors
-      → ((m : List Sector) (marks : Marks) → Stands a s m → BitsAre x marks m → (j : ℕ) → sector ≤ j → j < sector + count → marks j ≡ false) → Makes pages run a s c u → (e : Halt) → HasCause (IsOneTaken sector count b) b c e → ShowsReason o x c e
-  label_reasons_taken sector count from inside free makes Disk is = tt
-  label_reasons_taken sector count from inside free makes (Damaged (Mismatch place wanted found)) (j, below, (at, nobody, has, other)) =
-      let first : sector ≤ place = omega (arith, at) in
-      let last : place < sector + count = omega (arith, at, below) in
-      inr (inr (nobody, may_be_free_later o makes place (h.free place (omega (arith, from, first)) (omega (arith, inside, last)) (free h.memory h.marks h.stands h.bits place first last))))
-  label_reasons_taken sector count from inside free makes (Damaged (Malformed window page)) (j, below, is) = absurd is
-  label_reasons_taken sector count from inside free makes (Damaged (Missing id page)) (j, below, is) = absurd is
+  module _ (run : Run) (kind : ℕ) {c : DiskState} (some : NamedSome (λ k. run.sector + k) (λ k. free_ones) (growth run.id kind run.first (sectors_of run)) b t c) where
+    -- a sector whose label wasn't free got none in the writes that were made
+    unwritten : (j : ℕ) (place : ℕ) (found : Label) → place ≡ run.sector + j → HasLabel b (run.sector + j) found → is_free found ≡ false → TakesNot (take some.count (growth run.id kind run.first (sectors_of run))) place
+    unwritten j place found at has other = takes_not (take some.count (growth run.id kind run.first (sectors_of run))) place (λ id page turn w got gives.
+        let taken_at = get_taken some.count (growth run.id kind run.first (sectors_of run)) turn w got in
+        let below = growth_turn run.id kind run.first run.sector run.pages turn w taken_at.1 in
+        let there = growth_at run.id kind run.first run.sector run.pages turn below in
+        let same : run.sector + turn ≡ place = ap sector_of (same_Some (Whole (run.sector + turn) (page_label run.id kind (run.first + turn)) zero_bytes) w (sym there ∙ taken_at.1) ∙ gives.1) in
+        let is_turn : turn ≡ j = omega (arith, at, same) in
+        let stands = (taken.goes.memory h.memory h.stands).1 in
+        let one = some.found stands.sectors stands.told turn taken_at.0 in
+        let label : one.0.0 ≡ found = same_Some one.0.0 found (sym (ap (λ (q : Option Sector). option_map (λ (y : Sector). y.0) q) one.1)
+        ∙ ap (λ (n : ℕ). option_map (λ (y : Sector). y.0) (slice_get stands.sectors (run.sector + n))) is_turn ∙ has stands.sectors stands.told) in
+        true≢false (sym one.2 ∙ ap is_free label ∙ other))
+
+    pub label_reasons_taken : {pages : Pages} {u : Slots} → x.first ≤ run.sector → run.sector + run.pages ≤ x.sectors
+        → ((m : List Sector) (marks : Marks) → Stands a s m → BitsAre x marks m → (j : ℕ) → run.sector ≤ j → j < run.sector + run.pages → marks j ≡ false) → Makes pages (take some.count (growth run.id kind run.first (sectors_of run))) a s c u
+        → (e : Halt) → HasCause (IsOneTaken run.sector run.pages b) b c e → ShowsReason o x c e
+    label_reasons_taken from inside free makes Disk is = tt
+    label_reasons_taken from inside free makes (Damaged (Mismatch place wanted found)) (j, below, (at, nobody, has, other)) =
+        let first : run.sector ≤ place = omega (arith, at) in
+        let last : place < run.sector + run.pages = omega (arith, at, below) in
+        inr (inr (nobody, may_be_free_later o makes h.since place (unwritten j place found at has other) (h.free place (omega (arith, from, first)) (omega (arith, inside, last)) (free h.memory h.marks h.stands h.bits place first last))))
+    label_reasons_taken from inside free makes (Damaged (Malformed window page)) (j, below, is) = absurd is
+    label_reasons_taken from inside free makes (Damaged (Missing id page)) (j, below, is) = absurd is
 
 -- ---- And a run of them is added.
 
@@ -199,25 +225,52 @@ module _ {o : Outset} {x l1 l3 : Layout} {k : List Run} {a b c d : DiskState} {s
       either true own = inl (ap (λ (b : Bool). named home.id home.page home.sector || b) own ∙ or_true (named home.id home.page home.sector))
       either false out = inr (λ turn w at gives. true≢false (sym (growth_names run kind turn w home at gives) ∙ out))
 
+  -- none is given up
+  none_up : (sector : ℕ) → UpNot (growth run.id kind run.first (sectors_of run)) sector
+  none_up sector turn w at up =
+      let below = growth_turn run.id kind run.first run.sector run.pages turn w at in
+      let there = growth_at run.id kind run.first run.sector run.pages turn below in
+      whole_not_up (run.sector + turn) (page_label run.id kind (run.first + turn)) zero_bytes sector (same_Some (Whole (run.sector + turn) (page_label run.id kind (run.first + turn)) zero_bytes) w (sym there ∙ at) ∙ up)
+
   -- each sector that is used besides was given to a page
-  used_now : (sector : ℕ) → marked true run.sector run.pages h.marks sector ≡ true → (h.marks sector ≡ true) ⊎ WasTaken o d sector
-  used_now sector is = elim (used_before run.sector run.pages sector h.marks is) [
-    | inl was ↦ inl was
+  used_then : (sector : ℕ) → marked true run.sector run.pages h.marks sector ≡ true → ((h.marks sector ≡ true) × UpNot (growth run.id kind run.first (sectors_of run)) sector) ⊎ IsUsed o d sector
+  used_then sector is = elim (used_before run.sector run.pages sector h.marks is) [
+    | inl was ↦ inl (was, none_up sector)
     | inr (from, below) ↦
         let j = sector - run.sector in
         let of : run.sector + j ≡ sector = omega (arith, from) in
         let at = growth_at run.id kind run.first run.sector run.pages j (omega (arith, from, below)) in
-        inr (run.id, run.first + j, (kind, made_now o makes h.since j (Whole sector (page_label run.id kind (run.first + j)) zero_bytes) (at ∙ (λ i. Some (Whole (of i) (page_label run.id kind (run.first + j)) zero_bytes)))))
+        inr (used_now o makes h.since sector (none_up sector) j run.id kind (run.first + j) (at ∙ (λ i. Some (Whole (of i) (page_label run.id kind (run.first + j)) zero_bytes))))
   ]
 
-  pub run_keeps : ((m : List Sector) (named : Triples) → Stands c t m → MapIs x named m → IsNew named run → Becomes FileMap x m (MapIs x (with_run named run)) d u) → KeepsTo o x k d u (with_run named run)
-  run_keeps added =
+  -- a sector that is free then was given to no page
+  untaken : (sector : ℕ) → marked true run.sector run.pages h.marks sector ≡ false → TakesNot (growth run.id kind run.first (sectors_of run)) sector
+  untaken sector free = takes_not (growth run.id kind run.first (sectors_of run)) sector (λ id page turn w at gives.
+      let p = run_parts run id page sector (growth_names run kind turn w (record { sector = sector; id = id; page = page }) at gives) in
+      let from = p.1 in
+      let below = p.2 in
+      let within = in_row run.sector run.pages (page - run.first) sector (omega (arith, from, below)) p.3 in
+      true≢false (sym (ap (λ (b : Bool). if b then true else h.marks sector) within) ∙ free))
+
+  -- what is told of the space tables
+  run_told : (run.id ≡ 3 → o.tables ≡ None) → (n : List Sector) → Differs (in_map FileMap x) mid.0 n → IfSome o.tables (AreTabled x named h.memory) → IfSome o.tables (AreTabled x (with_run named run) n)
+  run_told untold n differs told = elim (cases_eq run.id 3) [
+    | inl own ↦ subst (λ (tables : Option (List ℕ)). IfSome tables (AreTabled x (with_run named run) n)) (sym (untold own)) tt
+    | inr other ↦
+        tables_told x named (with_run named run) h.memory n o.tables is h.map (brings_no_label_then x h.memory mid.0 n (mid.2.brings other) (labels_alike x mid.0 n differs))
+        (keeps_sectors_then x h.memory mid.0 n (mid.2.keeps other) (keeps_undiffering x mid.0 n differs (λ sector l from own. front_only FileMap x sector l is from)))
+        (λ page sector was. ap (λ (b : Bool). b || run_names run 3 page sector) was) told
+  ]
+
+  pub run_keeps : (run.id ≡ 3 → o.tables ≡ None) → ((m : List Sector) (named : Triples) → Stands c t m → MapIs x named m → IsNew named run → Becomes FileMap x m (MapIs x (with_run named run)) d u) → KeepsTo o x k d u (with_run named run)
+  run_keeps untold added =
       let more = added mid.0 named mid.1 map_mid (new_run run named nothing) in
       let later = marked true run.sector run.pages h.marks in
       let bits = labelled_bits is run kind most form taken marked_so made were h.unframed h.memory h.stands h.marks h.bits mid.0 mid.1 in
       keeps_after h makes more.memory more.stands (with_run named run) more.is given k (are_more named run k h.kept) (λ home held. elim (come.homes home held) [ inl was ↦ inl was | inr own ↦ inr (inl own) ])
-      (unframed_still come h.unframed) later (bits_beside x later mid.0 more.memory more.differs bits) (λ sector from below free. inl (free_before run.sector run.pages sector h.marks free))
-      (λ home from may was. inl (ap (λ (b : Bool). b || run_names run home.id home.page home.sector) was)) (λ home from may. others home) (λ sector from below is. used_now sector is)
+      (unframed_still come h.unframed) later (bits_beside x later mid.0 more.memory more.differs bits) (λ sector from below free. inl (free_before run.sector run.pages sector h.marks free, untaken sector free))
+      (λ home from may was. inl (ap (λ (b : Bool). b || run_names run home.id home.page home.sector) was)) (λ home from may. others home) (λ sector from below is. used_then sector is)
+      (λ told. run_told untold more.memory more.differs told)
 
   held_home : (home : Home) → IsHeld t home → IsMapsHome x home ⊎ IsAtHome o d home
   held_home home held = elim ((maps_come taken).homes home held) [ inl was ↦ home_later h makes home was | inr own ↦ inl own ]

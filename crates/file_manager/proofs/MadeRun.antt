@@ -34,7 +34,8 @@ use Rattle.filer_kernel.specs.Triples.{MapIs}
 use Rattle.filer_kernel.proofs.MapLemmas.{within_or_not}
 use Rattle.file_manager.specs.Grounds.{IsMapsHome, IsUnframed, MakesFor}
 use Rattle.file_manager.specs.Making.{sectors_of}
-pub use Rattle.file_manager.specs.ReasonLaws.{unframed_still}
+pub use Rattle.file_manager.specs.KeepLaws.{unframed_still}
+use Rattle.file_manager.specs.TabledLaws.{BringsNoLabel, KeepsSectors, front_only, keeps_undiffering}
 use Rattle.file_manager.specs.Taking.{IsTakenFor, TakesLabels, TakesBits, TakesSectors, NamesNoneOf, AddsPages, no_page_of}
 use Rattle.file_manager.proofs.FreedRun.{behind_map, first_is, one_memory, shows_still}
 use Rattle.file_manager.proofs.FreedSectors.{row_at}
@@ -150,16 +151,19 @@ run_adds run named = record {
         let own = run_pages run i page held in
         inr (sym own.0, (own.1, own.2))
 
--- the file has taken the run's sectors, and the file map's pages are as they were
+-- The file has taken the run's sectors, and the file map's pages are as they were. Where it is not that of the space tables, no
+-- sector has a label of theirs besides, and those that had one are as they were.
 pub record IsLabelledFor (layout : Layout) (id : ℕ) (m n : List Sector) : Type 0 where
   pub taken : TakesSectors layout id m n
   pub map : (bytes : List ℕ) → Shows FileMap m layout bytes → Shows FileMap n layout bytes
+  pub brings : id ≢ 3 → BringsNoLabel layout m n
+  pub keeps : id ≢ 3 → KeepsSectors layout m n
 
 module _ {layout l1 : Layout} {a b c : DiskState} {s t : Slots} (is : IsLayout layout) (run : Run) (kind most : ℕ) (form : IsDataRun layout.first layout.sectors most (run.sector, run.pages)) (taken : Beside AllocationMap a s layout b t l1)
     (marked_so : (m : List Sector) (marks : Marks) → Stands a s m → BitsAre layout marks m → Becomes AllocationMap layout m (BitsAre layout (marked true run.sector run.pages marks)) b t)
     (made : RelabelsRun run.sector run.pages (growth run.id kind run.first (sectors_of run)) b t c) (were : (d : List Sector) → b.contents ≡ Some d → HaveOnes (λ k. free_ones) d run.sector run.pages) where
   -- no frame is over a label that was found free
-  none_over : IsUnframed t 0 → (m : List Sector) → Stands b t m → AreUncovered t run.sector run.pages
+  pub none_over : IsUnframed t 0 → (m : List Sector) → Stands b t m → AreUncovered t run.sector run.pages
   none_over none m stands k below i f in_slot at =
       let disk = were stands.sectors stands.told k below in
       let one = other_sector m stands.sectors (sym stands.merged.labels) (run.sector + k) disk.0 disk.1 in
@@ -224,6 +228,25 @@ module _ {layout l1 : Layout} {a b c : DiskState} {s t : Slots} (is : IsLayout l
         elsewhere (1 + layout.vam + k) (low_apart (1 + layout.vam + k) (let f = first_is layout is in omega (arith, f, below)))
         ∙ differs.pages (1 + layout.vam + k) s here (behind_map AllocationMap layout (1 + layout.vam + k) s.0 (omega arith))) shows
 
+    -- sectors with labels of the space tables
+    in_tables_before : run.id ≢ 3 → BringsNoLabel layout m m2
+    in_tables_before other k s from here own = elim (is_in (sectors_of run) k) [
+      | inl (j, at) ↦ absurd (other (sym (growth_own run.id kind run.first (sectors_of run) m1 j k s at (ap (λ (l : List Sector). slice_get l k) (sym is2) ∙ here)) ∙ own))
+      | inr none ↦ other_sector m m1 differs.labels k s (sym (elsewhere k none) ∙ here)
+    ]
+
+    in_tables_still : KeepsSectors layout m m2
+    in_tables_still k s from here own = elim (is_in (sectors_of run) k) [
+      | inl (j, at) ↦
+          let r = in_row run.sector run.pages j k at in
+          let disk = were stands1.sectors stands1.told j r.0 in
+          let one = other_sector m stands1.sectors (sym stands1.merged.labels ∙ differs.labels) (run.sector + j) disk.0 disk.1 in
+          let same : one.0 ≡ s = same_Some one.0 s (sym one.1 ∙ ap (slice_get m) (sym r.1) ∙ here) in
+          let free : s.0.id ≡ 0 = ap (λ (t : Sector). t.0.id) (sym same) ∙ ap (λ (l : Label). l.id) one.2 ∙ eqb-true disk.0.0.id 0 disk.2 in
+          absurd (omega (arith, free, own))
+      | inr none ↦ elsewhere k none ∙ keeps_undiffering layout m m1 differs (λ sector l above named. front_only AllocationMap layout sector l is above) k s from here own
+    ]
+
     run_taken : TakesSectors layout run.id m m2
     run_taken = record {
       labels = run_labels;
@@ -237,8 +260,16 @@ module _ {layout l1 : Layout} {a b c : DiskState} {s t : Slots} (is : IsLayout l
   pub labelled : IsUnframed s 0 → (m : List Sector) → Stands a s m → (n : List Sector) × Stands c t n × IsLabelledFor layout run.id m n
   labelled none m stands =
       let one = taken.goes.memory m stands in
-      let two = (made.goes (none_over (unframed_still (maps_come taken) none) one.0 one.1)).memory one.0 one.1 in
-      (two.0, two.1, record { taken = run_taken m stands one.0 one.1 one.2 two.0 two.2; map = map_stays m stands one.0 one.1 one.2 two.0 two.2 })
+      let two = (made.goes (none_over (unframed_still (maps_come taken) none) one.0 one.1)).memory one.0 one.1 in (
+        two.0,
+        two.1,
+        record {
+          taken = run_taken m stands one.0 one.1 one.2 two.0 two.2;
+          map = map_stays m stands one.0 one.1 one.2 two.0 two.2;
+          brings = in_tables_before m stands one.0 one.1 one.2 two.0 two.2;
+          keeps = λ other. in_tables_still m stands one.0 one.1 one.2 two.0 two.2;
+        },
+      )
 
   -- the bits of the run's sectors alone are other ones
   pub labelled_bits : IsUnframed s 0 → (m : List Sector) → Stands a s m → (marks : Marks) → BitsAre layout marks m → (n : List Sector) → Stands c t n → BitsAre layout (marked true run.sector run.pages marks) n

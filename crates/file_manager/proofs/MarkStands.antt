@@ -15,7 +15,7 @@ use Rattle.labelled_disk.specs.State.{DiskState}
 use Rattle.labelled_disk.specs.WriteRuns.{Appended, after_writes}
 use Rattle.labelled_disk.proofs.Finds.{get_set_same, get_set_other}
 use Rattle.frame_pool.specs.Frames.{Frame, Slots}
-use Rattle.swapper_kernel.specs.DiffersLaws.{other_sector}
+use Rattle.swapper_kernel.specs.DiffersLaws.{names_id, other_sector}
 use Rattle.swapper_kernel.specs.Homes.{wanted_at}
 use Rattle.swapper_kernel.specs.Stands.{IsHome, IsClean, IsMerged, Stands, labels_of}
 use Rattle.label_calls.specs.declared.page.Mark.{Mark}
@@ -54,11 +54,11 @@ set_label (x ∷ xs) zero s = refl
 set_label (x ∷ xs) (suc i) s = ap (λ (ls : List Label). x.0 ∷ ls) (set_label xs i s)
 
 -- by the write
-label_written : (xs : List Sector) (i : ℕ) (s : Sector) (l : Label) → slice_get xs i ≡ Some s → written (LabelOnly i l) xs ≡ slice_set xs i (l, s.1)
+pub label_written : (xs : List Sector) (i : ℕ) (s : Sector) (l : Label) → slice_get xs i ≡ Some s → written (LabelOnly i l) xs ≡ slice_set xs i (l, s.1)
 label_written xs i s l here = ap (λ (o : Option Sector). option_map_or (λ (old : Sector). slice_set xs i (l, old.1)) o xs) here
 
 -- Both the disk and the memory get the label: a frame over the sector is of a page that this label names too.
-merged_labelled : (d : List Sector) (s : Slots) (m : List Sector) (sector : ℕ) (x y : Sector) (l : Label) → IsMerged d s m → slice_get m sector ≡ Some x → slice_get d sector ≡ Some y
+pub merged_labelled : (d : List Sector) (s : Slots) (m : List Sector) (sector : ℕ) (x y : Sector) (l : Label) → IsMerged d s m → slice_get m sector ≡ Some x → slice_get d sector ≡ Some y
     → ((w : Wanted) → names x.0 w ≡ true → names l w ≡ true) → IsMerged (slice_set d sector (l, y.1)) s (slice_set m sector (l, x.1))
 merged_labelled d s m sector x y l merged here there also = record {
   labels = set_label m sector (l, x.1) ∙ ap (λ (ls : List Label). slice_set ls sector l) merged.labels ∙ sym (set_label d sector (l, y.1));
@@ -87,7 +87,7 @@ merged_labelled d s m sector x y l merged here there also = record {
     cleaned k clean (inr apart) = get_set_other m sector k (l, x.1) apart ∙ merged.clean k clean ∙ sym (get_set_other d sector k (l, y.1) apart)
 
 -- The memory in which the sector has the label with a mark more; all others are as they were.
-pub marked_stands : (a b : DiskState) (s : Slots) (m : List Sector) (w : Wanted) (sector : ℕ) (mark : Mark) (label : Label) → Appended (LabelOnly sector (with_mark mark label) ∷ []) a b
+abbrev pub marked_stands : (a b : DiskState) (s : Slots) (m : List Sector) (w : Wanted) (sector : ℕ) (mark : Mark) (label : Label) → Appended (LabelOnly sector (with_mark mark label) ∷ []) a b
     → ((d : List Sector) → a.contents ≡ Some d → HasOne (λ l. (l ≡ label) × ones_of w l) d sector) → Stands a s m
     → (n : List Sector) × Stands b s n × ((k : ℕ) → k ≢ sector → slice_get n k ≡ slice_get m k)
 marked_stands a b s m w sector mark label appended found stands =
@@ -103,4 +103,21 @@ marked_stands a b s m w sector mark label appended found stands =
         merged = merged_labelled d s m sector x.0 y.0 l stands.merged x.1 y.1 (λ v named. mark_names mark label v (ap (λ (t : Label). names t v) (sym same) ∙ named));
       },
       λ k apart. get_set_other m sector k (l, x.0.1) apart,
+    )
+
+-- the sector's label has the identifier of the page, before and behind it
+pub marked_ids : (a b : DiskState) (s : Slots) (m : List Sector) (w : Wanted) (sector : ℕ) (mark : Mark) (label : Label) (appended : Appended (LabelOnly sector (with_mark mark label) ∷ []) a b)
+    (found : (d : List Sector) → a.contents ≡ Some d → HasOne (λ l. (l ≡ label) × ones_of w l) d sector) (stands : Stands a s m)
+    → ((t : Sector) → slice_get (marked_stands a b s m w sector mark label appended found stands).0 sector ≡ Some t → t.0.id ≡ w.id) × ((t : Sector) → slice_get m sector ≡ Some t → t.0.id ≡ w.id)
+marked_ids a b s m w sector mark label appended found stands =
+    let d = stands.sectors in
+    let y = found d stands.told in
+    let x = other_sector m d (sym stands.merged.labels) sector y.0 y.1 in
+    let same : x.0.0 ≡ label = x.2 ∙ y.2.0 in
+    let l : Label = with_mark mark label in
+    let own : names label w ≡ true = ap (λ (t : Label). names t w) (sym y.2.0) ∙ y.2.1 in (
+      λ t here.
+          let now = get_set_same m sector (l, x.0.1) (slice_get_within m sector x.0 x.1) in
+          ap (λ (q : Sector). q.0.id) (same_Some {A = Sector} t (l, x.0.1) (sym here ∙ now)) ∙ names_id l w (mark_names mark label w own),
+      λ t here. ap (λ (q : Sector). q.0.id) (same_Some {A = Sector} t x.0 (sym here ∙ x.1)) ∙ ap (λ (q : Label). q.id) same ∙ names_id label w own,
     )

@@ -22,7 +22,8 @@ use Rattle.label_calls.specs.declared.page.Mark.{Mark}
 use Rattle.label_calls.specs.Labels.{IsNotOf, MayHaveWritten, with_mark}
 use Rattle.filer_kernel.specs.Causes.{CutHalts, IsFaultOrMismatch}
 use Rattle.file_manager.specs.Reasons.{Outset, KeepsTo, IsAtHome, HasReason, ShowsReason}
-use Rattle.file_manager.specs.ReasonLaws.{at_home_later, label_reasons}
+use Rattle.file_manager.specs.LaterLaws.{at_home_later}
+use Rattle.file_manager.specs.ReasonLaws.{label_reasons}
 
 -- Over writes that were made since.
 module _ {o : Outset} {layout : Layout} {kept : List Run} {a : DiskState} {s : Slots} {named : Triples} (k : KeepsTo o layout kept a s named)

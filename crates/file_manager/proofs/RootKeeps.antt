@@ -24,13 +24,14 @@ use Rattle.filer_kernel.specs.Triples.{MapIs, AreOf}
 use Rattle.filer_kernel.proofs.LawLemmas.{are_of_fewer}
 use Rattle.volume_root.specs.declared.root.Root.{Root}
 use Rattle.volume_root.specs.RootPage.{root_bytes, root_write}
-use Rattle.file_manager.specs.Creating.{counted, next_id}
-use Rattle.file_manager.specs.Reasons.{Outset, IsLet, KeepsTo}
-use Rattle.file_manager.specs.ReasonLaws.{GivesNot, keeps_after, let_now}
+use Rattle.file_manager.specs.Creating.{IsOnward, counted, next_id}
+use Rattle.file_manager.specs.Reasons.{IsCountedAs, IsLet, KeepsTo, LeavesTables, Outset}
+use Rattle.file_manager.specs.TabledLaws.{tables_told, told_renamed}
+use Rattle.file_manager.specs.LaterLaws.{GivesNot, let_now, takes_not, UpNot, whole_not_up, sector_of}
+use Rattle.file_manager.specs.KeepLaws.{keeps_after}
 use Rattle.file_manager.specs.Taking.{NamesNoneOf, every_page}
 use Rattle.file_manager.proofs.FreedRun.{first_is, shows_still}
 use Rattle.file_manager.proofs.KeepSteps.{keeps_changed}
-use Rattle.file_manager.proofs.MadeReasons.{sector_of}
 
 -- the root gives no data sector to a page
 pub root_gives_not : (x : Layout) → IsLayout x → (root : Root) (home : Home) → x.first ≤ home.sector → GivesNot (root_write root ∷ []) home
@@ -40,19 +41,26 @@ root_gives_not x is root home from zero w at (kind, gives) =
     absurd (omega (arith, from, here, first))
 root_gives_not x is root home from (suc turn) w at gives = none-some w at
 
+-- and gives none up
+root_not_up : (root : Root) (sector : ℕ) → UpNot (root_write root ∷ []) sector
+root_not_up root sector zero w at up = whole_not_up 0 root_label (root_bytes root) sector (same_Some (root_write root) w at ∙ up)
+root_not_up root sector (suc turn) w at up = none-some w at
+
 -- the root that counts a file lets each home that pages of this file have
-pub root_lets : {o : Outset} {x : Layout} {k : List Run} {a b : DiskState} {s : Slots} {named : Triples} (root : Root) → IsLayout x → KeepsTo o x k a s named → Makes no_page (root_write (counted root) ∷ []) a s b s
+pub root_lets : {o : Outset} {x : Layout} {k : List Run} {a b : DiskState} {s : Slots} {named : Triples} (root : Root) → IsLayout x → KeepsTo o x k a s named → IsOnward o.root root → root.counter < 4294967295 → Makes no_page (root_write (counted root) ∷ []) a s b s
     → (home : Home) → x.first ≤ home.sector → home.id ≡ next_id root → IsLet o b home
-root_lets {o = o} {x = x} root is h makes home from same =
-    let last : home.id + 1 ≡ next_id (counted root) = omega (arith, same) in
-    let_now o makes h.since home (root_gives_not x is (counted root) home from) 0 (root_write (counted root)) refl (inr (counted root, refl, last))
+root_lets {o = o} {x = x} root is h onward more makes home from same =
+    let since = onward.0 in
+    let counts : IsCountedAs o.root (counted root) home.id = record { serial = onward.1; fits = omega (arith, more); last = omega (arith, same); since = omega (arith, since, same) } in
+    let_now o makes h.since home (root_gives_not x is (counted root) home from) 0 (root_write (counted root)) refl (inr (counted root, refl, counts))
 
 -- a root is written: no page of a map is in its sector
 pub root_keeps : {o : Outset} {x : Layout} {k : List Run} {a b : DiskState} {s : Slots} {named : Triples} (root : Root) → IsLayout x → KeepsTo o x k a s named
     → Goes (λ m n. n ≡ written (root_write root) m) no_page (root_write root ∷ []) a s b s → KeepsTo o x k b s named
-root_keeps {x = x} {k = k} {b = b} {s = s} {named = named} root is h goes =
-    keeps_after h goes.makes now.0 now.1 named map (λ home is. inl is) k h.kept (λ home held. inl held) h.unframed h.marks bits (λ sector from below clear. inl clear)
-    (λ home from may was. inl was) (λ home from may. inr (root_gives_not x is root home from)) (λ sector from below was. inl was)
+root_keeps {o = o} {x = x} {k = k} {b = b} {s = s} {named = named} root is h goes =
+    keeps_after h goes.makes now.0 now.1 named map (λ home is. inl is) k h.kept (λ home held. inl held) h.unframed h.marks bits (λ sector from below clear. inl (clear, takes_not (root_write root ∷ []) sector (λ id page. root_gives_not x is root (record { sector = sector; id = id; page = page }) from)))
+    (λ home from may was. inl was) (λ home from may. inr (root_gives_not x is root home from)) (λ sector from below was. inl (was, root_not_up root sector))
+    (tables_told x named named h.memory now.0 o.tables is h.map (λ sector y from here own. (y, sym (data_stays sector from) ∙ here, refl)) (λ sector y from here own. data_stays sector from ∙ here) (λ page sector was. was))
   where
     now : (n : List Sector) × Stands b s n × (n ≡ written (root_write root) h.memory)
     now = goes.memory h.memory h.stands
@@ -61,6 +69,12 @@ root_keeps {x = x} {k = k} {b = b} {s = s} {named = named} root is h goes =
     stays j y behind here =
         let other : j ≢ 0 = λ same. omega (arith, same, behind) in
         ap (λ (l : List Sector). slice_get l j) now.2 ∙ get_other h.memory 0 j (root_label, root_bytes root) other ∙ here
+
+    -- a data sector is as it was
+    data_stays : (j : ℕ) → x.first ≤ j → slice_get now.0 j ≡ slice_get h.memory j
+    data_stays j from =
+        let first = first_is x is in
+        ap (λ (l : List Sector). slice_get l j) now.2 ∙ get_other h.memory 0 j (root_label, root_bytes root) (λ same. omega (arith, same, from, first))
 
     map : MapIs x named now.0
     map = record { bytes = h.map.bytes; shows = shows_still FileMap x h.memory now.0 h.map.bytes (λ j y below here. stays (1 + x.vam + j) y (omega arith) here) h.map.shows; names = h.map.names }
@@ -81,7 +95,7 @@ none_left named id page sector own =
 
 -- The map is cut of a whole file, each home of which was let.
 module _ {o : Outset} {x last : Layout} {k l : List Run} {a b : DiskState} {s t : Slots} {named : Triples} (h : KeepsTo o x k a s named) (beside : Beside FileMap a s x b t last) (id : ℕ) (fewer : l ≡ filter (λ r. not (r.id == id)) k)
-    (let_go : (home : Home) → x.first ≤ home.sector → 16 ≤ home.id → home.id ≡ id → named home.id home.page home.sector ≡ true → IsLet o a home) where
+    (let_go : (home : Home) → x.first ≤ home.sector → 16 ≤ home.id → home.id ≡ id → named home.id home.page home.sector ≡ true → IsLet o a home) (is : IsLayout x) (spares : LeavesTables o id) where
   -- a home is named then, or was let
   still : (home : Home) → x.first ≤ home.sector → 16 ≤ home.id → named home.id home.page home.sector ≡ true → (without_from named id 0 home.id home.page home.sector ≡ true) ⊎ IsLet o a home
   still home from may was = elim (cases_eq home.id id) [
@@ -93,3 +107,6 @@ module _ {o : Outset} {x last : Layout} {k l : List Run} {a b : DiskState} {s t 
   whole_cut cut =
       keeps_changed h beside (cut h.memory named h.stands h.map) (λ i page sector is. (and_parts (named i page sector) (not ((i == id) && nat_le 0 page)) is).0)
       (subst (AreOf (without_from named id 0)) (sym fewer) (are_of_fewer named k id 0 h.kept)) still
+      (told_renamed x named (without_from named id 0) h.memory (cut h.memory named h.stands h.map).memory o id is h.map spares (cut h.memory named h.stands h.map).differs (λ other page sector was.
+      let apart : (3 == id) ≡ false = ne_eqb 3 id (λ same. other (sym same)) in
+      (λ j. was j && not (apart j && nat_le 0 page))))

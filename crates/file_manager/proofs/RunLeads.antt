@@ -53,7 +53,7 @@ use Rattle.session_words.proofs.KnownLemmas.{frames_brought}
 use Rattle.session_words.proofs.ShownLemmas.{shown_laws}
 use Rattle.file_manager.specs.Book.{BooksUpto, AreTrue, BringsOwn, Leads}
 use Rattle.file_manager.specs.Making.{ShowsNoFree, MakesSome, sectors_of}
-use Rattle.file_manager.proofs.MapOnce.{named_once}
+use Rattle.file_manager.specs.MapOnce.{named_once}
 use Rattle.file_manager.proofs.RowLemmas.{in_row, row_marks, row_names, row_free, growth_labels, growth_elsewhere, growth_fresh}
 use Rattle.file_manager.proofs.GrowSteps.{marks_alike, renamed, data_no_map, long_grown}
 use Rattle.file_manager.proofs.RunStages.{there_is, uncovered, shows_still, beside_map, maps_named, vam_is, marks_shown, mark_is, free_by_mark, map_is}
@@ -94,7 +94,7 @@ map_makes {which = which} beside = makes_wider volume_page (map_volume which) be
 pub own_known : (s t : Slots) (spaces : List Space) → BringsOwn s t → HasFrames s spaces → HasFrames t spaces
 own_known s t spaces brings frames = frames_brought s t spaces (brings_wider (λ home. IsKnown spaces home.id home.page) (λ home own. inl own) brings) frames
 
-append_none : (xs : List DiskWrite) → xs ++ [] ≡ xs
+pub append_none : (xs : List DiskWrite) → xs ++ [] ≡ xs
 append_none [] = refl
 append_none (x ∷ xs) = ap (λ (l : List DiskWrite). x ∷ l) (append_none xs)
 
@@ -295,13 +295,17 @@ module _ {layout l1 : Layout} {a b c : DiskState} {s t u : Slots} (run : Run) (k
   pub added_makes : {d : DiskState} {v : Slots} {l2 l3 : Layout} → RelabelsRun run.sector run.pages (growth run.id kind run.first (sectors_of run)) b t c → Beside FileMap c u l2 d v l3 → Makes volume_page (growth run.id kind run.first (sectors_of run)) a s d v
   added_makes {d = d} {v = v} made last = subst (λ (ws : List DiskWrite). Makes volume_page ws a s d v) (append_none (growth run.id kind run.first (sectors_of run))) (makes_then (labelled_makes made) (map_makes last))
 
+  -- the first labels
+  pub some_labelled : (some : MadeSome (growth run.id kind run.first (sectors_of run)) b t c) → Makes volume_page (take some.count (growth run.id kind run.first (sectors_of run))) a s c u
+  some_labelled some = subst (Makes volume_page (take some.count (growth run.id kind run.first (sectors_of run))) a s c) (sym same) (makes_then (map_makes first) (makes_wider volume_page (λ id page none. absurd none) some.makes))
+
   -- a stop among the labels
   pub stopped_labels : (most : ℕ) → run.pages ≤ most → MadeSome (growth run.id kind run.first (sectors_of run)) b t c → MakesSome run.id kind run.first most a s c u
   stopped_labels most few some = record {
     sectors = sectors_of run;
     few = let long = length-range_with_len run.sector run.pages in omega (arith, long, few);
     count = some.count;
-    makes = subst (Makes volume_page (take some.count (growth run.id kind run.first (sectors_of run))) a s c) (sym same) (makes_then (map_makes first) (makes_wider volume_page (λ id page none. absurd none) some.makes));
+    makes = some_labelled some;
   }
 
   -- a stop behind them

@@ -17,6 +17,10 @@ use Rattle.file_manager.specs.Book.{Leads}
 abbrev pub next_id : Root → ℕ
 next_id root = root.serial * 2 ^ 32 + root.counter
 
+-- a later root of the same volume, which gives out next no identifier below that which the earlier one does
+abbrev pub IsOnward : Root → Root → Type 0
+IsOnward old new = (next_id old ≤ next_id new) × (new.serial ≡ old.serial)
+
 -- the root of the volume in use, once it is given out
 abbrev pub counted : Root → Root
 counted root = record root { clean = false; counter = root.counter + 1 }

@@ -20,3 +20,10 @@ pub mod CountedRuns
 pub mod Reasons
 pub mod Forgetting
 pub mod ReasonLaws
+pub mod KeepLaws
+pub mod LaterLaws
+pub mod ShownLaws
+pub mod TabledLaws
+pub mod MapOnce
+pub mod RetoldLaws
+pub mod ToldLaws

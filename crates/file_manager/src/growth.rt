@@ -1,5 +1,5 @@
 //! Pages of a file that are made: free sectors are taken, labelled, and put into the file map.
-ghost use Rattle.std.specs.Prelude.{◌≡◌, ℕ, ◌+◌, ◌-◌, ◌*◌, ◌^◌, ◌≤◌, ◌<◌, true, false, List, Some, IfOk, IfErr, OnErr, OnOk, Err};
+ghost use Rattle.std.specs.Prelude.{◌≡◌, ℕ, ◌+◌, ◌-◌, ◌*◌, ◌^◌, ◌≤◌, ◌<◌, true, false, List, length, Some, IfOk, IfErr, OnErr, OnOk, Err, None};
 ghost use Rattle.labelled_disk.specs.declared.evidence.Halt.TheVariants as halt;
 ghost use Rattle.labelled_disk.specs.Calls.{Rose};
 ghost use Rattle.labelled_disk.specs.Label.{is_file_id};
@@ -15,7 +15,7 @@ ghost use Rattle.swapper_kernel.specs.Goes.{Makes};
 ghost use Rattle.swapper_kernel.specs.Stands.{Stands};
 ghost use Rattle.swapper_kernel.specs.Window.{Beside};
 ghost use Rattle.label_calls.specs.Labels.{free_ones};
-ghost use Rattle.label_calls.specs.Runs.{AreOfFile, AreUncovered, HaveOnes, RelabelsRun, MadeSome, IsOneTaken};
+ghost use Rattle.label_calls.specs.Runs.{AreOfFile, AreUncovered, HaveOnes, RelabelsRun, MadeSome, IsOneTaken, NamedSome};
 ghost use Rattle.filer_kernel.specs.Becomes.{Becomes};
 ghost use Rattle.filer_kernel.specs.Marks.{Marks, BitsAre, marked, IsLowestRun};
 ghost use Rattle.file_manager.specs.Grounds.{IsMapsHome, TakeHalts, MakeHalts, MakesFor};
@@ -28,7 +28,7 @@ ghost use Rattle.frame_pool.specs.Frames.{ArePages};
 ghost use Rattle.file_manager.specs.Book.{Books, BooksUpto, Leads};
 ghost use Rattle.file_manager.specs.Broken.{GrewSome};
 ghost use Rattle.file_manager.specs.Making.{AreUnowned, AreUnownedUpto, ShowsNoFree, free_count, sectors_of, IsRunFor, MayGrow, GrownBy, MakesAll, MakesSome};
-ghost use Rattle.file_manager.specs.Reasons.{Keeps, KeepsFrom, Outset, ShowsReason};
+ghost use Rattle.file_manager.specs.Reasons.{Keeps, KeepsFrom, Outset, ShowsReason, telling};
 ghost use Rattle.file_manager.specs.Taking.{NamesNoneOf};
 
 use alloc_map::AllocError;
@@ -86,6 +86,7 @@ fn label_run<D: Disk, A: Allocator>(
     ensures made { OnOk result (RelabelsRun run.sector run.pages (growth run.id kind run.first (sectors_of run)) (D.state filer.old.swapper.under) filer.old.swapper.pool (D.state filer.new.swapper.under)) }
     ensures were { OnOk result ((d : List Sector) → (D.state filer.old.swapper.under).contents ≡ Some d → HaveOnes (λ k. free_ones) d run.sector run.pages) }
     ensures stopped { OnErr result (MadeSome (growth run.id kind run.first (sectors_of run)) (D.state filer.old.swapper.under) filer.old.swapper.pool (D.state filer.new.swapper.under)) }
+    ensures named { OnErr result (NamedSome (λ k. run.sector + k) (λ k. free_ones) (growth run.id kind run.first (sectors_of run)) (D.state filer.old.swapper.under) filer.old.swapper.pool (D.state filer.new.swapper.under)) }
     ensures sound { (m : List Sector) → Stands (D.state filer.old.swapper.under) filer.old.swapper.pool m → AreUncovered filer.old.swapper.pool run.sector run.pages
         → HaveOnes (λ k. free_ones) m run.sector run.pages → IfErr result (λ e. e ≡ halt.Disk) }
     ensures cause { IfErr result (HasCause (IsOneTaken run.sector run.pages (D.state filer.old.swapper.under)) (D.state filer.old.swapper.under) (D.state filer.new.swapper.under)) }
@@ -128,7 +129,9 @@ pub(crate) fn make_run<D: Disk, A: Allocator>(
         → AreUnownedUpto tables shapes id page most → 1 ≤ free_count filer.old.swapper.layout x
         → IfOk result (λ run. Leads (Grows id kind page (sectors_of run)) (growth id kind page (sectors_of run)) (D.state filer.old.swapper.under) filer.old.swapper.pool filer.old.swapper.layout (D.state filer.new.swapper.under) filer.new.swapper.pool filer.new.runs) }
     ensures cause { IfErr result (MakeHalts filer.old.swapper.layout id (λ p. (page ≤ p) × (p < page + most)) (D.state filer.old.swapper.under) filer.old.swapper.pool (D.state filer.new.swapper.under) filer.new.swapper.pool) }
-    ensures keeps_to { (o : Outset) (named : Triples) → Keeps o filer.old named → NamesNoneOf id (λ p. (page ≤ p) × (p < page + most)) named → IfOk result (λ run. Keeps o filer.new (with_run named run)) }
+    ensures keeps_to { (o : Outset) (named : Triples) → Keeps o filer.old named → (id ≡ 3 → o.tables ≡ None) → NamesNoneOf id (λ p. (page ≤ p) × (p < page + most)) named → IfOk result (λ run. Keeps o filer.new (with_run named run)) }
+    ensures tables { (o : Outset) (named : Triples) (b : List ℕ) → id ≡ 3 → page + most ≤ 96 → length b ≡ 512 * page → Keeps (telling o b) filer.old named → NamesNoneOf id (λ p. (page ≤ p) × (p < page + most)) named
+        → IfOk result (λ run. (c : List ℕ) × (Keeps (telling o c) filer.new (with_run named run) × (length c ≡ 512 * (page + run.pages)))) }
     ensures reasons { (o : Outset) (named : Triples) → Keeps o filer.old named → NamesNoneOf id (λ p. (page ≤ p) × (p < page + most)) named → IfErr result (ShowsReason o filer.old.swapper.layout (D.state filer.new.swapper.under)) }
     ensures longest { IfOk result (λ run. run.pages < most → (m : List Sector) (marks : Marks) → Stands (D.state filer.old.swapper.under) filer.old.swapper.pool m → BitsAre filer.old.swapper.layout marks m
         → run.sector + run.pages < filer.old.swapper.layout.sectors → marks (run.sector + run.pages) ≡ true) }

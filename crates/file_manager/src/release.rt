@@ -22,7 +22,7 @@ ghost use Rattle.filer_kernel.specs.Causes.{IsRunHome};
 ghost use Rattle.swapper_kernel.specs.Halts.{HasCause};
 ghost use Rattle.filer_kernel.specs.Evidence.{MayBeMissing, ShowsSo};
 ghost use Rattle.file_manager.specs.Freeing.{MayFree, Freed, FreedSome, IsPartOf, NamesAll, MakesFree, MakesSomeFree, run_sectors};
-ghost use Rattle.file_manager.specs.Reasons.{AreLet, Keeps, MayLack, Outset, ShowsReason};
+ghost use Rattle.file_manager.specs.Reasons.{AreLet, Keeps, LeavesTables, MayLack, Outset, ShowsReason};
 
 use crate::forgetting::forget_run;
 use file_map::Run;
@@ -121,9 +121,9 @@ pub(crate) fn free_run<D: Disk, A: Allocator>(
     ensures makes { IfOk result (λ pages. MakesFree pages (D.state filer.old.swapper.under) filer.old.swapper.pool (D.state filer.new.swapper.under) filer.new.swapper.pool) }
     ensures stopped { OnErr result (MakesSomeFree (D.state filer.old.swapper.under) filer.old.swapper.pool (D.state filer.new.swapper.under) filer.new.swapper.pool) }
     ensures cause { IfErr result (FreeHalts (IsUnframed filer.old.swapper.pool id) filer.old.swapper.layout (runs_of filer.old.swapper.layout.sectors filer.old.runs) id (λ p. p ≡ page) (D.state filer.old.swapper.under) filer.old.swapper.pool (D.state filer.new.swapper.under)) }
-    ensures keeps_to { (o : Outset) (named : Triples) → Keeps o filer.old named → OnOk result (Keeps o filer.new named) }
-    ensures let_go { (o : Outset) (named : Triples) → Keeps o filer.old named → IfOk result (λ pages. AreLet o (D.state filer.new.swapper.under) named id (λ p. (page ≤ p) × (p < page + pages))) }
-    ensures reasons { (o : Outset) (named : Triples) → Keeps o filer.old named → MayLack named id page → IfErr result (ShowsReason o filer.old.swapper.layout (D.state filer.new.swapper.under)) }
+    ensures keeps_to { (o : Outset) (named : Triples) → Keeps o filer.old named → LeavesTables o id → OnOk result (Keeps o filer.new named) }
+    ensures let_go { (o : Outset) (named : Triples) → Keeps o filer.old named → LeavesTables o id → IfOk result (λ pages. AreLet o (D.state filer.new.swapper.under) named id (λ p. (page ≤ p) × (p < page + pages))) }
+    ensures reasons { (o : Outset) (named : Triples) → Keeps o filer.old named → LeavesTables o id → MayLack named id page → IfErr result (ShowsReason o filer.old.swapper.layout (D.state filer.new.swapper.under)) }
     ensures keeps { OnOk result (KeepsMap (IsUnframed filer.old.swapper.pool id) filer.old.swapper.layout id (D.state filer.old.swapper.under) filer.old.swapper.pool (runs_of filer.old.swapper.layout.sectors filer.old.runs) (D.state filer.new.swapper.under) filer.new.swapper.pool (runs_of filer.old.swapper.layout.sectors filer.new.runs)) }
     ensures so { MayBeMissing id page → IfErr result (ShowsSo (D.state filer.new.swapper.under)) }
     ensures counted { result ≡ Err halt.Disk → Rose (D.state filer.old.swapper.under).faults (D.state filer.new.swapper.under).faults }
@@ -167,9 +167,9 @@ pub(crate) fn free_up<D: Disk, A: Allocator>(
     ensures makes { OnOk result (MakesFree (end - from) (D.state filer.old.swapper.under) filer.old.swapper.pool (D.state filer.new.swapper.under) filer.new.swapper.pool) }
     ensures stopped { OnErr result (MakesSomeFree (D.state filer.old.swapper.under) filer.old.swapper.pool (D.state filer.new.swapper.under) filer.new.swapper.pool) }
     ensures cause { IfErr result (FreeHalts (IsUnframed filer.old.swapper.pool id) filer.old.swapper.layout (runs_of filer.old.swapper.layout.sectors filer.old.runs) id (λ p. (from ≤ p) × (p < end)) (D.state filer.old.swapper.under) filer.old.swapper.pool (D.state filer.new.swapper.under)) }
-    ensures keeps_to { (o : Outset) (named : Triples) → Keeps o filer.old named → OnOk result (Keeps o filer.new named) }
-    ensures let_go { (o : Outset) (named : Triples) → Keeps o filer.old named → OnOk result (AreLet o (D.state filer.new.swapper.under) named id (λ p. (from ≤ p) × (p < end))) }
-    ensures reasons { (o : Outset) (named : Triples) → Keeps o filer.old named → ((page : ℕ) → page < end → MayLack named id page) → IfErr result (ShowsReason o filer.old.swapper.layout (D.state filer.new.swapper.under)) }
+    ensures keeps_to { (o : Outset) (named : Triples) → Keeps o filer.old named → LeavesTables o id → OnOk result (Keeps o filer.new named) }
+    ensures let_go { (o : Outset) (named : Triples) → Keeps o filer.old named → LeavesTables o id → OnOk result (AreLet o (D.state filer.new.swapper.under) named id (λ p. (from ≤ p) × (p < end))) }
+    ensures reasons { (o : Outset) (named : Triples) → Keeps o filer.old named → LeavesTables o id → ((page : ℕ) → page < end → MayLack named id page) → IfErr result (ShowsReason o filer.old.swapper.layout (D.state filer.new.swapper.under)) }
     ensures keeps { OnOk result (KeepsMap (IsUnframed filer.old.swapper.pool id) filer.old.swapper.layout id (D.state filer.old.swapper.under) filer.old.swapper.pool (runs_of filer.old.swapper.layout.sectors filer.old.runs) (D.state filer.new.swapper.under) filer.new.swapper.pool (runs_of filer.old.swapper.layout.sectors filer.new.runs)) }
     ensures so { ((page : ℕ) → page < end → MayBeMissing id page) → IfErr result (ShowsSo (D.state filer.new.swapper.under)) }
     ensures counted { result ≡ Err halt.Disk → Rose (D.state filer.old.swapper.under).faults (D.state filer.new.swapper.under).faults }

@@ -31,6 +31,7 @@ pub fn make_pages<D: Disk, A: Allocator>(
     requires of_file { AreOfFile id kind page pages }
     ensures made { OnOk result (RelabelsRun sector pages (growth id kind page (range_with_len sector pages)) (D.state swapper.old.under) swapper.old.pool (D.state swapper.new.under)) }
     ensures stopped { OnErr result (MadeSome (growth id kind page (range_with_len sector pages)) (D.state swapper.old.under) swapper.old.pool (D.state swapper.new.under)) }
+    ensures named { OnErr result (NamedSome (λ k. sector + k) (λ k. free_ones) (growth id kind page (range_with_len sector pages)) (D.state swapper.old.under) swapper.old.pool (D.state swapper.new.under)) }
     ensures were { OnOk result ((d : List Sector) → (D.state swapper.old.under).contents ≡ Some d → HaveOnes (λ k. free_ones) d sector pages) }
     ensures sound { (m : List Sector) → Stands (D.state swapper.old.under) swapper.old.pool m → AreUncovered swapper.old.pool sector pages → HaveOnes (λ k. free_ones) m sector pages → IfErr result (λ e. e ≡ halt.Disk) }
     ensures cause { IfErr result (HasCause (IsOneTaken sector pages (D.state swapper.old.under)) (D.state swapper.old.under) (D.state swapper.new.under)) }

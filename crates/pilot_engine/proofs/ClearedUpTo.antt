@@ -14,7 +14,7 @@ use Rattle.session_words.specs.Parts.{TablesMeaning}
 use Rattle.filer_kernel.specs.Cached.{runs_of}
 use Rattle.file_map.specs.FileMap.{Triples}
 use Rattle.file_manager.specs.declared.volume.Volume.{Volume}
-use Rattle.file_manager.specs.Reasons.{KeepsTo, Outset, NamesTables}
+use Rattle.file_manager.specs.Reasons.{HasTables, KeepsTo, Outset}
 use Rattle.running_words.specs.Bound.{room_above, visit_cost}
 use Rattle.pilot_engine.specs.Closing.{IsOpenStop, Shed, Throughout, up_to_next}
 use Rattle.running_words.specs.Session.{IsOpen, IsAlone, Wrote}
@@ -26,9 +26,9 @@ use Rattle.pilot_engine.proofs.StopLemmas.{stops_quiet, stop_less, throughout_le
 use Rattle.pilot_engine.proofs.ShedLemmas.{shed_nothing, shed_then}
 use Rattle.pilot_engine.proofs.WroteLemmas.{wrote_nothing, wrote_then}
 
--- disk, frames and runs keep to the outset, whatever the file map names, all pages of the space tables among it
+-- disk, frames and runs keep to the outset, whatever the file map names, all pages of the space tables among it, whose bytes are not told
 abbrev pub KeepsSome : Outset → DiskState → Slots → Layout → CachedRuns → Type 0
-KeepsSome o disk slots layout runs = (named : Triples) × (KeepsTo o layout (runs_of layout.sectors runs) disk slots named × NamesTables named)
+KeepsSome o disk slots layout runs = (named : Triples) × (KeepsTo o layout (runs_of layout.sectors runs) disk slots named × HasTables o named)
 
 pub record ClearedUpTo (cursor : ℕ) (d0 : DiskState) (s0 : Slots) (l0 : Layout) (r0 : CachedRuns) (v0 : Volume) (d : DiskState) (s : Slots) (layout : Layout) (runs : CachedRuns) (volume : Volume) : Type 0 where
   pub above : 15 ≤ cursor

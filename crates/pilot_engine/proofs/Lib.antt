@@ -12,11 +12,13 @@ pub mod StartWrites
 pub mod StartRuns
 pub mod StartFaults
 pub mod OutsetLemmas
+pub mod FormLemmas
 pub mod BeginLemmas
 pub mod FreshLemmas
 pub mod StepLemmas
 pub mod CauseLemmas
 pub mod ReasonSteps
+pub mod SeesLemmas
 pub mod SpaceLeft
 pub mod AloneLemmas
 pub mod ShedLemmas

@@ -76,6 +76,14 @@ abbrev told_id : Reply → ℕ
 told_id (reply.File id) = id
 told_id other = 0
 
+-- a reply names one file
+pub one_named : (id other : ℕ) → reply.File id ≡ reply.File other → id ≡ other
+one_named id other same = ap told_id same
+
+-- a refusal names none
+pub none_named : (word : Refusal) (id : ℕ) → reply.Refused word ≡ reply.File id → ⊥
+none_named word id same = true≢false (sym (ap is_file_reply same))
+
 module _ (m : Machine) (h : IsMachine m) (space : ℕ) (run : ℕ × ℕ) (can : CanMap m space run) where
   abbrev s : Space
   s = can.s

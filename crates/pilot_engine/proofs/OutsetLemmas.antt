@@ -1,6 +1,6 @@
 -- How a session keeps to what stood when it began: at its start, where the space tables are begun, and where maps are written.
-use Rattle.std.proofs.Common.{◌≡◌, ◌⊎◌, inl, inr, ℕ, ◌*◌, ◌<◌, Bool, true, false, List, [], ◌∷◌, ◌++◌, drop, length, Some, refl, suc, sym, zero, ◌∙◌, ap, append-nil, subst, arith, ◌+◌, ◌≤◌}
-use Rattle.std.specs.Prelude.{slice_get, ◌&&◌, ◌==◌, filter, not, option_map}
+use Rattle.std.proofs.Common.{◌≡◌, ◌⊎◌, inl, inr, ℕ, ◌*◌, ◌<◌, Bool, true, false, List, [], ◌∷◌, ◌++◌, drop, length, Option, Some, None, refl, suc, sym, zero, ◌∙◌, ap, append-nil, subst, arith, ◌+◌, ◌≤◌}
+use Rattle.std.specs.Prelude.{slice_get, ◌&&◌, ◌==◌, filter, not, option_map, IfSome}
 use Rattle.std.proofs.lemmas.Bool.{true≢false}
 use Rattle.std.proofs.lemmas.Option.{none-some, same_Some}
 use Rattle.labelled_disk.specs.declared.disk.DiskWrite.{DiskWrite}
@@ -19,7 +19,7 @@ use Rattle.file_map.specs.FileMap.{Triples}
 use Rattle.swapper_kernel.specs.declared.manager.Manager.TheVariants.{AllocationMap}
 use Rattle.swapper_kernel.specs.Differs.{Differs}
 use Rattle.swapper_kernel.specs.DiffersLaws.{differs_wider}
-use Rattle.swapper_kernel.specs.Goes.{Makes, Pages, Swaps, is_page_write, no_page}
+use Rattle.swapper_kernel.specs.Goes.{Makes, Swaps, is_page_write, no_page}
 use Rattle.swapper_kernel.specs.GoesLaws.{goes_wider}
 use Rattle.swapper_kernel.specs.HaltLaws.{brings_same, brings_wider}
 use Rattle.swapper_kernel.specs.Halts.{Halts}
@@ -37,21 +37,22 @@ use Rattle.filer_kernel.proofs.LawLemmas.{named_in_sectors}
 use Rattle.session_words.proofs.ShownLemmas.{shown_laws}
 use Rattle.volume_root.specs.declared.root.Root.{Root}
 use Rattle.volume_root.specs.RootPage.{root_write}
-use Rattle.file_manager.specs.ReasonLaws.{GivesNot, beside_keeps, label_reasons, let_later, since_later}
-use Rattle.file_manager.specs.Reasons.{AreLet, IsLet, IsSince, KeepsTo, Outset, ShowsReason, outset, WasMade}
+use Rattle.file_manager.specs.KeepLaws.{beside_keeps}
+use Rattle.file_manager.specs.ReasonLaws.{label_reasons}
+use Rattle.file_manager.specs.Reasons.{AreTabled, IsLet, KeepsTo, Outset, ShowsReason, outset, telling, WasMade}
 use Rattle.fault_core.specs.Reach.{IsReached, Reaches, ReachHalts, no_break}
 use Rattle.fault_core.specs.Touch.{on_data}
 use Rattle.fault_core.specs.View.{View, kept_by}
 use Rattle.fault_core.proofs.ReachLemmas.{reaches_itself}
 use Rattle.fault_core.proofs.TurnLemmas.{brought_halt, reaches_brought}
-use Rattle.running_words.specs.Moving.{Moves, ViewKeepsTo, any_page}
+use Rattle.running_words.specs.Moving.{Moves, any_page}
 use Rattle.running_words.specs.MovingLaws.{keeps_bare, moves_of_reaches}
-use Rattle.labelled_disk.specs.Label.{page_label}
+use Rattle.labelled_disk.specs.Label.{names, page_label}
 use Rattle.labelled_disk.specs.Runs.{zero_bytes}
 use Rattle.swapper_kernel.proofs.PlacedLemmas.{parts}
 use Rattle.labelled_disk.specs.declared.label.Wanted.{Wanted}
 use Rattle.pilot_engine.specs.Opening.{IsBare}
-use Rattle.pilot_engine.specs.Reasons.{IsBegun}
+use Rattle.pilot_engine.specs.Reasons.{HasNoTables, IsBegun}
 use Rattle.pilot_engine.proofs.StartStands.{bare_stands}
 
 -- ---- The start.
@@ -60,10 +61,23 @@ use Rattle.pilot_engine.proofs.StartStands.{bare_stands}
 pub begun_read : {d : List Sector} {named : Triples} {ws : List DiskWrite} {a b : DiskState} → OnlyReads a b → IsBegun d named ws a → IsBegun d named ws b
 begun_read reads b = record { contents = reads.contents ∙ b.contents; writes = reads.writes ∙ b.writes; map = b.map }
 
--- without frames and runs, a disk keeps to what it tells
-pub begun_keeps : (layout : Layout) (d : List Sector) (named : Triples) (ws : List DiskWrite) (disk : DiskState) (slots : Slots) (kept : CachedRuns) → IsLayout layout → disk.sectors ≡ layout.sectors → AreSectors d
-    → length d ≡ layout.sectors → IsBare slots → runs_of layout.sectors kept ≡ [] → IsBegun d named ws disk → KeepsTo (outset d named ws) layout (runs_of layout.sectors kept) disk slots named
-begun_keeps layout d named ws disk slots kept is size sectors long bare none begun = record {
+-- what an outset tells of the space tables is put beside
+abbrev with_tables : Outset → Option (List ℕ) → Outset
+with_tables o tables = record o { tables = tables }
+
+-- no data sector's label names a page of the space tables: none of these is told
+no_page_tabled : (layout : Layout) (named : Triples) (d : List Sector) → HasNoTables layout d → AreTabled layout named d []
+no_page_tabled layout named d none = record {
+  count = 0;
+  most = omega arith;
+  long = refl;
+  page = λ k below. absurd (omega (arith, below));
+  none = λ k from below. none k below;
+}
+
+begun_with : (tables : Option (List ℕ)) (layout : Layout) (d : List Sector) (named : Triples) (ws : List DiskWrite) (disk : DiskState) (slots : Slots) (kept : CachedRuns) → IsLayout layout → disk.sectors ≡ layout.sectors → AreSectors d
+    → length d ≡ layout.sectors → IsBare slots → runs_of layout.sectors kept ≡ [] → IsBegun d named ws disk → IfSome tables (AreTabled layout named d) → KeepsTo (with_tables (outset d named ws) tables) layout (runs_of layout.sectors kept) disk slots named
+begun_with tables layout d named ws disk slots kept is size sectors long bare none begun tabled = record {
   since = ([], begun.writes ∙ ap (λ (l : List DiskWrite). Some l) (sym (append-nil ws)));
   memory = d;
   stands = bare_stands disk slots d bare begun.contents;
@@ -75,12 +89,13 @@ begun_keeps layout d named ws disk slots kept is size sectors long bare none beg
   unframed = λ page there. absurd (bare there.slot there.frame there.has);
   marks = is_used (map_bytes AllocationMap layout d);
   bits = record { bytes = map_bytes AllocationMap layout d; shows = shown; are = λ sector. refl };
-  free = λ sector from below clear. inl (sym (shown_laws.bits layout d (map_bytes AllocationMap layout d) sector shown (in_bits sector below)) ∙ clear);
+  free = λ sector from below clear. record { outset = inl (sym (shown_laws.bits layout d (map_bytes AllocationMap layout d) sector shown (in_bits sector below)) ∙ clear); since = ([], begun.writes ∙ ap (λ (l : List DiskWrite). Some l) (sym (append-nil ws)), λ turn w at takes. absurd (none-some w at)) };
   rest = λ home from may. let_or_named (named home.id home.page home.sector) home refl;
-  used = λ sector from below is_used. inl (sym (shown_laws.bits layout d (map_bytes AllocationMap layout d) sector shown (in_bits sector below)) ∙ is_used);
+  used = λ sector from below is_used. record { outset = inl (sym (shown_laws.bits layout d (map_bytes AllocationMap layout d) sector shown (in_bits sector below)) ∙ is_used); since = ([], begun.writes ∙ ap (λ (l : List DiskWrite). Some l) (sym (append-nil ws)), λ turn w at up. absurd (none-some w at)) };
+  tabled = tabled;
 }
   where
-    let_or_named : (is_named : Bool) (home : Home) → named home.id home.page home.sector ≡ is_named → (named home.id home.page home.sector ≡ true) ⊎ IsLet (outset d named ws) disk home
+    let_or_named : (is_named : Bool) (home : Home) → named home.id home.page home.sector ≡ is_named → (named home.id home.page home.sector ≡ true) ⊎ IsLet (with_tables (outset d named ws) tables) disk home
     let_or_named true home is_so = inl is_so
     let_or_named false home is_so = inr (record {
       outset = λ was. absurd (true≢false (sym was ∙ is_so));
@@ -92,6 +107,17 @@ begun_keeps layout d named ws disk slots kept is size sectors long bare none beg
 
     in_bits : (k : ℕ) → k < layout.sectors → k < 4096 * layout.vam
     in_bits k below = let v : layout.vam ≡ vam layout.sectors = ap (λ (l : Layout). l.vam) is.1 in omega (arith, below, v)
+
+-- without frames and runs, a disk keeps to what it tells
+pub begun_keeps : (layout : Layout) (d : List Sector) (named : Triples) (ws : List DiskWrite) (disk : DiskState) (slots : Slots) (kept : CachedRuns) → IsLayout layout → disk.sectors ≡ layout.sectors → AreSectors d
+    → length d ≡ layout.sectors → IsBare slots → runs_of layout.sectors kept ≡ [] → IsBegun d named ws disk → KeepsTo (outset d named ws) layout (runs_of layout.sectors kept) disk slots named
+begun_keeps layout d named ws disk slots kept is size sectors long bare none begun = begun_with None layout d named ws disk slots kept is size sectors long bare none begun tt
+
+-- and where no data sector's label names a page of the space tables, none of these is told
+pub begun_untabled : (layout : Layout) (d : List Sector) (named : Triples) (ws : List DiskWrite) (disk : DiskState) (slots : Slots) (kept : CachedRuns) → IsLayout layout → disk.sectors ≡ layout.sectors → AreSectors d
+    → length d ≡ layout.sectors → IsBare slots → runs_of layout.sectors kept ≡ [] → IsBegun d named ws disk → HasNoTables layout d → KeepsTo (telling (outset d named ws) []) layout (runs_of layout.sectors kept) disk slots named
+begun_untabled layout d named ws disk slots kept is size sectors long bare none begun untabled =
+    begun_with (Some []) layout d named ws disk slots kept is size sectors long bare none begun (no_page_tabled layout named d untabled)
 
 -- ---- The root is written, and the allocation map is looked at.
 
@@ -128,10 +154,10 @@ sector_written (write.LabelOnly sector label) = sector
 sector_written (write.Page sector wanted bytes) = sector
 
 -- A session begins with the root's write: what keeps to what stood before it keeps to what stood behind it.
-pub rooted : (layout : Layout) (d : List Sector) (named : Triples) (ws : List DiskWrite) (root : Root) (disk : DiskState) (slots : Slots) (kept : List Run) → IsLayout layout → IsBare slots → disk.writes ≡ Some (ws ++ (root_write root ∷ []))
-    → KeepsTo (outset d named ws) layout kept disk slots named → KeepsTo (outset d named (ws ++ (root_write root ∷ []))) layout kept disk slots named
+rooted : (tables : Option (List ℕ)) (layout : Layout) (d : List Sector) (named : Triples) (ws : List DiskWrite) (root : Root) (disk : DiskState) (slots : Slots) (kept : List Run) → IsLayout layout → IsBare slots → disk.writes ≡ Some (ws ++ (root_write root ∷ []))
+    → KeepsTo (with_tables (outset d named ws) tables) layout kept disk slots named → KeepsTo (with_tables (outset d named (ws ++ (root_write root ∷ []))) tables) layout kept disk slots named
 unfolding sector_written zero_bytes
-rooted layout d named ws root disk slots kept is bare told k = record {
+rooted tables layout d named ws root disk slots kept is bare told k = record {
   since = ([], told ∙ ap (λ (l : List DiskWrite). Some l) (sym (append-nil (ws ++ (root_write root ∷ [])))));
   memory = k.memory;
   stands = k.stands;
@@ -143,15 +169,22 @@ rooted layout d named ws root disk slots kept is bare told k = record {
   unframed = k.unframed;
   marks = k.marks;
   bits = k.bits;
-  free = λ sector from below clear. elim (k.free sector from below clear) [
-    | inl was ↦ inl was
-    | inr up ↦ absurd (no_data sector from (ap sector_written (only_root (outset d named ws) (root_write root) told (write.LabelOnly sector free_label) up)))
-  ];
+  free = λ sector from below clear. record {
+    outset = elim (k.free sector from below clear).outset [
+      | inl was ↦ inl was
+      | inr up ↦ absurd (no_data sector from (ap sector_written (only_root (with_tables (outset d named ws) tables) (root_write root) told (write.LabelOnly sector free_label) up)))
+    ];
+    since = ([], told ∙ ap (λ (l : List DiskWrite). Some l) (sym (append-nil (ws ++ (root_write root ∷ [])))), λ turn w at takes. absurd (none-some w at));
+  };
   rest = λ home from client. rest home (decided (named home.id home.page home.sector));
-  used = λ sector from below is_used. elim (k.used sector from below is_used) [
-    | inl was ↦ inl was
-    | inr (id, page, (kind, made)) ↦ absurd (no_data sector from (ap sector_written (only_root (outset d named ws) (root_write root) told (write.Whole sector (page_label id kind page) zero_bytes) made)))
-  ];
+  used = λ sector from below is_used. record {
+    outset = elim (k.used sector from below is_used).outset [
+      | inl was ↦ inl was
+      | inr (id, page, (kind, made)) ↦ absurd (no_data sector from (ap sector_written (only_root (with_tables (outset d named ws) tables) (root_write root) told (write.Whole sector (page_label id kind page) zero_bytes) made)))
+    ];
+    since = ([], told ∙ ap (λ (l : List DiskWrite). Some l) (sym (append-nil (ws ++ (root_write root ∷ [])))), λ turn w at up. absurd (none-some w at));
+  };
+  tabled = k.tabled;
 }
   where
     no_data : (sector : ℕ) → layout.first ≤ sector → sector ≡ 0 → ⊥
@@ -161,7 +194,7 @@ rooted layout d named ws root disk slots kept is bare told k = record {
     decided true = inl refl
     decided false = inr refl
 
-    rest : (home : Home) → (named home.id home.page home.sector ≡ true) ⊎ (named home.id home.page home.sector ≡ false) → (named home.id home.page home.sector ≡ true) ⊎ IsLet (outset d named (ws ++ (root_write root ∷ []))) disk home
+    rest : (home : Home) → (named home.id home.page home.sector ≡ true) ⊎ (named home.id home.page home.sector ≡ false) → (named home.id home.page home.sector ≡ true) ⊎ IsLet (with_tables (outset d named (ws ++ (root_write root ∷ []))) tables) disk home
     rest home (inl is_named) = inl is_named
     rest home (inr none) = inr (record {
       outset = λ was. absurd (true≢false (sym was ∙ none));
@@ -203,11 +236,16 @@ ViewKeepsBare o v named = KeepsTo o v.layout (kept_by v) v.disk v.slots named
 -- at a start, of the outset behind the root's write
 pub rooted_at : (d : List Sector) (named : Triples) (ws : List DiskWrite) (root : Root) (v : View) → IsLayout v.layout → IsBare v.slots → v.disk.writes ≡ Some (ws ++ (root_write root ∷ []))
     → ViewKeepsBare (outset d named ws) v named → ViewKeepsBare (outset d named (ws ++ (root_write root ∷ []))) v named
-rooted_at d named ws root v is bare told k = rooted v.layout d named ws root v.disk v.slots (kept_by v) is bare told k
+rooted_at d named ws root v is bare told k = rooted None v.layout d named ws root v.disk v.slots (kept_by v) is bare told k
+
+-- so it is where no page of the space tables is told
+pub rooted_untabled : (d : List Sector) (named : Triples) (ws : List DiskWrite) (root : Root) (v : View) → IsLayout v.layout → IsBare v.slots → v.disk.writes ≡ Some (ws ++ (root_write root ∷ []))
+    → ViewKeepsBare (telling (outset d named ws) []) v named → ViewKeepsBare (telling (outset d named (ws ++ (root_write root ∷ []))) []) v named
+rooted_untabled d named ws root v is bare told k = rooted (Some []) v.layout d named ws root v.disk v.slots (kept_by v) is bare told k
 
 -- it does so where frames were written out
-pub keeps_written : (o : Outset) (v w : View) (named : Triples) → IsLayout v.layout → ViewKeepsBare o v named → Reaches v w → ViewKeepsBare o w named
-keeps_written o v w named is keeps reaches = keeps_bare o v w named is keeps (moves_of_reaches v w reaches)
+pub keeps_written : (o : Outset) (v w : View) (named : Triples) → IsLayout v.layout → o.tables ≡ None → ViewKeepsBare o v named → Reaches v w → ViewKeepsBare o w named
+keeps_written o v w named is untold keeps reaches = keeps_bare o v w named is untold keeps (moves_of_reaches v w reaches)
 
 -- ---- The allocation map is looked at.
 

@@ -18,9 +18,11 @@ use Rattle.file_manager.specs.declared.volume.Volume.{Volume}
 use Rattle.file_manager.proofs.BookLemmas.{known_after}
 use Rattle.fault_core.specs.declared.core_over.CoreOver.{CoreOver}
 use Rattle.fault_core.specs.Core.{kept}
+use Rattle.fault_core.specs.Lack.{Sees}
 use Rattle.fault_core.specs.Reach.{BringsOwn}
 use Rattle.fault_core.specs.Told.{Known}
 use Rattle.fault_core.specs.View.{View, TablesAre, view_of}
+use Rattle.space_calls.specs.Sees.{SeesOn}
 use Rattle.running_words.specs.Running.{IsRunning, Runs}
 use Rattle.running_words.specs.RunningLaws.{IsWhole}
 use Rattle.running_words.specs.Session.{AreInForm, IsSession}
@@ -28,6 +30,7 @@ use Rattle.running_words.proofs.ChangedLemmas.{session_changed}
 use Rattle.running_words.proofs.KnownLemmas.{session_known}
 use Rattle.running_words.proofs.LaterLemmas.{tables_own}
 use Rattle.pilot_engine.specs.Opening.{root_alone}
+use Rattle.pilot_engine.specs.Reasons.{SeesRoot}
 
 module _ (v : View) (volume : Volume) (d : List Sector) (whole : IsWhole v) (s : IsSession root_alone v.disk v.slots v.layout v.runs volume (start d)) where
   -- the bytes of the pages that were made
@@ -57,3 +60,11 @@ pub runs_over : {D A : Type 0} {G : Ghosts D} (c : CoreOver D A G) (filer : File
 runs_over {D} {A} {G} c filer volume m same none one runs =
     subst (λ (n : ℕ). IsRunning (view_of c.filer) (kept c) n volume m) (sym one)
     (subst (λ (ks : List Interval). IsRunning (view_of c.filer) ks 1 volume m) (sym none) (subst (λ (f : FilerOver D A G). IsRunning (view_of f) [] 1 volume m) (sym same) runs))
+
+-- what is seen of the tables by the filer, the core sees
+pub sees_over : {D A : Type 0} {G : Ghosts D} (c : CoreOver D A G) (filer : FilerOver D A G) → c.filer ≡ filer → kept c ≡ [] → c.intervals ≡ 1 → SeesRoot (view_of filer) → SeesOn c
+sees_over {D} {A} {G} c filer same none one sees = (
+  root ∷ [],
+  subst (λ (n : ℕ). Sees (view_of c.filer) (kept c) n (root ∷ [])) (sym one)
+      (subst (λ (ks : List Interval). Sees (view_of c.filer) ks 1 (root ∷ [])) (sym none) (subst (λ (f : FilerOver D A G). Sees (view_of f) [] 1 (root ∷ [])) (sym same) sees)),
+)

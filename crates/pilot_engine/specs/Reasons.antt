@@ -1,7 +1,8 @@
 -- Why a session that does not start tells damage, from what the disk had before.
-use Rattle.std.specs.Prelude.{◌≡◌, List, [], ◌∷◌, ◌++◌, Some}
+use Rattle.std.specs.Prelude.{◌≡◌, ◌<◌, ◌≤◌, ℕ, false, List, [], ◌∷◌, ◌++◌, Some, slice_get}
 use Rattle.labelled_disk.specs.declared.disk.DiskWrite.{DiskWrite}
 use Rattle.labelled_disk.specs.declared.layout.Layout.{Layout}
+use Rattle.labelled_disk.specs.Label.{names}
 use Rattle.labelled_disk.specs.Sectors.{Sector}
 use Rattle.labelled_disk.specs.State.{DiskState}
 use Rattle.file_map.specs.FileMap.{Triples}
@@ -9,6 +10,10 @@ use Rattle.file_map.specs.InSectors.{MapNames}
 use Rattle.volume_root.specs.declared.root.Root.{Root}
 use Rattle.volume_root.specs.RootPage.{root_write}
 use Rattle.file_manager.specs.Reasons.{Outset, ShowsReason, outset}
+use Rattle.flat_machine.specs.Space.{root}
+use Rattle.fault_core.specs.Lack.{Sees}
+use Rattle.fault_core.specs.View.{View}
+use Rattle.running_words.specs.Spared.{SparesForm}
 use Rattle.pilot_engine.specs.declared.fault.StartFault.{StartFault}
 use Rattle.pilot_engine.specs.declared.fault.StartFault.TheVariants.{Root as NoRoot, NoMemory, Halt as Halted}
 
@@ -28,3 +33,17 @@ abbrev pub ShowsReasonAtStart : Outset → Layout → DiskState → StartFault �
 ShowsReasonAtStart o layout disk (NoRoot why) = Unit {0}
 ShowsReasonAtStart o layout disk NoMemory = Unit {0}
 ShowsReasonAtStart o layout disk (Halted why) = ShowsReason o layout disk why
+
+-- no data sector's label names a page of the space tables
+abbrev pub HasNoTables : Layout → List Sector → Type 0
+HasNoTables layout d = (page : ℕ) → page < 96 → (sector : ℕ) (s : Sector) → layout.first ≤ sector → slice_get d sector ≡ Some s → names s.0 (record { id = 3; page = page }) ≡ false
+
+-- where a halt is why no session started, it is not that a page of the space tables breaks its form
+abbrev pub SparesFormAtStart : StartFault → Type 0
+SparesFormAtStart (NoRoot why) = Unit {0}
+SparesFormAtStart NoMemory = Unit {0}
+SparesFormAtStart (Halted why) = SparesForm why
+
+-- the space tables are told, and in form: they have the root alone
+abbrev pub SeesRoot : View → Type 0
+SeesRoot v = Sees v [] 1 (root ∷ [])

@@ -1,5 +1,5 @@
 //! The temporary files of a session go, at its end.
-ghost use Rattle.std.specs.Prelude.{◌≡◌, ◌+◌, ◌*◌, ◌<◌, ◌≤◌, IfOk, IfErr, IfSome, OnOk, Err, Some};
+ghost use Rattle.std.specs.Prelude.{◌≡◌, ◌+◌, ◌*◌, ◌<◌, ◌≤◌, IfOk, IfErr, IfSome, OnOk, Err, Some, MatchResult};
 ghost use Rattle.labelled_disk.specs.declared.evidence.Halt.TheVariants as halt;
 ghost use Rattle.labelled_disk.specs.Calls.{Rose};
 ghost use Rattle.labelled_disk.specs.File.{File, file_at, room_of};
@@ -13,6 +13,8 @@ ghost use Rattle.fault_core.specs.Core.{state};
 ghost use Rattle.space_calls.specs.Halts.{After, OnFileHalts};
 ghost use Rattle.pilot_engine.specs.Halting.{ClearHalts, Made, RemoveHalts};
 ghost use Rattle.file_manager.specs.Reasons.{KeepsOn, Outset, ShowsReason};
+ghost use Rattle.space_calls.specs.Sees.{SeesOn};
+ghost use Rattle.running_words.specs.Spared.{SparesForm};
 
 use crate::SessionOver;
 use file_manager::{attributes_of, delete, next};
@@ -38,6 +40,7 @@ impl<D: Disk, A: Allocator> SessionOver<D, A> {
         ensures cause { IfErr result (OnFileHalts id (RemoveHalts id) (state self.old.core) (state self.new.core)) }
         ensures keeps_to { (o : Outset) → KeepsOn o self.old.core.filer → OnOk result (KeepsOn o self.new.core.filer) }
         ensures reasons { (o : Outset) → KeepsOn o self.old.core.filer → IfErr result (ShowsReason o self.old.core.filer.swapper.layout (D.state self.new.core.filer.swapper.under)) }
+        ensures sees { (o : Outset) → KeepsOn o self.old.core.filer → SeesOn self.old.core → MatchResult result (λ _. SeesOn self.new.core) SparesForm }
         ensures so { IfErr result (ShowsSo (D.state self.new.core.filer.swapper.under)) }
         ensures wrote { Wrote (D.state self.old.core.filer.swapper.under) self.old.core.filer.swapper.pool (D.state self.new.core.filer.swapper.under) self.new.core.filer.swapper.pool }
         ensures open_still { IsOpen self.new.core.filer.swapper.layout self.new.volume }
@@ -75,6 +78,7 @@ impl<D: Disk, A: Allocator> SessionOver<D, A> {
         ensures cause { IfErr result (ClearHalts (state self.old.core) (state self.new.core)) }
         ensures keeps_to { (o : Outset) → KeepsOn o self.old.core.filer → OnOk result (KeepsOn o self.new.core.filer) }
         ensures reasons { (o : Outset) → KeepsOn o self.old.core.filer → IfErr result (ShowsReason o self.old.core.filer.swapper.layout (D.state self.new.core.filer.swapper.under)) }
+        ensures sees { (o : Outset) → KeepsOn o self.old.core.filer → SeesOn self.old.core → MatchResult result (λ _. SeesOn self.new.core) SparesForm }
         ensures so { IfErr result (ShowsSo (D.state self.new.core.filer.swapper.under)) }
         ensures wrote { Wrote (D.state self.old.core.filer.swapper.under) self.old.core.filer.swapper.pool (D.state self.new.core.filer.swapper.under) self.new.core.filer.swapper.pool }
         ensures open_still { IsOpen self.new.core.filer.swapper.layout self.new.volume }
@@ -109,6 +113,7 @@ impl<D: Disk, A: Allocator> SessionOver<D, A> {
         ensures cause { IfErr result (After Made ClearHalts (state self.old.core) (state self.new.core)) }
         ensures keeps_to { (o : Outset) → KeepsOn o self.old.core.filer → OnOk result (KeepsOn o self.new.core.filer) }
         ensures reasons { (o : Outset) → KeepsOn o self.old.core.filer → IfErr result (ShowsReason o self.old.core.filer.swapper.layout (D.state self.new.core.filer.swapper.under)) }
+        ensures sees { (o : Outset) → KeepsOn o self.old.core.filer → SeesOn self.old.core → MatchResult result (λ _. SeesOn self.new.core) SparesForm }
         ensures so { IfErr result (ShowsSo (D.state self.new.core.filer.swapper.under)) }
         ensures wrote { Wrote (D.state self.old.core.filer.swapper.under) self.old.core.filer.swapper.pool (D.state self.new.core.filer.swapper.under) self.new.core.filer.swapper.pool }
         ensures open_still { IsOpen self.new.core.filer.swapper.layout self.new.volume }

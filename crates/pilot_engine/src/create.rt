@@ -1,9 +1,10 @@
 //! Files that are made.
-ghost use Rattle.std.specs.Prelude.{◌≡◌, ◌+◌, ◌*◌, ◌≤◌, IfOk, IfErr, OnOk, Err};
+ghost use Rattle.std.specs.Prelude.{◌≡◌, ℕ, ◌+◌, ◌*◌, ◌≤◌, IfOk, IfErr, OnOk, Err, MatchResult};
 ghost use Rattle.labelled_disk.specs.Calls.{Rose};
 ghost use Rattle.labelled_disk.specs.declared.evidence.Halt.TheVariants as halt;
 ghost use Rattle.filer_kernel.specs.Evidence.{ShowsSo};
 ghost use Rattle.flat_machine.specs.declared.call.Call.TheVariants as call;
+ghost use Rattle.flat_machine.specs.declared.call.Reply.TheVariants as reply;
 ghost use Rattle.file_map.specs.FileMap.{most_records};
 ghost use Rattle.flat_machine.specs.Machine.{Machine};
 ghost use Rattle.session_words.specs.Parts.{TablesMeaning};
@@ -12,8 +13,10 @@ ghost use Rattle.running_words.specs.Session.{IsOpen, IsSession, Carries, Wrote}
 ghost use Rattle.running_words.specs.Stages.{Passes};
 ghost use Rattle.pilot_engine.specs.Seen.{CostsInside};
 ghost use Rattle.pilot_engine.specs.Halting.{NewFileHalts};
-ghost use Rattle.file_manager.specs.Creating.{next_id};
+ghost use Rattle.file_manager.specs.Creating.{IsOnward, next_id};
 ghost use Rattle.file_manager.specs.Reasons.{KeepsOn, Outset, ShowsReason};
+ghost use Rattle.space_calls.specs.Sees.{SeesOn, StillSees};
+ghost use Rattle.running_words.specs.Spared.{SparesForm};
 
 use crate::SessionOver;
 use flat_machine::{Refusal, Reply};
@@ -33,11 +36,15 @@ impl<D: Disk, A: Allocator> SessionOver<D, A> {
             → Passes m (call.Create pages kind) (D.state self.old.core.filer.swapper.under) (D.state self.new.core.filer.swapper.under) }
         ensures counted { result ≡ Err halt.Disk → Rose (D.state self.old.core.filer.swapper.under).faults (D.state self.new.core.filer.swapper.under).faults }
         ensures cause { IfErr result (NewFileHalts (next_id self.old.volume.root) (state self.old.core) (state self.new.core)) }
-        ensures keeps_to { (o : Outset) → KeepsOn o self.old.core.filer → OnOk result (KeepsOn o self.new.core.filer) }
-        ensures reasons { (o : Outset) → KeepsOn o self.old.core.filer → IfErr result (ShowsReason o self.old.core.filer.swapper.layout (D.state self.new.core.filer.swapper.under)) }
+        ensures keeps_to { (o : Outset) → KeepsOn o self.old.core.filer → IsOnward o.root self.old.volume.root → OnOk result (KeepsOn o self.new.core.filer) }
+        ensures reasons { (o : Outset) → KeepsOn o self.old.core.filer → IsOnward o.root self.old.volume.root → IfErr result (ShowsReason o self.old.core.filer.swapper.layout (D.state self.new.core.filer.swapper.under)) }
+        ensures sees { (o : Outset) → KeepsOn o self.old.core.filer → IsOnward o.root self.old.volume.root → MatchResult result (λ _. StillSees self.old.core self.new.core) (λ e. SeesOn self.old.core → SparesForm e) }
+        ensures next { IfOk result (λ answer. (id : ℕ) → answer ≡ reply.File id → id ≡ next_id self.old.volume.root) }
         ensures so { IfErr result (ShowsSo (D.state self.new.core.filer.swapper.under)) }
         ensures wrote { Wrote (D.state self.old.core.filer.swapper.under) self.old.core.filer.swapper.pool (D.state self.new.core.filer.swapper.under) self.new.core.filer.swapper.pool }
         ensures open_still { IsOpen self.new.core.filer.swapper.layout self.new.volume }
+        ensures onward { next_id self.old.volume.root ≤ next_id self.new.volume.root }
+        ensures serial { self.new.volume.root.serial ≡ self.old.volume.root.serial }
         ensures layout { self.new.core.filer.swapper.layout ≡ self.old.core.filer.swapper.layout }
         ensures running { self.new.running ≡ self.old.running }
         ensures kept { kept self.new.core ≡ kept self.old.core }

@@ -1,5 +1,5 @@
 //! Files that get another size.
-ghost use Rattle.std.specs.Prelude.{◌≡◌, ◌+◌, ◌-◌, ◌*◌, ◌<◌, ◌≤◌, ◌&&◌, nat_le, IfOk, IfErr, OnOk, Err, None};
+ghost use Rattle.std.specs.Prelude.{◌≡◌, ◌+◌, ◌-◌, ◌*◌, ◌<◌, ◌≤◌, ◌&&◌, nat_le, IfOk, IfErr, OnOk, Err, None, MatchResult};
 ghost use Rattle.labelled_disk.specs.Calls.{Rose};
 ghost use Rattle.labelled_disk.specs.Label.{is_file_id};
 ghost use Rattle.labelled_disk.specs.declared.evidence.Halt.TheVariants as halt;
@@ -18,6 +18,9 @@ ghost use Rattle.pilot_engine.specs.Seen.{CostsInside, IsSeenBy};
 ghost use Rattle.space_calls.specs.Halts.{OnFileHalts, OnNamedHalts};
 ghost use Rattle.pilot_engine.specs.Halting.{SizeHalts};
 ghost use Rattle.file_manager.specs.Reasons.{KeepsOn, Outset, ShowsReason};
+ghost use Rattle.space_calls.specs.Sees.{SeesOn};
+ghost use Rattle.running_words.specs.Spared.{SparesForm};
+ghost use Rattle.file_manager.specs.Creating.{next_id};
 
 use crate::SessionOver;
 use crate::sight::Sight;
@@ -69,9 +72,12 @@ impl<D: Disk, A: Allocator> SessionOver<D, A> {
         ensures cause { IfErr result (OnFileHalts id (SizeHalts id pages) (state self.old.core) (state self.new.core)) }
         ensures keeps_to { (o : Outset) → KeepsOn o self.old.core.filer → OnOk result (KeepsOn o self.new.core.filer) }
         ensures reasons { (o : Outset) → KeepsOn o self.old.core.filer → IfErr result (ShowsReason o self.old.core.filer.swapper.layout (D.state self.new.core.filer.swapper.under)) }
+        ensures sees { (o : Outset) → KeepsOn o self.old.core.filer → SeesOn self.old.core → MatchResult result (λ _. SeesOn self.new.core) SparesForm }
         ensures so { IfErr result (ShowsSo (D.state self.new.core.filer.swapper.under)) }
         ensures wrote { Wrote (D.state self.old.core.filer.swapper.under) self.old.core.filer.swapper.pool (D.state self.new.core.filer.swapper.under) self.new.core.filer.swapper.pool }
         ensures open_still { IsOpen self.new.core.filer.swapper.layout self.new.volume }
+        ensures onward { next_id self.old.volume.root ≤ next_id self.new.volume.root }
+        ensures serial { self.new.volume.root.serial ≡ self.old.volume.root.serial }
         ensures layout { self.new.core.filer.swapper.layout ≡ self.old.core.filer.swapper.layout }
         ensures running { self.new.running ≡ self.old.running }
         ensures kept { kept self.new.core ≡ kept self.old.core }
@@ -116,9 +122,12 @@ impl<D: Disk, A: Allocator> SessionOver<D, A> {
         ensures cause { IfErr result (OnNamedHalts id self.old.core.intervals (SizeHalts id pages) (state self.old.core) (state self.new.core)) }
         ensures keeps_to { (o : Outset) → KeepsOn o self.old.core.filer → OnOk result (KeepsOn o self.new.core.filer) }
         ensures reasons { (o : Outset) → KeepsOn o self.old.core.filer → IfErr result (ShowsReason o self.old.core.filer.swapper.layout (D.state self.new.core.filer.swapper.under)) }
+        ensures sees { (o : Outset) → KeepsOn o self.old.core.filer → SeesOn self.old.core → MatchResult result (λ _. SeesOn self.new.core) SparesForm }
         ensures so { IfErr result (ShowsSo (D.state self.new.core.filer.swapper.under)) }
         ensures wrote { Wrote (D.state self.old.core.filer.swapper.under) self.old.core.filer.swapper.pool (D.state self.new.core.filer.swapper.under) self.new.core.filer.swapper.pool }
         ensures open_still { IsOpen self.new.core.filer.swapper.layout self.new.volume }
+        ensures onward { next_id self.old.volume.root ≤ next_id self.new.volume.root }
+        ensures serial { self.new.volume.root.serial ≡ self.old.volume.root.serial }
         ensures layout { self.new.core.filer.swapper.layout ≡ self.old.core.filer.swapper.layout }
         ensures running { self.new.running ≡ self.old.running }
         ensures cost { (m : Machine) → Runs self.old.core self.old.volume m → CostsOther (D.state self.old.core.filer.swapper.under) (D.state self.new.core.filer.swapper.under) }

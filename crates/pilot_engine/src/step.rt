@@ -1,5 +1,5 @@
 //! One call of a client.
-ghost use Rattle.std.specs.Prelude.{◌≡◌, ℕ, ◌+◌, ◌≤◌, true, false, IfOk, IfErr, IsOk, OnOk, OnErr, Err, Some, None};
+ghost use Rattle.std.specs.Prelude.{◌≡◌, ℕ, ◌+◌, ◌≤◌, true, false, IfOk, IfErr, IsOk, OnOk, OnErr, Err, Some, None, MatchResult};
 ghost use Rattle.labelled_disk.specs.Calls.{Rose};
 ghost use Rattle.labelled_disk.specs.declared.evidence.Halt.TheVariants as halt;
 ghost use Rattle.filer_kernel.specs.Evidence.{ShowsSo};
@@ -16,8 +16,10 @@ ghost use Rattle.running_words.specs.Stages.{Passes, may_dirty};
 ghost use Rattle.fault_core.specs.Core.{kept, state};
 ghost use Rattle.pilot_engine.specs.Advised.{IsAdvised};
 ghost use Rattle.pilot_engine.specs.Stepping.{IsResident, StepHalts, relabels, waits};
-ghost use Rattle.file_manager.specs.Creating.{next_id};
+ghost use Rattle.file_manager.specs.Creating.{IsOnward, next_id};
 ghost use Rattle.file_manager.specs.Reasons.{KeepsOn, Outset, ShowsReason};
+ghost use Rattle.space_calls.specs.Sees.{SeesOn};
+ghost use Rattle.running_words.specs.Spared.{SparesForm};
 
 use crate::SessionOver;
 use flat_machine::{Call, Reply};
@@ -52,11 +54,14 @@ impl<D: Disk, A: Allocator> SessionOver<D, A> {
             → OnOk result (IsAdvised m.spaces call.now (kept self.new.core) self.new.core.filer.swapper.pool) }
         ensures counted { result ≡ Err halt.Disk → Rose (D.state self.old.core.filer.swapper.under).faults (D.state self.new.core.filer.swapper.under).faults }
         ensures cause { IfErr result (StepHalts (next_id self.old.volume.root) call.now self.old.core.intervals (state self.old.core) (state self.new.core)) }
-        ensures keeps_to { (o : Outset) → KeepsOn o self.old.core.filer → OnOk result (KeepsOn o self.new.core.filer) }
-        ensures reasons { (o : Outset) → KeepsOn o self.old.core.filer → IfErr result (ShowsReason o self.old.core.filer.swapper.layout (D.state self.new.core.filer.swapper.under)) }
+        ensures keeps_to { (o : Outset) → KeepsOn o self.old.core.filer → IsOnward o.root self.old.volume.root → OnOk result (KeepsOn o self.new.core.filer) }
+        ensures reasons { (o : Outset) → KeepsOn o self.old.core.filer → IsOnward o.root self.old.volume.root → IfErr result (ShowsReason o self.old.core.filer.swapper.layout (D.state self.new.core.filer.swapper.under)) }
+        ensures sees { (o : Outset) → KeepsOn o self.old.core.filer → IsOnward o.root self.old.volume.root → SeesOn self.old.core → MatchResult result (λ _. SeesOn self.new.core) SparesForm }
         ensures so { IfErr result (ShowsSo (D.state self.new.core.filer.swapper.under)) }
         ensures wrote { WroteIn (may_dirty call.now) (D.state self.old.core.filer.swapper.under) self.old.core.filer.swapper.pool (D.state self.new.core.filer.swapper.under) self.new.core.filer.swapper.pool }
         ensures open_still { IsOpen self.new.core.filer.swapper.layout self.new.volume }
+        ensures onward { next_id self.old.volume.root ≤ next_id self.new.volume.root }
+        ensures serial { self.new.volume.root.serial ≡ self.old.volume.root.serial }
         ensures layout { self.new.core.filer.swapper.layout ≡ self.old.core.filer.swapper.layout }
         ensures goes_on { OnOk result (self.new.running ≡ true) }
         ensures halted { OnErr result (self.new.running ≡ false) }
@@ -91,11 +96,14 @@ impl<D: Disk, A: Allocator> SessionOver<D, A> {
             → OnOk result (IsAdvised m.spaces call.now (kept self.new.core) self.new.core.filer.swapper.pool) }
         ensures counted { result ≡ Err halt.Disk → Rose (D.state self.old.core.filer.swapper.under).faults (D.state self.new.core.filer.swapper.under).faults }
         ensures cause { IfErr result (StepHalts (next_id self.old.volume.root) call.now self.old.core.intervals (state self.old.core) (state self.new.core)) }
-        ensures keeps_to { (o : Outset) → KeepsOn o self.old.core.filer → OnOk result (KeepsOn o self.new.core.filer) }
-        ensures reasons { (o : Outset) → KeepsOn o self.old.core.filer → IfErr result (ShowsReason o self.old.core.filer.swapper.layout (D.state self.new.core.filer.swapper.under)) }
+        ensures keeps_to { (o : Outset) → KeepsOn o self.old.core.filer → IsOnward o.root self.old.volume.root → OnOk result (KeepsOn o self.new.core.filer) }
+        ensures reasons { (o : Outset) → KeepsOn o self.old.core.filer → IsOnward o.root self.old.volume.root → IfErr result (ShowsReason o self.old.core.filer.swapper.layout (D.state self.new.core.filer.swapper.under)) }
+        ensures sees { (o : Outset) → KeepsOn o self.old.core.filer → IsOnward o.root self.old.volume.root → SeesOn self.old.core → MatchResult result (λ _. SeesOn self.new.core) SparesForm }
         ensures so { IfErr result (ShowsSo (D.state self.new.core.filer.swapper.under)) }
         ensures wrote { WroteIn (may_dirty call.now) (D.state self.old.core.filer.swapper.under) self.old.core.filer.swapper.pool (D.state self.new.core.filer.swapper.under) self.new.core.filer.swapper.pool }
         ensures open_still { IsOpen self.new.core.filer.swapper.layout self.new.volume }
+        ensures onward { next_id self.old.volume.root ≤ next_id self.new.volume.root }
+        ensures serial { self.new.volume.root.serial ≡ self.old.volume.root.serial }
         ensures layout { self.new.core.filer.swapper.layout ≡ self.old.core.filer.swapper.layout }
         ensures running { self.new.running ≡ self.old.running }
         ensures cost { (m : Machine) → Runs self.old.core self.old.volume m

@@ -16,7 +16,7 @@ use Rattle.pilot_engine.specs.Closing.{HasShut}
 use Rattle.frame_pool.specs.declared.home.Home.{Home}
 use Rattle.swapper_kernel.specs.Homes.{home_at}
 use Rattle.filer_kernel.specs.Evidence.{IsSo}
-use Rattle.file_manager.specs.Reasons.{HasReason, IsAtHome, IsLet, MayBeFree, Outset, WasMade, outset}
+use Rattle.file_manager.specs.Reasons.{HasReason, IsAtHome, IsLet, MayBeFree, Outset, WasMade, outset, IsUsed}
 use Rattle.pilot_top.specs.Headline.{IsLeftOpen, Run, TellsDamage}
 use Rattle.pilot_top.specs.Moments.{Lawfully, Moments}
 use Rattle.pilot_top.specs.Outset.{FromOutset}
@@ -39,8 +39,16 @@ home_there o a b home same (inl named) = inl named
 home_there o a b home same (inr given) = inr (given.0, made_there o a b _ same given.1)
 
 free_there : (o : Outset) (a b : DiskState) (sector : ℕ) → a.writes ≡ b.writes → MayBeFree o a sector → MayBeFree o b sector
-free_there o a b sector same (inl free) = inl free
-free_there o a b sector same (inr given) = inr (made_there o a b _ same given)
+free_there o a b sector same h = record {
+  outset = elim h.outset [ inl free ↦ inl free | inr given ↦ inr (made_there o a b _ same given) ];
+  since = (h.since.0, sym same ∙ h.since.1, h.since.2);
+}
+
+used_there : (o : Outset) (a b : DiskState) (sector : ℕ) → a.writes ≡ b.writes → IsUsed o a sector → IsUsed o b sector
+used_there o a b sector same h = record {
+  outset = elim h.outset [ inl used ↦ inl used | inr taken ↦ inr (taken.0, taken.1, (taken.2.0, made_there o a b _ same taken.2.1)) ];
+  since = (h.since.0, sym same ∙ h.since.1, h.since.2);
+}
 
 let_there : (o : Outset) (a b : DiskState) (home : Home) → a.writes ≡ b.writes → IsLet o a home → IsLet o b home
 let_there o a b home same h = record {
@@ -56,7 +64,7 @@ reason_there o l a b (Malformed window page) same (inl (second, first, full)) =
     inl (second, first, record { homes = full.homes; counted = full.counted; each = λ k home at. home_there o a b home same (full.each k home at); apart = full.apart })
 reason_there o l a b (Malformed window page) same (inr third) = inr third
 reason_there o l a b (Missing id page) same (inl (tables, first, up)) =
-    inl (tables, first, λ sector from below free. let taken = up sector from below free in (taken.0, taken.1, (taken.2.0, made_there o a b _ same taken.2.1)))
+    inl (tables, first, λ sector from below. used_there o a b sector same (up sector from below))
 reason_there o l a b (Missing id page) same (inr (may, gone)) = inr (may, λ sector from. let_there o a b _ same (gone sector from))
 
 module _ {D : Type 0} (state : D → DiskState) (x y : D) (same : x ≡ y) where
@@ -132,7 +140,7 @@ module _ {D : Type 0} (state : D → DiskState) (x y : D) (same : x ≡ y) where
     pub from_behind : (e : Evidence) → FromOutset (lent_state m first) (lent_state n (state y)) e → FromOutset first (state x) e
     from_behind e from d named ws begun =
         let there = from d named ws (record { contents = begun.contents; writes = begun.writes; map = begun.map }) in
-        (there.0, reason_there (outset d named (ws ++ (root_write there.0 ∷ []))) (layout_of (length d)) (lent_state n (state y)) (state x) e (ap (λ z. (state z).writes) (sym same)) there.1)
+        ((there.0.0, reason_there (outset d named (ws ++ (root_write there.0.0 ∷ []))) (layout_of (length d)) (lent_state n (state y)) (state x) e (ap (λ z. (state z).writes) (sym same)) there.0.1), there.1)
 
     pub reads_behind : OnlyReads (lent_state m first) (lent_state n (state y)) → OnlyReads first (state x)
     reads_behind reads = rw same (record {

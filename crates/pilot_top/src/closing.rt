@@ -49,7 +49,7 @@ pub(crate) fn close<D: Disk, A: Allocator, K: Sink>(
         → Rose (D.state session.core.filer.swapper.under).faults (D.state result.1).faults }
     ensures damage_line { result.0 ≡ Some Status.Damaged → (e : Evidence) × Puts (Rose (K.faults sink.old) (K.faults sink.new)) (K.took sink.old) (K.took sink.new)
         (last_line (Cause.Damaged e)) }
-    ensures so { result.0 ≡ Some Status.Damaged → (e : Evidence) × IsSo (D.state result.1) e × FromEachOutset session.core.filer (D.state result.1) e × Puts (Rose (K.faults sink.old) (K.faults sink.new)) (K.took sink.old) (K.took sink.new)
+    ensures so { result.0 ≡ Some Status.Damaged → (e : Evidence) × IsSo (D.state result.1) e × FromEachOutset session (D.state result.1) e × Puts (Rose (K.faults sink.old) (K.faults sink.new)) (K.took sink.old) (K.took sink.new)
         (last_line (Cause.Damaged e)) }
     ensures left_open { IsUnset (D.state session.core.filer.swapper.under) → result.0 ≡ Some Status.Damaged → IsUnset (D.state result.1) }
     ensures ends { (result.0 ≡ None) ⊎ (result.0 ≡ Some Status.DiskFault)
@@ -92,7 +92,7 @@ pub(crate) fn end_trace<D: Disk, A: Allocator, K: Sink>(
         (last_line Cause.DiskFault) }
     ensures disk_cause { result.0 ≡ Status.DiskFault
         → Rose (D.state session.core.filer.swapper.under).faults (D.state result.1).faults }
-    ensures damage_line { result.0 ≡ Status.Damaged → (e : Evidence) × IsSo (D.state result.1) e × FromEachOutset session.core.filer (D.state result.1) e × Puts (Rose (K.faults sink.old) (K.faults sink.new)) (K.took sink.old) (K.took sink.new)
+    ensures damage_line { result.0 ≡ Status.Damaged → (e : Evidence) × IsSo (D.state result.1) e × FromEachOutset session (D.state result.1) e × Puts (Rose (K.faults sink.old) (K.faults sink.new)) (K.took sink.old) (K.took sink.new)
         (last_line (Cause.Damaged e)) }
     ensures left_open { IsUnset (D.state session.core.filer.swapper.under) → result.0 ≡ Status.Damaged → IsUnset (D.state result.1) }
     ensures ends { (result.0 ≡ Status.Done) ⊎ (result.0 ≡ Status.StreamFault)

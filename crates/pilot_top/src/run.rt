@@ -51,7 +51,7 @@ fn answer_lines<D: Disk, A: Allocator, S: Source, K: Sink>(
     ensures replied { (b t : List ℕ) → IsLeftOpen (D.state session.core.filer.swapper.under)
         → S.left source.old ≡ Some b → K.took sink.old ≡ Some t
         → Replied result.0 b (S.left source.new) t (K.took sink.new)
-        (Rose (K.faults sink.old) (K.faults sink.new)) (D.state result.1) (FromEachOutset session.core.filer (D.state result.1)) }
+        (Rose (K.faults sink.old) (K.faults sink.new)) (D.state result.1) (FromEachOutset session (D.state result.1)) }
     ensures moments { (m : Machine) (b : List ℕ) → Runs session.core session.volume m
         → S.left source.old ≡ Some b → Moments m (reading b) (D.state session.core.filer.swapper.under) (D.state result.1) }
     ensures closed { (m : Machine) (b : List ℕ) → Runs session.core session.volume m
@@ -78,7 +78,7 @@ fn answer_lines<D: Disk, A: Allocator, S: Source, K: Sink>(
     ensures damage { (t : List ℕ) → IsLeftOpen (D.state session.core.filer.swapper.under)
         → K.took sink.old ≡ Some t → result.0 ≡ Status.Damaged
         → (told : TellsDamage t (K.took sink.new) (Rose (K.faults sink.old) (K.faults sink.new)) (D.state result.1))
-        × FromEachOutset session.core.filer (D.state result.1) told.evidence }
+        × FromEachOutset session (D.state result.1) told.evidence }
     ensures lawful { ShutsLast (D.state session.core.filer.swapper.under) (D.state result.1) }
     ensures same_disk { Went (D.state session.core.filer.swapper.under) (D.state result.1) }
     ensures disk_cause { result.0 ≡ Status.DiskFault

@@ -1,6 +1,6 @@
 -- What goes with calls that write no label: their changes in a row, and that what is seen keeps to the outset.
-use Rattle.std.proofs.Common.{◌≡◌, ◌⊎◌, inl, inr, ℕ, ◌+◌, ◌*◌, ◌<◌, true, false, List, refl, sym, ◌∙◌, ap, subst, arith}
-use Rattle.std.specs.Prelude.{[]}
+use Rattle.std.proofs.Common.{◌≡◌, ◌⊎◌, inl, inr, ℕ, ◌+◌, ◌*◌, ◌<◌, true, false, List, Option, None, refl, sym, ◌∙◌, ap, subst, arith}
+use Rattle.std.specs.Prelude.{[], IfSome}
 use Rattle.std.proofs.lemmas.Bool.{true≢false}
 use Rattle.std.proofs.lemmas.Bool.Decides.{nat_tests}
 use Rattle.std.proofs.lemmas.Option.{none-some}
@@ -36,8 +36,10 @@ use Rattle.filer_kernel.specs.Evidence.{MayBeMissing}
 use Rattle.filer_kernel.specs.Marks.{Marks, BitsAre}
 use Rattle.filer_kernel.specs.Triples.{MapIs}
 use Rattle.file_manager.specs.Grounds.{IsMapsHome, IsUnframed}
-use Rattle.file_manager.specs.ReasonLaws.{keeps_after, run_home_named, in_form, shows_later, shows_before}
-use Rattle.file_manager.specs.Reasons.{Outset, IsAtHome, KeepsTo, HasReason, ShowsReason}
+use Rattle.file_manager.specs.LaterLaws.{shows_later, shows_before}
+use Rattle.file_manager.specs.ShownLaws.{run_home_named, in_form}
+use Rattle.file_manager.specs.KeepLaws.{keeps_after}
+use Rattle.file_manager.specs.Reasons.{Outset, AreTabled, IsAtHome, KeepsTo, HasReason, ShowsReason}
 use Rattle.fault_core.specs.Reach.{IsReached, Reaches, ReachEvidence, ReachHalts}
 use Rattle.fault_core.specs.Touch.{on_data, Touches}
 use Rattle.fault_core.specs.View.{View, kept_by}
@@ -155,20 +157,21 @@ module _ (o : Outset) (v : View) (named : Triples) (is : IsLayout v.layout) (kee
   ]
 
   module _ (w : View) (h : Moves v w) where
-    keeps_there : KeepsTo o v.layout (kept_by w) w.disk w.slots named
-    keeps_there =
+    keeps_there : o.tables ≡ None → KeepsTo o v.layout (kept_by w) w.disk w.slots named
+    keeps_there untold =
         let now = h.goes.memory keeps.memory keeps.stands in
         keeps_after keeps h.goes.makes now.0 now.1 named (map_still v.layout is named keeps.memory now.0 now.2 keeps.map) (λ home one. inl one)
         (kept_by w) (h.runs_are keeps.memory named keeps.stands keeps.map keeps.kept)
         (λ home held. elim (h.brings.homes home held) [ inl was ↦ inl was | inr came ↦ inr (reached_named home came) ])
-        (unframed_moved w.slots h.brings) keeps.marks (marks_still v.layout is keeps.marks keeps.memory now.0 now.2 keeps.bits) (λ sector from below free. inl free)
-        (λ home from may one. inl one) (λ home from may. inr (λ k write at gives. none-some write at)) (λ sector from below used. inl used)
+        (unframed_moved w.slots h.brings) keeps.marks (marks_still v.layout is keeps.marks keeps.memory now.0 now.2 keeps.bits) (λ sector from below free. inl (free, λ k write at takes. none-some write at))
+        (λ home from may one. inl one) (λ home from may. inr (λ k write at gives. none-some write at)) (λ sector from below used. inl (used, λ k write at up. none-some write at))
+        (λ told. subst (λ (t : Option (List ℕ)). IfSome t (AreTabled v.layout named now.0)) (sym untold) tt)
 
 module _ (o : Outset) (v : View) (named : Triples) (is : IsLayout v.layout) (keeps : ViewKeepsTo o v named) where
   -- a page that the file map does not name is missing with reason
   pub unnamed_missing : (id page : ℕ) → MayBeMissing id page → ((m : List Sector) (triples : Triples) → Stands v.disk v.slots m → MapIs v.layout triples m → IsNowhere triples id page) → HasReason o v.layout v.disk (Missing id page)
   unnamed_missing id page (inl (tables, below)) nowhere =
-      let at = keeps.1 page below in
+      let at = keeps.1.0 page below in
       absurd (true≢false (sym at.1 ∙ subst (λ (i : ℕ). named i page at.0 ≡ false) tables (nowhere keeps.0.memory named keeps.0.stands keeps.0.map at.0)))
   unnamed_missing id page (inr client) nowhere = inr (
     client,
@@ -189,7 +192,7 @@ module _ (o : Outset) (v : View) (named : Triples) (is : IsLayout v.layout) (kee
     ]
     evidence_shows (Malformed window page) cause = elim cause [
       | inl (second, broken) ↦ absurd (in_form is keeps.0.size keeps.0.stands keeps.0.map page broken)
-      | inr (third, broken) ↦ inr third
+      | inr (third, broken) ↦ inr (third, keeps.1.1)
     ]
     evidence_shows (Missing id page) cause = unnamed_missing id page cause.0 cause.1
 
@@ -198,12 +201,12 @@ module _ (o : Outset) (v : View) (named : Triples) (is : IsLayout v.layout) (kee
     halt_shows (Damaged evidence) cause = evidence_shows evidence cause
 
 -- what is seen afterwards keeps to it too, whether or not the space tables are named
-pub keeps_bare : (o : Outset) (v w : View) (named : Triples) → IsLayout v.layout → KeepsTo o v.layout (kept_by v) v.disk v.slots named → Moves v w → KeepsTo o w.layout (kept_by w) w.disk w.slots named
-keeps_bare o v w named is keeps h = subst (λ (l : Layout). KeepsTo o l (kept_by w) w.disk w.slots named) (sym h.layout) (keeps_there o v named is keeps w h)
+pub keeps_bare : (o : Outset) (v w : View) (named : Triples) → IsLayout v.layout → o.tables ≡ None → KeepsTo o v.layout (kept_by v) v.disk v.slots named → Moves v w → KeepsTo o w.layout (kept_by w) w.disk w.slots named
+keeps_bare o v w named is untold keeps h = subst (λ (l : Layout). KeepsTo o l (kept_by w) w.disk w.slots named) (sym h.layout) (keeps_there o v named is keeps w h untold)
 
 -- and where they are
 pub keeps_moved : (o : Outset) (v w : View) (named : Triples) → IsLayout v.layout → ViewKeepsTo o v named → Moves v w → ViewKeepsTo o w named
-keeps_moved o v w named is keeps h = (keeps_bare o v w named is keeps.0 h, keeps.1)
+keeps_moved o v w named is keeps h = (keeps_bare o v w named is keeps.1.1 keeps.0 h, keeps.1)
 
 -- a reason that stands after it stood before
 pub moved_before : (o : Outset) (v w : View) (named : Triples) → ViewKeepsTo o v named → Moves v w → (halt : Halt) → ShowsReason o v.layout w.disk halt → ShowsReason o v.layout v.disk halt

@@ -19,7 +19,8 @@ use Rattle.swapper_kernel.specs.Homes.{IsLayout, home_at}
 use Rattle.filer_kernel.specs.Causes.{MapEvidence}
 use Rattle.filer_kernel.specs.Tables.{in_tables}
 use Rattle.file_manager.specs.Finding.{IsNoLeader}
-use Rattle.file_manager.specs.ReasonLaws.{run_home_named, in_form, shows_later}
+use Rattle.file_manager.specs.LaterLaws.{shows_later}
+use Rattle.file_manager.specs.ShownLaws.{run_home_named, in_form}
 use Rattle.file_manager.specs.Reasons.{Outset, IsAtHome, HasReason, ShowsReason}
 use Rattle.fault_core.specs.Reach.{Reaches, ReachHalts}
 use Rattle.fault_core.specs.Touch.{on_data}

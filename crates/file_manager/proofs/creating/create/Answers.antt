@@ -26,6 +26,7 @@ use Rattle.file_manager.proofs.RootCalls.{created_root, created_some_root}
 use Rattle.file_map.specs.FileMap.{without_from}
 use Rattle.file_manager.proofs.KeepSteps.{keeps_at}
 use Rattle.file_manager.proofs.ReasonCauses.{cut_reasons}
+use Rattle.file_manager.specs.TabledLaws.{client_leaves}
 use Rattle.file_manager.proofs.RootKeeps.{none_left, root_lets, whole_cut}
 use Rattle.file_manager.proofs.KeepCut.{tables_left}
 use Rattle.file_manager.proofs.creating.create.Goals as goal
@@ -184,29 +185,30 @@ pub returns-clause-root : goal.returns-clause-root
 returns-clause-root g c = created_root c.args.volume.now.root c.next_id-id.ensures.serial c.requires.valid.serial c.requires.counter c.args.filer.now.swapper.layout c.args.filer.now.swapper.accepted (λ d told. g.met.D.Disk.whole c.args.filer.now.swapper.under d told ∙ c.requires.size) c.args.kind c.args.pages (returns-clause-makes g c)
 
 pub returns-in-Err-clause-reasons : goal.returns-in-Err-clause-reasons
-returns-in-Err-clause-reasons g c = λ o named h. c.in-Err.ensures.reasons o named h
+returns-in-Err-clause-reasons g c = λ o named h since. c.in-Err.ensures.reasons o named h
 
 pub returns-in-Err-cut-clause-reasons : goal.returns-in-Err-cut-clause-reasons
-returns-in-Err-cut-clause-reasons g c = λ o named h.
+returns-in-Err-cut-clause-reasons g c = λ o named h since.
     let rooted = c.in-Ok.ensures.keeps_to o named h in
     rw c.in-Ok.ensures.layout at
     (cut_reasons rooted c.cut.ensures.beside.goes.makes c.in-Err-cut.halt c.in-Err-cut.ensures.cause (c.in-Err-cut.ensures.right rooted.memory named rooted.stands rooted.map))
 
 pub returns-in-Err-make_file-clause-reasons : goal.returns-in-Err-make_file-clause-reasons
-returns-in-Err-make_file-clause-reasons g c = λ o named h.
+returns-in-Err-make_file-clause-reasons g c = λ o named h since.
     let rooted = c.in-Ok.ensures.keeps_to o named h in
     let lay : c.cut.new.self.swapper.layout ≡ c.args.filer.now.swapper.layout = c.in-Ok-cut.ensures.beside.layout ∙ c.in-Ok.ensures.layout in
     let id = c.next_id-id.result in
+    let client : 16 ≤ id = let of = c.next_id-id.ensures.next in let serial = c.requires.valid.serial in omega (arith, of, serial) in
     let cut = keeps_at c.cut.new.self.runs c.in-Ok-cut.ensures.beside.layout (whole_cut rooted c.in-Ok-cut.ensures.beside id (c.in-Ok-cut.ensures.runs c.write_over.new.filer.swapper.layout.sectors)
-    (λ home from may same was. root_lets c.args.volume.now.root c.args.filer.now.swapper.accepted h c.in-Ok.ensures.made.makes home (rw c.in-Ok.ensures.layout at from) (same ∙ c.next_id-id.ensures.next)) c.in-Ok-cut.ensures.cut) in
+    (λ home from may same was. root_lets c.args.volume.now.root c.args.filer.now.swapper.accepted h since c.requires.counter c.in-Ok.ensures.made.makes home (rw c.in-Ok.ensures.layout at from) (same ∙ c.next_id-id.ensures.next)) c.write_over.new.filer.swapper.accepted (client_leaves o id client) c.in-Ok-cut.ensures.cut) in
     (rw (c.frames_of.ensures.same, lay) at c.in-Err-make_file.ensures.reasons) o (without_from named id 0) (rw lay at cut) (none_left named id)
 
 pub returns-clause-keeps_to : goal.returns-clause-keeps_to
-returns-clause-keeps_to g c = λ o named h.
+returns-clause-keeps_to g c = λ o named h since.
     let rooted = c.in-Ok.ensures.keeps_to o named h in
     let id = c.next_id-id.result in
-    let cut = keeps_at c.cut.new.self.runs c.in-Ok-cut.ensures.beside.layout (whole_cut rooted c.in-Ok-cut.ensures.beside id (c.in-Ok-cut.ensures.runs c.write_over.new.filer.swapper.layout.sectors)
-    (λ home from may same was. root_lets c.args.volume.now.root c.args.filer.now.swapper.accepted h c.in-Ok.ensures.made.makes home (rw c.in-Ok.ensures.layout at from) (same ∙ c.next_id-id.ensures.next)) c.in-Ok-cut.ensures.cut) in
-    let later = (rw c.frames_of.ensures.same at c.in-Ok-make_file.ensures.keeps_to) o (without_from named id 0) cut (none_left named id) in
     let client : 16 ≤ id = let of = c.next_id-id.ensures.next in let serial = c.requires.valid.serial in omega (arith, of, serial) in
+    let cut = keeps_at c.cut.new.self.runs c.in-Ok-cut.ensures.beside.layout (whole_cut rooted c.in-Ok-cut.ensures.beside id (c.in-Ok-cut.ensures.runs c.write_over.new.filer.swapper.layout.sectors)
+    (λ home from may same was. root_lets c.args.volume.now.root c.args.filer.now.swapper.accepted h since c.requires.counter c.in-Ok.ensures.made.makes home (rw c.in-Ok.ensures.layout at from) (same ∙ c.next_id-id.ensures.next)) c.write_over.new.filer.swapper.accepted (client_leaves o id client) c.in-Ok-cut.ensures.cut) in
+    let later = (rw c.frames_of.ensures.same at c.in-Ok-make_file.ensures.keeps_to) o (without_from named id 0) cut (none_left named id) in
     (later.0, later.1, λ all. later.2 (tables_left named id 0 client all))

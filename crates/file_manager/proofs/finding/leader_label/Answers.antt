@@ -7,7 +7,7 @@ use Rattle.filer_kernel.specs.Evidence.{MayBeIn}
 use Rattle.filer_kernel.specs.EvidenceLaws.{label_after}
 use Rattle.file_manager.proofs.SoLemmas.{fault_shows}
 use Rattle.swapper_kernel.specs.Homes.{home_at}
-use Rattle.file_manager.specs.ReasonLaws.{at_home_later}
+use Rattle.file_manager.specs.LaterLaws.{at_home_later}
 use Rattle.file_manager.proofs.KeepSteps.{keeps_at, keeps_told}
 use Rattle.file_manager.proofs.ReasonCauses.{fault_reason}
 use Rattle.file_manager.proofs.finding.leader_label.Goals as goal

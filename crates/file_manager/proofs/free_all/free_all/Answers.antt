@@ -1,5 +1,6 @@
 use Rattle.std.proofs.Common.{arith, ◌≤◌, ◌≡◌, ◌⊎◌, ◌<◌, inl, inr}
 use Rattle.labelled_disk.specs.Label.{leader_page}
+use Rattle.file_manager.specs.TabledLaws.{client_leaves}
 use Rattle.file_manager.proofs.FreedRun.{stops_then}
 use Rattle.file_manager.proofs.AllFreed.{may_rest, all_freed, all_made, one_page}
 use Rattle.file_manager.proofs.StoppedFree.{leader_some, pages_some}
@@ -8,7 +9,7 @@ use Rattle.file_manager.proofs.Keeping.{keeps_none, keeps_then, free_halts_befor
 use Rattle.filer_kernel.specs.Cached.{runs_of}
 use Rattle.file_manager.specs.Grounds.{IsUnframed}
 use Rattle.file_manager.proofs.OwnSteps.{freed_own, some_own, own_after}
-use Rattle.file_manager.specs.ReasonLaws.{let_later}
+use Rattle.file_manager.specs.LaterLaws.{let_later}
 use Rattle.file_manager.proofs.FreedReasons.{frees_give_not}
 use Rattle.file_manager.proofs.free_all.free_all.Goals as goal
 
@@ -82,22 +83,22 @@ pub returns-in-Err-free_up-clause-so : goal.returns-in-Err-free_up-clause-so
 returns-in-Err-free_up-clause-so g c = c.in-Err-free_up.ensures.so (λ page below. inr c.requires.of_file)
 
 pub returns-in-Err-clause-reasons : goal.returns-in-Err-clause-reasons
-returns-in-Err-clause-reasons g c = λ o named h. c.in-Err.ensures.reasons o named h (inl c.requires.of_file)
+returns-in-Err-clause-reasons g c = λ o named h. c.in-Err.ensures.reasons o named h (client_leaves o c.args.id c.requires.of_file) (inl c.requires.of_file)
 
 pub returns-in-Err-free_up-clause-reasons : goal.returns-in-Err-free_up-clause-reasons
-returns-in-Err-free_up-clause-reasons g c = λ o named h. rw c.in-Ok.ensures.layout at (c.in-Err-free_up.ensures.reasons o named (c.in-Ok.ensures.keeps_to o named h) (λ page below. inl c.requires.of_file))
+returns-in-Err-free_up-clause-reasons g c = λ o named h. rw c.in-Ok.ensures.layout at (c.in-Err-free_up.ensures.reasons o named (c.in-Ok.ensures.keeps_to o named h (client_leaves o c.args.id c.requires.of_file)) (client_leaves o c.args.id c.requires.of_file) (λ page below. inl c.requires.of_file))
 
 pub returns-in-Ok-free_up-clause-keeps_to : goal.returns-in-Ok-free_up-clause-keeps_to
-returns-in-Ok-free_up-clause-keeps_to g c = λ o named h. c.in-Ok-free_up.ensures.keeps_to o named (c.in-Ok.ensures.keeps_to o named h)
+returns-in-Ok-free_up-clause-keeps_to g c = λ o named h. c.in-Ok-free_up.ensures.keeps_to o named (c.in-Ok.ensures.keeps_to o named h (client_leaves o c.args.id c.requires.of_file)) (client_leaves o c.args.id c.requires.of_file)
 
 pub returns-in-Ok-free_up-clause-let_go : goal.returns-in-Ok-free_up-clause-let_go
 returns-in-Ok-free_up-clause-let_go g c = λ o named h page sector own is.
-    let now = c.in-Ok.ensures.keeps_to o named h in
-    let led = c.in-Ok.ensures.let_go o named h in
+    let now = c.in-Ok.ensures.keeps_to o named h (client_leaves o c.args.id c.requires.of_file) in
+    let led = c.in-Ok.ensures.let_go o named h (client_leaves o c.args.id c.requires.of_file) in
     let made = c.in-Ok-free_up.ensures.makes in
     elim own [
       | inl leads ↦
           let some = c.in-Ok.ensures.some in
           let_later o made.makes now.since _ (frees_give_not made.sectors _) (led page sector (let n = some.0 in (omega (arith, leads), omega (arith, leads, n))) is)
-      | inr below ↦ c.in-Ok-free_up.ensures.let_go o named now page sector (omega arith, below) is
+      | inr below ↦ c.in-Ok-free_up.ensures.let_go o named now (client_leaves o c.args.id c.requires.of_file) page sector (omega arith, below) is
     ]

@@ -1,4 +1,5 @@
-use Rattle.std.proofs.Common.{◌≡◌, ℕ, ◌+◌, ◌<◌, ◌≤◌, [], sym, ◌∙◌, subst, refl, arith, rules}
+use Rattle.std.proofs.Common.{◌≡◌, ℕ, ◌+◌, ◌*◌, ◌<◌, ◌≤◌, [], ◌++◌, sym, ◌∙◌, subst, refl, arith, rules}
+use Rattle.std.specs.Prelude.{replicate}
 use Rattle.labelled_disk.specs.declared.layout.Layout.{Layout}
 use Rattle.file_map.specs.Run.{IsRun}
 use Rattle.swapper_kernel.specs.declared.manager.Manager.TheVariants.{AllocationMap}
@@ -7,7 +8,7 @@ use Rattle.filer_kernel.specs.Cached.{runs_of}
 use Rattle.session_words.specs.Parts.{is_marked}
 use Rattle.file_manager.proofs.RowLemmas.{row_run}
 use Rattle.file_manager.proofs.RunStages.{one_free, marks_shown, bits_shown, maps_named, new_run, named_once, named_marked, room_left}
-use Rattle.file_manager.proofs.RunLeads.{above_maps, fewer_of_file, map_makes, added_makes, stopped_labels, stopped_behind, run_in_form, none_over, ones_free, labelled, map_then, named_then, run_leads, row_was_free}
+use Rattle.file_manager.proofs.RunLeads.{above_maps, fewer_of_file, map_makes, added_makes, stopped_labels, stopped_behind, run_in_form, none_over, ones_free, labelled, map_then, named_then, run_leads, row_was_free, some_labelled}
 use Rattle.file_manager.proofs.GrowBroken.{none_grew, labels_grew, all_grew}
 use Rattle.file_manager.proofs.Faults.{counted, counted_then}
 use Rattle.filer_kernel.specs.EvidenceLaws.{fits, so_of_add}
@@ -19,8 +20,9 @@ use Rattle.swapper_kernel.specs.Homes.{Brings}
 use Rattle.frame_pool.specs.Frames.{Slots}
 use Rattle.swapper_kernel.specs.GoesLaws.{makes_then}
 use Rattle.file_manager.specs.Grounds.{IsMapsHome}
-use Rattle.file_manager.specs.ReasonLaws.{keeps_as}
+use Rattle.file_manager.specs.KeepLaws.{keeps_as}
 use Rattle.file_manager.proofs.MadeReasons.{label_reasons_taken, run_keeps, add_reasons, few_none}
+use Rattle.file_manager.proofs.TabledRun.{run_tables, run_within, zeros_more}
 use Rattle.file_manager.proofs.growth.make_run.Goals as goal
 
 pub returns-in-Err-clause-sound : goal.returns-in-Err-clause-sound
@@ -241,7 +243,9 @@ returns-in-Err-label_run-clause-reasons g c = λ o named h nothing.
     let kept = c.in-Ok.ensures.kept in
     let form = c.in-Ok.ensures.form in
     let run = row_run c.args.id c.args.page c.in-Ok.taken.0 c.in-Ok.taken.1 in
-    label_reasons_taken h kept run.sector run.pages form.above form.inside (λ m marks stands bits. (c.in-Ok.ensures.lowest m marks stands bits).free) (stopped_labels run c.args.kind kept c.in-Err-label_run.ensures.frames c.args.most form.few c.in-Err-label_run.ensures.stopped).makes
+    let some = c.in-Err-label_run.ensures.named in
+    label_reasons_taken h kept run c.args.kind some form.above form.inside (λ m marks stands bits. (c.in-Ok.ensures.lowest m marks stands bits).free)
+    (some_labelled run c.args.kind kept c.in-Err-label_run.ensures.frames (record { count = some.count; within = some.within; makes = some.makes }))
     c.in-Err-label_run.halt c.in-Err-label_run.ensures.cause
 
 pub returns-in-Err-add-clause-reasons : goal.returns-in-Err-add-clause-reasons
@@ -259,7 +263,7 @@ returns-in-Err-add-clause-reasons g c = λ o named h nothing.
     c.in-Err-add.halt (rw (frames, lay) at c.in-Err-add.ensures.cause) (rw (frames, lay) at c.in-Err-add.ensures.right)
 
 pub returns-clause-keeps_to : goal.returns-clause-keeps_to
-returns-clause-keeps_to g c = λ o named h nothing.
+returns-clause-keeps_to g c = λ o named h untold nothing.
     let layout = c.args.filer.now.swapper.layout in
     let is = c.args.filer.now.swapper.accepted in
     let run = row_run c.args.id c.args.page c.in-Ok.taken.0 c.in-Ok.taken.1 in
@@ -271,4 +275,27 @@ returns-clause-keeps_to g c = λ o named h nothing.
     let beside = rw (frames, lay) at c.in-Ok-add.ensures.beside in
     let added = rw (frames, lay) at c.in-Ok-add.ensures.added in
     rw c.frames_of.ensures.same (keeps_as (c.in-Ok-add.ensures.beside.layout ∙ lay) (c.in-Ok-add.ensures.runs ∙ c.in-Ok-label_run.ensures.runs ∙ c.in-Ok.ensures.runs)
-    (run_keeps h is run c.args.kind c.args.most form kept c.in-Ok.ensures.taken made c.in-Ok-label_run.ensures.were beside (added_makes run c.args.kind kept refl made beside) (few_none run named c.args.most form.few nothing) added))
+    (run_keeps h is run c.args.kind c.args.most form kept c.in-Ok.ensures.taken made c.in-Ok-label_run.ensures.were beside (added_makes run c.args.kind kept refl made beside) (few_none run named c.args.most form.few nothing) untold added))
+
+pub returns-clause-tables : goal.returns-clause-tables
+returns-clause-tables g c = λ o named b tables fits long h nothing.
+    let layout = c.args.filer.now.swapper.layout in
+    let is = c.args.filer.now.swapper.accepted in
+    let run = row_run c.args.id c.args.page c.in-Ok.taken.0 c.in-Ok.taken.1 in
+    let kept = c.in-Ok.ensures.kept in
+    let form = c.in-Ok.ensures.form in
+    let lay : c.label_run.new.filer.swapper.layout ≡ layout = c.in-Ok-label_run.ensures.layout ∙ kept.layout in
+    let frames = c.in-Ok-label_run.ensures.frames in
+    let made = c.in-Ok-label_run.ensures.made in
+    let beside = rw (frames, lay) at c.in-Ok-add.ensures.beside in
+    let added = rw (frames, lay) at c.in-Ok-add.ensures.added in
+    let all = b ++ replicate (512 * run.pages) 0 in
+    rw c.frames_of.ensures.same (
+      all,
+      (
+        keeps_as (c.in-Ok-add.ensures.beside.layout ∙ lay) (c.in-Ok-add.ensures.runs ∙ c.in-Ok-label_run.ensures.runs ∙ c.in-Ok.ensures.runs)
+            (run_tables o b h is run c.args.kind c.args.most form kept c.in-Ok.ensures.taken made c.in-Ok-label_run.ensures.were beside (added_makes run c.args.kind kept refl made beside) (few_none run named c.args.most form.few nothing)
+            tables (run_within c.args.page run.pages c.args.most form.few fits) long added),
+        zeros_more b c.args.page run.pages long,
+      ),
+    )

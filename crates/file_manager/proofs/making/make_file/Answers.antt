@@ -1,6 +1,7 @@
 use Rattle.std.proofs.Common.{◌∙◌, inl, inr, ℕ, ◌+◌, ◌≤◌, ◌<◌, [], sym, subst, arith}
 use Rattle.labelled_disk.specs.Label.{leader_page}
 use Rattle.session_words.proofs.FoundLemmas.{above_reserved}
+use Rattle.file_manager.specs.TabledLaws.{file_untold}
 use Rattle.file_manager.specs.Making.{sectors_of}
 use Rattle.file_manager.proofs.CreateBroken.{leader_broken, pages_broken}
 use Rattle.file_manager.proofs.LeaderLemmas.{one_sector, unowned_file, led_by, file_made, file_sound, creates_all, stopped_leader, stopped_pages}
@@ -102,7 +103,7 @@ returns-in-Err-make_up-clause-reasons g c = λ o named h none.
     let run = c.in-Ok._run in
     let form = c.in-Ok.ensures.form in
     let below = c.requires.numbers in
-    let now = c.in-Ok.ensures.keeps_to o named h (λ p sector own. none p sector tt) in
+    let now = c.in-Ok.ensures.keeps_to o named h (file_untold o c.args.id c.requires.of_file) (λ p sector own. none p sector tt) in
     rw c.in-Ok.ensures.layout at (c.in-Err-make_up.ensures.reasons o (with_run named run) now
     (none_with_run run named c.args.id 4294967295 (λ p. (0 ≤ p) × (p < c.args.pages)) form.same_id form.same_first (λ p own other. let last = own.1 in let from = other.0 in omega (arith, last, from, below)) (λ p sector own. none p sector tt)))
 
@@ -111,7 +112,7 @@ returns-clause-keeps_to g c = λ o named h none.
     let run = c.in-Ok._run in
     let form = c.in-Ok.ensures.form in
     let below = c.requires.numbers in
-    let now = c.in-Ok.ensures.keeps_to o named h (λ p sector own. none p sector tt) in
+    let now = c.in-Ok.ensures.keeps_to o named h (file_untold o c.args.id c.requires.of_file) (λ p sector own. none p sector tt) in
     let later = c.in-Ok-make_up.ensures.keeps_to o (with_run named run) now
     (none_with_run run named c.args.id 4294967295 (λ p. (0 ≤ p) × (p < c.args.pages)) form.same_id form.same_first (λ p own other. let last = own.1 in let from = other.0 in omega (arith, last, from, below)) (λ p sector own. none p sector tt)) in
     (later.0, later.1, λ all. later.2 (tables_more named run all))

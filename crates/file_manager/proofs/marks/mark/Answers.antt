@@ -1,4 +1,4 @@
-use Rattle.std.proofs.Common.{rules, inl, inr, ◌≡◌, true, ℕ, ◌≤◌, ◌<◌, Option, Some, refl, sym, ◌∙◌, ap, subst}
+use Rattle.std.proofs.Common.{rules, inl, inr, ◌≡◌, true, ℕ, ◌≤◌, ◌<◌, Option, Some, refl, sym, ◌∙◌, ap, subst, arith}
 use Rattle.std.specs.Prelude.{option_map, IfSome}
 use Rattle.std.proofs.lemmas.Option.{none-some}
 use Rattle.labelled_disk.specs.declared.label.Label.{Label}
@@ -155,4 +155,4 @@ returns-clause-keeps_to g c = λ o named k.
     let marked = rw c.swapper_over-swapper.ensures.value at c.in-Ok.ensures.marked in
     let frames = rw c.swapper_over-swapper.ensures.value at c.mark_leader.ensures.frames in
     let lay = rw c.swapper_over-swapper.ensures.value at c.mark_leader.ensures.layout in
-    keeps_at f.runs lay (keeps_marked f.swapper.accepted (c.in-Ok-Some.ensures.keeps_to o named k) (record { id = c.args.id; page = leader_page }) c.in-Ok-Some.sector c.args.mark above marked frames)
+    keeps_at f.runs lay (keeps_marked f.swapper.accepted (c.in-Ok-Some.ensures.keeps_to o named k) (record { id = c.args.id; page = leader_page }) c.in-Ok-Some.sector c.args.mark above c.requires.client marked frames)

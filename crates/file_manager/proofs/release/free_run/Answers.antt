@@ -16,7 +16,7 @@ use Rattle.file_manager.proofs.FreedSectors.{row_has, row_at}
 use Rattle.file_manager.specs.Grounds.{IsUnframed, KeepsMap}
 use Rattle.label_calls.specs.OwnLaws.{relabels_own, wrote_own, own_then, quiet_own}
 use Rattle.file_manager.proofs.OwnSteps.{map_own, own_after, same_id}
-use Rattle.file_manager.specs.ReasonLaws.{keeps_as}
+use Rattle.file_manager.specs.KeepLaws.{keeps_as}
 use Rattle.file_manager.proofs.FreedReasons.{labels_reason, let_of_run, marks_reason, marks_keep, marks_let}
 use Rattle.file_manager.proofs.release.free_run.Given as given
 use Rattle.file_manager.proofs.release.free_run.Goals as goal
@@ -195,23 +195,23 @@ returns-clause-own g c =
     own_after (quiet_own c.args.id f.makes) (own_then (wrote_own c.in-Ok-free_labels.ensures.freed.makes (same_id c.in-Ok.ensures.form.same_id c.in-Ok-free_labels.ensures.own)) (map_own c.args.id c.in-Ok-give.ensures.kept))
 
 pub returns-in-Err-free_labels-clause-reasons : goal.returns-in-Err-free_labels-clause-reasons
-returns-in-Err-free_labels-clause-reasons g c = λ o named h may.
+returns-in-Err-free_labels-clause-reasons g c = λ o named h spares may.
     let f = behind g (goal.at.returns-in-Err-free_labels-clause-reasons g c).After-forget_run in
     let all = c.in-Ok.ensures.named h.memory named h.stands h.map h.kept in
-    labels_reason (f.keeps_to o named h) c.args.filer.now.swapper.accepted c.in-Ok.run' c.in-Ok.ensures.form.form all c.in-Err-free_labels.ensures.stopped.makes c.in-Err-free_labels.halt c.in-Err-free_labels.ensures.cause
+    labels_reason (f.keeps_to o named h spares) c.args.filer.now.swapper.accepted c.in-Ok.run' c.in-Ok.ensures.form.form all c.in-Err-free_labels.ensures.stopped.makes c.in-Err-free_labels.halt c.in-Err-free_labels.ensures.cause
 
 pub returns-in-Err-give-clause-reasons : goal.returns-in-Err-give-clause-reasons
-returns-in-Err-give-clause-reasons g c = λ o named h may.
+returns-in-Err-give-clause-reasons g c = λ o named h spares may.
     let f = behind g (goal.at.returns-in-Err-give-clause-reasons g c).After-forget_run in
     let layout = c.args.filer.now.swapper.layout in
     let frames = c.in-Ok-free_labels.ensures.frames in
     let lay : c.free_labels.new.filer.swapper.layout ≡ layout = c.in-Ok-free_labels.ensures.layout ∙ f.same_layout in
     let beside = rw (frames, lay) at c.in-Err-give.ensures.kept in
-    marks_reason (f.keeps_to o named h) c.args.filer.now.swapper.accepted c.in-Ok.run' c.in-Ok.ensures.form.form (run_sectors c.in-Ok.run') (λ j k at. let r = row_has c.in-Ok.run'.sector c.in-Ok.run'.pages j k at in (j, r.0, r.1)) (λ i below. (i, row_at c.in-Ok.run'.sector c.in-Ok.run'.pages i below))
-    c.in-Ok-free_labels.ensures.freed c.in-Ok-free_labels.ensures.were f.gone beside.goes.makes c.in-Err-give.halt (rw (frames, lay) at c.in-Err-give.ensures.cause)
+    marks_reason (f.keeps_to o named h spares) c.args.filer.now.swapper.accepted c.in-Ok.run' c.in-Ok.ensures.form.form (run_sectors c.in-Ok.run') (λ j k at. let r = row_has c.in-Ok.run'.sector c.in-Ok.run'.pages j k at in (j, r.0, r.1)) (λ i below. (i, row_at c.in-Ok.run'.sector c.in-Ok.run'.pages i below))
+    c.in-Ok-free_labels.ensures.freed c.in-Ok-free_labels.ensures.were f.gone (λ same. spares (sym c.in-Ok.ensures.form.same_id ∙ same)) beside.goes.makes c.in-Err-give.halt (rw (frames, lay) at c.in-Err-give.ensures.cause)
 
 pub returns-clause-keeps_to : goal.returns-clause-keeps_to
-returns-clause-keeps_to g c = λ o named h.
+returns-clause-keeps_to g c = λ o named h spares.
     let f = behind g (goal.at.returns-clause-keeps_to g c).After-forget_run in
     let layout = c.args.filer.now.swapper.layout in
     let frames = c.in-Ok-free_labels.ensures.frames in
@@ -220,11 +220,11 @@ returns-clause-keeps_to g c = λ o named h.
     let given = rw (frames, lay) at c.in-Ok-give.ensures.given in
     let same_runs : c.give.new.self.runs ≡ c.forget_run.new.filer.runs = c.in-Ok-give.ensures.runs ∙ c.in-Ok-free_labels.ensures.runs in
     keeps_as beside.layout same_runs
-    (marks_keep (f.keeps_to o named h) c.args.filer.now.swapper.accepted c.in-Ok.run' c.in-Ok.ensures.form.form (run_sectors c.in-Ok.run') (λ j k at. let r = row_has c.in-Ok.run'.sector c.in-Ok.run'.pages j k at in (j, r.0, r.1)) (λ i below. (i, row_at c.in-Ok.run'.sector c.in-Ok.run'.pages i below))
-    c.in-Ok-free_labels.ensures.freed c.in-Ok-free_labels.ensures.were f.gone beside (λ m marks stands bits. given m marks stands bits))
+    (marks_keep (f.keeps_to o named h spares) c.args.filer.now.swapper.accepted c.in-Ok.run' c.in-Ok.ensures.form.form (run_sectors c.in-Ok.run') (λ j k at. let r = row_has c.in-Ok.run'.sector c.in-Ok.run'.pages j k at in (j, r.0, r.1)) (λ i below. (i, row_at c.in-Ok.run'.sector c.in-Ok.run'.pages i below))
+    c.in-Ok-free_labels.ensures.freed c.in-Ok-free_labels.ensures.were f.gone (λ same. spares (sym c.in-Ok.ensures.form.same_id ∙ same)) beside (λ m marks stands bits. given m marks stands bits))
 
 pub returns-clause-let_go : goal.returns-clause-let_go
-returns-clause-let_go g c = λ o named h.
+returns-clause-let_go g c = λ o named h spares.
     let f = behind g (goal.at.returns-clause-let_go g c).After-forget_run in
     let run = c.in-Ok.run' in
     let form = c.in-Ok.ensures.form in
@@ -235,5 +235,8 @@ returns-clause-let_go g c = λ o named h.
     let all = c.in-Ok.ensures.named h.memory named h.stands h.map h.kept in
     let first = form.same_first in
     let_of_run named run c.args.id (λ p. (c.args.page ≤ p) × (p < c.args.page + run.pages)) form.same_id (λ p own. let from = own.0 in let below = own.1 in (omega (arith, from, first), omega (arith, below, first)))
-    (marks_let (f.keeps_to o named h) c.args.filer.now.swapper.accepted run form.form (run_sectors run) (λ j k at. let r = row_has run.sector run.pages j k at in (j, r.0, r.1)) (λ i below. (i, row_at run.sector run.pages i below))
-    c.in-Ok-free_labels.ensures.freed c.in-Ok-free_labels.ensures.were f.gone beside all)
+    (marks_let (f.keeps_to o named h spares) c.args.filer.now.swapper.accepted run form.form (run_sectors run) (λ j k at. let r = row_has run.sector run.pages j k at in (j, r.0, r.1)) (λ i below. (i, row_at run.sector run.pages i below))
+    c.in-Ok-free_labels.ensures.freed c.in-Ok-free_labels.ensures.were f.gone (λ same. spares (sym c.in-Ok.ensures.form.same_id ∙ same)) beside all)
+
+pub returns-in-Err-clause-reasons : goal.returns-in-Err-clause-reasons
+returns-in-Err-clause-reasons g c = λ o named h spares may. c.in-Err.ensures.reasons o named h may

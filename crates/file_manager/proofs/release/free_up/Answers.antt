@@ -75,16 +75,16 @@ returns-in-Err-clause-so g c = λ there.
     c.in-Err.ensures.so (there c.loop-page.page below)
 
 pub returns-in-Err-clause-reasons : goal.returns-in-Err-clause-reasons
-returns-in-Err-clause-reasons g c = λ o named h there.
+returns-in-Err-clause-reasons g c = λ o named h spares there.
     let below : c.loop-page.page < c.args.end = search rules in
     let inv = c.loop-page.invariant in
-    subst (λ (l : Layout). ShowsReason o l (g.D.Disk.state c.free_run.new.filer.swapper.under) c.in-Err.halt) inv.same_layout (c.in-Err.ensures.reasons o named (inv.keeps_to o named h) (there c.loop-page.page below))
+    subst (λ (l : Layout). ShowsReason o l (g.D.Disk.state c.free_run.new.filer.swapper.under) c.in-Err.halt) inv.same_layout (c.in-Err.ensures.reasons o named (inv.keeps_to o named h spares) spares (there c.loop-page.page below))
 
 pub returns-clause-let_go : goal.returns-clause-let_go
-returns-clause-let_go g c = λ o named h page sector own is.
+returns-clause-let_go g c = λ o named h spares page sector own is.
     let all : c.loop-page.page ≡ c.args.end = search rules in
     let last = own.1 in
-    c.loop-page.invariant.let_go o named h page sector (own.0, omega (arith, last, all)) is
+    c.loop-page.invariant.let_go o named h spares page sector (own.0, omega (arith, last, all)) is
 
 pub returns-clause-keeps_to : goal.returns-clause-keeps_to
 returns-clause-keeps_to g c = c.loop-page.invariant.keeps_to

@@ -15,7 +15,8 @@ use Rattle.file_manager.proofs.DownLemmas.{down_has, down_all}
 use Rattle.file_manager.specs.Grounds.{IsUnframed, KeepsMap}
 use Rattle.label_calls.specs.OwnLaws.{relabels_own, wrote_own, own_then, quiet_own}
 use Rattle.file_manager.proofs.OwnSteps.{map_own, own_after, same_id}
-use Rattle.file_manager.specs.ReasonLaws.{keeps_as}
+use Rattle.file_manager.specs.KeepLaws.{keeps_as}
+use Rattle.file_manager.specs.TabledLaws.{client_leaves}
 use Rattle.file_manager.proofs.FreedReasons.{labels_reason, marks_reason, marks_keep, let_of_run, marks_let}
 use Rattle.file_manager.proofs.shrinking.free_last.Given as given
 use Rattle.file_manager.proofs.shrinking.free_last.Goals as goal
@@ -209,7 +210,7 @@ pub returns-in-Err-free_labels_down-clause-reasons : goal.returns-in-Err-free_la
 returns-in-Err-free_labels_down-clause-reasons g c = λ o named h.
     let f = behind g (goal.at.returns-in-Err-free_labels_down-clause-reasons g c).After-forget_run in
     let all = c.in-Ok.ensures.named h.memory named h.stands h.map h.kept in
-    labels_reason (f.keeps_to o named h) c.args.filer.now.swapper.accepted c.in-Ok.run' c.in-Ok.ensures.form.form all c.in-Err-free_labels_down.ensures.stopped.makes c.in-Err-free_labels_down.halt c.in-Err-free_labels_down.ensures.cause
+    labels_reason (f.keeps_to o named h (client_leaves o c.args.id c.requires.of_file)) c.args.filer.now.swapper.accepted c.in-Ok.run' c.in-Ok.ensures.form.form all c.in-Err-free_labels_down.ensures.stopped.makes c.in-Err-free_labels_down.halt c.in-Err-free_labels_down.ensures.cause
 
 pub returns-in-Err-give-clause-reasons : goal.returns-in-Err-give-clause-reasons
 returns-in-Err-give-clause-reasons g c = λ o named h.
@@ -218,8 +219,8 @@ returns-in-Err-give-clause-reasons g c = λ o named h.
     let frames = c.in-Ok-free_labels_down.ensures.frames in
     let lay : c.free_labels_down.new.filer.swapper.layout ≡ layout = c.in-Ok-free_labels_down.ensures.layout ∙ f.same_layout in
     let beside = rw (frames, lay) at c.in-Err-give.ensures.kept in
-    marks_reason (f.keeps_to o named h) c.args.filer.now.swapper.accepted c.in-Ok.run' c.in-Ok.ensures.form.form (run_down c.in-Ok.run') (down_has c.in-Ok.run') (down_all c.in-Ok.run')
-    c.in-Ok-free_labels_down.ensures.freed c.in-Ok-free_labels_down.ensures.were f.gone beside.goes.makes c.in-Err-give.halt (rw (frames, lay) at c.in-Err-give.ensures.cause)
+    marks_reason (f.keeps_to o named h (client_leaves o c.args.id c.requires.of_file)) c.args.filer.now.swapper.accepted c.in-Ok.run' c.in-Ok.ensures.form.form (run_down c.in-Ok.run') (down_has c.in-Ok.run') (down_all c.in-Ok.run')
+    c.in-Ok-free_labels_down.ensures.freed c.in-Ok-free_labels_down.ensures.were f.gone (λ same. client_leaves o c.args.id c.requires.of_file (sym c.in-Ok.ensures.form.same_id ∙ same)) beside.goes.makes c.in-Err-give.halt (rw (frames, lay) at c.in-Err-give.ensures.cause)
 
 pub returns-clause-keeps_to : goal.returns-clause-keeps_to
 returns-clause-keeps_to g c = λ o named h.
@@ -231,8 +232,8 @@ returns-clause-keeps_to g c = λ o named h.
     let given = rw (frames, lay) at c.in-Ok-give.ensures.given in
     let same_runs : c.give.new.self.runs ≡ c.forget_run.new.filer.runs = c.in-Ok-give.ensures.runs ∙ c.in-Ok-free_labels_down.ensures.runs in
     keeps_as beside.layout same_runs
-    (marks_keep (f.keeps_to o named h) c.args.filer.now.swapper.accepted c.in-Ok.run' c.in-Ok.ensures.form.form (run_down c.in-Ok.run') (down_has c.in-Ok.run') (down_all c.in-Ok.run')
-    c.in-Ok-free_labels_down.ensures.freed c.in-Ok-free_labels_down.ensures.were f.gone beside (λ m marks stands bits. given m marks stands bits))
+    (marks_keep (f.keeps_to o named h (client_leaves o c.args.id c.requires.of_file)) c.args.filer.now.swapper.accepted c.in-Ok.run' c.in-Ok.ensures.form.form (run_down c.in-Ok.run') (down_has c.in-Ok.run') (down_all c.in-Ok.run')
+    c.in-Ok-free_labels_down.ensures.freed c.in-Ok-free_labels_down.ensures.were f.gone (λ same. client_leaves o c.args.id c.requires.of_file (sym c.in-Ok.ensures.form.same_id ∙ same)) beside (λ m marks stands bits. given m marks stands bits))
 
 pub returns-clause-let_go : goal.returns-clause-let_go
 returns-clause-let_go g c = λ o named h.
@@ -246,5 +247,5 @@ returns-clause-let_go g c = λ o named h.
     let all = c.in-Ok.ensures.named h.memory named h.stands h.map h.kept in
     let reaches = form.reaches in
     let_of_run named run c.args.id (λ p. (c.args.end - run.pages ≤ p) × (p < c.args.end)) form.same_id (λ p own. let from = own.0 in let below = own.1 in (omega (arith, from, reaches), omega (arith, below, reaches)))
-    (marks_let (f.keeps_to o named h) c.args.filer.now.swapper.accepted run form.form (run_down run) (down_has run) (down_all run)
-    c.in-Ok-free_labels_down.ensures.freed c.in-Ok-free_labels_down.ensures.were f.gone beside all)
+    (marks_let (f.keeps_to o named h (client_leaves o c.args.id c.requires.of_file)) c.args.filer.now.swapper.accepted run form.form (run_down run) (down_has run) (down_all run)
+    c.in-Ok-free_labels_down.ensures.freed c.in-Ok-free_labels_down.ensures.were f.gone (λ same. client_leaves o c.args.id c.requires.of_file (sym c.in-Ok.ensures.form.same_id ∙ same)) beside all)

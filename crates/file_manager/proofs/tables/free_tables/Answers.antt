@@ -16,6 +16,7 @@ use Rattle.file_manager.proofs.RootCalls.{freed_some_root, freed_root}
 use Rattle.labelled_disk.specs.declared.layout.Layout.{Layout}
 use Rattle.filer_kernel.specs.declared.cached.CachedRuns.{CachedRuns}
 use Rattle.file_manager.proofs.KeepSteps.{keeps_at}
+use Rattle.file_manager.specs.TabledLaws.{untold_leaves}
 use Rattle.file_manager.proofs.KeepCut.{keeps_cut}
 use Rattle.file_manager.proofs.ReasonCauses.{cut_reasons}
 use Rattle.file_manager.specs.Reasons.{KeepsTo, ShowsReason}
@@ -144,29 +145,32 @@ returns-clause-root g c = freed_root (returns-clause-makes g c)
 -- ---- What it keeps to, and the reasons of its halts.
 
 pub returns-in-Err-clause-reasons : goal.returns-in-Err-clause-reasons
-returns-in-Err-clause-reasons g c = λ o named k tables.
+returns-in-Err-clause-reasons g c = λ o named k untold tables.
     let f = c.forget_tables.ensures in
     let forgot = keeps_at c.forget_tables.new.filer.runs f.layout (subst (λ (r : CachedRuns). KeepsTo o c.args.filer.now.swapper.layout (runs_of c.args.filer.now.swapper.layout.sectors r) (g.D.Disk.state c.forget_tables.new.filer.swapper.under) c.forget_tables.new.filer.swapper.pool named) (sym f.runs)
-    (forgotten_keeps [] c.args.filer.now.swapper.accepted c.args.filer.now.swapper.placed f.gone f.left f.goes (ap g.D.Disk.state f.under) k)) in
-    subst (λ (l : Layout). ShowsReason o l (g.D.Disk.state c.free_up.new.filer.swapper.under) c.in-Err.halt) f.layout (c.in-Err.ensures.reasons o named forgot (λ page below. inr (refl, below, tables)))
+    (forgotten_keeps [] c.args.filer.now.swapper.accepted c.args.filer.now.swapper.placed f.gone f.left f.goes (ap g.D.Disk.state f.under) untold k)) in
+    subst (λ (l : Layout). ShowsReason o l (g.D.Disk.state c.free_up.new.filer.swapper.under) c.in-Err.halt) f.layout (c.in-Err.ensures.reasons o named forgot (untold_leaves o 3 untold) (λ page below. inr (refl, below, tables)))
 
 pub returns-in-Err-cut-clause-reasons : goal.returns-in-Err-cut-clause-reasons
-returns-in-Err-cut-clause-reasons g c = λ o named k tables.
+returns-in-Err-cut-clause-reasons g c = λ o named k untold tables.
     let f = c.forget_tables.ensures in
     let forgot = keeps_at c.forget_tables.new.filer.runs f.layout (subst (λ (r : CachedRuns). KeepsTo o c.args.filer.now.swapper.layout (runs_of c.args.filer.now.swapper.layout.sectors r) (g.D.Disk.state c.forget_tables.new.filer.swapper.under) c.forget_tables.new.filer.swapper.pool named) (sym f.runs)
-    (forgotten_keeps [] c.args.filer.now.swapper.accepted c.args.filer.now.swapper.placed f.gone f.left f.goes (ap g.D.Disk.state f.under) k)) in
-    let now = c.in-Ok.ensures.keeps_to o named forgot in
+    (forgotten_keeps [] c.args.filer.now.swapper.accepted c.args.filer.now.swapper.placed f.gone f.left f.goes (ap g.D.Disk.state f.under) untold k)) in
+    let now = c.in-Ok.ensures.keeps_to o named forgot (untold_leaves o 3 untold) in
     subst (λ (l : Layout). ShowsReason o l (g.D.Disk.state c.cut.new.self.swapper.under) c.in-Err-cut.halt) (c.in-Ok.ensures.layout ∙ f.layout)
     (cut_reasons now c.cut.ensures.beside.goes.makes c.in-Err-cut.halt c.in-Err-cut.ensures.cause (c.in-Err-cut.ensures.right now.memory named now.stands now.map))
 
 pub returns-clause-keeps_to : goal.returns-clause-keeps_to
-returns-clause-keeps_to g c = λ o named k.
+returns-clause-keeps_to g c = λ o named k untold.
     let f = c.forget_tables.ensures in
     let forgot = keeps_at c.forget_tables.new.filer.runs f.layout (subst (λ (r : CachedRuns). KeepsTo o c.args.filer.now.swapper.layout (runs_of c.args.filer.now.swapper.layout.sectors r) (g.D.Disk.state c.forget_tables.new.filer.swapper.under) c.forget_tables.new.filer.swapper.pool named) (sym f.runs)
-    (forgotten_keeps [] c.args.filer.now.swapper.accepted c.args.filer.now.swapper.placed f.gone f.left f.goes (ap g.D.Disk.state f.under) k)) in
-    let now = c.in-Ok.ensures.keeps_to o named forgot in
+    (forgotten_keeps [] c.args.filer.now.swapper.accepted c.args.filer.now.swapper.placed f.gone f.left f.goes (ap g.D.Disk.state f.under) untold k)) in
+    let now = c.in-Ok.ensures.keeps_to o named forgot (untold_leaves o 3 untold) in
     rw c.frames_of.ensures.same (
       _,
-      keeps_at c.cut.new.self.runs c.cut.ensures.beside.layout (keeps_cut now c.cut.ensures.beside 3 0 (c.cut.ensures.runs c.free_up.new.filer.swapper.layout.sectors)
-          (λ page sector may from is. absurd (omega (arith, may))) c.in-Ok-cut.ensures.cut),
+      (
+        keeps_at c.cut.new.self.runs c.cut.ensures.beside.layout (keeps_cut now c.cut.ensures.beside 3 0 (c.cut.ensures.runs c.free_up.new.filer.swapper.layout.sectors)
+            c.free_up.new.filer.swapper.accepted (untold_leaves o 3 untold) (λ page sector may from is. absurd (omega (arith, may))) c.in-Ok-cut.ensures.cut),
+        untold,
+      ),
     )

@@ -11,7 +11,7 @@ loop-page-init g c = tables_none _ _ _ _ c.requires.size
 pub loop-page-preserved : goal.loop-page-preserved
 loop-page-preserved g c =
     let below : c.loop-page.page < 96 = search rules in
-    tables_more c.loop-page.page _ _ _ c.args.filer.now.swapper.accepted _ _ _ _ _ c.loop-page.invariant below c.in-Ok.run' _ _ _ _ c.in-Ok.ensures.form c.in-Ok.ensures.makes c.in-Ok.ensures.made c.in-Ok.ensures.layout c.in-Ok.ensures.runs c.in-Ok.ensures.cost_made c.make_run.ensures.come c.in-Ok.ensures.takes c.in-Ok.ensures.longest c.in-Ok.ensures.keeps_to
+    tables_more c.loop-page.page _ _ _ c.args.filer.now.swapper.accepted _ _ _ _ _ c.loop-page.invariant below c.in-Ok.run' _ _ _ _ c.in-Ok.ensures.form c.in-Ok.ensures.makes c.in-Ok.ensures.made c.in-Ok.ensures.layout c.in-Ok.ensures.runs c.in-Ok.ensures.cost_made c.make_run.ensures.come c.in-Ok.ensures.takes c.in-Ok.ensures.longest c.in-Ok.ensures.keeps_to c.in-Ok.ensures.tables
 
 pub make_run-requires-clause-of_file : goal.make_run-requires-clause-of_file
 make_run-requires-clause-of_file g c = let below = c.loop-page.invariant.up.below in inl (refl, refl, omega (arith, below))
@@ -60,13 +60,20 @@ pub returns-clause-root : goal.returns-clause-root
 returns-clause-root g c = grown_root {id = 3} (λ same. omega (arith, same)) (returns-clause-makes g c)
 
 pub returns-clause-keeps_to : goal.returns-clause-keeps_to
-returns-clause-keeps_to g c = λ o named h none.
+returns-clause-keeps_to g c = λ o named h untold none.
     let all : 96 ≤ c.loop-page.page = search rules in
-    let now = c.loop-page.invariant.up.keeps o named h (λ p sector own. none p sector own.1) in
-    (now.0, (now.1, λ page below. now.4 page (omega arith) (omega (arith, below, all))))
+    let now = c.loop-page.invariant.up.keeps o named h (λ same. untold) (λ p sector own. none p sector own.1) in
+    (now.0, (now.1, (λ page below. now.4 page (omega arith) (omega (arith, below, all)), untold)))
 
 pub returns-in-Err-clause-reasons : goal.returns-in-Err-clause-reasons
-returns-in-Err-clause-reasons g c = λ o named h none.
+returns-in-Err-clause-reasons g c = λ o named h untold none.
     let below : c.loop-page.page < 96 = search rules in
-    let now = c.loop-page.invariant.up.keeps o named h (λ p sector own. none p sector own.1) in
+    let now = c.loop-page.invariant.up.keeps o named h (λ same. untold) (λ p sector own. none p sector own.1) in
     rw c.loop-page.invariant.up.same_layout at (c.in-Err.ensures.reasons o now.0 now.1 (λ p sector own. let last = own.1 in now.2 p sector (own.0, omega (arith, last, below))))
+
+pub returns-clause-tables : goal.returns-clause-tables
+returns-clause-tables g c = λ o named h none.
+    let all : c.loop-page.page ≡ 96 = search rules in
+    let now = c.loop-page.invariant.told o named h none in
+    let long = now.3 in
+    (now.0, (now.1, (now.2, (omega (arith, long, all), λ page below. now.5 page (omega arith) (omega (arith, below, all))))))

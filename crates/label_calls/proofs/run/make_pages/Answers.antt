@@ -5,7 +5,7 @@ use Rattle.labelled_disk.specs.Runs.{growth, zero_bytes}
 use Rattle.labelled_disk.specs.Label.{page_label}
 use Rattle.label_calls.specs.Labels.{IsTaken}
 use Rattle.label_calls.specs.Runs.{IsOneTaken}
-use Rattle.label_calls.proofs.RunLemmas.{turns, so_far_none, so_far_more, one_still_there, made_some, cause_before, run_is, growth_is, taken_before}
+use Rattle.label_calls.proofs.RunLemmas.{turns, so_far_none, so_far_more, one_still_there, made_some, cause_before, named_some, run_is, growth_is, taken_before, was_before}
 use Rattle.label_calls.specs.OwnLaws.{relabels_own, own_then, may_own}
 use Rattle.label_calls.proofs.OwnLemmas.{so_far_whole}
 use Rattle.label_calls.proofs.run.make_pages.Goals as goal
@@ -73,3 +73,9 @@ pub returns-clause-were : goal.returns-clause-were
 returns-clause-were g c = λ d told k below.
     let all : c.loop-k.k ≡ c.args.pages = search rules in
     c.loop-k.invariant.found d told k (omega (arith, all, below))
+
+pub returns-in-Err-clause-named : goal.returns-in-Err-clause-named
+returns-in-Err-clause-named g c =
+    let below : c.loop-k.k < c.args.pages = search rules in
+    named_some (λ k. c.args.sector + k) (λ k. write.Whole (c.args.sector + k) (page_label c.args.id c.args.kind (c.args.page + k)) zero_bytes) _ _ _ _ _ _ _ _ c.loop-k.k c.loop-k.invariant (apart c.args.sector c.loop-k.k)
+    c.args.pages (growth c.args.id c.args.kind c.args.page (range_with_len c.args.sector c.args.pages)) (all_are c.args.id c.args.kind c.args.page c.args.sector c.args.pages) below _ (rw c.of_page-label.ensures at c.in-Err.ensures.stopped) (was_before c.in-Err.ensures.frames c.in-Err.ensures.was)

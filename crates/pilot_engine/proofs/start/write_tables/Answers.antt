@@ -5,6 +5,7 @@ use Rattle.pilot_engine.proofs.StartRuns.{begun_runs, bytes, known_before, table
 use Rattle.filer_kernel.specs.EvidenceLaws.{fits}
 use Rattle.fault_core.proofs.EvidenceLemmas.{shows_so}
 use Rattle.running_words.specs.MovingLaws.{keeps_moved, reach_reasons}
+use Rattle.running_words.specs.SparedLaws.{spares_form}
 use Rattle.pilot_engine.proofs.OutsetLemmas.{moves_of_tables}
 use Rattle.pilot_engine.proofs.start.write_tables.Goals as goal
 
@@ -42,3 +43,11 @@ returns-clause-keeps_to g c = λ o keeps.
 pub returns-in-Err-clause-reasons : goal.returns-in-Err-clause-reasons
 returns-in-Err-clause-reasons g c = λ o keeps.
     reach_reasons o (view_of c.args.filer.now) (view_of c.begin.new.filer) keeps.0 _ c.args.filer.now.swapper.accepted keeps.1 c.begin.ensures.kept.goes.makes c.in-Err.halt c.in-Err.ensures.cause
+
+-- ---- What it sees.
+
+pub returns-clause-sees : goal.returns-clause-sees
+returns-clause-sees g c = λ b told. rw c.look_at_frames.ensures.same (c.in-Ok.ensures.sees b told)
+
+pub returns-in-Err-clause-sees : goal.returns-in-Err-clause-sees
+returns-in-Err-clause-sees g c = λ b told. spares_form c.in-Err.halt (c.in-Err.ensures.right b told)

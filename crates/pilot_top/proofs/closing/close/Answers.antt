@@ -3,10 +3,11 @@ use Rattle.labelled_disk.specs.declared.evidence.Halt.TheVariants as halt
 use Rattle.pilot_engine.specs.Closing.{HasShut}
 use Rattle.filer_kernel.specs.Evidence.{ShowsSo}
 use Rattle.file_manager.specs.Reasons.{ShowsReason}
+use Rattle.running_words.specs.Spared.{SparesForm}
 use Rattle.pilot_engine.specs.Opening.{LeavesOpen}
 use Rattle.pilot_top.specs.Outset.{FromEachOutset}
 use Rattle.pilot_top.proofs.CloseLemmas.{not_damaged, damage_reasoned, damage_told, left_damaged}
-use Rattle.pilot_top.proofs.ReasonLemmas.{reason_halted}
+use Rattle.pilot_top.proofs.ReasonLemmas.{goes_nowhere, reason_halted}
 use Rattle.pilot_top.proofs.closing.close.Goals as goal
 
 pub returns-in-Ok-clause-closed : goal.returns-in-Ok-clause-closed
@@ -24,10 +25,14 @@ returns-in-Err-clause-sound g c m is damaged =
 
 pub returns-in-Err-clause-so : goal.returns-in-Err-clause-so
 returns-in-Err-clause-so g c damaged =
-    let filer = c.args.session.core.filer in
+    let session = c.args.session in
+    let filer = session.core.filer in
     let disk = g.D.Disk.state c.finish-closed.result.1 in
-    damage_reasoned c.in-Err.halt c.stop.result _ _ _ disk (FromEachOutset filer disk) (subst (λ r. IfErr r (ShowsSo disk)) c.in-Err.is c.finish-closed.ensures.so)
-    (λ e. reason_halted filer filer refl (λ o keeps. keeps) disk e c.in-Err.halt (λ o keeps. subst (λ r. IfErr r (ShowsReason o filer.swapper.layout disk)) c.in-Err.is (c.finish-closed.ensures.reasons o keeps)))
+    damage_reasoned c.in-Err.halt c.stop.result _ _ _ disk (FromEachOutset session disk) (subst (λ r. IfErr r (ShowsSo disk)) c.in-Err.is c.finish-closed.ensures.so)
+    (λ e. reason_halted session session refl (goes_nowhere session) disk e c.in-Err.halt (λ o keeps next. (
+      subst (λ r. IfErr r (ShowsReason o filer.swapper.layout disk)) c.in-Err.is (c.finish-closed.ensures.reasons o keeps),
+      λ seen. subst (λ r. IfErr r SparesForm) c.in-Err.is (c.finish-closed.ensures.sees o keeps seen),
+    )))
     c.stop.ensures.status damaged c.stop.ensures.line
 
 pub returns-in-Ok-clause-cost : goal.returns-in-Ok-clause-cost

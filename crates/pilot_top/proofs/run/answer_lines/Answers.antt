@@ -10,7 +10,6 @@ use Rattle.swapper_kernel.specs.GoesLaws.{went_itself, went_then}
 use Rattle.trace_io.specs.Reading.{reading}
 use Rattle.session_words.specs.StandsFor.{TellsSettled}
 use Rattle.filer_kernel.specs.Evidence.{IsSo, ShowsSo}
-use Rattle.file_manager.specs.Reasons.{KeepsOn, Outset}
 use Rattle.pilot_engine.specs.declared.session.SessionOver.{SessionOver}
 use Rattle.pilot_engine.proofs.UnsetLemmas.{unset_then}
 use Rattle.running_words.specs.Running.{Runs}
@@ -28,7 +27,7 @@ use Rattle.pilot_top.proofs.FrontLemmas.{End-has}
 use Rattle.pilot_top.proofs.LawfulRuns.{called_openly, ended_last, openly_last, openly_none, openly_then}
 use Rattle.pilot_top.proofs.OpenLemmas.{early_halt}
 use Rattle.pilot_top.proofs.PlaceLemmas.{stop_told}
-use Rattle.pilot_top.proofs.ReasonLemmas.{reason_before, reason_halted}
+use Rattle.pilot_top.proofs.ReasonLemmas.{goes_nowhere, goes_then, reason_before, reason_halted}
 use Rattle.pilot_top.proofs.RepliedLemmas.{Replied-end, Replied-halted, Replied-long, Replied-read_fault, Replied-write_fault}
 use Rattle.pilot_top.proofs.StagedLemmas.{from_rest, stands_told}
 use Rattle.pilot_top.proofs.StatusLemmas.{halt_disk, halt_ends, trace_ends}
@@ -70,7 +69,7 @@ turns-init g c =
       bound = rw made (omega arith);
       size = c.requires.size;
       layout = refl;
-      keeps = λ o keeps. keeps;
+      goes = goes_nowhere c.args.session;
       opened = c.requires.opened;
       running = c.requires.running;
       left_open = λ is. is;
@@ -101,7 +100,11 @@ turns-preserved g c =
       bound = c.take_turn.ensures.bound;
       size = went.sectors ∙ i.size ∙ ap (λ l. l.sectors) (sym c.take_turn.ensures.layout);
       layout = c.take_turn.ensures.layout ∙ i.layout;
-      keeps = λ o keeps. c.in-Replies.ensures.keeps_to o (i.keeps o keeps) tt;
+      goes = goes_then c.args.session c.turns.session c.take_turn.new.session i.goes (record {
+        keeps = λ o keeps next. c.in-Replies.ensures.keeps_to o keeps next tt;
+        sees = λ o keeps next seen. c.in-Replies.ensures.sees o keeps next seen tt;
+        onward = c.take_turn.ensures.onward;
+      });
       opened = c.take_turn.ensures.open_still;
       running = c.in-Replies.ensures.going tt;
       left_open = λ is. unset_then (i.left_open is) c.take_turn.ensures.wrote;
@@ -125,7 +128,7 @@ returns-in_default g c =
           Run-write_fault m b t _ _ c.turns.lines _ _ turned.going stands _ (HasFilesAt m (reading b) (g.D.Disk.state c.into_disk.result)) _ _ c.take_turn.new.lines _ turn.1 c.in-Replies.reply turn.0 turn.2 turn.3
           rose put.0 put.1 put.2 (rw c.into_disk.ensures has);
       replied = λ b t left source sink.
-          Replied-write_fault b t (Going-told _ _ _ _ _ _ _ b t i.turned.going source sink) _ (g.D.Disk.state c.into_disk.result) (FromEachOutset c.args.session.core.filer (g.D.Disk.state c.into_disk.result)) (g.S.Source.left c.take_turn.new.source) _ c.take_turn.new.lines turn.1 c.in-Replies.reply turn.0 turn.2 turn.3.suits
+          Replied-write_fault b t (Going-told _ _ _ _ _ _ _ b t i.turned.going source sink) _ (g.D.Disk.state c.into_disk.result) (FromEachOutset c.args.session (g.D.Disk.state c.into_disk.result)) (g.S.Source.left c.take_turn.new.source) _ c.take_turn.new.lines turn.1 c.in-Replies.reply turn.0 turn.2 turn.3.suits
           rose put.0 put.1 put.2;
       moments = λ m b stands source. rw c.into_disk.ensures (line_moments m (Turned-source i.turned source) stands turn.0 turn.2 turn.4 turn.5);
       closed = λ m b stands source done going. absurd (cc done);
@@ -162,7 +165,7 @@ returns-in-ReadFault g c =
           Run-read_fault m b t _ _ c.turns.lines _ _ turned.going stands _ (HasFilesAt m (reading b) (g.D.Disk.state c.into_disk-in-ReadFault.result)) _ c.take_turn.new.lines turn.0 turn.1
           (rw c.into_disk-in-ReadFault.ensures (still_files m turned stands (tells g c.take_turn.new.session)));
       replied = λ b t left source sink.
-          Replied-read_fault b t (Going-told _ _ _ _ _ _ _ b t i.turned.going source sink) _ (g.D.Disk.state c.into_disk-in-ReadFault.result) (FromEachOutset c.args.session.core.filer (g.D.Disk.state c.into_disk-in-ReadFault.result)) (g.S.Source.left c.take_turn.new.source) c.take_turn.new.lines turn.0 turn.1;
+          Replied-read_fault b t (Going-told _ _ _ _ _ _ _ b t i.turned.going source sink) _ (g.D.Disk.state c.into_disk-in-ReadFault.result) (FromEachOutset c.args.session (g.D.Disk.state c.into_disk-in-ReadFault.result)) (g.S.Source.left c.take_turn.new.source) c.take_turn.new.lines turn.0 turn.1;
       moments = λ m b stands source. rw c.into_disk-in-ReadFault.ensures (still_moments m (Turned-same {S = Sessions g} (disk_of g) (stands_of g) same (Turned-source i.turned source)) stands);
       closed = λ m b stands source done going. absurd (cc done);
       closed_unheard = λ m b stands source is heard left closed. absurd (heard rose);
@@ -197,7 +200,7 @@ returns-in-Long g c =
           Run-long m b t _ _ c.turns.lines _ _ turned.going stands _ (HasFilesAt m (reading b) (g.D.Disk.state c.into_disk-in-Long.result)) _ _ c.take_turn.new.lines turn.0 turn.1 (turn.2 ∙ turn.1.limit ∙ i.limit)
           (Puts-later _ _ _ _ _ (rose_later _ _ _ i.sink) c.put_last.ensures.put) (rw c.into_disk-in-Long.ensures (still_files m turned stands (tells g c.take_turn.new.session)));
       replied = λ b t left source sink.
-          Replied-long b t (Going-told _ _ _ _ _ _ _ b t i.turned.going source sink) _ (g.D.Disk.state c.into_disk-in-Long.result) (FromEachOutset c.args.session.core.filer (g.D.Disk.state c.into_disk-in-Long.result)) (g.S.Source.left c.take_turn.new.source) _ c.take_turn.new.lines turn.0 turn.1 (turn.2 ∙ turn.1.limit ∙ i.limit)
+          Replied-long b t (Going-told _ _ _ _ _ _ _ b t i.turned.going source sink) _ (g.D.Disk.state c.into_disk-in-Long.result) (FromEachOutset c.args.session (g.D.Disk.state c.into_disk-in-Long.result)) (g.S.Source.left c.take_turn.new.source) _ c.take_turn.new.lines turn.0 turn.1 (turn.2 ∙ turn.1.limit ∙ i.limit)
           (Puts-later _ _ _ _ _ (rose_later _ _ _ i.sink) c.put_last.ensures.put);
       moments = λ m b stands source. rw c.into_disk-in-Long.ensures (still_moments m (Turned-same {S = Sessions g} (disk_of g) (stands_of g) same (Turned-source i.turned source)) stands);
       closed = λ m b stands source done going. absurd (cc done);
@@ -229,7 +232,7 @@ returns-in-Halts g c =
     let lawful = openly_last (openly_then i.turned.lawful (called_openly c.take_turn.ensures.wrote)) in
     let went = went_then i.same_disk c.take_turn.ensures.wrote.makes.went in
     let disk = disk_of g c.take_turn.new.session in
-    let reason = λ (e : Evidence). reason_halted c.args.session.core.filer c.turns.session.core.filer i.layout i.keeps disk e c.in-Halts.halt (λ o keeps. c.in-Halts.ensures.reasons o keeps c.in-Halts.halt refl) in
+    let reason = λ (e : Evidence). reason_halted c.args.session c.turns.session i.layout i.goes disk e c.in-Halts.halt (λ o keeps next. (c.in-Halts.ensures.reasons o keeps next c.in-Halts.halt refl, λ seen. c.in-Halts.ensures.right o keeps next seen c.in-Halts.halt refl)) in
     record {
       answering = λ m b t stands source sink.
           let turned = Turned-told i.turned source sink in
@@ -244,7 +247,7 @@ returns-in-Halts g c =
           let going = Going-told _ _ _ _ _ _ _ b t i.turned.going source sink in
           let front = told_front b _ c.turns.lines going.lines going.read turn.0 in
           rw c.into_disk-in-Halts.ensures
-          (Replied-halted b t going _ disk (FromEachOutset c.args.session.core.filer disk) c.stop.result c.in-Halts.halt (g.S.Source.left c.take_turn.new.source) _ front.0 front.1 stopped
+          (Replied-halted b t going _ disk (FromEachOutset c.args.session disk) c.stop.result c.in-Halts.halt (g.S.Source.left c.take_turn.new.source) _ front.0 front.1 stopped
           (c.in-Halts.ensures.so c.in-Halts.halt refl) reason (unset_then (i.left_open left) c.take_turn.ensures.wrote)
           (Puts-later _ _ _ _ _ (rose_later _ _ _ i.sink) c.stop.ensures.line));
       moments = λ m b stands source. rw c.into_disk-in-Halts.ensures (line_moments m (Turned-source i.turned source) stands turn.0 turn.2 turn.3 turn.4);
@@ -287,8 +290,12 @@ returns-in-Ends g c =
     let went = went_then i.same_disk c.take_turn.ensures.wrote.makes.went in
     let other = trace_ends c.end_trace.result.0 e.ends in
     let layout = c.take_turn.ensures.layout ∙ i.layout in
-    let keeps = λ (o : Outset). λ (kept : KeepsOn o c.args.session.core.filer). c.in-Ends.ensures.keeps_to o (i.keeps o kept) tt in
-    let reason = λ (e : Evidence). reason_before c.args.session.core.filer c.take_turn.new.session.core.filer layout keeps disk e in
+    let goes = goes_then c.args.session c.turns.session c.take_turn.new.session i.goes (record {
+      keeps = λ o keeps next. c.in-Ends.ensures.keeps_to o keeps next tt;
+      sees = λ o keeps next seen. c.in-Ends.ensures.sees o keeps next seen tt;
+      onward = c.take_turn.ensures.onward;
+    }) in
+    let reason = λ (e : Evidence). reason_before c.args.session c.take_turn.new.session layout goes disk e in
     record {
       answering = λ m b t stands source sink.
           let turned = Turned-told stands_still source sink in
@@ -301,7 +308,7 @@ returns-in-Ends g c =
           (λ well. End-has m b _ _ _ c.turns.lines _ _ turned.going disk told c.in-Ends.end _ c.take_turn.new.lines ended (λ other. e.closed _ there other well))
           (stopped_files m turned stands disk told);
       replied = λ b t left source sink.
-          Replied-end b t (Going-told _ _ _ _ _ _ _ b t i.turned.going source sink) _ disk (FromEachOutset c.args.session.core.filer disk) c.end_trace.result.0 c.in-Ends.end (g.S.Source.left c.take_turn.new.source) _ c.take_turn.new.lines ended e.ends e.done e.part
+          Replied-end b t (Going-told _ _ _ _ _ _ _ b t i.turned.going source sink) _ disk (FromEachOutset c.args.session disk) c.end_trace.result.0 c.in-Ends.end (g.S.Source.left c.take_turn.new.source) _ c.take_turn.new.lines ended e.ends e.done e.part
           (λ is. (rose_later _ _ _ i.sink (e.stream_cause is).0, (e.stream_cause is).1))
           (λ is. Puts-later _ _ _ _ _ (rose_later _ _ _ i.sink) (e.disk_line is))
           (λ is. let line = e.damage_line is in (line.0, line.1, reason line.0 line.2, Puts-later _ _ _ _ _ (rose_later _ _ _ i.sink) line.3))

@@ -1,10 +1,10 @@
 use Rattle.std.proofs.Common.{◌≡◌, ◌⊎◌, ◌-◌, ◌^◌, ◌≤◌, true, Some, None}
 use Rattle.trace_io.specs.declared.progress.Stop.TheVariants as stop
 use Rattle.swapper_kernel.specs.Goes.{Went}
-use Rattle.file_manager.specs.Reasons.{KeepsOn, Outset}
 use Rattle.pilot_engine.specs.Opening.{IsUnset}
 use Rattle.running_words.specs.Session.{IsOpen}
 use Rattle.running_words.specs.Running.{Runs}
+use Rattle.pilot_top.proofs.ReasonLemmas.{GoesOn}
 use Rattle.pilot_top.proofs.TurnedLemmas.{Turned}
 use Rattle.pilot_top.proofs.run.answer_lines.Given as goal
 
@@ -21,7 +21,7 @@ invariant-turns g l = record {
   bound : l.lines.taken ≤ l.lines.limit;
   size : (g.D.Disk.state l.session.core.filer.swapper.under).sectors ≡ l.session.core.filer.swapper.layout.sectors;
   layout : l.session.core.filer.swapper.layout ≡ l.fn.session.core.filer.swapper.layout;
-  keeps : (o : Outset) → KeepsOn o l.fn.session.core.filer → KeepsOn o l.session.core.filer;
+  goes : GoesOn l.fn.session l.session;
   opened : IsOpen l.session.core.filer.swapper.layout l.session.volume;
   running : l.session.running ≡ true;
   left_open : IsUnset (g.D.Disk.state l.fn.session.core.filer.swapper.under) → IsUnset (g.D.Disk.state l.session.core.filer.swapper.under);

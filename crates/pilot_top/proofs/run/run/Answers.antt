@@ -48,18 +48,19 @@ returns-in-Ok-clause-untaken g c b source is some = c.answer_lines.ensures.untak
 pub returns-in-Ok-clause-left_open : goal.returns-in-Ok-clause-left_open
 returns-in-Ok-clause-left_open g c is = c.answer_lines.ensures.left_open c.in-Ok.ensures.left_open is
 
--- the session kept to what stood at the start
-started : (g : given.Over) (c : goal.After-answer_lines g) (e : Evidence) → FromEachOutset c.in-Ok.session.core.filer (g.D.Disk.state c.answer_lines.result.1) e → FromOutset (g.D.Disk.state c.args.disk) (g.D.Disk.state c.answer_lines.result.1) e
+-- the session kept to what stood at the start, and saw the space tables where no label named a page of theirs
+started : (g : given.Over) (c : goal.After-answer_lines g) (e : Evidence) → FromEachOutset c.in-Ok.session (g.D.Disk.state c.answer_lines.result.1) e → FromOutset (g.D.Disk.state c.args.disk) (g.D.Disk.state c.answer_lines.result.1) e
 started g c e =
-    let filer = c.in-Ok.session.core.filer in
-    reason_started filer (g.D.Disk.state c.args.disk) (g.D.Disk.state c.answer_lines.result.1) e filer.swapper.accepted (sym c.in-Ok.ensures.size ∙ c.in-Ok.ensures.wrote.went.sectors) (g.met.D.Disk.whole c.args.disk) c.in-Ok.ensures.keeps_to
+    let session = c.in-Ok.session in
+    reason_started session (g.D.Disk.state c.args.disk) (g.D.Disk.state c.answer_lines.result.1) e session.core.filer.swapper.accepted (sym c.in-Ok.ensures.size ∙ c.in-Ok.ensures.wrote.went.sectors) (g.met.D.Disk.whole c.args.disk)
+    c.in-Ok.ensures.keeps_to c.in-Ok.ensures.sees c.in-Ok.ensures.onward
 
 pub returns-in-Ok-clause-damage : goal.returns-in-Ok-clause-damage
 returns-in-Ok-clause-damage g c t sink is = let all = c.answer_lines.ensures.damage t c.in-Ok.ensures.left_open sink is in (all.0, started g c all.0.evidence all.1)
 
 pub returns-in-Ok-clause-replied : goal.returns-in-Ok-clause-replied
 returns-in-Ok-clause-replied g c b t source sink =
-    replied_reasoned c.answer_lines.result.0 b t _ _ _ (g.D.Disk.state c.answer_lines.result.1) (FromEachOutset c.in-Ok.session.core.filer (g.D.Disk.state c.answer_lines.result.1)) (FromOutset (g.D.Disk.state c.args.disk) (g.D.Disk.state c.answer_lines.result.1)) (started g c)
+    replied_reasoned c.answer_lines.result.0 b t _ _ _ (g.D.Disk.state c.answer_lines.result.1) (FromEachOutset c.in-Ok.session (g.D.Disk.state c.answer_lines.result.1)) (FromOutset (g.D.Disk.state c.args.disk) (g.D.Disk.state c.answer_lines.result.1)) (started g c)
     (c.answer_lines.ensures.replied b t c.in-Ok.ensures.left_open source sink)
 
 pub returns-in-Ok-clause-sound : goal.returns-in-Ok-clause-sound
@@ -118,13 +119,13 @@ pub returns-in-Err-clause-damage : goal.returns-in-Err-clause-damage
 returns-in-Err-clause-damage g c t sink is =
     let first = g.D.Disk.state c.args.disk in
     let disk = g.D.Disk.state c.in-Err.disk in
-    damage_first c.in-Err.fault c.refuse.result _ _ g.K.Sink.took _ c.refuse.ensures.stops disk (FromOutset first disk) c.in-Err.ensures.so (reason_refused first disk c.in-Err.fault c.in-Err.ensures.reasons) c.in-Err.ensures.left_open t sink is
+    damage_first c.in-Err.fault c.refuse.result _ _ g.K.Sink.took _ c.refuse.ensures.stops disk (FromOutset first disk) c.in-Err.ensures.so (reason_refused first disk c.in-Err.fault c.in-Err.ensures.reasons c.in-Err.ensures.sees) c.in-Err.ensures.left_open t sink is
 
 pub returns-in-Err-clause-replied : goal.returns-in-Err-clause-replied
 returns-in-Err-clause-replied g c b t source sink =
     let first = g.D.Disk.state c.args.disk in
     let disk = g.D.Disk.state c.in-Err.disk in
-    replied_refused c.in-Err.fault c.refuse.result _ _ g.K.Sink.took _ c.refuse.ensures.stops b t _ disk (FromOutset first disk) c.in-Err.ensures.so (reason_refused first disk c.in-Err.fault c.in-Err.ensures.reasons) c.in-Err.ensures.left_open source sink
+    replied_refused c.in-Err.fault c.refuse.result _ _ g.K.Sink.took _ c.refuse.ensures.stops b t _ disk (FromOutset first disk) c.in-Err.ensures.so (reason_refused first disk c.in-Err.fault c.in-Err.ensures.reasons c.in-Err.ensures.sees) c.in-Err.ensures.left_open source sink
 
 pub returns-in-Err-clause-lawful : goal.returns-in-Err-clause-lawful
 returns-in-Err-clause-lawful g c = started_lawfully c.in-Err.ensures.wrote

@@ -9,6 +9,7 @@ use Rattle.pilot_engine.proofs.StepLemmas.{nothing_told, on_spaces}
 use Rattle.flat_machine.specs.declared.call.Call.{Call}
 use Rattle.flat_machine.specs.declared.call.Call.TheVariants as call
 use Rattle.pilot_engine.proofs.OwnLemmas.{own_of, own_none, none_relabelled}
+use Rattle.pilot_engine.proofs.SeesLemmas.{some_or_spared}
 use Rattle.pilot_engine.proofs.session.SessionOver.answer.Goals as goal
 
 pub returns-in-Create-clause-carried : goal.returns-in-Create-clause-carried
@@ -266,3 +267,49 @@ returns-in-Next-clause-cause g c = rw c.in-Next.is c.next.ensures.cause
 
 pub returns-in-Volume-clause-cause : goal.returns-in-Volume-clause-cause
 returns-in-Volume-clause-cause g c = rw c.in-Volume.is c.volume.ensures.cause
+
+-- ---- The outset.
+
+pub returns-in-Delete-clause-reasons : goal.returns-in-Delete-clause-reasons
+returns-in-Delete-clause-reasons g c = λ o k up. c.delete.ensures.reasons o k
+
+pub returns-in-Attributes-clause-reasons : goal.returns-in-Attributes-clause-reasons
+returns-in-Attributes-clause-reasons g c = λ o k up. c.attributes.ensures.reasons o k
+
+pub returns-in-SetSize-clause-reasons : goal.returns-in-SetSize-clause-reasons
+returns-in-SetSize-clause-reasons g c = λ o k up. c.set_size.ensures.reasons o k
+
+pub returns-in-MakePermanent-clause-reasons : goal.returns-in-MakePermanent-clause-reasons
+returns-in-MakePermanent-clause-reasons g c = λ o k up. c.make_permanent.ensures.reasons o k
+
+pub returns-in-MakeImmutable-clause-reasons : goal.returns-in-MakeImmutable-clause-reasons
+returns-in-MakeImmutable-clause-reasons g c = λ o k up. c.make_immutable.ensures.reasons o k
+
+pub returns-in-Next-clause-reasons : goal.returns-in-Next-clause-reasons
+returns-in-Next-clause-reasons g c = λ o k up. c.next.ensures.reasons o k
+
+-- ---- The space tables are seen.
+
+pub returns-in-Create-clause-sees : goal.returns-in-Create-clause-sees
+returns-in-Create-clause-sees g c = λ o k up seen. some_or_spared c.args.self.now.core c.create.new.self.core c.create.result (c.create.ensures.sees o k up) seen
+
+pub returns-in-Delete-clause-sees : goal.returns-in-Delete-clause-sees
+returns-in-Delete-clause-sees g c = λ o k up seen. c.delete.ensures.sees o k seen
+
+pub returns-in-Attributes-clause-sees : goal.returns-in-Attributes-clause-sees
+returns-in-Attributes-clause-sees g c = λ o k up seen. c.attributes.ensures.sees o k seen
+
+pub returns-in-SetSize-clause-sees : goal.returns-in-SetSize-clause-sees
+returns-in-SetSize-clause-sees g c = λ o k up seen. c.set_size.ensures.sees o k seen
+
+pub returns-in-MakePermanent-clause-sees : goal.returns-in-MakePermanent-clause-sees
+returns-in-MakePermanent-clause-sees g c = λ o k up seen. c.make_permanent.ensures.sees o k seen
+
+pub returns-in-MakeImmutable-clause-sees : goal.returns-in-MakeImmutable-clause-sees
+returns-in-MakeImmutable-clause-sees g c = λ o k up seen. c.make_immutable.ensures.sees o k seen
+
+pub returns-in-Next-clause-sees : goal.returns-in-Next-clause-sees
+returns-in-Next-clause-sees g c = λ o k up seen. c.next.ensures.sees o k seen
+
+pub returns-in-Volume-clause-sees : goal.returns-in-Volume-clause-sees
+returns-in-Volume-clause-sees g c = λ o k up seen. c.volume.ensures.sees o k seen

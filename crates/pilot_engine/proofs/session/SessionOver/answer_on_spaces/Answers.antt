@@ -23,6 +23,8 @@ use Rattle.space_calls.specs.Ranges.{BreaksRange}
 use Rattle.space_calls.specs.Halts.{ChangeHalts, MakeSpaceHalts, MapFileHalts, PlaceHalts, ProtectHalts, RemoveSpaceHalts}
 use Rattle.space_calls.specs.ReasonLaws.{change_reasons, make_space_reasons, map_file_reasons, place_reasons, protect_reasons, remove_space_reasons}
 use Rattle.pilot_engine.proofs.ReasonSteps.{moving_keeps, moving_reasons, reaching_reasons}
+use Rattle.space_calls.specs.Sees.{SeesOn}
+use Rattle.pilot_engine.proofs.SeesLemmas.{seen_or_spared}
 use Rattle.pilot_engine.proofs.session.SessionOver.answer_on_spaces.Goals as goal
 
 pub returns-in-MakeSpace-clause-carried : goal.returns-in-MakeSpace-clause-carried
@@ -503,132 +505,176 @@ returns-in-ForceOut-clause-cause g c = rw c.in-ForceOut.is c.force_out.ensures.c
 -- ---- The outset.
 
 pub returns-in-MakeSpace-clause-keeps_to : goal.returns-in-MakeSpace-clause-keeps_to
-returns-in-MakeSpace-clause-keeps_to g c =
+returns-in-MakeSpace-clause-keeps_to g c = λ o k next.
     let old = c.args.self.now.core in
-    moving_keeps (state old) (state c.make_space.new.core) c.make_space.result old.filer.swapper.accepted c.make_space.ensures.moves
+    moving_keeps (state old) (state c.make_space.new.core) c.make_space.result old.filer.swapper.accepted c.make_space.ensures.moves o k
 
 pub returns-in-MakeSpace-clause-reasons : goal.returns-in-MakeSpace-clause-reasons
-returns-in-MakeSpace-clause-reasons g c =
+returns-in-MakeSpace-clause-reasons g c = λ o k next.
     let old = c.args.self.now.core in
     let count = old.intervals in
     moving_reasons (MakeSpaceHalts c.in-MakeSpace.parent c.in-MakeSpace.pages c.in-MakeSpace.first count) (make_space_reasons c.in-MakeSpace.parent c.in-MakeSpace.pages c.in-MakeSpace.first count)
-    (state old) (state c.make_space.new.core) c.make_space.result old.filer.swapper.accepted c.make_space.ensures.moves c.make_space.ensures.cause
+    (state old) (state c.make_space.new.core) c.make_space.result old.filer.swapper.accepted c.make_space.ensures.moves c.make_space.ensures.cause o k
 
 pub returns-in-RemoveSpace-clause-keeps_to : goal.returns-in-RemoveSpace-clause-keeps_to
-returns-in-RemoveSpace-clause-keeps_to g c =
+returns-in-RemoveSpace-clause-keeps_to g c = λ o k next.
     let old = c.args.self.now.core in
-    moving_keeps (state old) (state c.remove_space.new.core) c.remove_space.result old.filer.swapper.accepted c.remove_space.ensures.moves
+    moving_keeps (state old) (state c.remove_space.new.core) c.remove_space.result old.filer.swapper.accepted c.remove_space.ensures.moves o k
 
 pub returns-in-RemoveSpace-clause-reasons : goal.returns-in-RemoveSpace-clause-reasons
-returns-in-RemoveSpace-clause-reasons g c =
+returns-in-RemoveSpace-clause-reasons g c = λ o k next.
     let old = c.args.self.now.core in
     let count = old.intervals in
     moving_reasons (RemoveSpaceHalts c.in-RemoveSpace.space count) (remove_space_reasons c.in-RemoveSpace.space count)
-    (state old) (state c.remove_space.new.core) c.remove_space.result old.filer.swapper.accepted c.remove_space.ensures.moves c.remove_space.ensures.cause
+    (state old) (state c.remove_space.new.core) c.remove_space.result old.filer.swapper.accepted c.remove_space.ensures.moves c.remove_space.ensures.cause o k
 
 pub returns-in-Place-clause-keeps_to : goal.returns-in-Place-clause-keeps_to
-returns-in-Place-clause-keeps_to g c = moving_keeps (state c.args.self.now.core) (state c.place.new.core) c.place.result c.args.self.now.core.filer.swapper.accepted c.place.ensures.moves
+returns-in-Place-clause-keeps_to g c = λ o k next. moving_keeps (state c.args.self.now.core) (state c.place.new.core) c.place.result c.args.self.now.core.filer.swapper.accepted c.place.ensures.moves o k
 
 pub returns-in-Place-clause-reasons : goal.returns-in-Place-clause-reasons
-returns-in-Place-clause-reasons g c =
+returns-in-Place-clause-reasons g c = λ o k next.
     let old = c.args.self.now.core in
     let count = old.intervals in
     moving_reasons (PlaceHalts c.in-Place.page count) (place_reasons c.in-Place.page count)
-    (state old) (state c.place.new.core) c.place.result old.filer.swapper.accepted c.place.ensures.moves c.place.ensures.cause
+    (state old) (state c.place.new.core) c.place.result old.filer.swapper.accepted c.place.ensures.moves c.place.ensures.cause o k
 
 pub returns-in-Units-clause-keeps_to : goal.returns-in-Units-clause-keeps_to
-returns-in-Units-clause-keeps_to g c =
+returns-in-Units-clause-keeps_to g c = λ o k next.
     let old = c.args.self.now.core in
-    moving_keeps (state old) (state c.set_units.new.core) c.set_units.result old.filer.swapper.accepted c.set_units.ensures.moves
+    moving_keeps (state old) (state c.set_units.new.core) c.set_units.result old.filer.swapper.accepted c.set_units.ensures.moves o k
 
 pub returns-in-Units-clause-reasons : goal.returns-in-Units-clause-reasons
-returns-in-Units-clause-reasons g c =
+returns-in-Units-clause-reasons g c = λ o k next.
     let old = c.args.self.now.core in
     let count = old.intervals in
-    moving_reasons (ChangeHalts count) (change_reasons count) (state old) (state c.set_units.new.core) c.set_units.result old.filer.swapper.accepted c.set_units.ensures.moves c.set_units.ensures.cause
+    moving_reasons (ChangeHalts count) (change_reasons count) (state old) (state c.set_units.new.core) c.set_units.result old.filer.swapper.accepted c.set_units.ensures.moves c.set_units.ensures.cause o k
 
 pub returns-in-Map-clause-keeps_to : goal.returns-in-Map-clause-keeps_to
-returns-in-Map-clause-keeps_to g c = moving_keeps (state c.args.self.now.core) (state c.map.new.core) c.map.result c.args.self.now.core.filer.swapper.accepted c.map.ensures.moves
+returns-in-Map-clause-keeps_to g c = λ o k next. moving_keeps (state c.args.self.now.core) (state c.map.new.core) c.map.result c.args.self.now.core.filer.swapper.accepted c.map.ensures.moves o k
 
 pub returns-in-Map-clause-reasons : goal.returns-in-Map-clause-reasons
-returns-in-Map-clause-reasons g c =
+returns-in-Map-clause-reasons g c = λ o k next.
     let old = c.args.self.now.core in
     let count = old.intervals in
     moving_reasons (MapFileHalts c.in-Map.space c.in-Map.id count) (map_file_reasons c.in-Map.space c.in-Map.id count)
-    (state old) (state c.map.new.core) c.map.result old.filer.swapper.accepted c.map.ensures.moves c.map.ensures.cause
+    (state old) (state c.map.new.core) c.map.result old.filer.swapper.accepted c.map.ensures.moves c.map.ensures.cause o k
+
+pub returns-in-Unmap-clause-reasons : goal.returns-in-Unmap-clause-reasons
+returns-in-Unmap-clause-reasons g c = λ o k next. c.unmap.ensures.reasons o k
 
 pub returns-in-Protect-clause-keeps_to : goal.returns-in-Protect-clause-keeps_to
-returns-in-Protect-clause-keeps_to g c =
+returns-in-Protect-clause-keeps_to g c = λ o k next.
     let old = c.args.self.now.core in
-    moving_keeps (state old) (state c.protect.new.core) c.protect.result old.filer.swapper.accepted c.protect.ensures.moves
+    moving_keeps (state old) (state c.protect.new.core) c.protect.result old.filer.swapper.accepted c.protect.ensures.moves o k
 
 pub returns-in-Protect-clause-reasons : goal.returns-in-Protect-clause-reasons
-returns-in-Protect-clause-reasons g c =
+returns-in-Protect-clause-reasons g c = λ o k next.
     let old = c.args.self.now.core in
     let count = old.intervals in
     moving_reasons (ProtectHalts c.in-Protect.space c.in-Protect.writable count) (protect_reasons c.in-Protect.space c.in-Protect.writable count)
-    (state old) (state c.protect.new.core) c.protect.result old.filer.swapper.accepted c.protect.ensures.moves c.protect.ensures.cause
+    (state old) (state c.protect.new.core) c.protect.result old.filer.swapper.accepted c.protect.ensures.moves c.protect.ensures.cause o k
 
 pub returns-in-Load-clause-keeps_to : goal.returns-in-Load-clause-keeps_to
-returns-in-Load-clause-keeps_to g c = moving_keeps (state c.args.self.now.core) (state c.load.new.core) c.load.result c.args.self.now.core.filer.swapper.accepted c.load.ensures.moves
+returns-in-Load-clause-keeps_to g c = λ o k next. moving_keeps (state c.args.self.now.core) (state c.load.new.core) c.load.result c.args.self.now.core.filer.swapper.accepted c.load.ensures.moves o k
 
 pub returns-in-Load-clause-reasons : goal.returns-in-Load-clause-reasons
-returns-in-Load-clause-reasons g c =
+returns-in-Load-clause-reasons g c = λ o k next.
     let old = c.args.self.now.core in
     let count = old.intervals in
-    reaching_reasons (λ v. BreaksFor v count c.in-Load.address c.in-Load.count) (state old) (state c.load.new.core) c.load.result old.filer.swapper.accepted c.load.ensures.moves c.load.ensures.cause
+    reaching_reasons (λ v. BreaksFor v count c.in-Load.address c.in-Load.count) (state old) (state c.load.new.core) c.load.result old.filer.swapper.accepted c.load.ensures.moves c.load.ensures.cause o k
 
 pub returns-in-Store-clause-keeps_to : goal.returns-in-Store-clause-keeps_to
-returns-in-Store-clause-keeps_to g c = moving_keeps (state c.args.self.now.core) (state c.store.new.core) c.store.result c.args.self.now.core.filer.swapper.accepted c.store.ensures.moves
+returns-in-Store-clause-keeps_to g c = λ o k next. moving_keeps (state c.args.self.now.core) (state c.store.new.core) c.store.result c.args.self.now.core.filer.swapper.accepted c.store.ensures.moves o k
 
 pub returns-in-Store-clause-reasons : goal.returns-in-Store-clause-reasons
-returns-in-Store-clause-reasons g c =
+returns-in-Store-clause-reasons g c = λ o k next.
     let old = c.args.self.now.core in
     let count = old.intervals in
     reaching_reasons (λ v. BreaksFor v count c.in-Store.address (length c.as_slice.result.now))
-    (state old) (state c.store.new.core) c.store.result old.filer.swapper.accepted c.store.ensures.moves c.store.ensures.cause
+    (state old) (state c.store.new.core) c.store.result old.filer.swapper.accepted c.store.ensures.moves c.store.ensures.cause o k
 
 pub returns-in-Activate-clause-keeps_to : goal.returns-in-Activate-clause-keeps_to
-returns-in-Activate-clause-keeps_to g c =
+returns-in-Activate-clause-keeps_to g c = λ o k next.
     let old = c.args.self.now.core in
-    moving_keeps (state old) (state c.activate.new.core) c.activate.result old.filer.swapper.accepted c.activate.ensures.moves
+    moving_keeps (state old) (state c.activate.new.core) c.activate.result old.filer.swapper.accepted c.activate.ensures.moves o k
 
 pub returns-in-Activate-clause-reasons : goal.returns-in-Activate-clause-reasons
-returns-in-Activate-clause-reasons g c =
+returns-in-Activate-clause-reasons g c = λ o k next.
     let old = c.args.self.now.core in
     let count = old.intervals in
     reaching_reasons (λ v. BreaksRange v count c.in-Activate.space)
-    (state old) (state c.activate.new.core) c.activate.result old.filer.swapper.accepted c.activate.ensures.moves c.activate.ensures.cause
+    (state old) (state c.activate.new.core) c.activate.result old.filer.swapper.accepted c.activate.ensures.moves c.activate.ensures.cause o k
 
 pub returns-in-Deactivate-clause-keeps_to : goal.returns-in-Deactivate-clause-keeps_to
-returns-in-Deactivate-clause-keeps_to g c =
+returns-in-Deactivate-clause-keeps_to g c = λ o k next.
     let old = c.args.self.now.core in
-    moving_keeps (state old) (state c.deactivate.new.core) c.deactivate.result old.filer.swapper.accepted c.deactivate.ensures.moves
+    moving_keeps (state old) (state c.deactivate.new.core) c.deactivate.result old.filer.swapper.accepted c.deactivate.ensures.moves o k
 
 pub returns-in-Deactivate-clause-reasons : goal.returns-in-Deactivate-clause-reasons
-returns-in-Deactivate-clause-reasons g c =
+returns-in-Deactivate-clause-reasons g c = λ o k next.
     let old = c.args.self.now.core in
     let count = old.intervals in
     reaching_reasons (λ v. BreaksRange v count c.in-Deactivate.space)
-    (state old) (state c.deactivate.new.core) c.deactivate.result old.filer.swapper.accepted c.deactivate.ensures.moves c.deactivate.ensures.cause
+    (state old) (state c.deactivate.new.core) c.deactivate.result old.filer.swapper.accepted c.deactivate.ensures.moves c.deactivate.ensures.cause o k
 
 pub returns-in-Kill-clause-keeps_to : goal.returns-in-Kill-clause-keeps_to
-returns-in-Kill-clause-keeps_to g c = moving_keeps (state c.args.self.now.core) (state c.kill.new.core) c.kill.result c.args.self.now.core.filer.swapper.accepted c.kill.ensures.moves
+returns-in-Kill-clause-keeps_to g c = λ o k next. moving_keeps (state c.args.self.now.core) (state c.kill.new.core) c.kill.result c.args.self.now.core.filer.swapper.accepted c.kill.ensures.moves o k
 
 pub returns-in-Kill-clause-reasons : goal.returns-in-Kill-clause-reasons
-returns-in-Kill-clause-reasons g c =
+returns-in-Kill-clause-reasons g c = λ o k next.
     let old = c.args.self.now.core in
     let count = old.intervals in
-    reaching_reasons (λ v. BreaksRange v count c.in-Kill.space) (state old) (state c.kill.new.core) c.kill.result old.filer.swapper.accepted c.kill.ensures.moves c.kill.ensures.cause
+    reaching_reasons (λ v. BreaksRange v count c.in-Kill.space) (state old) (state c.kill.new.core) c.kill.result old.filer.swapper.accepted c.kill.ensures.moves c.kill.ensures.cause o k
 
 pub returns-in-ForceOut-clause-keeps_to : goal.returns-in-ForceOut-clause-keeps_to
-returns-in-ForceOut-clause-keeps_to g c =
+returns-in-ForceOut-clause-keeps_to g c = λ o k next.
     let old = c.args.self.now.core in
-    moving_keeps (state old) (state c.force_out.new.core) c.force_out.result old.filer.swapper.accepted c.force_out.ensures.moves
+    moving_keeps (state old) (state c.force_out.new.core) c.force_out.result old.filer.swapper.accepted c.force_out.ensures.moves o k
 
 pub returns-in-ForceOut-clause-reasons : goal.returns-in-ForceOut-clause-reasons
-returns-in-ForceOut-clause-reasons g c =
+returns-in-ForceOut-clause-reasons g c = λ o k next.
     let old = c.args.self.now.core in
     let count = old.intervals in
     reaching_reasons (λ v. BreaksRange v count c.in-ForceOut.space)
-    (state old) (state c.force_out.new.core) c.force_out.result old.filer.swapper.accepted c.force_out.ensures.moves c.force_out.ensures.cause
+    (state old) (state c.force_out.new.core) c.force_out.result old.filer.swapper.accepted c.force_out.ensures.moves c.force_out.ensures.cause o k
+
+-- ---- The space tables are seen.
+
+pub returns-in-MakeSpace-clause-sees : goal.returns-in-MakeSpace-clause-sees
+returns-in-MakeSpace-clause-sees g c = λ o k next seen. seen_or_spared (SeesOn c.make_space.new.core) c.make_space.result (c.make_space.ensures.sees seen) (c.make_space.ensures.right seen)
+
+pub returns-in-RemoveSpace-clause-sees : goal.returns-in-RemoveSpace-clause-sees
+returns-in-RemoveSpace-clause-sees g c = λ o k next seen. seen_or_spared (SeesOn c.remove_space.new.core) c.remove_space.result (c.remove_space.ensures.sees seen) (c.remove_space.ensures.right seen)
+
+pub returns-in-Place-clause-sees : goal.returns-in-Place-clause-sees
+returns-in-Place-clause-sees g c = λ o k next seen. seen_or_spared (SeesOn c.place.new.core) c.place.result (c.place.ensures.sees seen) (c.place.ensures.right seen)
+
+pub returns-in-Units-clause-sees : goal.returns-in-Units-clause-sees
+returns-in-Units-clause-sees g c = λ o k next seen. seen_or_spared (SeesOn c.set_units.new.core) c.set_units.result (c.set_units.ensures.sees seen) (c.set_units.ensures.right seen)
+
+pub returns-in-Map-clause-sees : goal.returns-in-Map-clause-sees
+returns-in-Map-clause-sees g c = λ o k next seen. seen_or_spared (SeesOn c.map.new.core) c.map.result (c.map.ensures.sees seen) (c.map.ensures.right seen)
+
+pub returns-in-Unmap-clause-sees : goal.returns-in-Unmap-clause-sees
+returns-in-Unmap-clause-sees g c = λ o k next seen. c.unmap.ensures.sees o k seen
+
+pub returns-in-Protect-clause-sees : goal.returns-in-Protect-clause-sees
+returns-in-Protect-clause-sees g c = λ o k next seen. seen_or_spared (SeesOn c.protect.new.core) c.protect.result (c.protect.ensures.sees seen) (c.protect.ensures.right seen)
+
+pub returns-in-Load-clause-sees : goal.returns-in-Load-clause-sees
+returns-in-Load-clause-sees g c = λ o k next seen. seen_or_spared (SeesOn c.load.new.core) c.load.result (c.load.ensures.sees seen) (c.load.ensures.right seen)
+
+pub returns-in-Store-clause-sees : goal.returns-in-Store-clause-sees
+returns-in-Store-clause-sees g c = λ o k next seen. seen_or_spared (SeesOn c.store.new.core) c.store.result (c.store.ensures.sees seen) (c.store.ensures.right seen)
+
+pub returns-in-Activate-clause-sees : goal.returns-in-Activate-clause-sees
+returns-in-Activate-clause-sees g c = λ o k next seen. seen_or_spared (SeesOn c.activate.new.core) c.activate.result (c.activate.ensures.sees seen) (c.activate.ensures.right seen)
+
+pub returns-in-Deactivate-clause-sees : goal.returns-in-Deactivate-clause-sees
+returns-in-Deactivate-clause-sees g c = λ o k next seen. seen_or_spared (SeesOn c.deactivate.new.core) c.deactivate.result (c.deactivate.ensures.sees seen) (c.deactivate.ensures.right seen)
+
+pub returns-in-Kill-clause-sees : goal.returns-in-Kill-clause-sees
+returns-in-Kill-clause-sees g c = λ o k next seen. seen_or_spared (SeesOn c.kill.new.core) c.kill.result (c.kill.ensures.sees seen) (c.kill.ensures.right seen)
+
+pub returns-in-ForceOut-clause-sees : goal.returns-in-ForceOut-clause-sees
+returns-in-ForceOut-clause-sees g c = λ o k next seen. seen_or_spared (SeesOn c.force_out.new.core) c.force_out.result (c.force_out.ensures.sees seen) (c.force_out.ensures.right seen)

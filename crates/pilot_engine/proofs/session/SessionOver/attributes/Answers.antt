@@ -11,6 +11,7 @@ use Rattle.fault_core.specs.Core.{state}
 use Rattle.space_calls.specs.ReasonLaws.{named_reasons}
 use Rattle.space_calls.specs.Halts.{NamedHalts}
 use Rattle.pilot_engine.proofs.ReasonSteps.{reached_on, shows_after}
+use Rattle.running_words.specs.SparedLaws.{spares_form}
 use Rattle.pilot_engine.proofs.session.SessionOver.attributes.Goals as goal
 
 pub returns-in-Ok-None-clause-carried : goal.returns-in-Ok-None-clause-carried
@@ -65,3 +66,17 @@ returns-in-Err-clause-reasons g c = λ o k.
     let count = old.intervals in
     shows_after (NamedHalts c.args.id count) (named_reasons c.args.id count)
     o (state old) (state c.named_file.new.core) old.filer.swapper.accepted c.named_file.ensures.reaches.goes.makes k c.in-Err.halt c.in-Err.ensures.cause
+
+-- ---- What is seen of the space tables.
+
+pub returns-clause-sees : goal.returns-clause-sees
+returns-clause-sees g c = λ o k seen.
+    c.in-Ok-Some.ensures.sees seen
+
+pub returns-in-Ok-None-clause-sees : goal.returns-in-Ok-None-clause-sees
+returns-in-Ok-None-clause-sees g c = λ o k seen.
+    c.in-Ok-None.ensures.sees seen
+
+pub returns-in-Err-clause-sees : goal.returns-in-Err-clause-sees
+returns-in-Err-clause-sees g c = λ o k seen.
+    spares_form c.in-Err.halt (c.in-Err.ensures.right seen)

@@ -11,10 +11,16 @@ use Rattle.pilot_engine.proofs.BoundLemmas.{create_bounded, inside_layout}
 use Rattle.pilot_engine.proofs.CallLemmas.{carries_at}
 use Rattle.pilot_engine.proofs.CreateStops.{create_passed, create_broken}
 use Rattle.pilot_engine.proofs.CreateLemmas.{may_create, create_done, create_refused}
+use Rattle.pilot_engine.proofs.NewWindow.{none_named, one_named}
 use Rattle.pilot_engine.proofs.RefusalLemmas.{create_full, create_ids, create_there}
 use Rattle.running_words.proofs.SessionLemmas.{room_is}
 use Rattle.running_words.proofs.StageLemmas.{no_step}
 use Rattle.pilot_engine.proofs.WroteLemmas.{wrote_file, wrote_some}
+use Rattle.file_manager.specs.Reasons.{telling}
+use Rattle.file_manager.specs.declared.volume.Volume.{Volume}
+use Rattle.fault_core.specs.Core.{state}
+use Rattle.fault_core.specs.View.{view_of}
+use Rattle.pilot_engine.proofs.SeesLemmas.{counted_next, same_from, same_next, seen_spared}
 use Rattle.pilot_engine.proofs.session.SessionOver.create.Goals as goal
 
 pub returns-then-pages-free-clause-carried : goal.returns-then-pages-free-clause-carried
@@ -111,10 +117,53 @@ returns-in-Err-clause-bounded g c =
     inside_layout layout (g.D.Disk.state c.args.self.now.core.filer.swapper.under) (g.D.Disk.state c.create.new.filer.swapper.under) c.requires.size
     (create_bounded layout c.args.self.now.core.filer.swapper.accepted _ _ c.args.pages (omega (arith, under, same_room)) c.create.ensures.cost)
 
+-- ---- The file that the reply names.
+
+pub returns-then-pages-free-clause-next : goal.returns-then-pages-free-clause-next
+returns-then-pages-free-clause-next g c = λ id is. absurd (none_named why.Full id is)
+
+pub returns-then-self-clause-next : goal.returns-then-self-clause-next
+returns-then-self-clause-next g c = λ id is. absurd (none_named why.Ids id is)
+
+pub returns-in-Ok-clause-next : goal.returns-in-Ok-clause-next
+returns-in-Ok-clause-next g c = λ id is. sym (one_named c.in-Ok.id id is) ∙ c.in-Ok.ensures.next
+
 -- ---- The outset.
 
 pub returns-in-Ok-clause-keeps_to : goal.returns-in-Ok-clause-keeps_to
-returns-in-Ok-clause-keeps_to g c = λ o k. let from = c.in-Ok.ensures.keeps_to o k.0 k.1.0 in (from.0, (from.1, from.2 k.1.1))
+returns-in-Ok-clause-keeps_to g c = λ o k up. let from = c.in-Ok.ensures.keeps_to o k.0 k.1.0 up in (from.0, (from.1, (from.2 k.1.1.0, k.1.1.1)))
 
 pub returns-in-Err-clause-reasons : goal.returns-in-Err-clause-reasons
-returns-in-Err-clause-reasons g c = λ o k. c.in-Err.ensures.reasons o k.0 k.1.0
+returns-in-Err-clause-reasons g c = λ o k up. c.in-Err.ensures.reasons o k.0 k.1.0 up
+
+-- ---- What is seen of the space tables.
+
+pub returns-then-pages-free-clause-sees : goal.returns-then-pages-free-clause-sees
+returns-then-pages-free-clause-sees g c = λ o k up ss sees. sees
+
+pub returns-then-self-clause-sees : goal.returns-then-self-clause-sees
+returns-then-self-clause-sees g c = λ o k up ss sees. sees
+
+pub returns-in-Ok-clause-sees : goal.returns-in-Ok-clause-sees
+returns-in-Ok-clause-sees g c = λ o k up.
+    let old = c.args.self.now.core in
+    same_from o (state old) old.filer.swapper.accepted k (view_of c.create.new.filer) (λ b h. c.in-Ok.ensures.keeps_to (telling o b) k.0 h up)
+
+pub returns-in-Err-clause-sees : goal.returns-in-Err-clause-sees
+returns-in-Err-clause-sees g c = λ o k up seen.
+    let old = c.args.self.now.core in
+    seen_spared o (state old) old.filer.swapper.accepted k old.filer.swapper.layout (g.D.Disk.state c.create.new.filer.swapper.under) c.in-Err.halt (λ b h. c.in-Err.ensures.reasons (telling o b) k.0 h up) seen
+
+-- ---- The next identifier.
+
+pub returns-in-Ok-clause-onward : goal.returns-in-Ok-clause-onward
+returns-in-Ok-clause-onward g c = counted_next c.args.self.now.volume.root c.create.new.volume.root (ap (λ (v : Volume). v.root) c.in-Ok.ensures.new_volume)
+
+pub returns-in-Err-clause-onward : goal.returns-in-Err-clause-onward
+returns-in-Err-clause-onward g c = same_next c.args.self.now.volume.root c.create.new.volume.root (ap (λ (v : Volume). v.root) c.in-Err.ensures.same_volume)
+
+pub returns-in-Ok-clause-serial : goal.returns-in-Ok-clause-serial
+returns-in-Ok-clause-serial g c = ap (λ (v : Volume). v.root.serial) c.in-Ok.ensures.new_volume
+
+pub returns-in-Err-clause-serial : goal.returns-in-Err-clause-serial
+returns-in-Err-clause-serial g c = ap (λ (v : Volume). v.root.serial) c.in-Err.ensures.same_volume

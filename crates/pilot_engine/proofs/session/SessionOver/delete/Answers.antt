@@ -18,6 +18,8 @@ use Rattle.fault_core.specs.Core.{state}
 use Rattle.pilot_engine.proofs.CauseLemmas.{named_halt}
 use Rattle.pilot_engine.specs.Halting.{RemoveHalts}
 use Rattle.pilot_engine.proofs.ReasonSteps.{reasons_since}
+use Rattle.file_manager.specs.declared.volume.Volume.{Volume}
+use Rattle.pilot_engine.proofs.SeesLemmas.{then_next}
 use Rattle.pilot_engine.proofs.session.SessionOver.delete.Goals as goal
 
 pub returns-in-Ok-Hidden-clause-carried : goal.returns-in-Ok-Hidden-clause-carried
@@ -117,3 +119,17 @@ pub returns-clause-reasons : goal.returns-clause-reasons
 returns-clause-reasons g c = λ o k.
     reasons_since c.delete_unseen.result o (g.D.Disk.state c.delete_unseen.new.self.core.filer.swapper.under) c.sight.ensures.layout
     (c.delete_unseen.ensures.reasons o (c.in-Ok-By.ensures.keeps_to o k))
+
+-- ---- What is seen of the space tables.
+
+pub returns-clause-sees : goal.returns-clause-sees
+returns-clause-sees g c = λ o k seen.
+    c.delete_unseen.ensures.sees o (c.in-Ok-By.ensures.keeps_to o k) (c.in-Ok-By.ensures.sees o k seen)
+
+-- ---- The next identifier.
+
+pub returns-clause-onward : goal.returns-clause-onward
+returns-clause-onward g c = then_next c.args.self.now.volume.root c.sight.new.self.volume.root c.delete_unseen.new.self.volume.root (ap (λ (v : Volume). v.root) c.sight.ensures.volume) c.delete_unseen.ensures.onward
+
+pub returns-clause-serial : goal.returns-clause-serial
+returns-clause-serial g c = c.delete_unseen.ensures.serial ∙ ap (λ (v : Volume). v.root.serial) c.sight.ensures.volume

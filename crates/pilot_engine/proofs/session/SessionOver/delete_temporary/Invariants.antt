@@ -1,12 +1,15 @@
 use Rattle.std.proofs.Common.{◌-◌, ◌^◌}
+use Rattle.file_manager.specs.Reasons.{KeepsOn, Outset}
+use Rattle.space_calls.specs.Sees.{SeesOn}
 use Rattle.pilot_engine.proofs.ClearedUpTo.{ClearedUpTo}
 use Rattle.pilot_engine.proofs.session.SessionOver.delete_temporary.Given as goal
 
--- the temporary files up to this one are gone
+-- the temporary files up to this one are gone, and the space tables are seen where they were
 abbrev pub invariant-files : goal.invariant-files
 invariant-files g l =
     ClearedUpTo l.cursor (g.D.Disk.state l.fn.self.core.filer.swapper.under) l.fn.self.core.filer.swapper.pool l.fn.self.core.filer.swapper.layout l.fn.self.core.filer.runs l.fn.self.volume
     (g.D.Disk.state l.self.core.filer.swapper.under) l.self.core.filer.swapper.pool l.self.core.filer.swapper.layout l.self.core.filer.runs l.self.volume
+    × ((o : Outset) → KeepsOn o l.fn.self.core.filer → SeesOn l.fn.self.core → SeesOn l.self.core)
 
 abbrev pub decreases-files : goal.decreases-files
 decreases-files g l = 2 ^ 64 - l.cursor

@@ -12,7 +12,9 @@ use Rattle.file_manager.proofs.Faults.{counted_then}
 use Rattle.fault_core.specs.Core.{state}
 use Rattle.space_calls.proofs.HaltLemmas.{look_reaches}
 use Rattle.labelled_disk.specs.declared.layout.Layout.{Layout}
-use Rattle.file_manager.specs.Reasons.{ShowsReason}
+use Rattle.file_manager.specs.Reasons.{ShowsReason, telling}
+use Rattle.fault_core.specs.View.{view_of}
+use Rattle.pilot_engine.proofs.SeesLemmas.{seen_from, seen_spared, seen_still}
 use Rattle.pilot_engine.proofs.session.SessionOver.delete_unless_permanent.Goals as goal
 
 pub returns-in-Ok-None-clause-shed : goal.returns-in-Ok-None-clause-shed
@@ -141,9 +143,37 @@ pub returns-in-Err-clause-reasons : goal.returns-in-Err-clause-reasons
 returns-in-Err-clause-reasons g c = λ o keeps. c.in-Err.ensures.reasons o keeps.0 keeps.1.0
 
 pub returns-in-Ok-clause-keeps_to : goal.returns-in-Ok-clause-keeps_to
-returns-in-Ok-clause-keeps_to g c = λ o keeps. let from = c.in-Ok.ensures.keeps_to o keeps.0 (c.in-Ok-Some.ensures.keeps_to o keeps.0 keeps.1.0) in (from.0, (from.1, from.2 keeps.1.1))
+returns-in-Ok-clause-keeps_to g c = λ o keeps. let from = c.in-Ok.ensures.keeps_to o keeps.0 (c.in-Ok-Some.ensures.keeps_to o keeps.0 keeps.1.0) in (from.0, (from.1, (from.2 keeps.1.1.0, keeps.1.1.1)))
 
 pub returns-in-Err-delete-clause-reasons : goal.returns-in-Err-delete-clause-reasons
 returns-in-Err-delete-clause-reasons g c = λ o keeps.
     subst (λ (l : Layout). ShowsReason o l (g.D.Disk.state c.delete.new.filer.swapper.under) c.in-Err-delete.halt) c.attributes_of.ensures.layout
     (c.in-Err-delete.ensures.reasons o keeps.0 (c.in-Ok-Some.ensures.keeps_to o keeps.0 keeps.1.0))
+
+-- ---- The space tables are seen.
+
+pub returns-in-Ok-None-clause-sees : goal.returns-in-Ok-None-clause-sees
+returns-in-Ok-None-clause-sees g c = λ o keeps seen.
+    let old = c.args.self.now.core in
+    seen_still o (state old) old.filer.swapper.accepted keeps (view_of c.attributes_of.new.filer) (λ b h. c.in-Ok-None.ensures.keeps_to (telling o b) keeps.0 h) seen
+
+pub returns-in-Err-clause-sees : goal.returns-in-Err-clause-sees
+returns-in-Err-clause-sees g c = λ o keeps seen.
+    let old = c.args.self.now.core in
+    seen_spared o (state old) old.filer.swapper.accepted keeps old.filer.swapper.layout (g.D.Disk.state c.attributes_of.new.filer.swapper.under) c.in-Err.halt (λ b h. c.in-Err.ensures.reasons (telling o b) keeps.0 h) seen
+
+pub returns-then-found-clause-sees : goal.returns-then-found-clause-sees
+returns-then-found-clause-sees g c = λ o keeps seen.
+    let old = c.args.self.now.core in
+    seen_still o (state old) old.filer.swapper.accepted keeps (view_of c.attributes_of.new.filer) (λ b h. c.in-Ok-Some.ensures.keeps_to (telling o b) keeps.0 h) seen
+
+pub returns-in-Ok-clause-sees : goal.returns-in-Ok-clause-sees
+returns-in-Ok-clause-sees g c = λ o keeps seen.
+    let old = c.args.self.now.core in
+    seen_from o (state old) old.filer.swapper.accepted keeps (view_of c.delete.new.filer) (λ b h. c.in-Ok.ensures.keeps_to (telling o b) keeps.0 (c.in-Ok-Some.ensures.keeps_to (telling o b) keeps.0 h)) seen
+
+pub returns-in-Err-delete-clause-sees : goal.returns-in-Err-delete-clause-sees
+returns-in-Err-delete-clause-sees g c = λ o keeps seen.
+    let old = c.args.self.now.core in
+    seen_spared o (state old) old.filer.swapper.accepted keeps c.attributes_of.new.filer.swapper.layout (g.D.Disk.state c.delete.new.filer.swapper.under) c.in-Err-delete.halt
+    (λ b h. c.in-Err-delete.ensures.reasons (telling o b) keeps.0 (c.in-Ok-Some.ensures.keeps_to (telling o b) keeps.0 h)) seen

@@ -15,6 +15,9 @@ use Rattle.file_manager.proofs.OwnSteps.{freed_own, some_own, own_after}
 use Rattle.fault_core.specs.Core.{state}
 use Rattle.space_calls.proofs.HaltLemmas.{look_reaches}
 use Rattle.pilot_engine.proofs.ReasonSteps.{shows_since}
+use Rattle.file_manager.specs.Reasons.{telling}
+use Rattle.fault_core.specs.View.{view_of}
+use Rattle.pilot_engine.proofs.SeesLemmas.{same_next, seen_from, seen_spared, seen_still}
 use Rattle.pilot_engine.proofs.session.SessionOver.delete_unseen.Goals as goal
 
 pub returns-in-Ok-None-clause-carried : goal.returns-in-Ok-None-clause-carried
@@ -131,7 +134,7 @@ pub returns-in-Ok-None-clause-keeps_to : goal.returns-in-Ok-None-clause-keeps_to
 returns-in-Ok-None-clause-keeps_to g c = λ o k. (k.0, (c.in-Ok-None.ensures.keeps_to o k.0 k.1.0, k.1.1))
 
 pub returns-in-Ok-clause-keeps_to : goal.returns-in-Ok-clause-keeps_to
-returns-in-Ok-clause-keeps_to g c = λ o k. let from = c.in-Ok.ensures.keeps_to o k.0 (c.in-Ok-Some.ensures.keeps_to o k.0 k.1.0) in (from.0, (from.1, from.2 k.1.1))
+returns-in-Ok-clause-keeps_to g c = λ o k. let from = c.in-Ok.ensures.keeps_to o k.0 (c.in-Ok-Some.ensures.keeps_to o k.0 k.1.0) in (from.0, (from.1, (from.2 k.1.1.0, k.1.1.1)))
 
 pub returns-in-Err-clause-reasons : goal.returns-in-Err-clause-reasons
 returns-in-Err-clause-reasons g c = λ o k. c.in-Err.ensures.reasons o k.0 k.1.0
@@ -140,3 +143,39 @@ pub returns-in-Err-delete-clause-reasons : goal.returns-in-Err-delete-clause-rea
 returns-in-Err-delete-clause-reasons g c = λ o k.
     shows_since o (g.D.Disk.state c.delete.new.filer.swapper.under) c.in-Err-delete.halt c.attributes_of.ensures.layout
     (c.in-Err-delete.ensures.reasons o k.0 (c.in-Ok-Some.ensures.keeps_to o k.0 k.1.0))
+
+-- ---- What is seen of the space tables.
+
+pub returns-in-Ok-None-clause-sees : goal.returns-in-Ok-None-clause-sees
+returns-in-Ok-None-clause-sees g c = λ o k seen.
+    let old = c.args.self.now.core in
+    seen_still o (state old) old.filer.swapper.accepted k (view_of c.attributes_of.new.filer) (λ b. c.in-Ok-None.ensures.keeps_to (telling o b) k.0) seen
+
+pub returns-in-Err-clause-sees : goal.returns-in-Err-clause-sees
+returns-in-Err-clause-sees g c = λ o k seen.
+    let old = c.args.self.now.core in
+    seen_spared o (state old) old.filer.swapper.accepted k old.filer.swapper.layout (g.D.Disk.state c.attributes_of.new.filer.swapper.under) c.in-Err.halt (λ b. c.in-Err.ensures.reasons (telling o b) k.0) seen
+
+pub returns-in-Ok-clause-sees : goal.returns-in-Ok-clause-sees
+returns-in-Ok-clause-sees g c = λ o k seen.
+    let old = c.args.self.now.core in
+    seen_from o (state old) old.filer.swapper.accepted k (view_of c.delete.new.filer) (λ b h. c.in-Ok.ensures.keeps_to (telling o b) k.0 (c.in-Ok-Some.ensures.keeps_to (telling o b) k.0 h)) seen
+
+pub returns-in-Err-delete-clause-sees : goal.returns-in-Err-delete-clause-sees
+returns-in-Err-delete-clause-sees g c = λ o k seen.
+    let old = c.args.self.now.core in
+    seen_spared o (state old) old.filer.swapper.accepted k c.attributes_of.new.filer.swapper.layout (g.D.Disk.state c.delete.new.filer.swapper.under) c.in-Err-delete.halt (λ b h. c.in-Err-delete.ensures.reasons (telling o b) k.0 (c.in-Ok-Some.ensures.keeps_to (telling o b) k.0 h)) seen
+
+-- ---- The next identifier.
+
+pub returns-in-Ok-clause-onward : goal.returns-in-Ok-clause-onward
+returns-in-Ok-clause-onward g c = same_next c.args.self.now.volume.root c.delete.new.volume.root (ap (λ (v : Volume). v.root) c.delete.ensures.rest_of_volume)
+
+pub returns-in-Err-delete-clause-onward : goal.returns-in-Err-delete-clause-onward
+returns-in-Err-delete-clause-onward g c = same_next c.args.self.now.volume.root c.delete.new.volume.root (ap (λ (v : Volume). v.root) c.delete.ensures.rest_of_volume)
+
+pub returns-in-Ok-clause-serial : goal.returns-in-Ok-clause-serial
+returns-in-Ok-clause-serial g c = ap (λ (v : Volume). v.root.serial) c.delete.ensures.rest_of_volume
+
+pub returns-in-Err-delete-clause-serial : goal.returns-in-Err-delete-clause-serial
+returns-in-Err-delete-clause-serial g c = ap (λ (v : Volume). v.root.serial) c.delete.ensures.rest_of_volume

@@ -1,4 +1,4 @@
-use Rattle.std.proofs.Common.{refl, subst, arith, inl, inr}
+use Rattle.std.proofs.Common.{◌<◌, refl, subst, arith, inl, inr}
 use Rattle.flat_machine.specs.Machine.{used}
 use Rattle.session_words.specs.Parts.{shapes_of}
 use Rattle.pilot_engine.proofs.EndCosts.{emptied_cost, files_cost}
@@ -11,8 +11,11 @@ use Rattle.pilot_engine.proofs.StopLemmas.{stop_less, throughout_less, throughou
 use Rattle.pilot_engine.proofs.TableStops.{stops_freeing}
 use Rattle.file_manager.proofs.Faults.{counted_then}
 use Rattle.fault_core.specs.Core.{state}
+use Rattle.fault_core.specs.View.{kept_by}
+use Rattle.file_manager.specs.Grounds.{AreTables}
 use Rattle.labelled_disk.specs.declared.layout.Layout.{Layout}
 use Rattle.file_manager.specs.Reasons.{ShowsReason}
+use Rattle.pilot_engine.proofs.FormLemmas.{cut_form}
 use Rattle.pilot_engine.proofs.session.SessionOver.empty.Goals as goal
 
 pub returns-in-Ok-free_tables-clause-emptied : goal.returns-in-Ok-free_tables-clause-emptied
@@ -84,9 +87,16 @@ returns-in-Err-free_tables-clause-cause g c = (state c.delete_temporary.new.self
 -- ---- What began stays a reason.
 
 pub returns-in-Ok-free_tables-clause-keeps_to : goal.returns-in-Ok-free_tables-clause-keeps_to
-returns-in-Ok-free_tables-clause-keeps_to g c = λ o keeps. let mid = c.in-Ok.ensures.keeps_to o keeps in c.in-Ok-free_tables.ensures.keeps_to o mid.0 mid.1.0
+returns-in-Ok-free_tables-clause-keeps_to g c = λ o keeps. let mid = c.in-Ok.ensures.keeps_to o keeps in c.in-Ok-free_tables.ensures.keeps_to o mid.0 mid.1.0 mid.1.1.1
 
 pub returns-in-Err-free_tables-clause-reasons : goal.returns-in-Err-free_tables-clause-reasons
 returns-in-Err-free_tables-clause-reasons g c = λ o keeps.
     let mid = c.in-Ok.ensures.keeps_to o keeps in
-    subst (λ (l : Layout). ShowsReason o l (g.D.Disk.state c.free_tables.new.filer.swapper.under) c.in-Err-free_tables.halt) c.delete_temporary.ensures.layout (c.in-Err-free_tables.ensures.reasons o mid.0 mid.1.0 mid.1.1)
+    subst (λ (l : Layout). ShowsReason o l (g.D.Disk.state c.free_tables.new.filer.swapper.under) c.in-Err-free_tables.halt) c.delete_temporary.ensures.layout (c.in-Err-free_tables.ensures.reasons o mid.0 mid.1.0 mid.1.1.1 mid.1.1.0)
+
+-- ---- No page of the space tables is told as broken.
+
+pub returns-in-Err-free_tables-clause-sees : goal.returns-in-Err-free_tables-clause-sees
+returns-in-Err-free_tables-clause-sees g c = λ o keeps seen.
+    let v = state c.delete_temporary.new.self.core in
+    cut_form (AreTables v.slots) v.layout (kept_by v) 3 0 (λ page. page < 96) v.disk v.slots (g.D.Disk.state c.free_tables.new.filer.swapper.under) c.in-Err-free_tables.halt c.in-Err-free_tables.ensures.cause

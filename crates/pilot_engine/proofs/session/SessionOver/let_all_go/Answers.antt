@@ -37,3 +37,11 @@ returns-in-Ok-clause-keeps_to g c = rw c.look_at_frames.ensures.same at c.in-Ok.
 
 pub returns-in-Err-clause-reasons : goal.returns-in-Err-clause-reasons
 returns-in-Err-clause-reasons g c = rw c.look_at_frames.ensures.same at c.in-Err.ensures.reasons
+
+-- ---- The space tables are seen.
+
+pub returns-in-Ok-clause-sees : goal.returns-in-Ok-clause-sees
+returns-in-Ok-clause-sees g c = rw c.look_at_frames.ensures.same at c.in-Ok.ensures.sees
+
+pub returns-in-Err-clause-sees : goal.returns-in-Err-clause-sees
+returns-in-Err-clause-sees g c = rw c.look_at_frames.ensures.same at c.in-Err.ensures.sees

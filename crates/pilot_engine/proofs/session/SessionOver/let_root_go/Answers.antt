@@ -12,6 +12,7 @@ use Rattle.running_words.specs.Running.{exactly}
 use Rattle.filer_kernel.specs.EvidenceLaws.{fits}
 use Rattle.fault_core.proofs.EvidenceLemmas.{shows_so}
 use Rattle.running_words.specs.MovingLaws.{keeps_moved, moves_of_reaches, reach_reasons}
+use Rattle.running_words.specs.SparedLaws.{spares_form}
 use Rattle.pilot_engine.proofs.session.SessionOver.let_root_go.Goals as goal
 
 pub returns-in-Ok-clause-alone : goal.returns-in-Ok-clause-alone
@@ -73,3 +74,11 @@ returns-in-Ok-clause-keeps_to g c = λ o keeps.
 pub returns-in-Err-clause-reasons : goal.returns-in-Err-clause-reasons
 returns-in-Err-clause-reasons g c = λ o keeps.
     reach_reasons o (state c.args.self.now.core) (state c.let_go.new.self) keeps.0 _ c.args.self.now.core.filer.swapper.accepted keeps.1 c.let_go.ensures.reaches.goes.makes c.in-Err.halt c.in-Err.ensures.cause
+
+-- ---- The space tables are seen.
+
+pub returns-in-Ok-clause-sees : goal.returns-in-Ok-clause-sees
+returns-in-Ok-clause-sees g c = λ o keeps seen. (seen.0, c.let_go.ensures.sees seen.0 seen.1)
+
+pub returns-in-Err-clause-sees : goal.returns-in-Err-clause-sees
+returns-in-Err-clause-sees g c = λ o keeps seen. spares_form c.in-Err.halt (c.in-Err.ensures.right seen.0 seen.1)

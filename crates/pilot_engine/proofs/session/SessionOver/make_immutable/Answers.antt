@@ -24,6 +24,9 @@ use Rattle.fault_core.proofs.ReachLemmas.{reaches_then}
 use Rattle.space_calls.specs.ReasonLaws.{sight_reasons}
 use Rattle.space_calls.specs.Halts.{SightHalts}
 use Rattle.pilot_engine.proofs.ReasonSteps.{reached_on, reasons_since, shows_after, shows_since}
+use Rattle.file_manager.specs.declared.volume.Volume.{Volume}
+use Rattle.running_words.specs.SparedLaws.{spares_form}
+use Rattle.pilot_engine.proofs.SeesLemmas.{then_next}
 use Rattle.pilot_engine.proofs.session.SessionOver.make_immutable.Goals as goal
 
 pub returns-in-Ok-Hidden-clause-carried : goal.returns-in-Ok-Hidden-clause-carried
@@ -167,3 +170,27 @@ returns-clause-reasons g c = λ o k.
     let u = c.sight.new.self.core in
     reasons_since c.mark_immutable.result o (g.D.Disk.state c.mark_immutable.new.self.core.filer.swapper.under) (c.window_on.ensures.layout ∙ c.sight.ensures.layout)
     (c.mark_immutable.ensures.reasons o (reached_on o (state u) (state c.window_on.new.core) u.filer.swapper.accepted c.window_on.ensures.reaches (c.in-Ok-By.ensures.keeps_to o k)))
+
+-- ---- What is seen of the space tables.
+
+pub returns-in-Ok-Some-clause-sees : goal.returns-in-Ok-Some-clause-sees
+returns-in-Ok-Some-clause-sees g c = λ o k seen.
+    c.in-Ok-Some.ensures.sees (c.in-Ok-By.ensures.sees o k seen)
+
+pub returns-in-Err-window_on-clause-sees : goal.returns-in-Err-window_on-clause-sees
+returns-in-Err-window_on-clause-sees g c = λ o k seen.
+    spares_form c.in-Err-window_on.halt (c.in-Err-window_on.ensures.right (c.in-Ok-By.ensures.sees o k seen))
+
+pub returns-clause-sees : goal.returns-clause-sees
+returns-clause-sees g c = λ o k seen.
+    let u = c.sight.new.self.core in
+    c.mark_immutable.ensures.sees o (reached_on o (state u) (state c.window_on.new.core) u.filer.swapper.accepted c.window_on.ensures.reaches (c.in-Ok-By.ensures.keeps_to o k))
+    (c.in-Ok-None.ensures.sees (c.in-Ok-By.ensures.sees o k seen))
+
+-- ---- The next identifier.
+
+pub returns-clause-onward : goal.returns-clause-onward
+returns-clause-onward g c = then_next c.args.self.now.volume.root c.sight.new.self.volume.root c.mark_immutable.new.self.volume.root (ap (λ (v : Volume). v.root) c.sight.ensures.volume) c.mark_immutable.ensures.onward
+
+pub returns-clause-serial : goal.returns-clause-serial
+returns-clause-serial g c = c.mark_immutable.ensures.serial ∙ ap (λ (v : Volume). v.root.serial) c.sight.ensures.volume

@@ -1,4 +1,4 @@
-use Rattle.std.proofs.Common.{rules, ℕ, ◌≡◌, ◌^◌, ◌≤◌, Result, Ok, Some, refl, sym, ap, subst, ◌∙◌, arith, inl, inr}
+use Rattle.std.proofs.Common.{rules, ℕ, ◌≡◌, ◌^◌, ◌<◌, ◌≤◌, Result, Ok, Some, refl, sym, ap, subst, ◌∙◌, arith, inl, inr}
 use Rattle.labelled_disk.specs.declared.layout.Layout.{Layout}
 use Rattle.flat_machine.specs.declared.call.Call.TheVariants as call
 use Rattle.flat_machine.specs.declared.call.Reply.{Reply}
@@ -25,6 +25,11 @@ use Rattle.file_manager.specs.Creating.{next_id}
 use Rattle.pilot_engine.specs.Halting.{MapNewHalts}
 use Rattle.space_calls.specs.ReasonLaws.{change_reasons, path_reasons}
 use Rattle.pilot_engine.proofs.ReasonSteps.{moving_keeps, moving_reasons, reached_on, reasons_since, shows_after, shows_since}
+use Rattle.running_words.specs.SparedLaws.{spares_form}
+use Rattle.space_calls.specs.Sees.{SeesOn}
+use Rattle.space_calls.proofs.SeesLemmas.{are_seen, free_may, handle_so}
+use Rattle.space_calls.proofs.TableAnswers.{map_told}
+use Rattle.pilot_engine.proofs.SeesLemmas.{seen_or_spared}
 use Rattle.pilot_engine.proofs.session.SessionOver.map_anonymous.Goals as goal
 
 pub returns-in-Ok-Err-clause-passes : goal.returns-in-Ok-Err-clause-passes
@@ -173,35 +178,70 @@ returns-clause-cause g c =
 -- ---- The outset.
 
 pub returns-in-Ok-Err-clause-keeps_to : goal.returns-in-Ok-Err-clause-keeps_to
-returns-in-Ok-Err-clause-keeps_to g c = λ o k.
+returns-in-Ok-Err-clause-keeps_to g c = λ o k next.
     let old = c.args.self.now.core in
     reached_on o (state old) (state c.can_map.new.core) old.filer.swapper.accepted c.can_map.ensures.asked.reaches k
 
 pub returns-in_default-clause-keeps_to : goal.returns-in_default-clause-keeps_to
-returns-in_default-clause-keeps_to g c = λ o k.
+returns-in_default-clause-keeps_to g c = λ o k next.
     let old = c.args.self.now.core in
-    c.in-Ok.ensures.keeps_to o (reached_on o (state old) (state c.can_map.new.core) old.filer.swapper.accepted c.can_map.ensures.asked.reaches k)
+    c.in-Ok.ensures.keeps_to o (reached_on o (state old) (state c.can_map.new.core) old.filer.swapper.accepted c.can_map.ensures.asked.reaches k) next
 
 pub returns-clause-keeps_to : goal.returns-clause-keeps_to
-returns-clause-keeps_to g c = λ o k.
+returns-clause-keeps_to g c = λ o k next.
     moving_keeps (state c.create.new.self.core) (state c.give_window.new.core) c.give_window.result c.create.new.self.core.filer.swapper.accepted c.give_window.ensures.moves o
-    (c.in-Ok.ensures.keeps_to o (reached_on o (state c.args.self.now.core) (state c.can_map.new.core) c.args.self.now.core.filer.swapper.accepted c.can_map.ensures.asked.reaches k))
+    (c.in-Ok.ensures.keeps_to o (reached_on o (state c.args.self.now.core) (state c.can_map.new.core) c.args.self.now.core.filer.swapper.accepted c.can_map.ensures.asked.reaches k) next)
 
 pub returns-in-Err-clause-reasons : goal.returns-in-Err-clause-reasons
-returns-in-Err-clause-reasons g c = λ o k.
+returns-in-Err-clause-reasons g c = λ o k next.
     let old = c.args.self.now.core in
     shows_after PathHalts path_reasons o (state old) (state c.can_map.new.core) old.filer.swapper.accepted c.can_map.ensures.asked.reaches.goes.makes k c.in-Err.halt c.in-Err.ensures.cause
 
 pub returns-in-Err-create-clause-reasons : goal.returns-in-Err-create-clause-reasons
-returns-in-Err-create-clause-reasons g c = λ o k.
+returns-in-Err-create-clause-reasons g c = λ o k next.
     shows_since o (g.D.Disk.state c.create.new.self.core.filer.swapper.under) c.in-Err-create.halt c.can_map.ensures.asked.reaches.layout
-    (c.in-Err-create.ensures.reasons o (reached_on o (state c.args.self.now.core) (state c.can_map.new.core) c.args.self.now.core.filer.swapper.accepted c.can_map.ensures.asked.reaches k))
+    (c.in-Err-create.ensures.reasons o (reached_on o (state c.args.self.now.core) (state c.can_map.new.core) c.args.self.now.core.filer.swapper.accepted c.can_map.ensures.asked.reaches k) next)
 
 pub returns-clause-reasons : goal.returns-clause-reasons
-returns-clause-reasons g c = λ o k.
+returns-clause-reasons g c = λ o k next.
     let old = c.args.self.now.core in
     let count = c.create.new.self.core.intervals in
     reasons_since c.give_window.result o (g.D.Disk.state c.give_window.new.core.filer.swapper.under) (c.create.ensures.layout ∙ c.can_map.ensures.asked.reaches.layout)
     (moving_reasons (ChangeHalts count) (change_reasons count)
     (state c.create.new.self.core) (state c.give_window.new.core) c.give_window.result c.create.new.self.core.filer.swapper.accepted c.give_window.ensures.moves c.give_window.ensures.cause o
-    (c.in-Ok.ensures.keeps_to o (reached_on o (state old) (state c.can_map.new.core) old.filer.swapper.accepted c.can_map.ensures.asked.reaches k)))
+    (c.in-Ok.ensures.keeps_to o (reached_on o (state old) (state c.can_map.new.core) old.filer.swapper.accepted c.can_map.ensures.asked.reaches k) next))
+
+-- ---- The space tables are seen.
+
+pub returns-in-Ok-Err-clause-sees : goal.returns-in-Ok-Err-clause-sees
+returns-in-Ok-Err-clause-sees g c = λ o k next seen. (seen.0, c.can_map.ensures.sees seen.0 seen.1)
+
+pub returns-in_default-clause-sees : goal.returns-in_default-clause-sees
+returns-in_default-clause-sees g c = λ o k next seen.
+    let old = c.args.self.now.core in
+    (seen.0, c.in-Ok.ensures.sees o (reached_on o (state old) (state c.can_map.new.core) old.filer.swapper.accepted c.can_map.ensures.asked.reaches k) next seen.0 (c.can_map.ensures.sees seen.0 seen.1))
+
+pub returns-clause-sees : goal.returns-clause-sees
+returns-clause-sees g c =
+    let few : c.in-Ok-Ok.run'.1 < 2 ^ 32 = search rules in
+    let small : c.in-File.id < 2 ^ 64 = search rules in
+    let serial = c.requires.opened.valid.serial in
+    let same_id : c.in-File.id ≡ next_id c.args.self.now.volume.root = c.in-Ok.ensures.next c.in-File.id c.in-File.is in
+    λ o k next seen.
+    let old = c.args.self.now.core in
+    let can = map_told seen.0 c.args.space c.in-Ok-Ok.field-0 c.in-Ok-Ok.run' c.in-Ok-Ok.field-0-is (c.in-Ok-Ok.ensures.seen seen.0 seen.1) in
+    let x : Space = can.1.0 in
+    let long : c.in-Ok-Ok.run'.1 ≡ x.pages = ap (λ (run : ℕ × ℕ). run.1) can.1.2 in
+    let made = c.in-Ok.ensures.sees o (reached_on o (state old) (state c.can_map.new.core) old.filer.swapper.accepted c.can_map.ensures.asked.reaches k) next seen.0 (c.can_map.ensures.sees seen.0 seen.1) in
+    seen_or_spared (SeesOn c.give_window.new.core) c.give_window.result
+    (c.give_window.ensures.sees seen.0 x made (free_may seen.0 c.args.space (are_seen seen.1) x can.1.1 can.0) (handle_so seen.0 c.args.space (are_seen seen.1) x can.1.1)
+    (record { above_reserved = omega (arith, serial, same_id); small = small; pages_fit = omega (arith, few, long) }))
+    (c.give_window.ensures.right (seen.0, made))
+
+pub returns-in-Err-clause-sees : goal.returns-in-Err-clause-sees
+returns-in-Err-clause-sees g c = λ o k next seen. spares_form c.in-Err.halt (c.in-Err.ensures.right seen.0 seen.1)
+
+pub returns-in-Err-create-clause-sees : goal.returns-in-Err-create-clause-sees
+returns-in-Err-create-clause-sees g c = λ o k next seen.
+    let old = c.args.self.now.core in
+    c.in-Err-create.ensures.sees o (reached_on o (state old) (state c.can_map.new.core) old.filer.swapper.accepted c.can_map.ensures.asked.reaches k) next (seen.0, c.can_map.ensures.sees seen.0 seen.1)

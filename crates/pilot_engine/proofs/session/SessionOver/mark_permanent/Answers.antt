@@ -13,6 +13,9 @@ use Rattle.file_manager.proofs.OwnSteps.{marked_own, own_after}
 use Rattle.fault_core.specs.Core.{state}
 use Rattle.space_calls.proofs.HaltLemmas.{look_reaches}
 use Rattle.pilot_engine.proofs.ReasonSteps.{shows_since}
+use Rattle.file_manager.specs.Reasons.{telling}
+use Rattle.fault_core.specs.View.{view_of}
+use Rattle.pilot_engine.proofs.SeesLemmas.{seen_spared, seen_still}
 use Rattle.pilot_engine.proofs.session.SessionOver.mark_permanent.Goals as goal
 
 pub returns-in-Ok-None-clause-carried : goal.returns-in-Ok-None-clause-carried
@@ -106,3 +109,25 @@ pub returns-in-Err-make_permanent-clause-reasons : goal.returns-in-Err-make_perm
 returns-in-Err-make_permanent-clause-reasons g c = λ o k.
     shows_since o (g.D.Disk.state c.make_permanent.new.filer.swapper.under) c.in-Err-make_permanent.halt c.attributes_of.ensures.layout
     (c.in-Err-make_permanent.ensures.reasons o k.0 (c.in-Ok-Some.ensures.keeps_to o k.0 k.1.0))
+
+-- ---- What is seen of the space tables.
+
+pub returns-in-Ok-None-clause-sees : goal.returns-in-Ok-None-clause-sees
+returns-in-Ok-None-clause-sees g c = λ o k seen.
+    let old = c.args.self.now.core in
+    seen_still o (state old) old.filer.swapper.accepted k (view_of c.attributes_of.new.filer) (λ b. c.in-Ok-None.ensures.keeps_to (telling o b) k.0) seen
+
+pub returns-in-Err-clause-sees : goal.returns-in-Err-clause-sees
+returns-in-Err-clause-sees g c = λ o k seen.
+    let old = c.args.self.now.core in
+    seen_spared o (state old) old.filer.swapper.accepted k old.filer.swapper.layout (g.D.Disk.state c.attributes_of.new.filer.swapper.under) c.in-Err.halt (λ b. c.in-Err.ensures.reasons (telling o b) k.0) seen
+
+pub returns-in-Ok-clause-sees : goal.returns-in-Ok-clause-sees
+returns-in-Ok-clause-sees g c = λ o k seen.
+    let old = c.args.self.now.core in
+    seen_still o (state old) old.filer.swapper.accepted k (view_of c.make_permanent.new.filer) (λ b h. c.in-Ok.ensures.keeps_to (telling o b) k.0 (c.in-Ok-Some.ensures.keeps_to (telling o b) k.0 h)) seen
+
+pub returns-in-Err-make_permanent-clause-sees : goal.returns-in-Err-make_permanent-clause-sees
+returns-in-Err-make_permanent-clause-sees g c = λ o k seen.
+    let old = c.args.self.now.core in
+    seen_spared o (state old) old.filer.swapper.accepted k c.attributes_of.new.filer.swapper.layout (g.D.Disk.state c.make_permanent.new.filer.swapper.under) c.in-Err-make_permanent.halt (λ b h. c.in-Err-make_permanent.ensures.reasons (telling o b) k.0 (c.in-Ok-Some.ensures.keeps_to (telling o b) k.0 h)) seen

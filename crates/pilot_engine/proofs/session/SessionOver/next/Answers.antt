@@ -1,4 +1,4 @@
-use Rattle.std.proofs.Common.{rules, ℕ, ◌<◌, ◌^◌, ◌∙◌, Option, refl, subst, arith}
+use Rattle.std.proofs.Common.{rules, ℕ, ◌<◌, ◌^◌, ◌∙◌, Option, ap, refl, subst, arith}
 use Rattle.std.specs.Prelude.{IfSome}
 use Rattle.flat_machine.specs.declared.call.Call.TheVariants as call
 use Rattle.file_manager.proofs.Faults.{counted_then}
@@ -13,10 +13,12 @@ use Rattle.fault_core.specs.Core.{state}
 use Rattle.fault_core.proofs.ReachLemmas.{reaches_itself, reaches_then}
 use Rattle.pilot_engine.specs.Halting.{TurnHalts}
 use Rattle.pilot_engine.proofs.ReasonSteps.{reached_on, shows_since}
+use Rattle.file_manager.specs.declared.volume.Volume.{Volume}
+use Rattle.pilot_engine.proofs.SeesLemmas.{same_next}
 use Rattle.pilot_engine.proofs.session.SessionOver.next.Goals as goal
 
 pub files-init : goal.files-init
-files-init g c = (up_to_none c.args.id _ _ _ _ _ _ c.requires.size, reaches_itself (state c.args.self.now.core), refl)
+files-init g c = (up_to_none c.args.id _ _ _ _ _ _ c.requires.size, reaches_itself (state c.args.self.now.core), refl, λ o k seen. seen)
 
 pub files-smaller : goal.files-smaller
 files-smaller g c =
@@ -29,6 +31,7 @@ files-preserved g c = (
   up_to_more _ _ _ _ _ _ _ _ _ _ _ _ _ _ c.files.invariant.0 (λ m r. r.session.stands.is.by.machine) _ _ c.in-Ok-Some.field-0-is c.in-Ok-Some.ensures.turned _ _ _ _ _ _ c.if-passed.false c.next_passed.ensures.runs c.next_passed.ensures.makes c.next_passed.ensures.layout c.next_passed.ensures.volume c.next_passed.ensures.running c.next_passed.ensures.cost,
   reaches_then (state c.args.self.now.core) (state c.files.self.core) c.args.self.now.core.filer.swapper.accepted c.files.invariant.1 (state c.next_passed.new.self.core) c.next_passed.ensures.reaches,
   c.next_passed.ensures.intervals ∙ c.files.invariant.2,
+  λ o k seen. c.in-Ok-Some.ensures.sees o (reached_on o (state c.args.self.now.core) (state c.files.self.core) c.args.self.now.core.filer.swapper.accepted c.files.invariant.1 k) (c.files.invariant.3 o k seen),
 )
 
 pub returns-then-passed-clause-carried : goal.returns-then-passed-clause-carried
@@ -120,3 +123,37 @@ pub returns-in-Err-clause-reasons : goal.returns-in-Err-clause-reasons
 returns-in-Err-clause-reasons g c = λ o k.
     shows_since o (g.D.Disk.state c.next_passed.new.self.core.filer.swapper.under) c.in-Err.halt c.files.invariant.0.same_layout
     (c.in-Err.ensures.reasons o (reached_on o (state c.args.self.now.core) (state c.files.self.core) c.args.self.now.core.filer.swapper.accepted c.files.invariant.1 k))
+
+-- ---- What is seen of the space tables.
+
+pub returns-then-passed-clause-sees : goal.returns-then-passed-clause-sees
+returns-then-passed-clause-sees g c = λ o k seen.
+    c.in-Ok-Some.ensures.sees o (reached_on o (state c.args.self.now.core) (state c.files.self.core) c.args.self.now.core.filer.swapper.accepted c.files.invariant.1 k) (c.files.invariant.3 o k seen)
+
+pub returns-in-Ok-None-clause-sees : goal.returns-in-Ok-None-clause-sees
+returns-in-Ok-None-clause-sees g c = λ o k seen.
+    c.in-Ok-None.ensures.sees o (reached_on o (state c.args.self.now.core) (state c.files.self.core) c.args.self.now.core.filer.swapper.accepted c.files.invariant.1 k) (c.files.invariant.3 o k seen)
+
+pub returns-in-Err-clause-sees : goal.returns-in-Err-clause-sees
+returns-in-Err-clause-sees g c = λ o k seen.
+    c.in-Err.ensures.sees o (reached_on o (state c.args.self.now.core) (state c.files.self.core) c.args.self.now.core.filer.swapper.accepted c.files.invariant.1 k) (c.files.invariant.3 o k seen)
+
+-- ---- The next identifier.
+
+pub returns-then-passed-clause-onward : goal.returns-then-passed-clause-onward
+returns-then-passed-clause-onward g c = same_next c.args.self.now.volume.root c.next_passed.new.self.volume.root (ap (λ (v : Volume). v.root) (c.next_passed.ensures.volume ∙ c.files.invariant.0.same_volume))
+
+pub returns-in-Ok-None-clause-onward : goal.returns-in-Ok-None-clause-onward
+returns-in-Ok-None-clause-onward g c = same_next c.args.self.now.volume.root c.next_passed.new.self.volume.root (ap (λ (v : Volume). v.root) (c.next_passed.ensures.volume ∙ c.files.invariant.0.same_volume))
+
+pub returns-in-Err-clause-onward : goal.returns-in-Err-clause-onward
+returns-in-Err-clause-onward g c = same_next c.args.self.now.volume.root c.next_passed.new.self.volume.root (ap (λ (v : Volume). v.root) (c.next_passed.ensures.volume ∙ c.files.invariant.0.same_volume))
+
+pub returns-then-passed-clause-serial : goal.returns-then-passed-clause-serial
+returns-then-passed-clause-serial g c = ap (λ (v : Volume). v.root.serial) (c.next_passed.ensures.volume ∙ c.files.invariant.0.same_volume)
+
+pub returns-in-Ok-None-clause-serial : goal.returns-in-Ok-None-clause-serial
+returns-in-Ok-None-clause-serial g c = ap (λ (v : Volume). v.root.serial) (c.next_passed.ensures.volume ∙ c.files.invariant.0.same_volume)
+
+pub returns-in-Err-clause-serial : goal.returns-in-Err-clause-serial
+returns-in-Err-clause-serial g c = ap (λ (v : Volume). v.root.serial) (c.next_passed.ensures.volume ∙ c.files.invariant.0.same_volume)

@@ -12,6 +12,9 @@ use Rattle.fault_core.specs.Core.{state}
 use Rattle.fault_core.proofs.ReachLemmas.{reaches_then}
 use Rattle.space_calls.proofs.HaltLemmas.{look_reaches}
 use Rattle.pilot_engine.proofs.ReasonSteps.{shows_since}
+use Rattle.file_manager.specs.Reasons.{telling}
+use Rattle.fault_core.specs.View.{view_of}
+use Rattle.pilot_engine.proofs.SeesLemmas.{seen_spared, seen_still}
 use Rattle.pilot_engine.proofs.session.SessionOver.next_passed.Goals as goal
 
 pub returns-in-Ok-None-clause-runs : goal.returns-in-Ok-None-clause-runs
@@ -136,3 +139,33 @@ pub returns-in-Err-sight-clause-reasons : goal.returns-in-Err-sight-clause-reaso
 returns-in-Err-sight-clause-reasons g c = λ o k.
     shows_since o (g.D.Disk.state c.sight.new.self.core.filer.swapper.under) c.in-Err-sight.halt c.next.ensures.layout
     (c.in-Err-sight.ensures.reasons o (k.0, (c.in-Ok-Some.ensures.keeps_to o k.0 k.1.0, k.1.1)))
+
+-- ---- What is seen of the space tables.
+
+pub returns-in-Ok-None-clause-sees : goal.returns-in-Ok-None-clause-sees
+returns-in-Ok-None-clause-sees g c = λ o k seen.
+    let old = c.args.self.now.core in
+    seen_still o (state old) old.filer.swapper.accepted k (view_of c.next.new.filer) (λ b. c.in-Ok-None.ensures.keeps_to (telling o b) k.0) seen
+
+pub returns-in-Err-clause-sees : goal.returns-in-Err-clause-sees
+returns-in-Err-clause-sees g c = λ o k seen.
+    let old = c.args.self.now.core in
+    seen_spared o (state old) old.filer.swapper.accepted k old.filer.swapper.layout (g.D.Disk.state c.next.new.filer.swapper.under) c.in-Err.halt (λ b. c.in-Err.ensures.reasons (telling o b) k.0) seen
+
+pub returns-in-Ok-Hidden-clause-sees : goal.returns-in-Ok-Hidden-clause-sees
+returns-in-Ok-Hidden-clause-sees g c = λ o k seen.
+    let old = c.args.self.now.core in
+    c.in-Ok-Hidden.ensures.sees o (k.0, (c.in-Ok-Some.ensures.keeps_to o k.0 k.1.0, k.1.1))
+    (seen_still o (state old) old.filer.swapper.accepted k (view_of c.next.new.filer) (λ b. c.in-Ok-Some.ensures.keeps_to (telling o b) k.0) seen)
+
+pub returns-in-Ok-By-clause-sees : goal.returns-in-Ok-By-clause-sees
+returns-in-Ok-By-clause-sees g c = λ o k seen.
+    let old = c.args.self.now.core in
+    c.in-Ok-By.ensures.sees o (k.0, (c.in-Ok-Some.ensures.keeps_to o k.0 k.1.0, k.1.1))
+    (seen_still o (state old) old.filer.swapper.accepted k (view_of c.next.new.filer) (λ b. c.in-Ok-Some.ensures.keeps_to (telling o b) k.0) seen)
+
+pub returns-in-Err-sight-clause-sees : goal.returns-in-Err-sight-clause-sees
+returns-in-Err-sight-clause-sees g c = λ o k seen.
+    let old = c.args.self.now.core in
+    c.in-Err-sight.ensures.sees o (k.0, (c.in-Ok-Some.ensures.keeps_to o k.0 k.1.0, k.1.1))
+    (seen_still o (state old) old.filer.swapper.accepted k (view_of c.next.new.filer) (λ b. c.in-Ok-Some.ensures.keeps_to (telling o b) k.0) seen)

@@ -1,4 +1,4 @@
-use Rattle.std.proofs.Common.{Option, refl, sym, ◌∙◌, subst, arith, inl, inr}
+use Rattle.std.proofs.Common.{Option, refl, sym, ◌∙◌, subst, arith, inl, inr, ap}
 use Rattle.flat_machine.specs.declared.call.Call.TheVariants as call
 use Rattle.flat_machine.specs.declared.call.Refusal.TheVariants as why
 use Rattle.swapper_kernel.specs.GoesLaws.{makes_nothing}
@@ -6,6 +6,7 @@ use Rattle.session_words.specs.Parts.{shapes_of}
 use Rattle.session_words.specs.Volume.{volume_page}
 use Rattle.file_manager.specs.declared.attributes.Attributes.{Attributes}
 use Rattle.file_manager.specs.Attributes.{IsAttributesOf}
+use Rattle.volume_root.specs.declared.root.Root.{Root}
 use Rattle.pilot_engine.proofs.BoundLemmas.{inside, resize_told, inside_layout}
 use Rattle.pilot_engine.proofs.CallLemmas.{missing_after, books_at, carries_at}
 use Rattle.pilot_engine.proofs.CreateLemmas.{create_refused}
@@ -19,6 +20,9 @@ use Rattle.file_manager.proofs.OwnSteps.{resized_own, resizing_own, own_after}
 use Rattle.fault_core.specs.Core.{state}
 use Rattle.space_calls.proofs.HaltLemmas.{look_reaches}
 use Rattle.pilot_engine.proofs.ReasonSteps.{shows_since}
+use Rattle.file_manager.specs.Reasons.{telling}
+use Rattle.fault_core.specs.View.{view_of}
+use Rattle.pilot_engine.proofs.SeesLemmas.{same_next, seen_from, seen_spared, seen_still}
 use Rattle.pilot_engine.proofs.session.SessionOver.resize.Goals as goal
 
 pub returns-then-not-may_be_file-clause-carried : goal.returns-then-not-may_be_file-clause-carried
@@ -203,7 +207,7 @@ pub returns-then-not-has_room-clause-keeps_to : goal.returns-then-not-has_room-c
 returns-then-not-has_room-clause-keeps_to g c = λ o k. (k.0, (c.in-Ok-Some.ensures.keeps_to o k.0 k.1.0, k.1.1))
 
 pub returns-in-Ok-clause-keeps_to : goal.returns-in-Ok-clause-keeps_to
-returns-in-Ok-clause-keeps_to g c = λ o k. let from = c.in-Ok.ensures.keeps_to o k.0 (c.in-Ok-Some.ensures.keeps_to o k.0 k.1.0) in (from.0, (from.1, from.2 k.1.1))
+returns-in-Ok-clause-keeps_to g c = λ o k. let from = c.in-Ok.ensures.keeps_to o k.0 (c.in-Ok-Some.ensures.keeps_to o k.0 k.1.0) in (from.0, (from.1, (from.2 k.1.1.0, k.1.1.1)))
 
 pub returns-in-Err-clause-reasons : goal.returns-in-Err-clause-reasons
 returns-in-Err-clause-reasons g c = λ o k. c.in-Err.ensures.reasons o k.0 k.1.0
@@ -212,3 +216,54 @@ pub returns-in-Err-set_size-clause-reasons : goal.returns-in-Err-set_size-clause
 returns-in-Err-set_size-clause-reasons g c = λ o k.
     shows_since o (g.D.Disk.state c.set_size.new.filer.swapper.under) c.in-Err-set_size.halt c.attributes_of.ensures.layout
     (c.in-Err-set_size.ensures.reasons o k.0 (c.in-Ok-Some.ensures.keeps_to o k.0 k.1.0))
+
+-- ---- What is seen of the space tables.
+
+pub returns-in-Ok-None-clause-sees : goal.returns-in-Ok-None-clause-sees
+returns-in-Ok-None-clause-sees g c = λ o k seen.
+    let old = c.args.self.now.core in
+    seen_still o (state old) old.filer.swapper.accepted k (view_of c.attributes_of.new.filer) (λ b. c.in-Ok-None.ensures.keeps_to (telling o b) k.0) seen
+
+pub returns-in-Err-clause-sees : goal.returns-in-Err-clause-sees
+returns-in-Err-clause-sees g c = λ o k seen.
+    let old = c.args.self.now.core in
+    seen_spared o (state old) old.filer.swapper.accepted k old.filer.swapper.layout (g.D.Disk.state c.attributes_of.new.filer.swapper.under) c.in-Err.halt (λ b. c.in-Err.ensures.reasons (telling o b) k.0) seen
+
+pub returns-then-found-clause-sees : goal.returns-then-found-clause-sees
+returns-then-found-clause-sees g c = λ o k seen.
+    let old = c.args.self.now.core in
+    seen_still o (state old) old.filer.swapper.accepted k (view_of c.attributes_of.new.filer) (λ b. c.in-Ok-Some.ensures.keeps_to (telling o b) k.0) seen
+
+pub returns-in-Some-clause-sees : goal.returns-in-Some-clause-sees
+returns-in-Some-clause-sees g c = λ o k seen.
+    let old = c.args.self.now.core in
+    seen_still o (state old) old.filer.swapper.accepted k (view_of c.attributes_of.new.filer) (λ b. c.in-Ok-Some.ensures.keeps_to (telling o b) k.0) seen
+
+pub returns-then-not-has_room-clause-sees : goal.returns-then-not-has_room-clause-sees
+returns-then-not-has_room-clause-sees g c = λ o k seen.
+    let old = c.args.self.now.core in
+    seen_still o (state old) old.filer.swapper.accepted k (view_of c.attributes_of.new.filer) (λ b. c.in-Ok-Some.ensures.keeps_to (telling o b) k.0) seen
+
+pub returns-in-Ok-clause-sees : goal.returns-in-Ok-clause-sees
+returns-in-Ok-clause-sees g c = λ o k seen.
+    let old = c.args.self.now.core in
+    seen_from o (state old) old.filer.swapper.accepted k (view_of c.set_size.new.filer) (λ b h. c.in-Ok.ensures.keeps_to (telling o b) k.0 (c.in-Ok-Some.ensures.keeps_to (telling o b) k.0 h)) seen
+
+pub returns-in-Err-set_size-clause-sees : goal.returns-in-Err-set_size-clause-sees
+returns-in-Err-set_size-clause-sees g c = λ o k seen.
+    let old = c.args.self.now.core in
+    seen_spared o (state old) old.filer.swapper.accepted k c.attributes_of.new.filer.swapper.layout (g.D.Disk.state c.set_size.new.filer.swapper.under) c.in-Err-set_size.halt (λ b h. c.in-Err-set_size.ensures.reasons (telling o b) k.0 (c.in-Ok-Some.ensures.keeps_to (telling o b) k.0 h)) seen
+
+-- ---- The next identifier.
+
+pub returns-in-Ok-clause-onward : goal.returns-in-Ok-clause-onward
+returns-in-Ok-clause-onward g c = same_next c.args.self.now.volume.root c.set_size.new.volume.root c.set_size.ensures.same_numbers.0
+
+pub returns-in-Err-set_size-clause-onward : goal.returns-in-Err-set_size-clause-onward
+returns-in-Err-set_size-clause-onward g c = same_next c.args.self.now.volume.root c.set_size.new.volume.root c.set_size.ensures.same_numbers.0
+
+pub returns-in-Ok-clause-serial : goal.returns-in-Ok-clause-serial
+returns-in-Ok-clause-serial g c = ap (λ (r : Root). r.serial) c.set_size.ensures.same_numbers.0
+
+pub returns-in-Err-set_size-clause-serial : goal.returns-in-Err-set_size-clause-serial
+returns-in-Err-set_size-clause-serial g c = ap (λ (r : Root). r.serial) c.set_size.ensures.same_numbers.0

@@ -15,6 +15,8 @@ use Rattle.fault_core.specs.Core.{state}
 use Rattle.pilot_engine.proofs.CauseLemmas.{named_halt}
 use Rattle.pilot_engine.specs.Halting.{SizeHalts}
 use Rattle.pilot_engine.proofs.ReasonSteps.{reasons_since}
+use Rattle.file_manager.specs.declared.volume.Volume.{Volume}
+use Rattle.pilot_engine.proofs.SeesLemmas.{then_next}
 use Rattle.pilot_engine.proofs.session.SessionOver.set_size.Goals as goal
 
 pub returns-in-Ok-Hidden-clause-carried : goal.returns-in-Ok-Hidden-clause-carried
@@ -98,3 +100,17 @@ pub returns-in-Ok-By-clause-reasons : goal.returns-in-Ok-By-clause-reasons
 returns-in-Ok-By-clause-reasons g c = λ o k.
     reasons_since c.resize.result o (g.D.Disk.state c.resize.new.self.core.filer.swapper.under) c.sight.ensures.layout
     (c.resize.ensures.reasons o (c.in-Ok-By.ensures.keeps_to o k))
+
+-- ---- What is seen of the space tables.
+
+pub returns-in-Ok-By-clause-sees : goal.returns-in-Ok-By-clause-sees
+returns-in-Ok-By-clause-sees g c = λ o k seen.
+    c.resize.ensures.sees o (c.in-Ok-By.ensures.keeps_to o k) (c.in-Ok-By.ensures.sees o k seen)
+
+-- ---- The next identifier.
+
+pub returns-in-Ok-By-clause-onward : goal.returns-in-Ok-By-clause-onward
+returns-in-Ok-By-clause-onward g c = then_next c.args.self.now.volume.root c.sight.new.self.volume.root c.resize.new.self.volume.root (ap (λ (v : Volume). v.root) c.sight.ensures.volume) c.resize.ensures.onward
+
+pub returns-in-Ok-By-clause-serial : goal.returns-in-Ok-By-clause-serial
+returns-in-Ok-By-clause-serial g c = c.resize.ensures.serial ∙ ap (λ (v : Volume). v.root.serial) c.sight.ensures.volume

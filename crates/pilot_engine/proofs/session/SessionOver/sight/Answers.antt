@@ -6,6 +6,7 @@ use Rattle.fault_core.specs.Core.{state}
 use Rattle.space_calls.specs.ReasonLaws.{sight_reasons}
 use Rattle.space_calls.specs.Halts.{SightHalts}
 use Rattle.pilot_engine.proofs.ReasonSteps.{reached_on, shows_after}
+use Rattle.running_words.specs.SparedLaws.{spares_form}
 use Rattle.pilot_engine.proofs.session.SessionOver.sight.Goals as goal
 
 pub returns-then-shown-clause-answer : goal.returns-then-shown-clause-answer
@@ -55,3 +56,21 @@ returns-in-Err-clause-reasons g c = λ o k.
     let count = old.intervals in
     shows_after (SightHalts count) (sight_reasons count)
     o (state old) (state c.window_on.new.core) old.filer.swapper.accepted c.window_on.ensures.reaches.goes.makes k c.in-Err.halt c.in-Err.ensures.cause
+
+-- ---- What is seen of the space tables.
+
+pub returns-then-shown-clause-sees : goal.returns-then-shown-clause-sees
+returns-then-shown-clause-sees g c = λ o k seen.
+    c.in-Ok-Some.ensures.sees seen
+
+pub returns-else-shown-clause-sees : goal.returns-else-shown-clause-sees
+returns-else-shown-clause-sees g c = λ o k seen.
+    c.in-Ok-Some.ensures.sees seen
+
+pub returns-in-Ok-None-clause-sees : goal.returns-in-Ok-None-clause-sees
+returns-in-Ok-None-clause-sees g c = λ o k seen.
+    c.in-Ok-None.ensures.sees seen
+
+pub returns-in-Err-clause-sees : goal.returns-in-Err-clause-sees
+returns-in-Err-clause-sees g c = λ o k seen.
+    spares_form c.in-Err.halt (c.in-Err.ensures.right seen)

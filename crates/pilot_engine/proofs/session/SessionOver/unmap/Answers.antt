@@ -21,6 +21,8 @@ use Rattle.space_calls.specs.Ranges.{BreaksWindow}
 use Rattle.space_calls.specs.ReasonLaws.{take_window_reasons}
 use Rattle.space_calls.specs.Halts.{TakeWindowHalts}
 use Rattle.pilot_engine.proofs.ReasonSteps.{fault_shows, reached_on, reshaped_on, shows_after, shows_since}
+use Rattle.running_words.specs.SparedLaws.{spares_form}
+use Rattle.pilot_engine.proofs.FormLemmas.{fault_form}
 use Rattle.pilot_engine.proofs.session.SessionOver.unmap.Goals as goal
 
 pub returns-in-Ok-Err-clause-passes : goal.returns-in-Ok-Err-clause-passes
@@ -225,3 +227,27 @@ returns-in-Err-delete_unseen-clause-reasons g c = λ o k.
 
 pub returns-in-Err-wait-clause-reasons : goal.returns-in-Err-wait-clause-reasons
 returns-in-Err-wait-clause-reasons g c = λ o k. fault_shows o c.args.self.now.core.filer.swapper.layout (g.D.Disk.state c.settle.new.core.filer.swapper.under) c.in-Err-wait.halt c.in-Err-wait.ensures.fault
+
+-- ---- The space tables are seen.
+
+pub returns-in-Ok-Err-clause-sees : goal.returns-in-Ok-Err-clause-sees
+returns-in-Ok-Err-clause-sees g c = λ o k seen. c.in-Ok-Err.ensures.sees seen
+
+pub returns-then-not-shown-clause-sees : goal.returns-then-not-shown-clause-sees
+returns-then-not-shown-clause-sees g c = λ o k seen. c.in-Ok-Ok.ensures.sees seen
+
+pub returns-in-Ok-wait-clause-sees : goal.returns-in-Ok-wait-clause-sees
+returns-in-Ok-wait-clause-sees g c = λ o k seen.
+    let old = c.args.self.now.core in
+    c.in-Ok-wait.ensures.sees (c.in-Ok.ensures.sees o (reshaped_on o (state old) (state c.take_window.new.core) old.filer.swapper.accepted c.take_window.ensures.reshapes k) (c.in-Ok-Ok.ensures.sees seen))
+
+pub returns-in-Err-clause-sees : goal.returns-in-Err-clause-sees
+returns-in-Err-clause-sees g c = λ o k seen. spares_form c.in-Err.halt (c.in-Err.ensures.right seen)
+
+pub returns-in-Err-delete_unseen-clause-sees : goal.returns-in-Err-delete_unseen-clause-sees
+returns-in-Err-delete_unseen-clause-sees g c = λ o k seen.
+    let old = c.args.self.now.core in
+    c.in-Err-delete_unseen.ensures.sees o (reshaped_on o (state old) (state c.take_window.new.core) old.filer.swapper.accepted c.take_window.ensures.reshapes k) (c.in-Ok-Ok.ensures.sees seen)
+
+pub returns-in-Err-wait-clause-sees : goal.returns-in-Err-wait-clause-sees
+returns-in-Err-wait-clause-sees g c = λ o k seen. fault_form c.in-Err-wait.halt c.in-Err-wait.ensures.fault

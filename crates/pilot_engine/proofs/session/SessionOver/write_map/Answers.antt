@@ -9,6 +9,7 @@ use Rattle.fault_core.specs.View.{View}
 use Rattle.swapper_kernel.specs.Homes.{no_home}
 use Rattle.file_manager.specs.ReasonLaws.{label_reasons}
 use Rattle.pilot_engine.proofs.OutsetLemmas.{keeps_written, written_reaches}
+use Rattle.pilot_engine.proofs.FormLemmas.{label_form}
 use Rattle.pilot_engine.proofs.session.SessionOver.write_map.Goals as goal
 
 pub returns-in-Ok-clause-clean : goal.returns-in-Ok-clause-clean
@@ -47,7 +48,7 @@ returns-in-Ok-clause-keeps_to g c = λ o keeps.
     let swaps = (rw c.swapper_over-swapper.ensures.value at c.force.ensures.swaps) in
     let run = (rw c.swapper_over-swapper.ensures.value at c.force.ensures.run) in
     let layout = (rw c.swapper_over-swapper.ensures.value at c.force.ensures.layout) in
-    (keeps.0, keeps_written o v w keeps.0 c.args.self.now.core.filer.swapper.accepted keeps.1 (written_reaches v w swaps run.frames layout refl))
+    (keeps.0, (keeps_written o v w keeps.0 c.args.self.now.core.filer.swapper.accepted keeps.1.1 keeps.1.0 (written_reaches v w swaps run.frames layout refl), keeps.1.1))
 
 pub returns-in-Err-clause-reasons : goal.returns-in-Err-clause-reasons
 returns-in-Err-clause-reasons g c = λ o keeps.
@@ -55,4 +56,11 @@ returns-in-Err-clause-reasons g c = λ o keeps.
     let w : View = record v { disk = g.D.Disk.state c.force.new.swapper.under; slots = c.force.new.swapper.pool; layout = c.force.new.swapper.layout } in
     let swaps = (rw c.swapper_over-swapper.ensures.value at c.force.ensures.swaps) in
     let halts = (rw c.swapper_over-swapper.ensures.value at c.in-Err.ensures.cause) in
-    label_reasons keeps.1 swaps.makes no_home (λ home none. absurd none) c.in-Err.halt halts
+    label_reasons keeps.1.0 swaps.makes no_home (λ home none. absurd none) c.in-Err.halt halts
+
+-- ---- No page of the space tables is told as broken.
+
+pub returns-in-Err-clause-right : goal.returns-in-Err-clause-right
+returns-in-Err-clause-right g c =
+    let v = state c.args.self.now.core in
+    label_form no_home v.disk v.slots (g.D.Disk.state c.force.new.swapper.under) c.in-Err.halt (rw c.swapper_over-swapper.ensures.value at c.in-Err.ensures.cause)

@@ -6,11 +6,12 @@ use Rattle.labelled_disk.specs.Layout.{vfm}
 use Rattle.labelled_disk.specs.Sectors.{Sector}
 use Rattle.page_tree.specs.Keys.{Item, no_item}
 use Rattle.page_tree.specs.Page.{page_at, record_item, IsLeaf, IsInner, IsPageOf}
+use Rattle.page_tree.specs.Tells.{TellsTree}
 use Rattle.page_tree.specs.Tree.{Node, node_at, items_of, head_of, heads, IsTree}
 use Rattle.file_map.specs.declared.run.Run.{Run}
 use Rattle.file_map.specs.Run.{IsRun, run_bytes, run_in}
-use Rattle.file_map.specs.FileMap.{Triples, run_at, names_triple}
-use Rattle.file_map.specs.InSectors.{MapNames}
+use Rattle.file_map.specs.FileMap.{Triples, AreNamed, run_at, names_triple}
+use Rattle.file_map.specs.InSectors.{MapNames, map_bytes}
 use Rattle.file_map.proofs.Records.{run_back}
 
 -- the pages of nodes, in order
@@ -106,10 +107,15 @@ runs_back : (n : ℕ) → n < 2 ^ 32 → (rs : List Run) → ((j : ℕ) → j < 
 runs_back n few [] each = refl
 runs_back n few (r ∷ rs) each = λ i. run_back n r few (each zero (omega arith)) i ∷ runs_back n few rs (λ j below. each (suc j) (omega (arith, below))) i
 
-pub named_once : (d : List Sector) (named also : Triples) → length d < 2 ^ 32 → MapNames d named → MapNames d also → (id page sector : ℕ) → also id page sector ≡ named id page sector
-named_once d named also few h l id page sector =
-    let bytes : l.listed.bytes ≡ h.listed.bytes = l.listed.told ∙ sym h.listed.told in
-    let records : map run_bytes h.runs ≡ map run_bytes l.runs = tree_once 24 12 (vfm (length d)) h.listed.bytes (map run_bytes h.runs) (map run_bytes l.runs) h.listed.tree
-    (subst (λ (b : List ℕ). IsTree 24 12 (vfm (length d)) b (map run_bytes l.runs)) bytes l.listed.tree) in
-    let runs : h.runs ≡ l.runs = sym (runs_back (length d) few h.runs h.form.each) ∙ ap (λ (rs : List (List ℕ)). map run_in rs) records ∙ runs_back (length d) few l.runs l.form.each in
+-- maps in form of the same bytes name the same
+pub named_by_bytes : (sectors : ℕ) (b c : List ℕ) (named also : Triples) → sectors < 2 ^ 32 → c ≡ b → AreNamed sectors (TellsTree 24 12 (vfm sectors) (λ x. x ≡ b)) named → AreNamed sectors (TellsTree 24 12 (vfm sectors) (λ x. x ≡ c)) also
+    → (id page sector : ℕ) → also id page sector ≡ named id page sector
+named_by_bytes sectors b c named also few same h l id page sector =
+    let bytes : l.listed.bytes ≡ h.listed.bytes = l.listed.told ∙ same ∙ sym h.listed.told in
+    let records : map run_bytes h.runs ≡ map run_bytes l.runs = tree_once 24 12 (vfm sectors) h.listed.bytes (map run_bytes h.runs) (map run_bytes l.runs) h.listed.tree
+    (subst (λ (b : List ℕ). IsTree 24 12 (vfm sectors) b (map run_bytes l.runs)) bytes l.listed.tree) in
+    let runs : h.runs ≡ l.runs = sym (runs_back sectors few h.runs h.form.each) ∙ ap (λ (rs : List (List ℕ)). map run_in rs) records ∙ runs_back sectors few l.runs l.form.each in
     l.are id page sector ∙ ap (λ (rs : List Run). names_triple rs id page sector) (sym runs) ∙ sym (h.are id page sector)
+
+pub named_once : (d : List Sector) (named also : Triples) → length d < 2 ^ 32 → MapNames d named → MapNames d also → (id page sector : ℕ) → also id page sector ≡ named id page sector
+named_once d named also few h l = named_by_bytes (length d) (map_bytes d) (map_bytes d) named also few refl h l

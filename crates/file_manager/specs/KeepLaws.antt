@@ -1,0 +1,127 @@
+-- What keeps to an outset does so behind a call.
+use Rattle.std.proofs.Common.{◌≡◌, ◌⊎◌, inl, inr, ℕ, ◌<◌, ◌≤◌, true, false, List, [], map, refl, sym, ◌∙◌, ap, subst, arith}
+use Rattle.std.specs.Prelude.{IfSome}
+use Rattle.std.proofs.lemmas.Option.{none-some}
+use Rattle.labelled_disk.specs.declared.disk.Disk.{Ghosts}
+use Rattle.labelled_disk.specs.declared.disk.DiskWrite.{DiskWrite}
+use Rattle.labelled_disk.specs.declared.layout.Layout.{Layout}
+use Rattle.labelled_disk.specs.Sectors.{Sector}
+use Rattle.labelled_disk.specs.State.{DiskState}
+use Rattle.frame_pool.specs.declared.home.Home.{Home}
+use Rattle.frame_pool.specs.Frames.{Slots}
+use Rattle.file_map.specs.declared.run.Run.{Run}
+use Rattle.file_map.specs.FileMap.{Triples}
+use Rattle.swapper_kernel.specs.declared.manager.Manager.{Manager}
+use Rattle.swapper_kernel.specs.declared.manager.Manager.TheVariants.{AllocationMap, FileMap}
+use Rattle.swapper_kernel.specs.Goes.{Makes, Pages}
+use Rattle.swapper_kernel.specs.HaltLaws.{brings_wider}
+use Rattle.swapper_kernel.specs.Homes.{Brings, IsHeld}
+use Rattle.swapper_kernel.specs.Maps.{IsMapHome}
+use Rattle.swapper_kernel.specs.Stands.{Stands}
+use Rattle.swapper_kernel.specs.Window.{Beside}
+use Rattle.filer_kernel.specs.declared.cached.CachedRuns.{CachedRuns}
+use Rattle.filer_kernel.specs.declared.filer.FilerOver.{FilerOver}
+use Rattle.filer_kernel.specs.Cached.{runs_of}
+use Rattle.filer_kernel.specs.Marks.{Marks, BitsAre}
+use Rattle.filer_kernel.specs.Triples.{MapIs, AreOf}
+use Rattle.file_manager.specs.Grounds.{IsMapsHome, IsUnframed}
+use Rattle.file_manager.specs.Looking.{Looks}
+use Rattle.file_manager.specs.Reasons.{Outset, AreTabled, HasTables, MayBeFree, IsAtHome, IsLet, KeepsTo, KeepsFrom, KeepsOn, IsUsed}
+use Rattle.file_manager.specs.LaterLaws.{GivesNot, TakesNot, at_home_later, let_later, may_be_free_later, since_later, UpNot, used_later}
+
+-- ---- Pages of the maps in frames.
+
+map_no_free : (x : Layout) (home : Home) → IsMapsHome x home → home.id ≡ 0 → ⊥
+map_no_free x home (AllocationMap, (page, below, at)) none = let own : home.id ≡ 1 = ap (λ (h : Home). h.id) at in omega (arith, own, none)
+map_no_free x home (FileMap, (page, below, at)) none = let own : home.id ≡ 2 = ap (λ (h : Home). h.id) at in omega (arith, own, none)
+
+-- where they alone came in, no page that a free label would name did
+pub unframed_still : {x : Layout} {s t : Slots} → Brings (IsMapsHome x) s t → IsUnframed s 0 → IsUnframed t 0
+unframed_still {x = x} brings none page there = elim (brings.homes there.frame.home (record { slot = there.slot; frame = there.frame; has = there.has; at = refl })) [
+  | inl was ↦ none page (record { slot = was.slot; frame = was.frame; has = was.has; same_id = ap (λ (h : Home). h.id) was.at ∙ there.same_id; same_page = ap (λ (h : Home). h.page) was.at ∙ there.same_page })
+  | inr own ↦ map_no_free x there.frame.home own there.same_id
+]
+
+maps_brought : (which : Manager) {x : Layout} {s t : Slots} → Brings (IsMapHome which x) s t → Brings (IsMapsHome x) s t
+maps_brought which {x = x} brings = brings_wider (IsMapsHome x) (λ home own. (which, own)) brings
+
+-- ---- What keeps to an outset.
+
+module _ {o : Outset} {x : Layout} {k : List Run} {a : DiskState} {s : Slots} {named : Triples} (h : KeepsTo o x k a s named) {pages : Pages} {run : List DiskWrite} {b : DiskState} {t : Slots} (makes : Makes pages run a s b t) where
+  -- a home that a frame had is at home behind a call
+  pub home_later : (home : Home) → IsHeld s home → IsMapsHome x home ⊎ IsAtHome o b home
+  home_later home held = elim (h.frames home held) [ inl own ↦ inl own | inr at ↦ inr (at_home_later o makes home at) ]
+
+  -- a home is named behind a call, or let: where this is so of those that were named, and where each page that the call gave a
+  -- sector is named there
+  rest_after : (later : Triples) → ((home : Home) → x.first ≤ home.sector → 16 ≤ home.id → named home.id home.page home.sector ≡ true → (later home.id home.page home.sector ≡ true) ⊎ IsLet o b home)
+      → ((home : Home) → x.first ≤ home.sector → 16 ≤ home.id → (later home.id home.page home.sector ≡ true) ⊎ GivesNot run home)
+      → (home : Home) → x.first ≤ home.sector → 16 ≤ home.id → (later home.id home.page home.sector ≡ true) ⊎ IsLet o b home
+  rest_after later still given home from may = elim (given home from may) [
+    | inl is ↦ inl is
+    | inr none ↦ elim (h.rest home from may) [ inl is ↦ still home from may is | inr let_go ↦ inr (let_later o makes h.since home none let_go) ]
+  ]
+
+  -- behind a call of which this is known
+  pub keeps_after : (n : List Sector) → Stands b t n → (later : Triples) → MapIs x later n
+      → ((home : Home) → later home.id home.page home.sector ≡ true → (named home.id home.page home.sector ≡ true) ⊎ IsAtHome o b home) → (l : List Run) → AreOf later l
+      → ((home : Home) → IsHeld t home → IsHeld s home ⊎ (IsMapsHome x home ⊎ (named home.id home.page home.sector ≡ true))) → IsUnframed t 0
+      → (marks : Marks) → BitsAre x marks n → ((sector : ℕ) → x.first ≤ sector → sector < x.sectors → marks sector ≡ false → ((h.marks sector ≡ false) × TakesNot run sector) ⊎ MayBeFree o b sector)
+      → ((home : Home) → x.first ≤ home.sector → 16 ≤ home.id → named home.id home.page home.sector ≡ true → (later home.id home.page home.sector ≡ true) ⊎ IsLet o b home)
+      → ((home : Home) → x.first ≤ home.sector → 16 ≤ home.id → (later home.id home.page home.sector ≡ true) ⊎ GivesNot run home)
+      → ((sector : ℕ) → x.first ≤ sector → sector < x.sectors → marks sector ≡ true → ((h.marks sector ≡ true) × UpNot run sector) ⊎ IsUsed o b sector)
+      → (IfSome o.tables (AreTabled x named h.memory) → IfSome o.tables (AreTabled x later n)) → KeepsTo o x l b t later
+  keeps_after n stands later map homes l are frames unframed marks bits free still given used tables = record {
+    since = since_later o makes h.since;
+    memory = n;
+    stands = stands;
+    size = makes.went.sectors ∙ h.size;
+    map = map;
+    homes = λ home is. elim (homes home is) [ inl was ↦ at_home_later o makes home (h.homes home was) | inr now ↦ now ];
+    kept = are;
+    frames = λ home held. elim (frames home held) [
+      | inl was ↦ home_later home was
+      | inr (inl own) ↦ inl own
+      | inr (inr is) ↦ inr (at_home_later o makes home (h.homes home is))
+    ];
+    unframed = unframed;
+    marks = marks;
+    bits = bits;
+    free = λ sector from below is. elim (free sector from below is) [ inl was ↦ may_be_free_later o makes h.since sector was.1 (h.free sector from below was.0) | inr now ↦ now ];
+    rest = rest_after later still given;
+    used = λ sector from below is. elim (used sector from below is) [ inl was ↦ used_later o makes h.since sector was.1 (h.used sector from below was.0) | inr now ↦ now ];
+    tabled = tables h.tabled;
+  }
+
+-- ---- Behind a call that wrote no label.
+
+module _ {o : Outset} {x : Layout} {k : List Run} {a : DiskState} {s : Slots} {named : Triples} (h : KeepsTo o x k a s named) {pages : Pages} {b : DiskState} {t : Slots} (makes : Makes pages [] a s b t) where
+  -- the memory stays, and pages of the maps alone came into frames
+  pub keeps_same : Stands b t h.memory → (l : List Run) → AreOf named l → Brings (IsMapsHome x) s t → KeepsTo o x l b t named
+  keeps_same stands l are brings =
+      keeps_after h makes h.memory stands named h.map (λ home is. inl is) l are (λ home held. elim (brings.homes home held) [ inl was ↦ inl was | inr own ↦ inr (inl own) ])
+      (unframed_still brings h.unframed) h.marks h.bits (λ sector from below is. inl (is, λ k w at takes. none-some w at))
+      (λ home from may is. inl is) (λ home from may. inr (λ k w at gives. none-some w at)) (λ sector from below is. inl (is, λ k w at up. none-some w at)) (λ tables. tables)
+
+module _ {o : Outset} {x : Layout} {k : List Run} {a : DiskState} {s : Slots} {named : Triples} (h : KeepsTo o x k a s named) {b : DiskState} {t : Slots} where
+  -- a look at files
+  pub looks_keep : {l : List Run} → Looks x a s k b t l → KeepsTo o x l b t named
+  looks_keep {l = l} looks =
+      let now = looks.goes.memory h.memory h.stands in
+      keeps_same h looks.goes.makes (subst (Stands b t) now.2 now.1) l (looks.runs_are h.memory named h.stands h.map h.kept) (maps_brought FileMap looks.brings)
+
+  -- accesses to a map under which the memory stays
+  pub beside_keeps : (which : Manager) {y : Layout} → Beside which a s x b t y → Stands b t h.memory → (l : List Run) → AreOf named l → KeepsTo o x l b t named
+  beside_keeps which beside stands l are = keeps_same h beside.goes.makes stands l are (maps_brought which beside.brings)
+
+-- by the layout and the runs that a filer has, where they are the same
+pub keeps_as : {o : Outset} {x y : Layout} {k l : CachedRuns} {b : DiskState} {t : Slots} {named : Triples} → y ≡ x → l ≡ k → KeepsTo o x (runs_of x.sectors k) b t named → KeepsTo o y (runs_of y.sectors l) b t named
+keeps_as {o = o} {x = x} {l = l} {b = b} {t = t} {named = named} place same h =
+    subst (λ (z : Layout). KeepsTo o z (runs_of z.sectors l) b t named) (sym place) (subst (λ (r : CachedRuns). KeepsTo o x (runs_of x.sectors r) b t named) (sym same) h)
+
+-- ---- What a filer keeps to, all pages of the space tables named.
+
+module _ {D A : Type 0} {G : Ghosts D} where
+  -- behind a call that names what it will, the pages of the space tables among it
+  pub on_from : (o : Outset) (named : Triples) (f : FilerOver D A G) → HasTables o named → KeepsFrom o named f → KeepsOn o f
+  on_from o named f tables from = (from.0, (from.1, (from.2 tables.0, tables.1)))
