@@ -21,14 +21,15 @@ use Rattle.space_tables.specs.SpaceTables.{IsIntervalAt}
 use Rattle.fault_core.specs.declared.activate.Progress.{Progress}
 use Rattle.fault_core.specs.Activate.{AreBare, AreUnits, AreWhole, HasWholeUnit, IsActive, IsFurther, IsNextUnit, IsShownAt, IsTooLong, IsTurn, IsUnitAt, IsWholeAt, start_at}
 use Rattle.fault_core.specs.Kill.{BreaksWithin}
-use Rattle.fault_core.specs.Reach.{Reaches, ReachHalts}
+use Rattle.filer_kernel.specs.Evidence.{MayBeMissing}
+use Rattle.fault_core.specs.Reach.{Reaches, TouchHalts}
 use Rattle.fault_core.specs.Told.{BreaksTables, Told}
 use Rattle.fault_core.specs.Unit.{IsReady, IsTouched}
 use Rattle.fault_core.specs.Room.{KeepsWhileEmpty}
 use Rattle.fault_core.specs.View.{View}
 use Rattle.fault_core.proofs.AccessLemmas.{breaks_before}
 use Rattle.fault_core.proofs.RangeLemmas.{IsAhead, ahead_next, tables_are}
-use Rattle.fault_core.proofs.ReachLemmas.{reaches_itself, reaches_then, halts_before}
+use Rattle.fault_core.proofs.ReachLemmas.{reaches_itself, reaches_then, finds_before}
 use Rattle.fault_core.proofs.ToldLemmas.{interval_at}
 use Rattle.fault_core.proofs.WholeLemmas.{bare_nowhere, bare_past, bare_then, shown_here, whole_stays, whole_then}
 use Rattle.fault_core.specs.Lack.{Sees}
@@ -214,9 +215,9 @@ module _ {v : View} {kept : List Interval} {count first to stop half : ℕ} {w :
         );
   }
 
-  pub activating_halt : (x : View) → so_far.page < to → (e : Halt) → ReachHalts (BreaksTables w still so_far.page) w x e → ReachHalts (BreaksWithin v count first to) v x e
+  pub activating_halt : (x : View) → so_far.page < to → (e : Halt) → TouchHalts (BreaksTables w still so_far.page) w x e → TouchHalts (BreaksWithin v count first to) v x e
   activating_halt x below e halts =
-      halts_before v w is h.reaches (BreaksTables w still so_far.page) (BreaksWithin v count first to) (λ broken breaks. record {
+      finds_before v w is h.reaches MayBeMissing (BreaksTables w still so_far.page) (BreaksWithin v count first to) (λ broken breaks. record {
         asked = so_far.page;
         from = h.from;
         below = below;

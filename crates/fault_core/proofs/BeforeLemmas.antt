@@ -33,7 +33,7 @@ use Rattle.filer_kernel.specs.Triples.{MapIs}
 use Rattle.filer_kernel.specs.Causes.{MapShows, IsGiven}
 use Rattle.filer_kernel.specs.Tables.{in_tables}
 use Rattle.fault_core.specs.View.{View, kept_by}
-use Rattle.fault_core.specs.Reach.{IsReachedHome, IsReached, Reaches, ReachEvidence, ReachHalts}
+use Rattle.fault_core.specs.Reach.{IsReachedHome, IsReached, Reaches, FindEvidence, FindHalts}
 use Rattle.fault_core.specs.Touch.{on_data, and_own, Touches}
 
 -- ---- Changes on data sectors leave the map.
@@ -115,8 +115,8 @@ module _ (v w : View) (is : IsLayout v.layout) {pages : Pages} (h : Touches page
     | inr found ↦ inr (found_before home found)
   ]
 
-  module _ (breaks broke : ℕ → Type 0) (earlier : (page : ℕ) → breaks page → broke page) where
-    evidence_before : (e : Evidence) → ReachEvidence breaks w e → ReachEvidence broke v e
+  module _ (breaks broke : ℕ → Type 0) (earlier : (page : ℕ) → breaks page → broke page) (may : Pages) where
+    evidence_before : (e : Evidence) → FindEvidence breaks may w e → FindEvidence broke may v e
     evidence_before (Mismatch sector wanted found) g = record { there = label_before h.goes.makes.wrote sector found g.there; other = g.other; reason = reason_before _ g.reason }
     evidence_before (Malformed window page) g = elim g [
       | inl (second, broken) ↦ inl (second, broken_before page (subst (λ (l : Layout). IsBroken l.sectors (MapShows l w.disk w.slots) page) h.layout broken))
@@ -125,7 +125,7 @@ module _ (v w : View) (is : IsLayout v.layout) {pages : Pages} (h : Touches page
     evidence_before (Missing id page) g = (g.0, λ m named stands map. let mid = h.goes.memory m stands in g.1 mid.0 named mid.1 (rw h.layout (map_still v.layout is named m mid.0 mid.2 map)))
 
     -- the halt of what was done next is one of both
-    pub halt_before : (x y : View) → x.disk.faults ≤ y.disk.faults → (e : Halt) → ReachHalts breaks w x e → ReachHalts broke v y e
+    pub halt_before : (x y : View) → x.disk.faults ≤ y.disk.faults → (e : Halt) → FindHalts breaks may w x e → FindHalts broke may v y e
     halt_before x y later Disk g = rose_wider v.disk.faults w.disk.faults x.disk.faults y.disk.faults h.goes.makes.went.faults later g
     halt_before x y later (Damaged e) g = evidence_before e g
 

@@ -15,15 +15,16 @@ use Rattle.file_map.specs.Run.{IsRun, holds, sector_at}
 use Rattle.file_map.specs.FileMap.{Triples}
 use Rattle.file_map.proofs.Runs.{has_page}
 use Rattle.filer_kernel.specs.Causes.{IsGiven}
+use Rattle.filer_kernel.specs.Evidence.{MayBeMissing}
 use Rattle.filer_kernel.specs.PlaceLaws.{data_first}
 use Rattle.swapper_kernel.specs.Homes.{IsLayout, IsAmong}
 use Rattle.swapper_kernel.specs.HaltLaws.{brings_itself, brings_then}
 use Rattle.fault_core.specs.View.{View, kept_by}
-use Rattle.fault_core.specs.Reach.{IsReachedHome, Reaches, ReachHalts, BringsOwn, no_break}
+use Rattle.fault_core.specs.Reach.{IsReachedHome, Reaches, TouchHalts, BringsOwn, no_break}
 use Rattle.fault_core.specs.Told.{Known}
 use Rattle.fault_core.specs.Homes.{AreHomesOf, HaveSectors}
 use Rattle.fault_core.specs.Room.{KeepsWhileEmpty}
-use Rattle.fault_core.proofs.ReachLemmas.{reaches_itself, reaches_then, reached_home_before, halts_before, known_after}
+use Rattle.fault_core.proofs.ReachLemmas.{reaches_itself, reaches_then, reached_home_before, finds_before, known_after}
 use Rattle.fault_core.proofs.RoomLemmas.{room_itself, room_then}
 
 -- a home that was found for the page
@@ -90,8 +91,8 @@ module _ {v : View} {id first pages : ℕ} {w : View} {homes : List Home} {k : �
         cost = let c = h.cost in omega (arith, c, cost);
       }
 
-  pub finding_halt : (x : View) (e : Halt) → ReachHalts no_break w x e → ReachHalts no_break v x e
-  finding_halt x e halts = halts_before v w is h.reaches no_break no_break (λ page none. none) x x (omega arith) e halts
+  pub finding_halt : (x : View) (e : Halt) → TouchHalts no_break w x e → TouchHalts no_break v x e
+  finding_halt x e halts = finds_before v w is h.reaches MayBeMissing no_break no_break (λ page none. none) x x (omega arith) e halts
 
   pub finding_sound : (e : Halt) → k < pages → ((m : List Sector) (named : Triples) (b : List ℕ) (sector : ℕ) → Known w m named b → named id (first + k) sector ≡ true → e ≡ Disk)
       → (m : List Sector) (named : Triples) (b : List ℕ) → Known v m named b → HaveSectors named id first pages → e ≡ Disk

@@ -12,7 +12,7 @@ use Rattle.flat_mem.specs.Memory.{part}
 use Rattle.frame_pool.specs.declared.home.Home.{Home}
 use Rattle.frame_pool.specs.Frames.{Frame, Slots, Has, IsWithin}
 use Rattle.file_map.specs.FileMap.{Triples}
-use Rattle.swapper_kernel.specs.Homes.{ArePlaced, IsLayout, wanted_at}
+use Rattle.swapper_kernel.specs.Homes.{ArePlaced, IsHeld, IsLayout, wanted_at}
 use Rattle.swapper_kernel.specs.Differs.{Differs, of_run}
 use Rattle.swapper_kernel.specs.DiffersLaws.{same_length, other_sector, label_here, names_id, names_page}
 use Rattle.swapper_kernel.specs.Goes.{Goes, no_page}
@@ -169,10 +169,11 @@ module _ (v x : View) (is : IsLayout v.layout) (id first pages : ℕ) (client : 
             absurd (omega (arith, three, high, client))
       ];
       named_so = p.named_so;
-      alone = λ o s below here named_here.
-          let was = other_sector m n differs_on_data.labels o s here in
-          p.alone o was.0 below was.1 (ap (λ (l : Label). names l (record { id = 3; page = k })) was.2 ∙ named_here);
     }
+
+  -- frames that are left were there
+  held_before : (home : Home) → IsHeld x.slots home → IsHeld v.slots home
+  held_before home held = record { slot = held.slot; frame = held.frame; has = left held.slot held.frame held.has; at = held.at }
 
   pub forgot_touches : Touches no_page v x
   forgot_touches = record {
@@ -195,6 +196,7 @@ module _ (v x : View) (is : IsLayout v.layout) (id first pages : ℕ) (client : 
           size = goes.makes.went.sectors ∙ t.size;
           count = t.count;
           page = λ k below. table_there t.memory now.0 t.stands now.1 t.triples k (part b (512 * k) 512) (t.page k below);
+          held = λ home held three below. t.held home (held_before home held) three below;
         });
   }
 
@@ -218,8 +220,9 @@ module _ (v x : View) (is : IsLayout v.layout) (id first pages : ℕ) (client : 
           tabled = λ j s from_data here three.
               let was = other_sector m n labels j s here in
               let own = k.tabled j was.0 (rw (← layout) from_data) was.1 (ap (λ (l : Label). l.id) was.2 ∙ three) in
-              subst (λ (l : Label). (l.page < 96) × (names l (record { id = 3; page = l.page }) ≡ true)) was.2 own;
+              subst (λ (l : Label). (l.page < 96) × (named 3 l.page j ≡ true)) was.2 own;
           count = k.count;
           page = λ j below. rw layout (table_there m n k.stands now.1 named j (part b (512 * j) 512) (k.page j below));
+          held = λ home held three below. k.held home (held_before home held) three below;
         };
       }

@@ -26,7 +26,7 @@ use Rattle.fault_core.specs.Kept.{AreFound}
 use Rattle.fault_core.specs.Kill.{AreWritableSo, BreaksWithin, LeavesCore, is_absent}
 use Rattle.fault_core.specs.Lack.{Sees}
 use Rattle.fault_core.specs.Range.{IsNextPart}
-use Rattle.fault_core.specs.Reach.{BringsOwn, ReachHalts}
+use Rattle.fault_core.specs.Reach.{BringsOwn, ReachHalts, table_page}
 use Rattle.fault_core.specs.Told.{BreaksTables, Told}
 use Rattle.fault_core.specs.Touch.{Touches}
 use Rattle.fault_core.specs.View.{View}
@@ -157,7 +157,7 @@ module _ {v : View} {kept : List Interval} {count first pages stop : ℕ} {w : V
           in_root = breaks.in_root;
           breaks = λ b told. subst (λ (j : ℕ). BreaksLookUp page j b broken) h.intervals (breaks.breaks b (h.touches.told b told));
         };
-      }) x x (omega arith) e halts
+      }) table_page x x (omega arith) e halts
 
   pub killing_cost : (x : View) (n : ℕ) → k < n → x.disk.transfers ≤ w.disk.transfers + 196 → x.disk.transfers ≤ v.disk.transfers + n * 196
   killing_cost x n most cost = let was = h.cost in omega (arith, most, was, cost)

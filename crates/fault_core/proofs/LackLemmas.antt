@@ -1,19 +1,15 @@
 -- Which page of a client's file was found to have no sector.
 use Rattle.std.proofs.Common.{◌≡◌, ◌≢◌, ◌⊎◌, inl, inr, ℕ, ◌+◌, ◌-◌, ◌<◌, List, sym, ◌∙◌, arith}
-use Rattle.labelled_disk.specs.declared.layout.Layout.{Layout}
 use Rattle.labelled_disk.specs.declared.evidence.Evidence.TheVariants.{Mismatch, Malformed, Missing}
 use Rattle.labelled_disk.specs.declared.evidence.Halt.{Halt}
 use Rattle.labelled_disk.specs.declared.evidence.Halt.TheVariants.{Disk, Damaged}
 use Rattle.labelled_disk.specs.State.{DiskState}
 use Rattle.frame_pool.specs.Frames.{Slots}
-use Rattle.file_map.specs.declared.run.Run.{Run}
 use Rattle.flat_machine.specs.declared.space.Space.{Space}
 use Rattle.swap_units.specs.declared.interval.Interval.{Interval}
-use Rattle.swapper_kernel.specs.Goes.{Pages, no_page}
+use Rattle.swapper_kernel.specs.Goes.{Pages}
 use Rattle.swapper_kernel.specs.Halts.{Halts}
 use Rattle.swapper_kernel.specs.Homes.{Homes}
-use Rattle.filer_kernel.specs.Causes.{MapHalts}
-use Rattle.filer_kernel.specs.Tables.{FoundHalts}
 use Rattle.space_tables.specs.SpaceTables.{IsIntervalAt}
 use Rattle.fault_core.specs.Access.{Shows}
 use Rattle.fault_core.specs.Kept.{IsKept}
@@ -31,22 +27,7 @@ lacks_wider pages more too (Damaged (Mismatch sector wanted found)) h = tt
 lacks_wider pages more too (Damaged (Malformed window broken)) h = tt
 lacks_wider pages more too (Damaged (Missing id page)) h = elim h [ inl three ↦ inl three | inr one ↦ inr (too id page one) ]
 
-pub none_lacks : (more : Pages) (e : Halt) → LacksPage no_page e → LacksPage more e
-none_lacks more e h = lacks_wider no_page more (λ id page none. absurd none) e h
-
 -- ---- What is asked below.
-
-pub found_lacks : (layout : Layout) (old : DiskState) (before : Slots) (kept : List Run) (new : DiskState) (e : Halt) → FoundHalts layout old before kept new e → LacksPage no_page e
-found_lacks layout old before kept new Disk h = tt
-found_lacks layout old before kept new (Damaged (Mismatch sector wanted found)) h = tt
-found_lacks layout old before kept new (Damaged (Malformed window broken)) h = tt
-found_lacks layout old before kept new (Damaged (Missing id page)) h = inl h.0
-
-pub map_lacks : (layout : Layout) (old : DiskState) (before : Slots) (new : DiskState) (e : Halt) → MapHalts layout old before new e → LacksPage no_page e
-map_lacks layout old before new Disk h = tt
-map_lacks layout old before new (Damaged (Mismatch sector wanted found)) h = tt
-map_lacks layout old before new (Damaged (Malformed window broken)) h = tt
-map_lacks layout old before new (Damaged (Missing id page)) h = absurd h
 
 pub brought_lacks : (come : Homes) (old : DiskState) (before : Slots) (new : DiskState) (more : Pages) (e : Halt) → Halts come old before new e → LacksPage more e
 brought_lacks come old before new more Disk h = tt

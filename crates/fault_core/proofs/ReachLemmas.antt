@@ -17,18 +17,19 @@ use Rattle.swapper_kernel.specs.Homes.{IsLayout}
 use Rattle.swapper_kernel.specs.Stands.{Stands, labels_of}
 use Rattle.swapper_kernel.specs.Differs.{Differs}
 use Rattle.swapper_kernel.specs.DiffersLaws.{differs_itself, differs_then, same_place, label_here, sector_of_label}
-use Rattle.swapper_kernel.specs.Goes.{Goes, no_page}
+use Rattle.swapper_kernel.specs.Goes.{Goes, Pages, no_page}
 use Rattle.swapper_kernel.specs.GoesLaws.{goes_itself, goes_then, makes_wider}
 use Rattle.session_words.specs.Volume.{Searches, volume_page}
 use Rattle.swapper_kernel.specs.HaltLaws.{brings_itself, brings_then, brings_wider}
 use Rattle.swapper_kernel.specs.OnceLaws.{stands_once}
 use Rattle.filer_kernel.specs.declared.cached.CachedRuns.{CachedRuns}
 use Rattle.filer_kernel.specs.Triples.{MapIs}
-use Rattle.filer_kernel.specs.PlaceLaws.{map_kept}
+use Rattle.filer_kernel.specs.NamedLaws.{maps_named_once}
+use Rattle.filer_kernel.specs.PlaceLaws.{map_kept, one_sector}
 use Rattle.filer_kernel.specs.Tables.{in_tables, table_pages, IsTablePage, TablesTell}
 use Rattle.filer_kernel.proofs.MapLemmas.{same_elements}
 use Rattle.fault_core.specs.View.{View, TablesAre}
-use Rattle.fault_core.specs.Reach.{IsReachedHome, IsReached, Reaches, ReachHalts}
+use Rattle.fault_core.specs.Reach.{IsReachedHome, IsReached, Reaches, FindHalts, ReachHalts, table_page}
 use Rattle.fault_core.specs.Told.{IsTabled, Known}
 use Rattle.fault_core.proofs.BeforeLemmas.{touches_of, given_before, found_before, came_before, halt_before}
 
@@ -46,8 +47,11 @@ module _ (v w : View) (is : IsLayout v.layout) (h : Reaches v w) where
   pub reached_home_before : (home : Home) → IsReachedHome w home → IsReachedHome v home
   reached_home_before home g = found_before v w is (touches_of no_page h) home g
 
+  pub finds_before : (may : Pages) (breaks broke : ℕ → Type 0) → ((page : ℕ) → breaks page → broke page) → (x y : View) → x.disk.faults ≤ y.disk.faults → (e : Halt) → FindHalts breaks may w x e → FindHalts broke may v y e
+  finds_before may breaks broke earlier x y later e g = halt_before v w is (touches_of no_page h) breaks broke earlier may x y later e g
+
   pub halts_before : (breaks broke : ℕ → Type 0) → ((page : ℕ) → breaks page → broke page) → (x y : View) → x.disk.faults ≤ y.disk.faults → (e : Halt) → ReachHalts breaks w x e → ReachHalts broke v y e
-  halts_before breaks broke earlier x y later e g = halt_before v w is (touches_of no_page h) breaks broke earlier x y later e g
+  halts_before breaks broke earlier x y later e g = finds_before table_page breaks broke earlier x y later e g
 
   pub reaches_then : (x : View) → Reaches w x → Reaches v x
   reaches_then x k = record {
@@ -77,20 +81,20 @@ tables_or_not layout k l = elim (cases_lt k layout.first) [
 ]
 
 -- where the bytes of the space tables are the same, the memory is
-same_tabled : (v : View) (m : List Sector) (named : Triples) (b : List ℕ) (n : List Sector) (more : Triples) → IsLayout v.layout → IsTabled v.layout m → MapIs v.layout named m → MapIs v.layout more n
+same_tabled : (v : View) (m : List Sector) (named : Triples) (b : List ℕ) (n : List Sector) (more : Triples) → IsTabled v.layout named m → MapIs v.layout named m → ((id page sector : ℕ) → more id page sector ≡ named id page sector)
     → ((k : ℕ) → k < 96 → IsTablePage v.layout named m k (part b (512 * k) 512)) → ((k : ℕ) → k < 96 → IsTablePage v.layout more n k (part b (512 * k) 512)) → Differs (in_tables v.layout) m n → n ≡ m
-same_tabled v m named b n more is tabled map after_map before after differs = same_elements n m (λ k. same_place_cases k (slice_get m k) refl)
+same_tabled v m named b n more tabled map once before after differs = same_elements n m (λ k. same_place_cases k (slice_get m k) refl)
   where
     there : (k : ℕ) (s : Sector) → slice_get m k ≡ Some s → v.layout.first ≤ k → s.0.id ≡ 3 → slice_get n k ≡ slice_get m k
     there k s here from three =
         let own = tabled k s from here three in
         let a : IsTablePage v.layout named m s.0.page (part b (512 * s.0.page) 512) = before s.0.page own.0 in
         let c : IsTablePage v.layout more n s.0.page (part b (512 * s.0.page) 512) = after s.0.page own.0 in
-        let at : k ≡ a.sector = a.alone k s from here own.1 in
+        let at : k ≡ a.sector = one_sector v.layout named m map 3 s.0.page k a.sector own.1 a.found in
         let label : slice_get (labels_of n) k ≡ Some s.0 = ap (λ (ls : List Label). slice_get ls k) differs.labels ∙ label_here m k s here in
         let now = sector_of_label n k s.0 label in
         let t : Sector = now.0 in
-        let also : k ≡ c.sector = c.alone k t from now.1 (rw now.2 own.1) in
+        let also : k ≡ c.sector = one_sector v.layout named m map 3 s.0.page k c.sector own.1 (sym (once 3 s.0.page c.sector) ∙ c.found) in
         let bytes_now : t.1 ≡ part b (512 * s.0.page) 512 = ap (λ (t : Sector). t.1) (same_Some {A = Sector} t (c.label, part b (512 * s.0.page) 512) (sym now.1 ∙ ap (slice_get n) also ∙ c.keeps)) in
         let bytes_then : s.1 ≡ part b (512 * s.0.page) 512 = ap (λ (t : Sector). t.1) (same_Some {A = Sector} s (a.label, part b (512 * s.0.page) 512) (sym here ∙ ap (slice_get m) at ∙ a.keeps)) in
         now.1 ∙ (λ i. Some (now.2 i, (bytes_now ∙ sym bytes_then) i)) ∙ sym here
@@ -103,7 +107,7 @@ same_tabled v m named b n more is tabled map after_map before after differs = sa
     ]
 
 pub tables_of : (v : View) (m : List Sector) (named : Triples) (b : List ℕ) → Known v m named b → TablesAre v b
-tables_of v m named b k = record { memory = m; stands = k.stands; triples = named; map = k.map; kept = k.runs; size = k.size; count = k.count; page = k.page }
+tables_of v m named b k = record { memory = m; stands = k.stands; triples = named; map = k.map; kept = k.runs; size = k.size; count = k.count; page = k.page; held = k.held }
 
 moved_pages : (d : DiskState) (s : Slots) (l : Layout) (k : CachedRuns) (b : List ℕ) (t : TablesTell d s l k b) (x : Layout) (n : List Sector) → n ≡ t.memory → l ≡ x
     → ((j : ℕ) → j < 96 → IsTablePage x t.triples n j (part b (512 * j) 512)) × MapIs x t.triples n
@@ -118,7 +122,8 @@ known_after v w m named b is h k =
     let told = h.told b (tables_of v m named b k) in
     let last : mid.0 ≡ told.memory = same_memory w.disk w.slots mid.0 told.memory mid.1 told.stands in
     let moved = moved_pages w.disk w.slots w.layout w.runs b told v.layout mid.0 last h.layout in
-    let same : mid.0 ≡ m = same_tabled v m named b mid.0 told.triples is k.tabled k.map moved.1 k.page moved.0 mid.2 in
+    let once = maps_named_once v.layout mid.0 mid.0 named told.triples is (told.size ∙ ap (λ (l : Layout). l.sectors) h.layout) mid.1 mid.1 (map_kept v.layout named m mid.0 is mid.2 k.map) moved.1 in
+    let same : mid.0 ≡ m = same_tabled v m named b mid.0 told.triples k.tabled k.map once k.page moved.0 mid.2 in
     record {
       stands = subst (Stands w.disk w.slots) same mid.1;
       size = told.size;
@@ -130,6 +135,7 @@ known_after v w m named b is h k =
       tabled = rw h.layout k.tabled;
       count = k.count;
       page = rw h.layout k.page;
+      held = λ home there three below. sym (once 3 home.page home.sector) ∙ told.held home there three below;
     }
 
 own_pages : (id page : ℕ) → table_pages id page → volume_page id page

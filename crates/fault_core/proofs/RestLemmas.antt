@@ -15,7 +15,7 @@ use Rattle.swap_units.specs.declared.interval.Interval.{Interval}
 use Rattle.swap_units.specs.Unit.{Holds}
 use Rattle.swapper_kernel.specs.Goes.{Swaps}
 use Rattle.swapper_kernel.specs.HaltLaws.{brings_same}
-use Rattle.swapper_kernel.specs.Homes.{no_home}
+use Rattle.swapper_kernel.specs.Homes.{IsLayout, no_home}
 use Rattle.session_words.proofs.FoundLemmas.{above_reserved}
 use Rattle.space_tables.specs.Stored.{TellSpaces}
 use Rattle.fault_core.specs.declared.range.Way.{Way}
@@ -31,8 +31,8 @@ use Rattle.fault_core.proofs.TurnLemmas.{reaches_brought}
 use Rattle.fault_core.proofs.YieldLemmas.{stay_yields, yield_then}
 
 -- frames are written out, or given up
-pub rest_reaches : (v x : View) → Swaps v.disk v.slots x.disk x.slots → ((i : ℕ) (f : Frame) → Has x.slots i f → (g : Frame) × Has v.slots i g × (g.home ≡ f.home) × (g.bytes ≡ f.bytes)) → x.layout ≡ v.layout → x.runs ≡ v.runs → Reaches v x
-rest_reaches v x swaps frames layout runs = reaches_brought v v x (reaches_itself v) no_home (λ home none. absurd none) swaps (brings_same no_home frames) layout runs
+pub rest_reaches : (v x : View) → IsLayout v.layout → Swaps v.disk v.slots x.disk x.slots → ((i : ℕ) (f : Frame) → Has x.slots i f → (g : Frame) × Has v.slots i g × (g.home ≡ f.home) × (g.bytes ≡ f.bytes)) → x.layout ≡ v.layout → x.runs ≡ v.runs → Reaches v x
+rest_reaches v x is swaps frames layout runs = reaches_brought v v x is (reaches_itself v) no_home (λ home none. absurd none) swaps (brings_same no_home frames) layout runs
 
 pub few_dirty : (id first pages : ℕ) (s : Slots) → dirty_count id first pages s ≤ length s
 few_dirty id first pages [] = omega arith

@@ -29,7 +29,8 @@ use Rattle.swapper_kernel.specs.Goes.{Pages}
 use Rattle.fault_core.specs.Access.{BreaksFor}
 use Rattle.fault_core.specs.Kill.{BreaksWithin}
 use Rattle.fault_core.specs.Lack.{Sees}
-use Rattle.fault_core.specs.Reach.{ReachHalts}
+use Rattle.fault_core.specs.Reach.{ReachHalts, TouchHalts}
+use Rattle.fault_core.specs.ReachLaws.{touch_of_reach}
 use Rattle.fault_core.specs.Spares.{SparesTables}
 use Rattle.fault_core.specs.Told.{BreaksTables}
 use Rattle.fault_core.specs.Touch.{Touches}
@@ -135,14 +136,14 @@ module _ {v : View} {kept : List Interval} {count : ℕ} {ss : List Space} (s : 
 
 -- the halt of a call that finds pages, where the tables are told, and no page of them breaks its form
 module _ {v : View} {b : List ℕ} (told : TablesAre v b) where
-  pub spares_told : (breaks : ℕ → Type 0) → ((page : ℕ) → breaks page → ⊥) → (w : View) (e : Halt) → ReachHalts breaks v w e → SparesTables e
-  spares_told breaks none w Disk h = tt
-  spares_told breaks none w (Damaged (Mismatch sector wanted found)) h = tt
-  spares_told breaks none w (Damaged (Malformed window page)) h = λ three. elim h [
+  pub touch_spares : (breaks : ℕ → Type 0) → ((page : ℕ) → breaks page → ⊥) → (w : View) (e : Halt) → TouchHalts breaks v w e → SparesTables e
+  touch_spares breaks none w Disk h = tt
+  touch_spares breaks none w (Damaged (Mismatch sector wanted found)) h = tt
+  touch_spares breaks none w (Damaged (Malformed window page)) h = λ three. elim h [
     | inl map ↦ let two = map.0 in absurd (omega (arith, two, three))
     | inr table ↦ none page table.1
   ]
-  spares_told breaks none w (Damaged (Missing id page)) h = λ three. elim h.0 [
+  touch_spares breaks none w (Damaged (Missing id page)) h = λ three. elim h.0 [
     | inl own ↦
         let at = told.page page own.1 in
         let nowhere : told.triples 3 page at.sector ≡ false = subst (λ (i : ℕ). told.triples i page at.sector ≡ false) three (h.1 told.memory told.triples told.stands told.map at.sector) in
@@ -150,16 +151,19 @@ module _ {v : View} {b : List ℕ} (told : TablesAre v b) where
     | inr client ↦ absurd (omega (arith, client, three))
   ]
 
+  pub spares_told : (breaks : ℕ → Type 0) → ((page : ℕ) → breaks page → ⊥) → (w : View) (e : Halt) → ReachHalts breaks v w e → SparesTables e
+  spares_told breaks none w e h = touch_spares breaks none w e (touch_of_reach breaks v w e h)
+
 -- by the look-up of a page, of those of a reference, or of a range
 module _ {v : View} {kept : List Interval} {count : ℕ} {ss : List Space} (s : Sees v kept count ss) (some : 1 ≤ count) (w : View) (e : Halt) where
-  pub table_spares : (asked : ℕ) → ReachHalts (BreaksTables v count asked) v w e → SparesTables e
-  table_spares asked h = spares_told s.told (BreaksTables v count asked) (table_is_right s some asked) w e h
+  pub table_spares : (asked : ℕ) → TouchHalts (BreaksTables v count asked) v w e → SparesTables e
+  table_spares asked h = touch_spares s.told (BreaksTables v count asked) (table_is_right s some asked) w e h
 
-  pub reference_spares : (address bytes : ℕ) → ReachHalts (BreaksFor v count address bytes) v w e → SparesTables e
-  reference_spares address bytes h = spares_told s.told (BreaksFor v count address bytes) (reference_is_right s some address bytes) w e h
+  pub reference_spares : (address bytes : ℕ) → TouchHalts (BreaksFor v count address bytes) v w e → SparesTables e
+  reference_spares address bytes h = touch_spares s.told (BreaksFor v count address bytes) (reference_is_right s some address bytes) w e h
 
-  pub range_spares : (from to : ℕ) → ReachHalts (BreaksWithin v count from to) v w e → SparesTables e
-  range_spares from to h = spares_told s.told (BreaksWithin v count from to) (range_is_right s some from to) w e h
+  pub range_spares : (from to : ℕ) → TouchHalts (BreaksWithin v count from to) v w e → SparesTables e
+  range_spares from to h = touch_spares s.told (BreaksWithin v count from to) (range_is_right s some from to) w e h
 
 -- tables that are told stay so where pages of clients are touched
 pub sees_touched : {v : View} {kept : List Interval} {count : ℕ} {ss : List Space} → Sees v kept count ss → (pages : Pages) (w : View) → Touches pages v w → Sees w kept count ss

@@ -15,7 +15,7 @@ use Rattle.frame_pool.specs.Frames.{Frame, Slots, Has, IsOf, changed}
 use Rattle.frame_pool.specs.FrameLaws.{has_set, has_below}
 use Rattle.frame_pool.specs.ListLaws.{get_same, get_other}
 use Rattle.file_map.specs.FileMap.{Triples}
-use Rattle.swapper_kernel.specs.Homes.{ArePlaced, Brings, Homes, IsLayout, IsNamed, wanted_at}
+use Rattle.swapper_kernel.specs.Homes.{ArePlaced, Brings, Homes, IsHeld, IsLayout, IsNamed, wanted_at}
 use Rattle.swapper_kernel.specs.Differs.{ChangesAt, Differs}
 use Rattle.swapper_kernel.specs.DiffersLaws.{set_labels, same_length, other_sector, sector_of_label, label_here, names_id, names_page}
 use Rattle.swapper_kernel.specs.Goes.{Goes, IsDirty, this_page}
@@ -89,15 +89,12 @@ module _ (v : View) (is : IsLayout v.layout) (home : Home) (client : 16 ≤ home
         let also : c.s.0.id ≡ p.label.id = ap (λ (s : Sector). s.0.id) one in
         absurd (omega (arith, three, high, also, client))) ∙ p.keeps;
     named_so = p.named_so;
-    alone = λ o s below here named_here.
-        let was = other_sector m n change_labels o s here in
-        p.alone o was.0 below was.1 (ap (λ (l : Label). names l (record { id = 3; page = k })) was.2 ∙ named_here);
   }
 
   -- what was known of the memory is known
   pub known_changed : (x : View) (named : Triples) (b : List ℕ) → Known v m named b → x.layout ≡ v.layout → x.runs ≡ v.runs → x.disk.sectors ≡ v.disk.sectors → IsSector (c.s.0, overwritten c.s.1 from bytes)
-      → Stands x.disk x.slots n → Known x n named b
-  known_changed x named b k layout runs sectors fits stands = record {
+      → Stands x.disk x.slots n → ((home : Home) → IsHeld x.slots home → IsHeld v.slots home) → Known x n named b
+  known_changed x named b k layout runs sectors fits stands before = record {
     stands = stands;
     size = sectors ∙ k.size ∙ ap (λ l. l.sectors) (sym layout);
     long = same_length m n change_labels ∙ k.long ∙ ap (λ l. l.sectors) (sym layout);
@@ -108,9 +105,10 @@ module _ (v : View) (is : IsLayout v.layout) (home : Home) (client : 16 ≤ home
     tabled = λ j s from_data here three.
         let was = other_sector m n change_labels j s here in
         let own = k.tabled j was.0 (rw (← layout) from_data) was.1 (ap (λ (l : Label). l.id) was.2 ∙ three) in
-        subst (λ (l : Label). (l.page < 96) × (names l (record { id = 3; page = l.page }) ≡ true)) was.2 own;
+        subst (λ (l : Label). (l.page < 96) × (named 3 l.page j ≡ true)) was.2 own;
     count = k.count;
     page = λ j below. rw layout (table_still named j (part b (512 * j) 512) (k.page j below));
+    held = λ home held three below. k.held home (before home held) three below;
   }
 
 -- ---- A frame of the page was changed.
@@ -144,13 +142,15 @@ module _ (w x : View) (is : IsLayout w.layout) (placed : ArePlaced w.slots w.lay
   changed_there : Has x.slots i (changed f from bytes)
   changed_there = record { is = ap (λ s. slice_get s i) slots ∙ get_same w.slots i (Some (changed f from bytes)) (has_below w.slots i f has) }
 
+  -- its home was held
+  changed_held : (home : Home) → IsHeld x.slots home → IsHeld w.slots home
+  changed_held home held = elim (has_now held.slot held.frame held.has) [
+    | inl (_, own) ↦ record { slot = i; frame = f; has = has; at = ap (λ (g : Frame). g.home) own ∙ held.at }
+    | inr (_, was) ↦ record { slot = held.slot; frame = held.frame; has = was; at = held.at }
+  ]
+
   pub changed_brings : (come : Homes) → Brings come w.slots x.slots
-  changed_brings come = record {
-    homes = λ home held. elim (has_now held.slot held.frame held.has) [
-      | inl (_, own) ↦ inl (record { slot = i; frame = f; has = has; at = ap (λ (g : Frame). g.home) own ∙ held.at })
-      | inr (_, was) ↦ inl (record { slot = held.slot; frame = held.frame; has = was; at = held.at })
-    ];
-  }
+  changed_brings come = record { homes = λ home held. inl (changed_held home held) }
 
   pub changed_slots : KeepsSlots w.slots x.slots
   changed_slots j other number (g, there, own) = elim (cases_eq j i) [
@@ -179,6 +179,7 @@ module _ (w x : View) (is : IsLayout w.layout) (placed : ArePlaced w.slots w.lay
           size = goes.makes.went.sectors ∙ t.size;
           count = t.count;
           page = λ k below. table_still w is f.home high far from bytes t.memory now.0 now.2 t.triples k (part b (512 * k) 512) (t.page k below);
+          held = λ home held three below. t.held home (changed_held home held) three below;
         });
   }
 
@@ -202,6 +203,6 @@ module _ (w x : View) (is : IsLayout w.layout) (placed : ArePlaced w.slots w.lay
           fits = fits;
           is = c.is;
         };
-        known = known_changed w is f.home high far from bytes m now.0 c x named b k layout runs goes.makes.went.sectors fits now.1;
+        known = known_changed w is f.home high far from bytes m now.0 c x named b k layout runs goes.makes.went.sectors fits now.1 changed_held;
         labels = (change_on_data w is f.home high far from bytes m now.0 c).labels;
       }

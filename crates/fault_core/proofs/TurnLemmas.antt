@@ -23,7 +23,7 @@ use Rattle.filer_kernel.specs.Cached.{runs_of}
 use Rattle.filer_kernel.specs.Triples.{MapIs, AreOf, IsOneOf}
 use Rattle.filer_kernel.specs.Causes.{IsGiven, MapHalts}
 use Rattle.filer_kernel.specs.Tables.{in_tables, table_pages, IsFoundHome, FoundHalts, IsComing, BesideTables, IsTableAccounted}
-use Rattle.filer_kernel.specs.TableOnce.{tables_stay, tables_swapped}
+use Rattle.filer_kernel.specs.TableOnce.{ComeOver, come_over, map_over, run_home_over, same_sectors, tables_stay, tables_swapped}
 use Rattle.filer_kernel.proofs.FoundLemmas.{memory_stays, beside_found}
 use Rattle.fault_core.specs.View.{View, kept_by, TablesAre}
 use Rattle.fault_core.specs.Reach.{IsReachedHome, IsReached, Reaches, ReachHalts, BringsOwn, no_break}
@@ -64,7 +64,7 @@ tables_halt v w breaks e accounted = wider e accounted.cause
     wider Disk h = h
     wider (Damaged (Mismatch sector wanted found)) h = record { there = h.there; other = h.other; reason = elim h.reason [ inl held ↦ inl held | inr home ↦ inr (found_reached v _ home) ] }
     wider (Damaged (Malformed window page)) h = inl h
-    wider (Damaged (Missing id page)) h = (inl (h.0, h.1), h.2)
+    wider (Damaged (Missing id page)) h = ((h.0, h.1), h.2)
 
 -- ---- The map.
 
@@ -76,7 +76,7 @@ pub reaches_map : (v w : View) → IsLayout v.layout → v.disk.sectors ≡ v.la
 reaches_map v w is size whole form pages beside bytes given are =
     let stays = memory_stays is size whole form pages beside bytes in
     reaches_tables v w (beside_found beside stays given are)
-    (λ b tells. tables_stay beside.layout beside.goes.makes.went.sectors (λ m named stands map. stays m stands) are b tells)
+    (λ b tells. tables_stay beside.layout beside.goes.makes.went.sectors (λ m named stands map. stays m stands) are b tells (map_over v.layout tells.triples beside.brings))
 
 pub own_map : (v w : View) → Beside FileMap v.disk v.slots v.layout w.disk w.slots w.layout → BringsOwn v.slots w.slots
 own_map v w beside = brings_wider (λ home. (1 ≤ home.id) × (home.id ≤ 3)) (map_id v.layout) beside.brings
@@ -89,7 +89,12 @@ map_halt v w breaks (Damaged (Missing id page)) h = absurd h
 
 -- ---- Pages brought in, after others.
 
-module _ (v w x : View) (h : Reaches v w) (come : Homes) (found : (home : Home) → come home → IsReachedHome v home) where
+module _ (v w x : View) (is : IsLayout v.layout) (h : Reaches v w) (come : Homes) (found : (home : Home) → come home → IsReachedHome v home) where
+  -- where the space tables are told, pages of them come where the map has them
+  brought_over : Brings come w.slots x.slots → (b : List ℕ) (tells : TablesAre v b) → ComeOver w.slots x.slots (h.told b tells).triples
+  brought_over brings b tells = come_over come (h.told b tells).triples
+      (λ home one three. same_sectors is h.layout h.goes tells (h.told b tells) 3 home.page home.sector ∙ run_home_over is tells home (found home one).by_run three) brings
+
   pub reaches_brought : Swaps w.disk w.slots x.disk x.slots → Brings come w.slots x.slots → x.layout ≡ w.layout → x.runs ≡ w.runs → Reaches v x
   reaches_brought swaps brings layout runs = record {
     goes = goes_then (Differs (in_tables v.layout)) Same (Differs (in_tables v.layout)) (λ m n o first last. subst (Differs (in_tables v.layout) m) (sym last) first) h.goes (swaps_wider table_pages swaps);
@@ -97,7 +102,7 @@ module _ (v w x : View) (h : Reaches v w) (come : Homes) (found : (home : Home) 
     layout = layout ∙ h.layout;
     given = λ r one. h.given r (rw (← layout, ← runs) one);
     runs_are = λ m named stands map are. rw (layout, runs) (h.runs_are m named stands map are);
-    told = λ b tells. rw (layout, runs) (tables_swapped refl swaps b (h.told b tells));
+    told = λ b tells. rw (layout, runs) (tables_swapped refl swaps b (h.told b tells) (brought_over brings b tells));
   }
 
   reason_brought : (home : Home) → held_or w.slots come home → held_or v.slots (IsMapHome FileMap v.layout) home ⊎ IsReachedHome v home

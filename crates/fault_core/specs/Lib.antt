@@ -1,5 +1,6 @@
 pub mod View
 pub mod Reach
+pub mod ReachLaws
 pub mod Told
 pub mod Core
 pub mod Kept

@@ -14,10 +14,11 @@ use Rattle.swapper_kernel.specs.Maps.{IsMapHome}
 use Rattle.swapper_kernel.specs.Homes.{IsFileHome, Brings}
 use Rattle.swapper_kernel.specs.Stands.{Stands}
 use Rattle.swapper_kernel.specs.Differs.{Differs}
-use Rattle.swapper_kernel.specs.Goes.{Goes}
+use Rattle.swapper_kernel.specs.Goes.{Goes, Pages}
 use Rattle.swapper_kernel.specs.Halts.{IsOther, HasCause, held_or}
 use Rattle.filer_kernel.specs.Triples.{MapIs, AreOf, IsOneOf}
 use Rattle.filer_kernel.specs.Causes.{MapShows, IsGiven, IsRunHome}
+use Rattle.filer_kernel.specs.Evidence.{MayBeMissing}
 use Rattle.filer_kernel.specs.Tables.{in_tables, table_pages}
 use Rattle.fault_core.specs.View.{View, kept_by, TablesAre}
 
@@ -42,15 +43,27 @@ pub record Reaches (v w : View) : Type 0 where
   pub told : (b : List ℕ) → TablesAre v b → TablesAre w b
 
 -- A label is another than that of a home of the map, of a frame, or of a page where a run has it; or a page of the map, or
--- of the space tables, breaks its form; or the map has no sector for a page of the space tables or of a client's file.
-abbrev pub ReachEvidence : (ℕ → Type 0) → View → Evidence → Type 0
-ReachEvidence breaks v (Mismatch sector wanted found) = IsOther (λ home. held_or v.slots (IsMapHome FileMap v.layout) home ⊎ IsReachedHome v home) v.disk sector wanted found
-ReachEvidence breaks v (Malformed window page) = ((window ≡ 2) × IsBroken v.layout.sectors (MapShows v.layout v.disk v.slots) page) ⊎ ((window ≡ 3) × breaks page)
-ReachEvidence breaks v (Missing id page) = (((id ≡ 3) × (page < 96)) ⊎ (16 ≤ id)) × ((m : List Sector) (named : Triples) → Stands v.disk v.slots m → MapIs v.layout named m → IsNowhere named id page)
+-- of the space tables, breaks its form; or the map has no sector for a page that may be missing.
+abbrev pub FindEvidence : (ℕ → Type 0) → Pages → View → Evidence → Type 0
+FindEvidence breaks may v (Mismatch sector wanted found) = IsOther (λ home. held_or v.slots (IsMapHome FileMap v.layout) home ⊎ IsReachedHome v home) v.disk sector wanted found
+FindEvidence breaks may v (Malformed window page) = ((window ≡ 2) × IsBroken v.layout.sectors (MapShows v.layout v.disk v.slots) page) ⊎ ((window ≡ 3) × breaks page)
+FindEvidence breaks may v (Missing id page) = may id page × ((m : List Sector) (named : Triples) → Stands v.disk v.slots m → MapIs v.layout named m → IsNowhere named id page)
 
 -- the halt of a call from the one state to the other
+abbrev pub FindHalts : (ℕ → Type 0) → Pages → View → View → Halt → Type 0
+FindHalts breaks may v w halt = HasCause (FindEvidence breaks may v) v.disk w.disk halt
+
+-- a page of the space tables
+abbrev pub table_page : Pages
+table_page id page = (id ≡ 3) × (page < 96)
+
+-- the halt of a call that looks for pages of the space tables alone
 abbrev pub ReachHalts : (ℕ → Type 0) → View → View → Halt → Type 0
-ReachHalts breaks v w halt = HasCause (ReachEvidence breaks v) v.disk w.disk halt
+ReachHalts breaks v w halt = FindHalts breaks table_page v w halt
+
+-- the halt of one that looks for pages of clients' files as well
+abbrev pub TouchHalts : (ℕ → Type 0) → View → View → Halt → Type 0
+TouchHalts breaks v w halt = FindHalts breaks MayBeMissing v w halt
 
 -- no page of the space tables was tested
 abbrev pub no_break : ℕ → Type 0

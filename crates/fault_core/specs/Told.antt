@@ -1,7 +1,7 @@
 -- What a session knows of a filer whose disk tells its contents.
 use Rattle.std.specs.Prelude.{◌≡◌, ℕ, ◌*◌, ◌<◌, ◌≤◌, true, List, length, Some, slice_get}
 use Rattle.labelled_disk.specs.declared.layout.Layout.{Layout}
-use Rattle.labelled_disk.specs.Label.{names, is_file_id}
+use Rattle.labelled_disk.specs.Label.{is_file_id}
 use Rattle.labelled_disk.specs.Sectors.{Sector, AreSectors}
 use Rattle.flat_mem.specs.Memory.{part}
 use Rattle.file_map.specs.FileMap.{Triples}
@@ -18,16 +18,17 @@ use Rattle.swapper_kernel.specs.Maps.{IsMapHome}
 use Rattle.swapper_kernel.specs.Homes.{AreNamed, IsNamed}
 use Rattle.swapper_kernel.specs.Stands.{Stands}
 use Rattle.filer_kernel.specs.Triples.{MapIs, AreOf}
-use Rattle.filer_kernel.specs.Tables.{IsTablePage}
+use Rattle.filer_kernel.specs.Tables.{AreOverTables, IsTablePage}
 use Rattle.fault_core.specs.Kept.{IsKept}
 use Rattle.fault_core.specs.View.{View, kept_by, TablesAre}
 
--- each data sector whose label has the identifier of the space tables is that of one of their pages
-abbrev pub IsTabled : Layout → List Sector → Type 0
-IsTabled layout memory = (k : ℕ) (s : Sector) → layout.first ≤ k → slice_get memory k ≡ Some s → s.0.id ≡ 3 → (s.0.page < 96) × (names s.0 (record { id = 3; page = s.0.page }) ≡ true)
+-- each data sector whose label has the identifier of the space tables is where the file map has one of their pages
+abbrev pub IsTabled : Layout → Triples → List Sector → Type 0
+IsTabled layout named memory = (k : ℕ) (s : Sector) → layout.first ≤ k → slice_get memory k ≡ Some s → s.0.id ≡ 3 → (s.0.page < 96) × (named 3 s.0.page k ≡ true)
 
 -- Disk and frames make this memory of whole sectors. Its file map is in form and names these triples, the labels of the map's
--- sectors name its pages, the runs that are kept are the map's, and the space tables are these bytes.
+-- sectors name its pages, the runs that are kept are the map's, the space tables are these bytes, and frames of their pages are
+-- where the map has them.
 pub record Known (v : View) (memory : List Sector) (named : Triples) (b : List ℕ) : Type 0 where
   pub stands : Stands v.disk v.slots memory
   pub size : v.disk.sectors ≡ v.layout.sectors
@@ -36,9 +37,10 @@ pub record Known (v : View) (memory : List Sector) (named : Triples) (b : List �
   pub map : MapIs v.layout named memory
   pub map_labels : AreNamed memory (IsMapHome FileMap v.layout)
   pub runs : AreOf named (kept_by v)
-  pub tabled : IsTabled v.layout memory
+  pub tabled : IsTabled v.layout named memory
   pub count : length b ≡ 512 * 96
   pub page : (k : ℕ) → k < 96 → IsTablePage v.layout named memory k (part b (512 * k) 512)
+  pub held : AreOverTables v.slots named
 
 -- the page is one of a file, and has a sector, whose label names it
 pub record IsStored (named : Triples) (memory : List Sector) (page : FilePage) : Type 0 where

@@ -10,12 +10,11 @@ ghost use Rattle.session_words.specs.FrameLaws.{BringsKnown};
 ghost use Rattle.fault_core.specs.Activate.{AreBare, AreBrought, AreUnits, AreWhole, IsActive, IsFurther, IsShownAt, IsTooLong, IsTurn, IsUnitAt, start_at};
 ghost use Rattle.fault_core.specs.Kill.{BreaksWithin};
 ghost use Rattle.fault_core.specs.Range.{IsNextPart};
-ghost use Rattle.fault_core.specs.Reach.{Reaches, ReachHalts, BringsOwn};
+ghost use Rattle.fault_core.specs.Reach.{Reaches, ReachHalts, TouchHalts, BringsOwn};
 ghost use Rattle.fault_core.specs.Told.{BreaksTables};
 ghost use Rattle.fault_core.specs.Room.{KeepsWhileEmpty};
 ghost use Rattle.fault_core.specs.Lack.{LacksPage, Sees, range_units, shown_unit};
 ghost use Rattle.fault_core.specs.Spares.{SparesTables};
-ghost use Rattle.swapper_kernel.specs.Goes.{no_page};
 
 use crate::CoreOver;
 use crate::walk::end_of;
@@ -57,7 +56,6 @@ impl<D: Disk, A: Allocator> CoreOver<D, A> {
         ensures shown { (m : List Sector) (named : Triples) (ss : List Space) → Knows self.old m named ss → IfOk result (λ r. r.1 ≢ 0 → IsUnitAt ss page r.0 r.1) }
         ensures bare { (m : List Sector) (named : Triples) (ss : List Space) → Knows self.old m named ss → IfOk result (λ r. r.1 ≡ 0 → AreBare ss page r.0 × IsNextPart ss page end r.0) }
         ensures cause { IfErr result (ReachHalts (BreaksTables (state self.old) self.old.intervals page) (state self.old) (state self.new)) }
-        ensures lacks { IfErr result (LacksPage no_page) }
         ensures sees { (ss : List Space) → Sees (state self.old) (kept self.old) self.old.intervals ss → Sees (state self.new) (kept self.new) self.new.intervals ss }
         ensures sound { (m : List Sector) (named : Triples) (ss : List Space) → Knows self.old m named ss → IfErr result (λ e. e ≡ halt.Disk) }
         ensures same { (m : List Sector) (named : Triples) (ss : List Space) → Knows self.old m named ss → Knows self.new m named ss }
@@ -90,7 +88,7 @@ impl<D: Disk, A: Allocator> CoreOver<D, A> {
         ensures further { (m : List Sector) (named : Triples) (ss : List Space) → Knows self.old m named ss → IfOk result (λ o. IfSome o (IsFurther ss end so_far)) }
         ensures whole { (m : List Sector) (named : Triples) (ss : List Space) → Knows self.old m named ss → IfOk result (λ o. IfSome o (λ now. AreWhole ss self.new.filer.swapper.pool so_far.page now.page)) }
         ensures too_long { (m : List Sector) (named : Triples) (ss : List Space) → Knows self.old m named ss → IfOk result (λ o. o ≡ None → IsTooLong ss so_far) }
-        ensures cause { IfErr result (ReachHalts (BreaksTables (state self.old) self.old.intervals so_far.page) (state self.old) (state self.new)) }
+        ensures cause { IfErr result (TouchHalts (BreaksTables (state self.old) self.old.intervals so_far.page) (state self.old) (state self.new)) }
         ensures missing { (ss : List Space) → Sees (state self.old) (kept self.old) self.old.intervals ss → IfErr result (LacksPage (shown_unit ss so_far.page)) }
         ensures sees { (ss : List Space) → Sees (state self.old) (kept self.old) self.old.intervals ss → Sees (state self.new) (kept self.new) self.new.intervals ss }
         ensures sound { (m : List Sector) (named : Triples) (ss : List Space) → Knows self.old m named ss → IfErr result (λ e. e ≡ halt.Disk) }
@@ -133,7 +131,7 @@ impl<D: Disk, A: Allocator> CoreOver<D, A> {
         ensures units { (m : List Sector) (named : Triples) (ss : List Space) → Knows self.old m named ss → IfOk result (λ r. AreUnits ss (first + pages) (start_at first (length self.old.filer.swapper.pool / 2)) r.0 r.1) }
         ensures shown { (m : List Sector) (named : Triples) (ss : List Space) → Knows self.old m named ss → IfOk result (λ r. r.0 ≢ 0 → IsShownAt ss r.1) }
         ensures all { (m : List Sector) (named : Triples) (ss : List Space) → Knows self.old m named ss → IfOk result (λ r. (slot : ℕ) → IsEmpty self.new.filer.swapper.pool slot → r.0 ≢ 0 → AreWhole ss self.new.filer.swapper.pool first (r.1 + 1)) }
-        ensures cause { IfErr result (ReachHalts (BreaksWithin (state self.old) self.old.intervals first (first + pages)) (state self.old) (state self.new)) }
+        ensures cause { IfErr result (TouchHalts (BreaksWithin (state self.old) self.old.intervals first (first + pages)) (state self.old) (state self.new)) }
         ensures missing { (ss : List Space) → Sees (state self.old) (kept self.old) self.old.intervals ss → IfErr result (LacksPage (range_units ss first (first + pages))) }
         ensures sees { (ss : List Space) → Sees (state self.old) (kept self.old) self.old.intervals ss → Sees (state self.new) (kept self.new) self.new.intervals ss }
         ensures sound { (m : List Sector) (named : Triples) (ss : List Space) → Knows self.old m named ss → IfErr result (λ e. e ≡ halt.Disk) }
@@ -173,7 +171,7 @@ impl<D: Disk, A: Allocator> CoreOver<D, A> {
         requires size { (D.state self.old.filer.swapper.under).sectors ≡ self.old.filer.swapper.layout.sectors }
         ensures whole { (m : List Sector) (named : Triples) (ss : List Space) → Knows self.old m named ss → OnOk result (IsActive ss (kept self.new) self.new.filer.swapper.pool first (first + pages)) }
         ensures units { (m : List Sector) (named : Triples) (ss : List Space) → Knows self.old m named ss → IfOk result (AreBrought ss (kept self.new) self.new.filer.swapper.pool first (first + pages) (length self.old.filer.swapper.pool / 2)) }
-        ensures cause { IfErr result (ReachHalts (BreaksWithin (state self.old) self.old.intervals first (first + pages)) (state self.old) (state self.new)) }
+        ensures cause { IfErr result (TouchHalts (BreaksWithin (state self.old) self.old.intervals first (first + pages)) (state self.old) (state self.new)) }
         ensures missing { (ss : List Space) → Sees (state self.old) (kept self.old) self.old.intervals ss → IfErr result (LacksPage (range_units ss first (first + pages))) }
         ensures sees { (ss : List Space) → Sees (state self.old) (kept self.old) self.old.intervals ss → Sees (state self.new) (kept self.new) self.new.intervals ss }
         ensures right { (ss : List Space) → Sees (state self.old) (kept self.old) self.old.intervals ss → IfErr result SparesTables }

@@ -12,8 +12,7 @@ ghost use Rattle.fault_core.specs.Kept.{AreApart};
 ghost use Rattle.fault_core.specs.Kill.{is_absent};
 ghost use Rattle.fault_core.specs.Reach.{BringsOwn, Reaches, ReachHalts};
 ghost use Rattle.fault_core.specs.Unit.{IsReady, IsSlotOf, file_page};
-ghost use Rattle.fault_core.specs.Lack.{LacksPage, Sees};
-ghost use Rattle.swapper_kernel.specs.Goes.{no_page};
+ghost use Rattle.fault_core.specs.Lack.{Sees};
 
 use crate::CoreOver;
 use crate::reference::{Access, Reference, last_page};
@@ -110,7 +109,6 @@ impl<D: Disk, A: Allocator> CoreOver<D, A> {
         ensures referred { IfOk result (IfSettled (IfAbsent (IsReferred address count))) }
         ensures unmoved { IfOk result (IfSettled (λ t. t ≢ moved)) }
         ensures cause { IfErr result (ReachHalts (BreaksFor (state self.old) self.old.intervals address count) (state self.old) (state self.new)) }
-        ensures lacks { IfErr result (LacksPage no_page) }
         ensures sees { (ss : List Space) → Sees (state self.old) (kept self.old) self.old.intervals ss → Sees (state self.new) (kept self.new) self.new.intervals ss }
         ensures sound { (m : List Sector) (named : Triples) (ss : List Space) → Knows self.old m named ss → IfErr result (λ e. e ≡ halt.Disk) }
         ensures same { (m : List Sector) (named : Triples) (ss : List Space) → Knows self.old m named ss → Knows self.new m named ss }

@@ -17,9 +17,8 @@ ghost use Rattle.fault_core.specs.View.{view_of, TablesAre};
 ghost use Rattle.fault_core.specs.Reach.{Reaches, ReachHalts, BringsOwn, StayOrYield};
 ghost use Rattle.fault_core.specs.Told.{Known, BreaksTables};
 ghost use Rattle.fault_core.specs.Room.{KeepsWhileEmpty};
-ghost use Rattle.fault_core.specs.Lack.{LacksPage, Sees};
+ghost use Rattle.fault_core.specs.Lack.{Sees};
 ghost use Rattle.fault_core.specs.Spares.{SparesTables};
-ghost use Rattle.swapper_kernel.specs.Goes.{no_page};
 
 use crate::CoreOver;
 use crate::walk::ROOT_PAGES;
@@ -68,7 +67,6 @@ fn look_up<D: Disk, A: Allocator>(
     ensures none { IfOk result (λ o. (o ≡ None) ↔ (root_pages ≤ page)) }
     ensures form { IfOk result (λ o. IfSome o (λ x. IsFormed x × Holds x page)) }
     ensures cause { IfErr result (ReachHalts (BreaksTables (view_of filer.old) intervals page) (view_of filer.old) (view_of filer.new)) }
-    ensures lacks { IfErr result (LacksPage no_page) }
     ensures interval { (b : List ℕ) (ss : List Space) → TablesAre (view_of filer.old) b → TellSpaces (λ c. c ≡ b) intervals ss → IfOk result (λ o. IfSome o (IsIntervalAt ss page)) }
     ensures sound { (m : List Sector) (named : Triples) (b : List ℕ) (ss : List Space) → Known (view_of filer.old) m named b → TellSpaces (λ c. c ≡ b) intervals ss → IfErr result (λ e. e ≡ halt.Disk) }
     ensures reaches { Reaches (view_of filer.old) (view_of filer.new) }
@@ -102,7 +100,6 @@ impl<D: Disk, A: Allocator> CoreOver<D, A> {
         ensures form { IfOk result (λ o. IfSome o (λ x. IsFormed x × Holds x page)) }
         ensures is_kept { IfOk result (λ o. IfSome o (IsKept (kept self.new))) }
         ensures cause { IfErr result (ReachHalts (BreaksTables (state self.old) self.old.intervals page) (state self.old) (state self.new)) }
-        ensures lacks { IfErr result (LacksPage no_page) }
         ensures sees { (ss : List Space) → Sees (state self.old) (kept self.old) self.old.intervals ss → Sees (state self.new) (kept self.new) self.new.intervals ss }
         ensures right { (ss : List Space) → Sees (state self.old) (kept self.old) self.old.intervals ss → IfErr result SparesTables }
         ensures interval { (m : List Sector) (named : Triples) (ss : List Space) → Knows self.old m named ss → IfOk result (λ o. IfSome o (IsIntervalAt ss page)) }

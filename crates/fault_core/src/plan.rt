@@ -7,7 +7,7 @@ ghost use Rattle.flat_machine.specs.declared.space.Space.{Space};
 ghost use Rattle.flat_machine.specs.At.{shown_at};
 ghost use Rattle.fault_core.specs.Homes.{homes_in};
 ghost use Rattle.fault_core.specs.Plan.{IsKeptPlan, IsPlanAt};
-ghost use Rattle.fault_core.specs.Reach.{Reaches, ReachHalts, BringsOwn};
+ghost use Rattle.fault_core.specs.Reach.{Reaches, TouchHalts, BringsOwn};
 ghost use Rattle.fault_core.specs.Told.{BreaksTables};
 ghost use Rattle.fault_core.specs.Lack.{LacksPage, Sees, kept_unit, shown_unit};
 ghost use Rattle.fault_core.specs.Spares.{SparesTables};
@@ -36,7 +36,7 @@ impl<D: Disk, A: Allocator> CoreOver<D, A> {
         ensures unit { IfOk result (λ o. IfSome o (λ plan. IsKeptPlan (kept self.new) page plan.first (homes_in plan.homes))) }
         ensures homes { (m : List Sector) (named : Triples) (ss : List Space) → Knows self.old m named ss → IfOk result (λ o. IfSome o (λ plan. IsPlanAt ss named page plan.first (homes_in plan.homes))) }
         ensures none { (m : List Sector) (named : Triples) (ss : List Space) → Knows self.old m named ss → IfOk result (λ o. (o ≡ None) ↔ (shown_at ss page ≡ None)) }
-        ensures cause { IfErr result (ReachHalts (BreaksTables (state self.old) self.old.intervals page) (state self.old) (state self.new)) }
+        ensures cause { IfErr result (TouchHalts (BreaksTables (state self.old) self.old.intervals page) (state self.old) (state self.new)) }
         ensures lacks { IfErr result (LacksPage (kept_unit (kept self.new) page)) }
         ensures missing { (ss : List Space) → Sees (state self.old) (kept self.old) self.old.intervals ss → IfErr result (LacksPage (shown_unit ss page)) }
         ensures sees { (ss : List Space) → Sees (state self.old) (kept self.old) self.old.intervals ss → Sees (state self.new) (kept self.new) self.new.intervals ss }

@@ -11,8 +11,7 @@ ghost use Rattle.fault_core.specs.Kept.{IsKept, AreApart};
 ghost use Rattle.fault_core.specs.Reach.{Reaches, ReachHalts, BringsOwn};
 ghost use Rattle.fault_core.specs.Told.{BreaksTables};
 ghost use Rattle.fault_core.specs.Unit.{IsReady, IsWhole};
-ghost use Rattle.fault_core.specs.Lack.{LacksPage, Sees};
-ghost use Rattle.swapper_kernel.specs.Goes.{no_page};
+ghost use Rattle.fault_core.specs.Lack.{Sees};
 
 use crate::CoreOver;
 use labelled_disk::{Disk, Halt};
@@ -84,7 +83,6 @@ impl<D: Disk, A: Allocator> CoreOver<D, A> {
         ensures one { first ≡ last → result ≡ Ok (Some x) }
         ensures is_kept { IfOk result (λ o. IfSome o (IsKept (kept self.new))) }
         ensures cause { IfErr result (ReachHalts (BreaksTables (state self.old) self.old.intervals last) (state self.old) (state self.new)) }
-        ensures lacks { IfErr result (LacksPage no_page) }
         ensures sees { (ss : List Space) → Sees (state self.old) (kept self.old) self.old.intervals ss → Sees (state self.new) (kept self.new) self.new.intervals ss }
         ensures interval { (m : List Sector) (named : Triples) (ss : List Space) → Knows self.old m named ss → IfOk result (λ o. IfSome o (IsIntervalAt ss last)) }
         ensures none { (m : List Sector) (named : Triples) (ss : List Space) → Knows self.old m named ss → IfOk result (λ o. (o ≡ None) ↔ (shown_at ss last ≡ None)) }
@@ -118,7 +116,6 @@ impl<D: Disk, A: Allocator> CoreOver<D, A> {
         ensures one { IfOk result (IfShown (λ x y. address / 512 ≡ last_page address count → y ≡ x)) }
         ensures is_kept { IfOk result (IfShown (λ x y. IsKept (kept self.new) y)) }
         ensures cause { IfErr result (ReachHalts (BreaksFor (state self.old) self.old.intervals address count) (state self.old) (state self.new)) }
-        ensures lacks { IfErr result (LacksPage no_page) }
         ensures sees { (ss : List Space) → Sees (state self.old) (kept self.old) self.old.intervals ss → Sees (state self.new) (kept self.new) self.new.intervals ss }
         ensures access { (m : List Sector) (named : Triples) (ss : List Space) → Knows self.old m named ss → IfOk result (λ r. outcome r ≡ access_of ss writes address count) }
         ensures intervals_at { (m : List Sector) (named : Triples) (ss : List Space) → Knows self.old m named ss → IfOk result (IfShown (λ x y. IsIntervalAt ss (address / 512) x × IsIntervalAt ss (last_page address count) y)) }

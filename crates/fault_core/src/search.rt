@@ -11,12 +11,12 @@ ghost use Rattle.frame_pool.specs.declared.home.Home.{Home as HomeIs};
 ghost use Rattle.swapper_kernel.specs.Homes.{IsAmong};
 ghost use Rattle.swapper_kernel.specs.Stands.{Stands};
 ghost use Rattle.fault_core.specs.View.{view_of, kept_by};
-ghost use Rattle.fault_core.specs.Reach.{IsReachedHome, Reaches, ReachHalts, BringsOwn, no_break};
+ghost use Rattle.fault_core.specs.Reach.{IsReachedHome, Reaches, ReachHalts, TouchHalts, BringsOwn, no_break};
 ghost use Rattle.fault_core.specs.Told.{Known};
 ghost use Rattle.fault_core.specs.Homes.{homes_in, AreHomesOf, HaveSectors};
 ghost use Rattle.fault_core.specs.Room.{KeepsWhileEmpty};
 ghost use Rattle.fault_core.specs.Lack.{LacksPage, run_pages};
-ghost use Rattle.swapper_kernel.specs.Goes.{no_page, this_page};
+ghost use Rattle.swapper_kernel.specs.Goes.{this_page};
 
 use crate::homes::{Homes, MOST};
 use file_map::Run;
@@ -45,7 +45,6 @@ fn run_of<D: Disk, A: Allocator>(
     ensures given { IfOk result (λ o. IfSome o (IsGiven filer.old.swapper.layout (D.state filer.old.swapper.under) filer.old.swapper.pool (kept_by (view_of filer.old)))) }
     ensures nowhere { (m : List Sector) (named : Triples) → Stands (D.state filer.old.swapper.under) filer.old.swapper.pool m → MapIs filer.old.swapper.layout named m → result ≡ Ok None → IsNowhere named id page }
     ensures cause { IfErr result (ReachHalts no_break (view_of filer.old) (view_of filer.new)) }
-    ensures lacks { IfErr result (LacksPage no_page) }
     ensures found { (m : List Sector) (named : Triples) (b : List ℕ) → Known (view_of filer.old) m named b → IfOk result (IsFound named id page) }
     ensures sound { (m : List Sector) (named : Triples) (b : List ℕ) → Known (view_of filer.old) m named b → IfErr result (λ e. e ≡ halt.Disk) }
     ensures reaches { Reaches (view_of filer.old) (view_of filer.new) }
@@ -67,7 +66,7 @@ fn home_of<D: Disk, A: Allocator>(
     requires client { 16 ≤ id }
     ensures found { IfOk result (IsReachedHome (view_of filer.old)) }
     ensures is { IfOk result (λ home. (home.id ≡ id) × (home.page ≡ page)) }
-    ensures cause { IfErr result (ReachHalts no_break (view_of filer.old) (view_of filer.new)) }
+    ensures cause { IfErr result (TouchHalts no_break (view_of filer.old) (view_of filer.new)) }
     ensures lacks { IfErr result (LacksPage (this_page id page)) }
     ensures named { (m : List Sector) (named : Triples) (b : List ℕ) → Known (view_of filer.old) m named b → IfOk result (λ home. named id page home.sector ≡ true) }
     ensures sound { (m : List Sector) (named : Triples) (b : List ℕ) (sector : ℕ) → Known (view_of filer.old) m named b → named id page sector ≡ true → IfErr result (λ e. e ≡ halt.Disk) }
@@ -101,7 +100,7 @@ pub(crate) fn homes_of<D: Disk, A: Allocator>(
     requires fits { first + pages ≤ 2 ^ 32 }
     ensures are { IfOk result (λ homes. AreHomesOf id first pages (homes_in homes)) }
     ensures found { IfOk result (λ homes. (h : HomeIs) → IsAmong (homes_in homes) h → IsReachedHome (view_of filer.old) h) }
-    ensures cause { IfErr result (ReachHalts no_break (view_of filer.old) (view_of filer.new)) }
+    ensures cause { IfErr result (TouchHalts no_break (view_of filer.old) (view_of filer.new)) }
     ensures lacks { IfErr result (LacksPage (run_pages id first pages)) }
     ensures named { (m : List Sector) (named : Triples) (b : List ℕ) → Known (view_of filer.old) m named b → IfOk result (λ homes. (h : HomeIs) → IsAmong (homes_in homes) h → named h.id h.page h.sector ≡ true) }
     ensures sound { (m : List Sector) (named : Triples) (b : List ℕ) → Known (view_of filer.old) m named b → HaveSectors named id first pages → IfErr result (λ e. e ≡ halt.Disk) }

@@ -4,7 +4,7 @@ ghost use Rattle.labelled_disk.specs.declared.evidence.Halt.TheVariants as halt;
 ghost use Rattle.labelled_disk.specs.Sectors.{Sector};
 ghost use Rattle.file_map.specs.FileMap.{Triples};
 ghost use Rattle.flat_machine.specs.declared.space.Space.{Space};
-ghost use Rattle.swapper_kernel.specs.Goes.{Goes, IsDirty, Same, this_page, no_page};
+ghost use Rattle.swapper_kernel.specs.Goes.{Goes, IsDirty, Same, this_page};
 ghost use Rattle.swapper_kernel.specs.Stands.{Stands};
 ghost use Rattle.session_words.specs.CellLaws.{IsTouchedOrOwn, Stores, StoresAt};
 ghost use Rattle.fault_core.specs.declared.reference.Access.TheVariants as access;
@@ -14,7 +14,7 @@ ghost use Rattle.fault_core.specs.Attempt.{ArePresent, IfAbsent, IfAccess, IsAbs
 ghost use Rattle.fault_core.specs.Kept.{AreApart};
 ghost use Rattle.fault_core.specs.Moves.{AreSeen, Leaves, StoresAs, StoresSome, client_page, of_reference};
 ghost use Rattle.fault_core.specs.View.{view_of};
-ghost use Rattle.fault_core.specs.Reach.{BringsOwn, Reaches, ReachHalts, no_break};
+ghost use Rattle.fault_core.specs.Reach.{BringsOwn, Reaches, ReachHalts, TouchHalts, no_break};
 ghost use Rattle.fault_core.specs.Told.{Known};
 ghost use Rattle.fault_core.specs.Touch.{Touches};
 ghost use Rattle.fault_core.specs.Unit.{AreShownStored, BringsBoth, BringsShown, IsReady, IsShownDirty, IsWhole, KeepsResident, file_page};
@@ -46,7 +46,7 @@ fn store_in<D: Disk, A: Allocator>(
     ensures halted { (m : List Sector) (named : Triples) (b : List ℕ) → Known (view_of filer.old) m named b → OnErr result (Leaves Same m named b (view_of filer.new)) }
     ensures whole { OnOk result (IsWhole filer.new.swapper.pool x.now page) }
     ensures dirty { OnOk result (IsDirty filer.new.swapper.pool x.now.id (file_page x.now page)) }
-    ensures cause { IfErr result (ReachHalts no_break (view_of filer.old) (view_of filer.new)) }
+    ensures cause { IfErr result (TouchHalts no_break (view_of filer.old) (view_of filer.new)) }
     ensures lacks { IfErr result (LacksPage (unit_pages x.now page)) }
     ensures sound { (m : List Sector) (named : Triples) (b : List ℕ) → Known (view_of filer.old) m named b → AreShownStored named m x.now → IfErr result (λ e. e ≡ halt.Disk) }
     ensures touches { Touches (this_page x.now.id (file_page x.now page)) (view_of filer.old) (view_of filer.new) }
@@ -80,7 +80,7 @@ fn store_shown<D: Disk, A: Allocator>(
     ensures halted { (m : List Sector) (named : Triples) (b : List ℕ) (ss : List Space) → Known (view_of filer.old) m named b → AreSeen ss named m first.now → OnErr result (Leaves (StoresSome ss address bytes.now) m named b (view_of filer.new)) }
     ensures whole { OnOk result (IsWhole filer.new.swapper.pool last.now (last_page address (length bytes.now))) }
     ensures dirty { OnOk result (IsDirty filer.new.swapper.pool last.now.id (file_page last.now (last_page address (length bytes.now)))) }
-    ensures cause { IfErr result (ReachHalts no_break (view_of filer.old) (view_of filer.new)) }
+    ensures cause { IfErr result (TouchHalts no_break (view_of filer.old) (view_of filer.new)) }
     ensures lacks { IfErr result (LacksPage (both_units first.now last.now address (length bytes.now))) }
     ensures sound { (m : List Sector) (named : Triples) (b : List ℕ) → Known (view_of filer.old) m named b → AreShownStored named m first.now → AreShownStored named m last.now → IfErr result (λ e. e ≡ halt.Disk) }
     ensures touches { Touches (of_reference first.now last.now address (length bytes.now)) (view_of filer.old) (view_of filer.new) }
@@ -120,7 +120,7 @@ impl<D: Disk, A: Allocator> CoreOver<D, A> {
         ensures refused { IfOk result (λ a. a ≢ access.Done → Reaches (state self.old) (state self.new)) }
         ensures ready { IfOk result (λ a. a ≡ access.Done → IsReady (kept self.new) self.new.filer.swapper.pool (last_page address (length bytes.now))) }
         ensures dirty { (m : List Sector) (named : Triples) (ss : List Space) → Knows self.old m named ss → IfOk result (λ a. a ≡ access.Done → IsShownDirty ss self.new.filer.swapper.pool (last_page address (length bytes.now))) }
-        ensures cause { IfErr result (ReachHalts (BreaksFor (state self.old) self.old.intervals address (length bytes.now)) (state self.old) (state self.new)) }
+        ensures cause { IfErr result (TouchHalts (BreaksFor (state self.old) self.old.intervals address (length bytes.now)) (state self.old) (state self.new)) }
         ensures missing { (ss : List Space) → Sees (state self.old) (kept self.old) self.old.intervals ss → IfErr result (LacksPage (shown_units ss address (length bytes.now))) }
         ensures sees { (ss : List Space) → Sees (state self.old) (kept self.old) self.old.intervals ss → Sees (state self.new) (kept self.new) self.new.intervals ss }
         ensures right { (ss : List Space) → Sees (state self.old) (kept self.old) self.old.intervals ss → IfErr result SparesTables }
@@ -161,7 +161,6 @@ impl<D: Disk, A: Allocator> CoreOver<D, A> {
         ensures here { IfOk result (λ t. t ≡ moved → IsHere (kept self.new) self.new.filer.swapper.pool (last_page address (length bytes.now))) }
         ensures dirty { (m : List Sector) (named : Triples) (ss : List Space) → Knows self.old m named ss → IfOk result (λ t. t ≡ moved → IsShownDirty ss self.new.filer.swapper.pool (last_page address (length bytes.now))) }
         ensures cause { IfErr result (ReachHalts (BreaksFor (state self.old) self.old.intervals address (length bytes.now)) (state self.old) (state self.new)) }
-        ensures lacks { IfErr result (LacksPage no_page) }
         ensures sees { (ss : List Space) → Sees (state self.old) (kept self.old) self.old.intervals ss → Sees (state self.new) (kept self.new) self.new.intervals ss }
         ensures right { (ss : List Space) → Sees (state self.old) (kept self.old) self.old.intervals ss → IfErr result SparesTables }
         ensures sound { (m : List Sector) (named : Triples) (ss : List Space) → Knows self.old m named ss → IfErr result (λ e. e ≡ halt.Disk) }

@@ -10,7 +10,7 @@ ghost use Rattle.session_words.specs.FrameLaws.{BringsKnown};
 ghost use Rattle.fault_core.specs.Access.{Shows};
 ghost use Rattle.fault_core.specs.Kept.{AreApart};
 ghost use Rattle.fault_core.specs.View.{view_of};
-ghost use Rattle.fault_core.specs.Reach.{Reaches, ReachHalts, no_break};
+ghost use Rattle.fault_core.specs.Reach.{Reaches, TouchHalts, no_break};
 ghost use Rattle.fault_core.specs.Told.{BreaksTables, Known};
 ghost use Rattle.fault_core.specs.Unit.{AreShownStored, BringsShown, IsReady, IsSlotOf, IsTouched, IsWhole, file_page};
 ghost use Rattle.fault_core.specs.Room.{KeepsWhileEmpty};
@@ -33,7 +33,7 @@ fn bring_unit<D: Disk, A: Allocator>(
     requires size { (D.state filer.old.swapper.under).sectors ≡ filer.old.swapper.layout.sectors }
     requires shows { Shows x.now page }
     ensures whole { OnOk result (IsWhole filer.new.swapper.pool x.now page) }
-    ensures cause { IfErr result (ReachHalts no_break (view_of filer.old) (view_of filer.new)) }
+    ensures cause { IfErr result (TouchHalts no_break (view_of filer.old) (view_of filer.new)) }
     ensures lacks { IfErr result (LacksPage (unit_pages x.now page)) }
     ensures sound { (m : List Sector) (named : Triples) (b : List ℕ) → Known (view_of filer.old) m named b → AreShownStored named m x.now → IfErr result (λ e. e ≡ halt.Disk) }
     ensures reaches { Reaches (view_of filer.old) (view_of filer.new) }
@@ -60,7 +60,7 @@ pub(crate) fn touch<D: Disk, A: Allocator>(
     ensures slot { IfOk result (λ i. HasPage filer.new.swapper.pool i x.now.id (file_page x.now page)) }
     ensures below { IfOk result (λ i. i < length filer.new.swapper.pool) }
     ensures whole { OnOk result (IsWhole filer.new.swapper.pool x.now page) }
-    ensures cause { IfErr result (ReachHalts no_break (view_of filer.old) (view_of filer.new)) }
+    ensures cause { IfErr result (TouchHalts no_break (view_of filer.old) (view_of filer.new)) }
     ensures lacks { IfErr result (LacksPage (unit_pages x.now page)) }
     ensures sound { (m : List Sector) (named : Triples) (b : List ℕ) → Known (view_of filer.old) m named b → AreShownStored named m x.now → IfErr result (λ e. e ≡ halt.Disk) }
     ensures reaches { Reaches (view_of filer.old) (view_of filer.new) }
@@ -85,7 +85,7 @@ impl<D: Disk, A: Allocator> CoreOver<D, A> {
         ensures ready { IfOk result (λ o. IfSome o (IsTouched (kept self.new) self.new.filer.swapper.pool page)) }
         ensures slot { (m : List Sector) (named : Triples) (ss : List Space) → Knows self.old m named ss → IfOk result (λ o. IfSome o (IsSlotOf ss self.new.filer.swapper.pool page)) }
         ensures none { (m : List Sector) (named : Triples) (ss : List Space) → Knows self.old m named ss → IfOk result (λ o. (o ≡ None) ↔ (shown_at ss page ≡ None)) }
-        ensures cause { IfErr result (ReachHalts (BreaksTables (state self.old) self.old.intervals page) (state self.old) (state self.new)) }
+        ensures cause { IfErr result (TouchHalts (BreaksTables (state self.old) self.old.intervals page) (state self.old) (state self.new)) }
         ensures lacks { IfErr result (LacksPage (kept_unit (kept self.new) page)) }
         ensures missing { (ss : List Space) → Sees (state self.old) (kept self.old) self.old.intervals ss → IfErr result (LacksPage (shown_unit ss page)) }
         ensures sees { (ss : List Space) → Sees (state self.old) (kept self.old) self.old.intervals ss → Sees (state self.new) (kept self.new) self.new.intervals ss }

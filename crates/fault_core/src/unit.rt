@@ -12,7 +12,7 @@ ghost use Rattle.swapper_kernel.specs.Homes.{AreFileHomes, AreNamed, Brings, IsA
 ghost use Rattle.swapper_kernel.specs.Stands.{Stands};
 ghost use Rattle.fault_core.specs.Kept.{IsFormed};
 ghost use Rattle.fault_core.specs.View.{view_of};
-ghost use Rattle.fault_core.specs.Reach.{Reaches, ReachHalts, no_break};
+ghost use Rattle.fault_core.specs.Reach.{Reaches, TouchHalts, no_break};
 ghost use Rattle.fault_core.specs.Told.{Known};
 ghost use Rattle.fault_core.specs.Homes.{homes_in, AreHomesOf, HaveSectors};
 ghost use Rattle.fault_core.specs.Unit.{AreResident, AreRunStored, BringsRun, IsResident, IsUnitRun};
@@ -100,7 +100,7 @@ pub(crate) fn bring_run<D: Disk, A: Allocator>(
     requires few { pages ≤ 16 }
     requires fits { first + pages ≤ 2 ^ 32 }
     ensures there { OnOk result (AreResident filer.new.swapper.pool id first pages) }
-    ensures cause { IfErr result (ReachHalts no_break (view_of filer.old) (view_of filer.new)) }
+    ensures cause { IfErr result (TouchHalts no_break (view_of filer.old) (view_of filer.new)) }
     ensures lacks { IfErr result (LacksPage (run_pages id first pages)) }
     ensures sound { (m : List Sector) (named : Triples) (b : List ℕ) → Known (view_of filer.old) m named b → AreRunStored named m id first pages → IfErr result (λ e. e ≡ halt.Disk) }
     ensures reaches { Reaches (view_of filer.old) (view_of filer.new) }

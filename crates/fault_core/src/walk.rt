@@ -14,8 +14,7 @@ ghost use Rattle.fault_core.specs.Range.{IsNextPart};
 ghost use Rattle.fault_core.specs.Reach.{Reaches, ReachHalts, BringsOwn};
 ghost use Rattle.fault_core.specs.Told.{BreaksTables};
 ghost use Rattle.fault_core.specs.Room.{KeepsWhileEmpty};
-ghost use Rattle.fault_core.specs.Lack.{LacksPage, Sees};
-ghost use Rattle.swapper_kernel.specs.Goes.{no_page};
+ghost use Rattle.fault_core.specs.Lack.{Sees};
 
 use crate::CoreOver;
 use labelled_disk::{Disk, Halt};
@@ -46,7 +45,6 @@ impl<D: Disk, A: Allocator> CoreOver<D, A> {
         ensures part { IfOk result (λ r. IsPart r.0 page end r.1) }
         ensures next { (m : List Sector) (named : Triples) (ss : List Space) → Knows self.old m named ss → IfOk result (λ r. IsNextPart ss page end r.1) }
         ensures cause { IfErr result (ReachHalts (BreaksTables (state self.old) self.old.intervals page) (state self.old) (state self.new)) }
-        ensures lacks { IfErr result (LacksPage no_page) }
         ensures sees { (ss : List Space) → Sees (state self.old) (kept self.old) self.old.intervals ss → Sees (state self.new) (kept self.new) self.new.intervals ss }
         ensures interval { (m : List Sector) (named : Triples) (ss : List Space) → Knows self.old m named ss → IfOk result (λ r. IsIntervalAt ss page r.0) }
         ensures sound { (m : List Sector) (named : Triples) (ss : List Space) → Knows self.old m named ss → IfErr result (λ e. e ≡ halt.Disk) }

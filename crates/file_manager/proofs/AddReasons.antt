@@ -1,6 +1,6 @@
 -- An addition to the file map that stops has its reason: where the map is full, as many pages are at home as it may have records, and
 -- one more, whose run was to be added.
-use Rattle.std.proofs.Common.{◌≡◌, ◌≢◌, ◌⊎◌, inl, inr, ℕ, zero, suc, ◌+◌, ◌<◌, true, false, List, ◌∷◌, length, Some, refl, sym, ◌∙◌, ap, subst, arith}
+use Rattle.std.proofs.Common.{◌≡◌, ◌≢◌, ◌⊎◌, inl, inr, ℕ, zero, suc, ◌+◌, ◌<◌, true, false, List, ◌∷◌, Some, sym, ◌∙◌, ap, subst, arith}
 use Rattle.std.specs.Prelude.{slice_get}
 use Rattle.std.proofs.lemmas.Bool.{true≢false}
 use Rattle.std.proofs.lemmas.Option.{same_Some}
@@ -45,7 +45,7 @@ one_more {are = are} {n = n} h extra at other = record {
 
 -- The map is asked to add a run in a state whose memory it is in form in: each page that it names is at home when the call ends, so is
 -- each page of a frame, and so is the first page of the run, which it does not name.
-module _ {o : Outset} {x : Layout} {c d : DiskState} {t : Slots} {named : Triples} (is : IsLayout x) (size : c.sectors ≡ x.sectors) (n : List Sector) (stands : Stands c t n) (map : MapIs x named n)
+module _ (o : Outset) (d : DiskState) {x : Layout} {c : DiskState} {t : Slots} {named : Triples} (is : IsLayout x) (size : c.sectors ≡ x.sectors) (n : List Sector) (stands : Stands c t n) (map : MapIs x named n)
     (homes : (home : Home) → named home.id home.page home.sector ≡ true → IsAtHome o d home) (held : (home : Home) → IsHeld t home → IsMapsHome x home ⊎ IsAtHome o d home)
     (extra : Home) (at : IsAtHome o d extra) (none : (sector : ℕ) → named extra.id extra.page sector ≡ false) where
   pub add_at : (e : Halt) → AddHalts x c t d e → IsFaultOrMost x c t e → ShowsReason o x d e

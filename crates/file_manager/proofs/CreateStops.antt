@@ -18,6 +18,7 @@ use Rattle.file_map.specs.Cause.{IsToCut}
 use Rattle.file_map.specs.Entries.{Entry}
 use Rattle.file_map.specs.FileMap.{Triples, without_from}
 use Rattle.swapper_kernel.specs.declared.manager.Manager.TheVariants.{AllocationMap, FileMap}
+use Rattle.swapper_kernel.specs.DiffersLaws.{other_sector}
 use Rattle.swapper_kernel.specs.Goes.{Goes, Makes, no_page}
 use Rattle.swapper_kernel.specs.GoesLaws.{makes_then, makes_wider}
 use Rattle.swapper_kernel.specs.HaltLaws.{rose_wider}
@@ -32,12 +33,13 @@ use Rattle.volume_root.specs.declared.root.Root.{Root}
 use Rattle.volume_root.specs.RootPage.{root_bytes, root_write}
 use Rattle.labelled_disk.specs.Label.{root_label}
 use Rattle.file_manager.specs.Grounds.{IsUnframed, IsFilled, StopsInForm, MakeEvidence, MakeHalts, CreateEvidence, CreateHalts}
-use Rattle.file_manager.specs.Taking.{TakesSectors, NamesNoneOf, every_page}
+use Rattle.file_manager.specs.Taking.{AreOfPages, TakesSectors, NamesNoneOf, every_page, no_page_of}
 use Rattle.file_manager.proofs.FreedRun.{first_is, map_makes, shows_still}
 use Rattle.file_manager.proofs.Keeping.{broken_shown}
 use Rattle.file_manager.proofs.MadeRun.{maps_come, unframed_still, file_map_alone}
-use Rattle.file_manager.proofs.MakeStops.{labels_behind, shown_before, label_home_before, room_before}
-use Rattle.file_manager.proofs.TakingLemmas.{sectors_then}
+use Rattle.file_manager.proofs.MakeStops.{labels_behind, shown_before, label_home_before}
+use Rattle.file_manager.proofs.RoomStops.{room_before}
+use Rattle.file_manager.proofs.TakingLemmas.{not_taken, sectors_then}
 
 -- a map that named none of a file names the same once it is cut of it
 cut_kept : (id : ℕ) (named : Triples) → NamesNoneOf id every_page named → (i page sector : ℕ) → named i page sector ≡ true → without_from named id 0 i page sector ≡ true
@@ -88,7 +90,7 @@ pub nothing_behind : {a : DiskState} {s : Slots} (m : List Sector) → Stands a 
 nothing_behind m stands = (m, stands, record { long = refl; each = λ k other. refl })
 
 module _ (layout : Layout) (is : IsLayout layout) (id : ℕ) {front : List DiskWrite} {a b : DiskState} {s : Slots} (first : Makes no_page front a s b s)
-    (behind : (m : List Sector) → Stands a s m → (n : List Sector) × Stands b s n × IsSameBehind m n) where
+    (behind : (m : List Sector) → Stands a s m → (n : List Sector) × Stands b s n × IsSameBehind m n) (wanted : ℕ → Type 0) where
   root_taken : (m n : List Sector) → IsSameBehind m n → TakesSectors layout id m n
   root_taken m n same = record {
     labels = record {
@@ -111,8 +113,8 @@ module _ (layout : Layout) (is : IsLayout layout) (id : ℕ) {front : List DiskW
       record { memory = now.0; stands = now.1; shows = map_behind tells.memory now.0 now.2 bytes tells.shows; size = first.went.sectors ∙ tells.size }
 
   -- where the map is cut
-  cut_evidence : (e : Evidence) (c : DiskState) (t : Slots) → MapHalts layout b s c (Damaged e) ⊎ IsToCut id 0 (MapShows layout b s) → CutHalts layout b s c t (Damaged e) → CreateEvidence layout id a s c t e
-  cut_evidence (Mismatch sector wanted found) c t begun why = elim why.reason [ inl held ↦ inl held | inr own ↦ inr (inl (FileMap, own)) ]
+  cut_evidence : (e : Evidence) (c : DiskState) (t : Slots) → MapHalts layout b s c (Damaged e) ⊎ IsToCut id 0 (MapShows layout b s) → CutHalts layout b s c t (Damaged e) → CreateEvidence layout id wanted a s c t e
+  cut_evidence (Mismatch sector label found) c t begun why = elim why.reason [ inl held ↦ inl held | inr own ↦ inr (inl (FileMap, own)) ]
   cut_evidence (Malformed window page) c t begun why = (
     why.0,
     elim begun [
@@ -122,7 +124,7 @@ module _ (layout : Layout) (is : IsLayout layout) (id : ℕ) {front : List DiskW
   )
   cut_evidence (Missing missing page) c t begun why = absurd why
 
-  pub create_of_cut : (c : DiskState) (t : Slots) (halt : Halt) → MapHalts layout b s c halt ⊎ IsToCut id 0 (MapShows layout b s) → CutHalts layout b s c t halt → CreateHalts layout id a s c t halt
+  pub create_of_cut : (c : DiskState) (t : Slots) (halt : Halt) → MapHalts layout b s c halt ⊎ IsToCut id 0 (MapShows layout b s) → CutHalts layout b s c t halt → CreateHalts layout id wanted a s c t halt
   create_of_cut c t Disk begun why = rose_wider a.faults b.faults c.faults c.faults first.went.faults (omega arith) why
   create_of_cut c t (Damaged e) begun why = cut_evidence e c t begun why
 
@@ -135,6 +137,20 @@ module _ (layout : Layout) (is : IsLayout layout) (id : ℕ) {front : List DiskW
         let now = beside.goes.memory r.0 r.1 in
         (now.0, now.1, sectors_then (root_taken m r.0 r.2) (file_map_alone layout id r.0 now.0 now.2))
 
+    -- none was taken
+    none_since : IsUnframed s 0 → (m : List Sector) → Stands a s m → (n : List Sector) × Stands c t n × (TakesSectors layout id m n × AreOfPages layout id no_page_of m n)
+    none_since none m stands =
+        let r = behind m stands in
+        let now = beside.goes.memory r.0 r.1 in (
+          now.0,
+          now.1,
+          (
+            sectors_then (root_taken m r.0 r.2) (file_map_alone layout id r.0 now.0 now.2),
+            λ other sector from taken. absurd (not_taken id m now.0 sector other taken (λ x here.
+                other_sector now.0 r.0 (sym now.2.labels) sector x (r.2.each sector (λ e. let f = first_is layout is in omega (arith, e, f, from)) ∙ here))),
+          ),
+        )
+
     form_behind : (page : ℕ) → StopsInForm layout id pages page c t d u → StopsInForm layout id every_page page a s d u
     form_behind page stops none m named stands map nothing =
         let r = behind m stands in
@@ -143,8 +159,8 @@ module _ (layout : Layout) (is : IsLayout layout) (id : ℕ) {front : List DiskW
         let e = stops (unframed_still (maps_come beside) none) now.memory (without_from named id 0) now.stands now.is (λ p sector own. cut_none id named nothing p sector tt) in
         (e.0, cut_filled layout id named d u nothing e.1)
 
-    make_evidence : (e : Evidence) → MakeEvidence layout id pages c t d u e → CreateEvidence layout id a s d u e
-    make_evidence (Mismatch sector wanted found) is = label_home_before (maps_come beside) since_cut (home_at sector wanted) is
+    make_evidence : (e : Evidence) → MakeEvidence layout id pages wanted c t d u e → CreateEvidence layout id wanted a s d u e
+    make_evidence (Mismatch sector label found) is = label_home_before (maps_come beside) since_cut (home_at sector label) is
     make_evidence (Malformed window page) is = (
       is.0,
       inr (inr (record {
@@ -154,8 +170,8 @@ module _ (layout : Layout) (is : IsLayout layout) (id : ℕ) {front : List DiskW
         in_form = form_behind page is.1.in_form;
       })),
     )
-    make_evidence (Missing missing page) is = (is.0, is.1, room_before (maps_come beside) since_cut d u is.2)
+    make_evidence (Missing missing page) is = (is.0, is.1, room_before no_page_of wanted wanted (λ p own. own) (λ p own not. not) (maps_come beside) none_since d u is.2)
 
-    pub create_of_make : (halt : Halt) → MakeHalts layout id pages c t d u halt → CreateHalts layout id a s d u halt
+    pub create_of_make : (halt : Halt) → MakeHalts layout id pages wanted c t d u halt → CreateHalts layout id wanted a s d u halt
     create_of_make Disk is = let before = first.went.faults in let next = beside.goes.makes.went.faults in rose_wider a.faults c.faults d.faults d.faults (omega (arith, before, next)) (omega arith) is
     create_of_make (Damaged e) is = make_evidence e is

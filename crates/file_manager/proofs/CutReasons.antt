@@ -46,4 +46,4 @@ module _ {o : Outset} {layout last : Layout} {kept : List Run} {a b : DiskState}
   -- a page that was named, and is named no more
   pub added_reasons : (extra : Home) → named extra.id extra.page extra.sector ≡ true → ((sector : ℕ) → later extra.id extra.page sector ≡ false) → (halt : Halt) → AddHalts layout b t c halt → IsFaultOrMost layout b t halt → ShowsReason o layout c halt
   added_reasons extra led none halt cause right =
-      add_at is (beside.goes.makes.went.sectors ∙ k.size) becomes.memory becomes.stands becomes.is (λ home named_so. there home (k.homes home (only home.id home.page home.sector named_so))) held_there extra (there extra (k.homes extra led)) none halt cause right
+      add_at o c is (beside.goes.makes.went.sectors ∙ k.size) becomes.memory becomes.stands becomes.is (λ home named_so. there home (k.homes home (only home.id home.page home.sector named_so))) held_there extra (there extra (k.homes extra led)) none halt cause right

@@ -96,7 +96,7 @@ down_then {id = id} {from = from} {end = end} {page = page} {pages = pages} {d0 
           let now = h.keeps_to o named k in
           let first = own.0 in
           let last = own.1 in
-          let_more named makes.sectors id (λ q. (page ≤ q) × (q < end)) (λ q. (page - pages ≤ q) × (q < page)) makes.makes now.since (h.let_go o named k) (let_go o named now) p sector
+          let_more o named makes.sectors id (λ q. (page ≤ q) × (q < end)) (λ q. (page - pages ≤ q) × (q < page)) makes.makes (h.let_go o named k) (let_go o named now) p sector
           (elim (leb_tells page p) [ inl (_, above_it) ↦ inl (above_it, last) | inr (_, not_above) ↦ inr (first, omega (arith, not_above)) ]) is;
     }
 

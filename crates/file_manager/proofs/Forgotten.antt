@@ -8,6 +8,7 @@ use Rattle.labelled_disk.specs.declared.label.Label.{Label}
 use Rattle.labelled_disk.specs.declared.layout.Layout.{Layout}
 use Rattle.labelled_disk.specs.Sectors.{Sector}
 use Rattle.labelled_disk.specs.State.{DiskState}
+use Rattle.frame_pool.specs.declared.home.Home.{Home}
 use Rattle.frame_pool.specs.Frames.{Frame, Slots, Has, IsWithin}
 use Rattle.file_map.specs.declared.run.Run.{Run}
 use Rattle.file_map.specs.FileMap.{Triples}
@@ -22,6 +23,8 @@ use Rattle.swapper_kernel.specs.Stands.{Stands}
 use Rattle.file_manager.specs.Grounds.{AreTables, KeepsMap}
 use Rattle.file_manager.specs.Reasons.{Outset, AreTabled, KeepsTo}
 use Rattle.file_manager.proofs.FreedRun.{shows_still, first_is}
+use Rattle.file_manager.specs.KeepLaws.{IsUntabled}
+use Rattle.file_manager.specs.WriteLaws.{no_roots}
 use Rattle.file_manager.proofs.KeepSteps.{keeps_front, no_writes, none_up}
 
 -- a label that is that of a page of the space tables has their identifier
@@ -30,6 +33,12 @@ of_tables k l is = let first = (and_parts ((l.id == 3) && nat_le 0 l.page) (nat_
   where
     same : (n : ℕ) → (n == 3) ≡ true → n ≡ 3
     same n tells = grind (arith, nat_tests)
+
+-- where frames of these pages were given up, no frame has one
+pub forgotten_untabled : {t : Slots} → ((i : ℕ) (f : Frame) → Has t i f → IsWithin 3 0 96 f.home → ⊥) → IsUntabled t
+forgotten_untabled gone home held own few =
+    let page = ap (λ (h : Home). h.page) held.at in
+    gone held.slot held.frame held.has (ap (λ (h : Home). h.id) held.at ∙ own, omega arith, omega (arith, page, few))
 
 apart : (which : Manager) (n : ℕ) → n ≡ 3 → n ≢ id_of which
 apart AllocationMap n is same = omega (arith, is, same)
@@ -79,4 +88,4 @@ module _ {layout : Layout} {a b : DiskState} {s t : Slots} (kept : List Run) (is
   forgotten_keeps {o = o} {named = named} untold k =
       let now = goes.memory k.memory k.stands in
       keeps_front is k goes.makes (λ home held. record { slot = held.slot; frame = held.frame; has = left held.slot held.frame held.has; at = held.at }) now.0 now.1
-      (λ i x low here. stays k.memory now.0 k.stands now.1 i low x here now.2 (of_run 3 0 96 i x.0) refl) no_writes none_up (λ told. subst (λ (t : Option (List ℕ)). IfSome t (AreTabled layout named now.0)) (sym untold) tt)
+      (λ i x low here. stays k.memory now.0 k.stands now.1 i low x here now.2 (of_run 3 0 96 i x.0) refl) no_writes none_up (no_roots o.next) (λ told. subst (λ (t : Option (List ℕ)). IfSome t (AreTabled layout named now.0)) (sym untold) tt)

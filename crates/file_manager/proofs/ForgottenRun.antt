@@ -28,7 +28,7 @@ use Rattle.file_manager.specs.Forgetting.{Forgets, on_data_of}
 use Rattle.file_manager.specs.Freeing.{MayFree}
 use Rattle.file_manager.specs.Grounds.{IsUnframed, KeepsMap}
 use Rattle.file_manager.specs.Reasons.{Outset, KeepsTo, LeavesTables}
-use Rattle.file_manager.specs.TabledLaws.{KeepsSectors, keeps_undiffering, labels_alike, told_left}
+use Rattle.file_manager.specs.TabledLaws.{KeepsSectors, keeps_undiffering, told_left}
 use Rattle.file_manager.proofs.BookLemmas.{known_after}
 use Rattle.file_manager.proofs.FreedRun.{map_makes, map_brings, hidden_then, shows_still, first_is}
 
@@ -109,12 +109,15 @@ module _ {id first pages : ℕ} {layout : Layout} {d : DiskState} {t u : Slots} 
         kept = h.kept;
         frames = λ home held. h.frames home (record { slot = held.slot; frame = held.frame; has = was_there held.slot held.frame held.has; at = held.at });
         unframed = λ page there. h.unframed page (record { slot = there.slot; frame = there.frame; has = was_there there.slot there.frame there.has; same_id = there.same_id; same_page = there.same_page });
+        over = λ home held. h.over home (record { slot = held.slot; frame = held.frame; has = was_there held.slot held.frame held.has; at = held.at });
         marks = h.marks;
         bits = bits_stay is stays h.bits;
         free = h.free;
         rest = h.rest;
         used = h.used;
-        tabled = told_left layout named named h.memory now.0 o id is h.map spares (labels_alike layout h.memory now.0 now.2) (λ other. others_differ layout id h.memory now.0 now.2 other) (λ other page sector own. own) h.tabled;
+        roots = h.roots;
+        taken = h.taken;
+        tabled = told_left layout named named h.memory now.0 o id is h.map spares (λ other. others_differ layout id h.memory now.0 now.2 other) (λ other page sector own. own) h.tabled;
       }
 
 -- ---- A run that was found, and whose frames were given up.

@@ -23,7 +23,7 @@ use Rattle.swapper_kernel.specs.DiffersLaws.{names_id, names_page, other_sector}
 use Rattle.swapper_kernel.specs.Goes.{Makes, Pages}
 use Rattle.swapper_kernel.specs.HaltLaws.{brings_wider}
 use Rattle.swapper_kernel.specs.Halts.{HasCause, Halts}
-use Rattle.swapper_kernel.specs.Homes.{IsLayout, home_at, wanted_at}
+use Rattle.swapper_kernel.specs.Homes.{Brings, IsLayout, home_at, wanted_at}
 use Rattle.swapper_kernel.specs.Maps.{IsMapHome}
 use Rattle.swapper_kernel.specs.Stands.{Stands}
 use Rattle.swapper_kernel.specs.Window.{Beside}
@@ -37,12 +37,12 @@ use Rattle.filer_kernel.specs.PlaceLaws.{data_first, one_sector}
 use Rattle.filer_kernel.specs.Triples.{MapIs, AreOf}
 use Rattle.file_manager.specs.Freeing.{NamesAll}
 use Rattle.file_manager.specs.Grounds.{IsMapsHome}
-use Rattle.file_manager.specs.Reasons.{Outset, IsSince, IsLet, AreLet, KeepsTo, LeavesTables, ShowsReason, MayBeFree, AreTabled}
-use Rattle.file_manager.specs.LaterLaws.{GivesNot, let_later, let_now, at_home_later, free_now, takes_not, TakesNot, label_gives_not, since_later, sector_of}
-use Rattle.file_manager.specs.KeepLaws.{keeps_after, unframed_still, beside_keeps}
-use Rattle.file_manager.specs.ReasonLaws.{label_reasons}
+use Rattle.file_manager.specs.Reasons.{Outset, IsLet, AreLet, KeepsTo, LeavesTables, ShowsReason, MayBeFree, AreTabled}
+use Rattle.file_manager.specs.LaterLaws.{let_later, let_now, at_home_later, free_now}
+use Rattle.file_manager.specs.WriteLaws.{GivesNot, RootsBelow, TakesNot, label_gives_not, label_no_root, no_roots, sector_of, takes_not}
+use Rattle.file_manager.specs.KeepLaws.{keeps_after, over_left, unframed_still, beside_keeps}
 use Rattle.file_manager.specs.TabledLaws.{told_beside, told_left}
-use Rattle.file_manager.proofs.FreedTables.{freed_brings, freed_keeps}
+use Rattle.file_manager.proofs.FreedTables.{freed_keeps}
 use Rattle.file_manager.proofs.FreedRun.{shows_still, behind_map}
 use Rattle.file_manager.proofs.FreedSectors.{freed_elsewhere}
 use Rattle.file_manager.proofs.ForgottenRun.{SameFront, map_stays, bits_stay}
@@ -70,17 +70,23 @@ frees_give_not [] home turn w at gives = none-some w at
 frees_give_not (k ∷ ks) home zero w at (kind, is) = label_gives_not k free_label home (kind, same_Some (write.LabelOnly k free_label) w at ∙ is)
 frees_give_not (k ∷ ks) home (suc turn) w at gives = frees_give_not ks home turn w at gives
 
+-- and none has a root
+frees_no_root : (next : ℕ) (sectors : List ℕ) → RootsBelow next (freeing sectors)
+frees_no_root next [] root turn has = no_roots next root turn has
+frees_no_root next (k ∷ ks) root zero has = label_no_root next k free_label root zero has
+frees_no_root next (k ∷ ks) root (suc turn) has = frees_no_root next ks root turn has
+
 -- those of a run's pages are those of some pages of its file
-pub let_of_run : {o : Outset} {disk : DiskState} (named : Triples) (run : Run) (id : ℕ) (own : ℕ → Type 0) → run.id ≡ id → ((p : ℕ) → own p → (run.first ≤ p) × (p < run.first + run.pages))
+pub let_of_run : (o : Outset) (disk : DiskState) (named : Triples) (run : Run) (id : ℕ) (own : ℕ → Type 0) → run.id ≡ id → ((p : ℕ) → own p → (run.first ≤ p) × (p < run.first + run.pages))
     → AreLet o disk named run.id (λ p. (run.first ≤ p) × (p < run.first + run.pages)) → AreLet o disk named id own
-let_of_run {o = o} {disk = disk} named run id own same within all page sector is named_so =
+let_of_run o disk named run id own same within all page sector is named_so =
     subst (λ (i : ℕ). IsLet o disk (record { sector = sector; id = i; page = page })) same (all page sector (within page is) (subst (λ (i : ℕ). named i page sector ≡ true) (sym same) named_so))
 
 -- those of the pages up to one, and those behind it
-pub let_more : {o : Outset} {d e : DiskState} {s t : Slots} {pages : Pages} (named : Triples) (sectors : List ℕ) (id : ℕ) (before now : ℕ → Type 0) → Makes pages (freeing sectors) d s e t → IsSince o d
+pub let_more : (o : Outset) {d e : DiskState} {s t : Slots} {pages : Pages} (named : Triples) (sectors : List ℕ) (id : ℕ) (before now : ℕ → Type 0) → Makes pages (freeing sectors) d s e t
     → AreLet o d named id before → AreLet o e named id now → AreLet o e named id (λ p. before p ⊎ now p)
-let_more {o = o} named sectors id before now makes since was is page sector own named_so = elim own [
-  | inl earlier ↦ let_later o makes since _ (frees_give_not sectors _) (was page sector earlier named_so)
+let_more o named sectors id before now makes was is page sector own named_so = elim own [
+  | inl earlier ↦ let_later o makes _ (frees_give_not sectors _) (was page sector earlier named_so)
   | inr later ↦ is page sector later named_so
 ]
 
@@ -173,8 +179,7 @@ module _ {o : Outset} {layout : Layout} {runs : List Run} {b : DiskState} {t : S
 
     told_mid : IfSome o.tables (AreTabled layout named h.memory) → IfSome o.tables (AreTabled layout named mid.0)
     told_mid =
-        told_left layout named named h.memory mid.0 o run.id is h.map spares (rw mid.2 (freed_brings layout sectors h.memory))
-        (λ other. rw mid.2 (freed_keeps layout h.memory h.stands.sectors (sym h.stands.merged.labels) run.sector run.pages run.id (λ k. run.first + k) (were h.stands.sectors h.stands.told) sectors has other)) (λ other page sector own. own)
+        told_left layout named named h.memory mid.0 o run.id is h.map spares (λ other. rw mid.2 (freed_keeps layout h.memory h.stands.sectors (sym h.stands.merged.labels) run.sector run.pages run.id (λ k. run.first + k) (were h.stands.sectors h.stands.told) sectors has other)) (λ other page sector own. own)
 
     -- no page got a sector of them
     none_taken : (sector : ℕ) → TakesNot (freeing sectors) sector
@@ -194,12 +199,12 @@ module _ {o : Outset} {layout : Layout} {runs : List Run} {b : DiskState} {t : S
         let write_at : slice_get (freeing sectors) turn.0 ≡ Some (write.LabelOnly sector free_label) =
         subst (λ (n : ℕ). slice_get (freeing sectors) turn.0 ≡ Some (write.LabelOnly n free_label)) same (freeing_at sectors turn.0 (run.sector + i) turn.1) in
         let home : Home = record { sector = sector; id = run.id; page = page } in
-        let_now o made.makes h.since home (frees_give_not sectors home) turn.0 (write.LabelOnly sector free_label) write_at (inl refl)
+        let_now o made.makes h.since home (frees_give_not sectors home) turn.0 write_at
 
     -- behind accesses to the allocation map too
     pub marks_let : {d : DiskState} {u : Slots} {later : Layout} → Beside AllocationMap c t layout d u later → NamesAll named run → AreLet o d named run.id (λ p. (run.first ≤ p) × (p < run.first + run.pages))
     marks_let beside all page sector own named_so =
-        let_later o beside.goes.makes (since_later o made.makes h.since) _ (λ turn w at gives. none-some w at) (labels_let all page sector own named_so)
+        let_later o beside.goes.makes _ (λ turn w at gives. none-some w at) (labels_let all page sector own named_so)
 
     pub marks_keep : {d : DiskState} {u : Slots} {later : Layout} → Beside AllocationMap c t layout d u later
         → ((m : List Sector) (marks : Marks) → Stands c t m → BitsAre layout marks m → Becomes AllocationMap layout m (BitsAre layout (marked false run.sector run.pages marks)) d u)
@@ -208,6 +213,7 @@ module _ {o : Outset} {layout : Layout} {runs : List Run} {b : DiskState} {t : S
         let both : Makes volume_page (freeing sectors) b t d u =
         subst (λ (ws : List DiskWrite). Makes volume_page ws b t d u) (append_none (freeing sectors)) (makes_then (makes_wider volume_page (λ id page none. absurd none) made.makes) (map_makes beside)) in
         let now = given mid.0 h.marks mid.1 (bits_stay is front_stays h.bits) in
+        let maps : Brings (IsMapsHome layout) t u = brings_wider (IsMapsHome layout) (λ home own. (AllocationMap, own)) beside.brings in
         keeps_after h both now.memory now.stands named
         (record {
           bytes = map_mid.bytes;
@@ -215,8 +221,8 @@ module _ {o : Outset} {layout : Layout} {runs : List Run} {b : DiskState} {t : S
           names = map_mid.names;
         })
         (λ home is. inl is) runs h.kept
-        (λ home held. elim (beside.brings.homes home held) [ inl before ↦ inl before | inr own ↦ inr (inl (AllocationMap, own)) ])
-        (unframed_still (brings_wider (IsMapsHome layout) (λ home own. (AllocationMap, own)) beside.brings) h.unframed)
+        (λ home held. elim (maps.homes home held) [ inl before ↦ inl before | inr own ↦ inr (inl own) ])
+        (unframed_still maps h.unframed) (over_left named named 0 h.over maps (λ zero. absurd (omega (arith, zero))) (λ other page sector is. is))
         (marked false run.sector run.pages h.marks) now.is
         (λ sector from below free. elim (one_of_row run.sector run.pages h.marks sector free) [
           | inl (i, inside, at) ↦
@@ -233,6 +239,7 @@ module _ {o : Outset} {layout : Layout} {runs : List Run} {b : DiskState} {t : S
               let same : back.0 ≡ sector = sector_only (back.2 ∙ up) in
               false≢true (sym (cleared run.sector run.pages h.marks r.0 sector r.1 (sym same ∙ r.2)) ∙ used),
         ))
+        (frees_no_root o.next sectors) (λ home turn w at gives. absurd (frees_give_not sectors home turn w at gives))
         (λ told. told_beside layout named mid.0 now.memory o.tables AllocationMap is map_mid now.differs (told_mid told))
 
     -- where it stops at the allocation map

@@ -1,32 +1,20 @@
--- What bytes are told of the space tables stays where labels of another file become free, or free sectors get labels of one.
-use Rattle.std.proofs.Common.{◌≡◌, ◌≢◌, ◌⊎◌, inl, inr, ℕ, ◌+◌, ◌<◌, ◌≤◌, List, Some, refl, sym, ◌∙◌, ap, subst, arith}
+-- What bytes are told of the space tables stays where labels of another file become free.
+use Rattle.std.proofs.Common.{◌≡◌, ◌≢◌, inl, inr, ℕ, ◌+◌, ◌<◌, List, Some, sym, ◌∙◌, ap}
 use Rattle.std.specs.Prelude.{slice_get}
-use Rattle.std.proofs.lemmas.Option.{same_Some, none-some, slice_get_within}
+use Rattle.std.proofs.lemmas.Option.{same_Some}
 use Rattle.labelled_disk.specs.declared.label.Label.{Label}
 use Rattle.labelled_disk.specs.declared.layout.Layout.{Layout}
 use Rattle.labelled_disk.specs.Runs.{freeing}
-use Rattle.labelled_disk.specs.Sectors.{Sector, free_label}
+use Rattle.labelled_disk.specs.Sectors.{Sector}
 use Rattle.labelled_disk.specs.WriteRuns.{after_writes}
-use Rattle.swapper_kernel.specs.DiffersLaws.{label_here, names_id, other_sector}
+use Rattle.swapper_kernel.specs.DiffersLaws.{names_id, other_sector}
 use Rattle.swapper_kernel.specs.Stands.{labels_of}
 use Rattle.label_calls.specs.Labels.{ones_of}
 use Rattle.label_calls.specs.Runs.{HaveOnes}
-use Rattle.file_manager.specs.TabledLaws.{BringsNoLabel, KeepsSectors}
-use Rattle.file_manager.proofs.FreedSectors.{freed_elsewhere, freed_here, freed_long, in_or_not}
+use Rattle.file_manager.specs.TabledLaws.{KeepsSectors}
+use Rattle.file_manager.proofs.FreedSectors.{freed_elsewhere, in_or_not}
 
--- no label of the space tables is written there
-pub freed_brings : (layout : Layout) (sectors : List ℕ) (m : List Sector) → BringsNoLabel layout m (after_writes (freeing sectors) m)
-freed_brings layout sectors m sector s from here own = elim (in_or_not sectors sector) [
-  | inl (j, at) ↦
-      let within = slice_get_within (after_writes (freeing sectors) m) sector s here in
-      let long = freed_long sectors m in
-      let free = same_Some free_label s.0 (sym (freed_here sectors m j sector at (omega (arith, within, long))) ∙ label_here (after_writes (freeing sectors) m) sector s here) in
-      let zero : 0 ≡ s.0.id = ap (λ (l : Label). l.id) free in
-      absurd (omega (arith, zero, own))
-  | inr none ↦ (s, sym (freed_elsewhere sectors m sector none) ∙ here, refl)
-]
-
--- sectors with such labels stay, where those whose labels become free had labels of a file
+-- sectors with labels of the space tables stay, where those whose labels become free had labels of a file
 module _ (layout : Layout) (m d : List Sector) (labels : labels_of d ≡ labels_of m) (sector count id : ℕ) (page : ℕ → ℕ) (were : HaveOnes (λ k. ones_of (record { id = id; page = page k })) d sector count) where
   -- a sector of the run has a label of the file
   of_run : (i : ℕ) → i < count → (s : Sector) → slice_get m (sector + i) ≡ Some s → s.0.id ≡ id

@@ -104,7 +104,7 @@ to_then {id = id} {from = from} {end = end} {page = page} {pages = pages} {d0 = 
           let now = h.keeps_to o named k spares in
           let first = own.0 in
           let last = own.1 in
-          let_more named makes.sectors id (λ q. (from ≤ q) × (q < page)) (λ q. (page ≤ q) × (q < page + pages)) makes.makes now.since (h.let_go o named k spares) (let_go o named now spares) p sector
+          let_more o named makes.sectors id (λ q. (from ≤ q) × (q < page)) (λ q. (page ≤ q) × (q < page + pages)) makes.makes (h.let_go o named k spares) (let_go o named now spares) p sector
           (elim (leb_tells page p) [ inl (_, above_it) ↦ inr (above_it, last) | inr (_, not_above) ↦ inl (first, omega (arith, not_above)) ]) is;
     }
 

@@ -34,7 +34,7 @@ use Rattle.file_manager.specs.Freeing.{IsNone, ClearsBits, FreesSectors}
 use Rattle.file_manager.proofs.BookLemmas.{label_in}
 use Rattle.file_manager.proofs.FreedSectors.{in_or_not}
 use Rattle.file_manager.proofs.GrowSteps.{renamed}
-use Rattle.file_manager.specs.MapOnce.{named_once}
+use Rattle.filer_kernel.specs.MapOnce.{named_once}
 use Rattle.file_manager.proofs.RunStages.{shows_still, beside_map, vam_is, vfm_is, marks_shown, bits_shown, mark_is, in_bits}
 
 -- a sector of a map is of its kind

@@ -1,7 +1,7 @@
 -- What keeps to an outset does so where a file is cut out of the map, and its leader is put in again; and where a leader gets a mark.
 use Rattle.std.proofs.Common.{◌≡◌, ◌≢◌, ◌⊎◌, inl, inr, ℕ, zero, suc, ◌<◌, ◌≤◌, ◌^◌, true, false, Bool, not, ◌&&◌, ◌||◌, List, [], ◌∷◌, refl, sym, ◌∙◌, ap, subst, arith}
 use Rattle.std.specs.Prelude.{filter, slice_get, ◌==◌, nat_le}
-use Rattle.std.proofs.lemmas.Bool.{and_parts, cases_eq, cases_lt, eqb-true, false≢true, leb-true}
+use Rattle.std.proofs.lemmas.Bool.{and_parts, cases_eq, cases_lt, eqb-true, leb-true}
 use Rattle.std.proofs.lemmas.Bool.Decides.{nat_tests}
 use Rattle.std.proofs.lemmas.Option.{same_Some, none-some}
 use Rattle.labelled_disk.specs.declared.disk.DiskWrite.{DiskWrite}
@@ -28,13 +28,15 @@ use Rattle.filer_kernel.specs.Triples.{MapIs, AreOf}
 use Rattle.filer_kernel.proofs.LawLemmas.{are_of_fewer, are_of_more}
 use Rattle.filer_kernel.specs.PlaceLaws.{one_sector}
 use Rattle.file_manager.specs.Reasons.{Outset, AreLet, IsLet, KeepsTo, LeavesTables, NamesTables}
-use Rattle.file_manager.specs.TabledLaws.{tables_told, told_renamed}
+use Rattle.file_manager.specs.KeepLaws.{IsUntabled, over_left}
+use Rattle.file_manager.specs.TabledLaws.{StaysNamed, tables_told, told_renamed}
 use Rattle.file_manager.specs.Taking.{NamesNoneOf}
 use Rattle.file_manager.specs.Shrinking.{leader_run, cut_triples}
 use Rattle.file_manager.proofs.MadeReasons.{either_named, run_parts}
+use Rattle.file_manager.proofs.MadeRun.{maps_come}
 use Rattle.file_manager.proofs.KeepSteps.{GivesNone, keeps_changed, keeps_front, UpNone}
 use Rattle.file_manager.proofs.MarkStands.{marked_ids, marked_stands, mark_names}
-use Rattle.file_manager.specs.LaterLaws.{label_gives_not}
+use Rattle.file_manager.specs.WriteLaws.{label_gives_not, label_no_root}
 use Rattle.swapper_kernel.specs.DiffersLaws.{names_id}
 
 -- ---- Triples that are left.
@@ -107,10 +109,14 @@ tables_more named run all page below = let at = all page below in (at.0, ap (λ 
 -- ---- The map is cut.
 
 module _ {o : Outset} {layout last : Layout} {kept runs : List Run} {a b : DiskState} {s t : Slots} {named : Triples} (k : KeepsTo o layout kept a s named) (beside : Beside FileMap a s layout b t last) (id from : ℕ)
-    (fewer : runs ≡ filter (λ r. not (r.id == id)) kept) (is : IsLayout layout) (spares : LeavesTables o id) where
+    (fewer : runs ≡ filter (λ r. not (r.id == id)) kept) (is : IsLayout layout) (spares : LeavesTables o id) (bare : id ≡ 3 → IsUntabled s) where
   -- pages of the space tables are named where they were
   tables_stay : (page sector : ℕ) → id ≢ 3 → named 3 page sector ≡ true → without_from named id from 3 page sector ≡ true
   tables_stay page sector other was = elim (cut_rest named id from 3 page sector was) [ inl left ↦ left | inr (same, above) ↦ absurd (other (sym same)) ]
+
+  -- so they are where the leader is put in again
+  led_stay : (leader : ℕ) → id ≢ 3 → StaysNamed named (cut_triples named id from leader)
+  led_stay leader other page sector was = ap (λ (b : Bool). b || run_names (leader_run id leader) 3 page sector) (tables_stay page sector other was)
 
   -- runs of others are the map's still
   runs_left : AreOf (without_from named id from) runs
@@ -118,7 +124,7 @@ module _ {o : Outset} {layout last : Layout} {kept runs : List Run} {a b : DiskS
 
   -- it has no page of the file from one on
   pub keeps_cut : ((page sector : ℕ) → 16 ≤ id → from ≤ page → named id page sector ≡ true → IsLet o a (record { sector = sector; id = id; page = page })) → ((m : List Sector) (named : Triples) → Stands a s m → MapIs layout named m → Becomes FileMap layout m (MapIs layout (without_from named id from)) b t) → KeepsTo o layout runs b t (without_from named id from)
-  keeps_cut let_go cut = keeps_changed k beside (cut k.memory named k.stands k.map) (less_named named id from) runs_left
+  keeps_cut let_go cut = keeps_changed k beside (over_left named (without_from named id from) id k.over (maps_come beside) bare (λ other page sector was. tables_stay page sector other was)) (cut k.memory named k.stands k.map) (less_named named id from) runs_left
       (λ home first may is. elim (cut_rest named id from home.id home.page home.sector is) [
         | inl left ↦ inl left
         | inr (same, above) ↦ inr (subst (λ (i : ℕ). IsLet o a (record { sector = home.sector; id = i; page = home.page })) (sym same)
@@ -129,13 +135,13 @@ module _ {o : Outset} {layout last : Layout} {kept runs : List Run} {a b : DiskS
   -- and has the leader again
   pub keeps_led : (leader : ℕ) → named id leader_page leader ≡ true → AreLet o a named id (λ p. (from ≤ p) × (p < 4294967295)) → ((m : List Sector) (named : Triples) → Stands a s m → MapIs layout named m → Becomes FileMap layout m (MapIs layout (cut_triples named id from leader)) b t)
       → KeepsTo o layout runs b t (cut_triples named id from leader)
-  keeps_led leader led let_go cut = keeps_changed k beside (cut k.memory named k.stands k.map) (cut_named named id from leader led) (are_of_more (without_from named id from) runs (leader_run id leader) runs_left)
+  keeps_led leader led let_go cut = keeps_changed k beside (over_left named (cut_triples named id from leader) id k.over (maps_come beside) bare (led_stay leader)) (cut k.memory named k.stands k.map) (cut_named named id from leader led) (are_of_more (without_from named id from) runs (leader_run id leader) runs_left)
       (λ home first may is. elim (cut_rest named id from home.id home.page home.sector is) [
         | inl left ↦ inl (ap (λ (b : Bool). b || run_names (leader_run id leader) home.id home.page home.sector) left)
         | inr (same, above) ↦ led_or_let home is same above (cases_lt home.page 4294967295)
       ])
       (told_renamed layout named (cut_triples named id from leader) k.memory (cut k.memory named k.stands k.map).memory o id is k.map spares (cut k.memory named k.stands k.map).differs
-      (λ other page sector was. ap (λ (b : Bool). b || run_names (leader_run id leader) 3 page sector) (tables_stay page sector other was)))
+      (led_stay leader))
     where
       led_or_let : (home : Home) → named home.id home.page home.sector ≡ true → home.id ≡ id → from ≤ home.page → (home.page < 4294967295) ⊎ (4294967295 ≤ home.page)
           → (cut_triples named id from leader home.id home.page home.sector ≡ true) ⊎ IsLet o a home
@@ -185,11 +191,8 @@ keeps_marked {o = o} {layout = layout} {kept = kept} {a = a} {b = b} {s = s} {na
     let now = marked_stands a b s k.memory w sector mark label made.appended made.found k.stands in
     let ids = marked_ids a b s k.memory w sector mark label made.appended made.found k.stands in
     subst (λ (u : Slots). KeepsTo o layout kept b u named) (sym frames) (keeps_front is k made.makes (λ home held. held) now.0 now.1 (λ i x low here. now.2 i (λ same. omega (arith, same, low, above)) ∙ here) (mark_gives_not sector (with_mark mark label)) (mark_not_up sector (with_mark mark label) (λ none. omega (arith, client, id_is, none)))
+    (label_no_root o.next sector (with_mark mark label))
     (tables_told layout named named k.memory now.0 o.tables is k.map
-    (λ place y from here own. elim (cases_eq place sector) [
-      | inl same ↦ absurd (other (sym (ids.0 y (ap (slice_get now.0) (sym same) ∙ here)) ∙ own))
-      | inr apart ↦ (y, sym (now.2 place apart) ∙ here, refl)
-    ])
     (λ place y from here own. elim (cases_eq place sector) [
       | inl same ↦ absurd (other (sym (ids.1 y (ap (slice_get k.memory) (sym same) ∙ here)) ∙ own))
       | inr apart ↦ now.2 place apart ∙ here

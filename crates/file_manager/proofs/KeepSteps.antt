@@ -23,10 +23,12 @@ use Rattle.filer_kernel.specs.declared.cached.CachedRuns.{CachedRuns}
 use Rattle.filer_kernel.specs.Becomes.{Becomes}
 use Rattle.filer_kernel.specs.Cached.{runs_of}
 use Rattle.filer_kernel.specs.Marks.{Marks, BitsAre}
+use Rattle.filer_kernel.specs.Tables.{AreOverTables}
 use Rattle.filer_kernel.specs.Triples.{MapIs, AreOf}
 use Rattle.file_manager.specs.Grounds.{IsMapsHome}
 use Rattle.file_manager.specs.Reasons.{Outset, AreTabled, IsLet, KeepsTo}
-use Rattle.file_manager.specs.LaterLaws.{GivesNot, let_later, takes_not, UpNot}
+use Rattle.file_manager.specs.LaterLaws.{let_later}
+use Rattle.file_manager.specs.WriteLaws.{GivesNot, RootsBelow, UpNot, no_roots, takes_not}
 use Rattle.file_manager.specs.KeepLaws.{keeps_after, unframed_still}
 use Rattle.file_manager.proofs.FreedReasons.{found_keeps}
 use Rattle.file_manager.proofs.ForgottenRun.{SameFront, map_stays, bits_stay}
@@ -45,14 +47,14 @@ UpNone run = (sector : ℕ) → UpNot run sector
 
 -- A later memory that has the same bits, and whose map names nothing else: runs that are kept are the map's.
 pub keeps_stepped : {pages : Pages} {run : List DiskWrite} {o : Outset} {layout : Layout} {kept runs : List Run} {a b : DiskState} {s t : Slots} {named later : Triples} → (k : KeepsTo o layout kept a s named)
-    → Makes pages run a s b t → Brings (IsMapsHome layout) s t → (n : List Sector) → Stands b t n → MapIs layout later n → BitsAre layout k.marks n
+    → Makes pages run a s b t → Brings (IsMapsHome layout) s t → AreOverTables t later → (n : List Sector) → Stands b t n → MapIs layout later n → BitsAre layout k.marks n
     → ((id page sector : ℕ) → later id page sector ≡ true → named id page sector ≡ true) → AreOf later runs
-    → ((home : Home) → layout.first ≤ home.sector → 16 ≤ home.id → named home.id home.page home.sector ≡ true → (later home.id home.page home.sector ≡ true) ⊎ IsLet o a home) → GivesNone run → UpNone run
+    → ((home : Home) → layout.first ≤ home.sector → 16 ≤ home.id → named home.id home.page home.sector ≡ true → (later home.id home.page home.sector ≡ true) ⊎ IsLet o a home) → GivesNone run → UpNone run → RootsBelow o.next run
     → (IfSome o.tables (AreTabled layout named k.memory) → IfSome o.tables (AreTabled layout later n)) → KeepsTo o layout runs b t later
-keeps_stepped {o = o} {runs = runs} {later = later} k makes brings n stands map bits only are still none up tables =
+keeps_stepped {o = o} {runs = runs} {later = later} k makes brings over n stands map bits only are still none up below tables =
     keeps_after k makes n stands later map (λ home is. inl (only home.id home.page home.sector is)) runs are (λ home held. elim (brings.homes home held) [ inl was ↦ inl was | inr own ↦ inr (inl own) ])
-    (unframed_still brings k.unframed) k.marks bits (λ sector from below clear. inl (clear, takes_not _ sector (λ id page. none (record { sector = sector; id = id; page = page }))))
-    (λ home from may was. elim (still home from may was) [ inl is ↦ inl is | inr let_go ↦ inr (let_later o makes k.since home (none home) let_go) ]) (λ home from may. inr (none home)) (λ sector from below is. inl (is, up sector)) tables
+    (unframed_still brings k.unframed) over k.marks bits (λ sector from below clear. inl (clear, takes_not _ sector (λ id page. none (record { sector = sector; id = id; page = page }))))
+    (λ home from may was. elim (still home from may was) [ inl is ↦ inl is | inr let_go ↦ inr (let_later o makes home (none home) let_go) ]) (λ home from may. inr (none home)) (λ sector from below is. inl (is, up sector)) below (λ home turn w at gives. absurd (none home turn w at gives)) tables
 
 -- what was said by one layout is said by the same
 pub keeps_at : {o : Outset} {layout place : Layout} {b : DiskState} {t : Slots} {named : Triples} (runs : CachedRuns) → place ≡ layout
@@ -68,17 +70,17 @@ none_up sector turn w at up = none-some w at
 
 -- sectors in front of the data are as they were, and no frame came
 pub keeps_front : {pages : Pages} {run : List DiskWrite} {o : Outset} {layout : Layout} {kept : List Run} {a b : DiskState} {s t : Slots} {named : Triples} → IsLayout layout → (k : KeepsTo o layout kept a s named)
-    → Makes pages run a s b t → ((home : Home) → IsHeld t home → IsHeld s home) → (n : List Sector) → Stands b t n → SameFront layout k.memory n → GivesNone run → UpNone run
+    → Makes pages run a s b t → ((home : Home) → IsHeld t home → IsHeld s home) → (n : List Sector) → Stands b t n → SameFront layout k.memory n → GivesNone run → UpNone run → RootsBelow o.next run
     → (IfSome o.tables (AreTabled layout named k.memory) → IfSome o.tables (AreTabled layout named n)) → KeepsTo o layout kept b t named
-keeps_front {layout = layout} {named = named} is k makes left n stands stays none up tables =
-    keeps_stepped k makes (record { homes = λ home held. inl (left home held) }) n stands (map_stays is stays k.map) (bits_stay is stays k.bits) (λ id page sector one. one) k.kept (λ home from may was. inl was) none up tables
+keeps_front {layout = layout} {named = named} is k makes left n stands stays none up below tables =
+    keeps_stepped k makes (record { homes = λ home held. inl (left home held) }) (λ home held. k.over home (left home held)) n stands (map_stays is stays k.map) (bits_stay is stays k.bits) (λ id page sector one. one) k.kept (λ home from may was. inl was) none up below tables
 
 -- a label is read
 pub keeps_told : {o : Outset} {layout : Layout} {kept : List Run} {a b : DiskState} {s t : Slots} {named : Triples} → IsLayout layout → KeepsTo o layout kept a s named
     → TellsSame a b → Makes no_page [] a s b t → t ≡ s → KeepsTo o layout kept b t named
 keeps_told {o = o} {layout = layout} {kept = kept} {a = a} {b = b} {s = s} {named = named} is k told makes frames =
     subst (λ (u : Slots). KeepsTo o layout kept b u named) (sym frames)
-    (keeps_front is k (subst (λ (u : Slots). Makes no_page [] a s b u) frames makes) (λ home held. held) k.memory (record { sectors = k.stands.sectors; told = told.contents ∙ k.stands.told; merged = k.stands.merged }) (λ i x below here. here) no_writes none_up (λ tables. tables))
+    (keeps_front is k (subst (λ (u : Slots). Makes no_page [] a s b u) frames makes) (λ home held. held) k.memory (record { sectors = k.stands.sectors; told = told.contents ∙ k.stands.told; merged = k.stands.merged }) (λ i x below here. here) no_writes none_up (no_roots o.next) (λ tables. tables))
 
 -- ---- Calls on the map.
 
@@ -95,12 +97,12 @@ bits_beside layout marks m n differs bits = record {
 }
 
 -- the map is changed: it names nothing else
-pub keeps_changed : {o : Outset} {layout last : Layout} {kept runs : List Run} {a b : DiskState} {s t : Slots} {named later : Triples} → (k : KeepsTo o layout kept a s named) → Beside FileMap a s layout b t last
+pub keeps_changed : {o : Outset} {layout last : Layout} {kept runs : List Run} {a b : DiskState} {s t : Slots} {named later : Triples} → (k : KeepsTo o layout kept a s named) → Beside FileMap a s layout b t last → AreOverTables t later
     → (becomes : Becomes FileMap layout k.memory (MapIs layout later) b t) → ((id page sector : ℕ) → later id page sector ≡ true → named id page sector ≡ true) → AreOf later runs
     → ((home : Home) → layout.first ≤ home.sector → 16 ≤ home.id → named home.id home.page home.sector ≡ true → (later home.id home.page home.sector ≡ true) ⊎ IsLet o a home)
     → (IfSome o.tables (AreTabled layout named k.memory) → IfSome o.tables (AreTabled layout later becomes.memory)) → KeepsTo o layout runs b t later
-keeps_changed {layout = layout} k beside becomes only are still tables =
-    keeps_stepped k beside.goes.makes (maps_come beside) becomes.memory becomes.stands becomes.is (bits_beside layout k.marks k.memory becomes.memory becomes.differs k.bits) only are still no_writes none_up tables
+keeps_changed {o = o} {layout = layout} k beside over becomes only are still tables =
+    keeps_stepped k beside.goes.makes (maps_come beside) over becomes.memory becomes.stands becomes.is (bits_beside layout k.marks k.memory becomes.memory becomes.differs k.bits) only are still no_writes none_up (no_roots o.next) tables
 
 -- ---- The map is searched: the memory stays.
 

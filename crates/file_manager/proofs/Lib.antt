@@ -36,6 +36,7 @@ pub mod DownLemmas
 pub mod DownRun
 pub mod DownTo
 pub mod CutReasons
+pub mod LackLemmas
 pub mod CutSteps
 pub mod ShrinkLemmas
 pub mod SizeSteps
@@ -45,6 +46,7 @@ pub mod RunCauses
 pub mod CutCauses
 pub mod TakingLemmas
 pub mod MadeRun
+pub mod RoomStops
 pub mod MakeStops
 pub mod CreateStops
 pub mod ResizeStops

@@ -20,13 +20,13 @@ use Rattle.frame_pool.specs.Frames.{Slots}
 use Rattle.alloc_map.specs.Runs.{IsDataRun}
 use Rattle.file_map.specs.declared.run.Run.{Run}
 use Rattle.file_map.specs.Run.{holds, sector_at}
-use Rattle.file_map.specs.FileMap.{Triples, IsNew, with_run, run_names, most_records}
+use Rattle.file_map.specs.FileMap.{Triples, IsNew, with_run, run_names}
 use Rattle.swapper_kernel.specs.declared.manager.Manager.TheVariants.{AllocationMap, FileMap}
 use Rattle.swapper_kernel.specs.Differs.{Differs}
 use Rattle.swapper_kernel.specs.Goes.{Makes, Pages}
 use Rattle.swapper_kernel.specs.HaltLaws.{brings_then}
 use Rattle.swapper_kernel.specs.Halts.{Halts, HasCause}
-use Rattle.swapper_kernel.specs.Homes.{IsLayout, IsHeld, Brings, home_at}
+use Rattle.swapper_kernel.specs.Homes.{IsLayout, IsHeld, Brings}
 use Rattle.swapper_kernel.specs.Maps.{IsMapHome}
 use Rattle.swapper_kernel.specs.Stands.{Stands}
 use Rattle.swapper_kernel.specs.Window.{Beside, in_map}
@@ -39,17 +39,17 @@ use Rattle.filer_kernel.specs.Triples.{MapIs, AreOf}
 use Rattle.session_words.specs.Volume.{volume_page}
 use Rattle.file_manager.specs.Grounds.{IsMapsHome}
 use Rattle.file_manager.specs.Making.{sectors_of}
-use Rattle.file_manager.specs.Reasons.{Outset, AreTabled, Gives, IsAtHome, KeepsTo, ShowsReason, IsUsed}
-use Rattle.file_manager.specs.LaterLaws.{GivesNot, at_home_later, made_now, may_be_free_later, TakesNot, takes_not, UpNot, used_now, whole_not_up, sector_of}
-use Rattle.file_manager.specs.ShownLaws.{named_homes}
-use Rattle.file_manager.specs.KeepLaws.{keeps_after, home_later, unframed_still}
+use Rattle.file_manager.specs.Reasons.{Outset, AreTabled, Gives, IsAtHome, KeepsTo, MayTake, ShowsReason, IsUsed}
+use Rattle.file_manager.specs.LaterLaws.{at_home_later, made_now, may_be_free_later, used_now}
+use Rattle.file_manager.specs.WriteLaws.{GivesNot, RootsBelow, TakesNot, UpNot, sector_of, takes_not, whole_not_up}
+use Rattle.file_manager.specs.KeepLaws.{keeps_after, home_later, over_left, unframed_still}
 use Rattle.file_manager.specs.ReasonLaws.{label_reasons, room_reason}
-use Rattle.file_manager.specs.TabledLaws.{brings_no_label_then, front_only, keeps_sectors_then, keeps_undiffering, labels_alike, tables_told}
+use Rattle.file_manager.specs.TabledLaws.{front_only, keeps_sectors_then, keeps_undiffering, tables_told}
 use Rattle.file_manager.specs.Taking.{NamesNoneOf}
 use Rattle.file_manager.proofs.AddReasons.{add_at}
+use Rattle.file_manager.proofs.FreedRun.{first_is}
 use Rattle.file_manager.proofs.KeepSteps.{bits_beside}
 use Rattle.file_manager.proofs.MadeRun.{IsLabelledFor, maps_come, labelled, labelled_bits, map_then, new_run, run_adds}
-use Rattle.file_manager.proofs.MakeStops.{page_in}
 use Rattle.file_manager.proofs.TakingLemmas.{none_later}
 use Rattle.std.proofs.lemmas.Bool.Decides.{nat_tests}
 
@@ -184,7 +184,7 @@ module _ {o : Outset} {x l1 : Layout} {k : List Run} {a b : DiskState} {s t : Sl
     label_reasons_taken from inside free makes (Damaged (Mismatch place wanted found)) (j, below, (at, nobody, has, other)) =
         let first : run.sector ≤ place = omega (arith, at) in
         let last : place < run.sector + run.pages = omega (arith, at, below) in
-        inr (inr (nobody, may_be_free_later o makes h.since place (unwritten j place found at has other) (h.free place (omega (arith, from, first)) (omega (arith, inside, last)) (free h.memory h.marks h.stands h.bits place first last))))
+        inr (inr (nobody, may_be_free_later o makes place (unwritten j place found at has other) (h.free place (omega (arith, from, first)) (omega (arith, inside, last)) (free h.memory h.marks h.stands h.bits place first last))))
     label_reasons_taken from inside free makes (Damaged (Malformed window page)) (j, below, is) = absurd is
     label_reasons_taken from inside free makes (Damaged (Missing id page)) (j, below, is) = absurd is
 
@@ -232,6 +232,16 @@ module _ {o : Outset} {x l1 l3 : Layout} {k : List Run} {a b c d : DiskState} {s
       let there = growth_at run.id kind run.first run.sector run.pages turn below in
       whole_not_up (run.sector + turn) (page_label run.id kind (run.first + turn)) zero_bytes sector (same_Some (Whole (run.sector + turn) (page_label run.id kind (run.first + turn)) zero_bytes) w (sym there ∙ at) ∙ up)
 
+  -- none is in the sector of the root
+  no_root : RootsBelow o.next (growth run.id kind run.first (sectors_of run))
+  no_root root turn (label, (page, (at, own))) =
+      let below = growth_turn run.id kind run.first run.sector run.pages turn (Whole 0 label page) at in
+      let there = growth_at run.id kind run.first run.sector run.pages turn below in
+      let place : run.sector + turn ≡ 0 = ap sector_of (same_Some (Whole (run.sector + turn) (page_label run.id kind (run.first + turn)) zero_bytes) (Whole 0 label page) (sym there ∙ at)) in
+      let from = form.above in
+      let first = first_is x is in
+      absurd (omega (arith, place, from, first))
+
   -- each sector that is used besides was given to a page
   used_then : (sector : ℕ) → marked true run.sector run.pages h.marks sector ≡ true → ((h.marks sector ≡ true) × UpNot (growth run.id kind run.first (sectors_of run)) sector) ⊎ IsUsed o d sector
   used_then sector is = elim (used_before run.sector run.pages sector h.marks is) [
@@ -257,19 +267,22 @@ module _ {o : Outset} {x l1 l3 : Layout} {k : List Run} {a b c d : DiskState} {s
   run_told untold n differs told = elim (cases_eq run.id 3) [
     | inl own ↦ subst (λ (tables : Option (List ℕ)). IfSome tables (AreTabled x (with_run named run) n)) (sym (untold own)) tt
     | inr other ↦
-        tables_told x named (with_run named run) h.memory n o.tables is h.map (brings_no_label_then x h.memory mid.0 n (mid.2.brings other) (labels_alike x mid.0 n differs))
-        (keeps_sectors_then x h.memory mid.0 n (mid.2.keeps other) (keeps_undiffering x mid.0 n differs (λ sector l from own. front_only FileMap x sector l is from)))
+        tables_told x named (with_run named run) h.memory n o.tables is h.map (keeps_sectors_then x h.memory mid.0 n mid.2.keeps (keeps_undiffering x mid.0 n differs (λ sector l from own. front_only FileMap x sector l is from)))
         (λ page sector was. ap (λ (b : Bool). b || run_names run 3 page sector) was) told
   ]
 
-  pub run_keeps : (run.id ≡ 3 → o.tables ≡ None) → ((m : List Sector) (named : Triples) → Stands c t m → MapIs x named m → IsNew named run → Becomes FileMap x m (MapIs x (with_run named run)) d u) → KeepsTo o x k d u (with_run named run)
-  run_keeps untold added =
+  -- each page that was given a sector is one of the file
+  takes : MayTake o run.id → (home : Home) (turn : ℕ) (w : DiskWrite) → slice_get (growth run.id kind run.first (sectors_of run)) turn ≡ Some w → Gives home w → MayTake o home.id
+  takes may home turn w at gives = subst (λ (i : ℕ). MayTake o i) (run_parts run home.id home.page home.sector (growth_names run kind turn w home at gives)).0 may
+
+  pub run_keeps : MayTake o run.id → (run.id ≡ 3 → o.tables ≡ None) → ((m : List Sector) (named : Triples) → Stands c t m → MapIs x named m → IsNew named run → Becomes FileMap x m (MapIs x (with_run named run)) d u) → KeepsTo o x k d u (with_run named run)
+  run_keeps may_take untold added =
       let more = added mid.0 named mid.1 map_mid (new_run run named nothing) in
       let later = marked true run.sector run.pages h.marks in
       let bits = labelled_bits is run kind most form taken marked_so made were h.unframed h.memory h.stands h.marks h.bits mid.0 mid.1 in
       keeps_after h makes more.memory more.stands (with_run named run) more.is given k (are_more named run k h.kept) (λ home held. elim (come.homes home held) [ inl was ↦ inl was | inr own ↦ inr (inl own) ])
-      (unframed_still come h.unframed) later (bits_beside x later mid.0 more.memory more.differs bits) (λ sector from below free. inl (free_before run.sector run.pages sector h.marks free, untaken sector free))
-      (λ home from may was. inl (ap (λ (b : Bool). b || run_names run home.id home.page home.sector) was)) (λ home from may. others home) (λ sector from below is. used_then sector is)
+      (unframed_still come h.unframed) (over_left named (with_run named run) 0 h.over come (λ zero. absurd (omega (arith, zero))) (λ other page sector was. ap (λ (b : Bool). b || run_names run 3 page sector) was)) later (bits_beside x later mid.0 more.memory more.differs bits) (λ sector from below free. inl (free_before run.sector run.pages sector h.marks free, untaken sector free))
+      (λ home from may was. inl (ap (λ (b : Bool). b || run_names run home.id home.page home.sector) was)) (λ home from may. others home) (λ sector from below is. used_then sector is) no_root (takes may_take)
       (λ told. run_told untold more.memory more.differs told)
 
   held_home : (home : Home) → IsHeld t home → IsMapsHome x home ⊎ IsAtHome o d home
@@ -287,6 +300,6 @@ module _ {o : Outset} {x l1 l3 : Layout} {k : List Run} {a b c d : DiskState} {s
   pub add_reasons : (e : Halt) → AddHalts x c t d e → ((m : List Sector) (named : Triples) → Stands c t m → MapIs x named m → IsNew named run → IsFaultOrMost x c t e) → ShowsReason o x d e
   add_reasons e cause right =
       let some = form.some in
-      add_at is (made.makes.went.sectors ∙ taken.goes.makes.went.sectors ∙ h.size) mid.0 mid.1 map_mid (λ home named_so. at_home_later o makes home (h.homes home named_so)) held_home
+      add_at o d is (made.makes.went.sectors ∙ taken.goes.makes.went.sectors ∙ h.size) mid.0 mid.1 map_mid (λ home named_so. at_home_later o makes home (h.homes home named_so)) held_home
       (record { sector = run.sector; id = run.id; page = run.first }) first_at (λ sector. nothing run.first sector (omega arith, omega (arith, some)))
       e cause (right mid.0 named mid.1 map_mid (new_run run named nothing))

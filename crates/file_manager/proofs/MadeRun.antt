@@ -1,18 +1,17 @@
 -- A run that is taken, labelled and added: what it makes of a memory, whatever that held.
-use Rattle.std.proofs.Common.{◌≡◌, ◌≢◌, ◌⊎◌, inl, inr, ℕ, zero, suc, ◌+◌, ◌<◌, ◌≤◌, Bool, true, false, ◌&&◌, ◌||◌, List, [], ◌∷◌, length, Some, refl, sym, ◌∙◌, ap, subst, arith, length-set}
-use Rattle.std.specs.Prelude.{slice_get, slice_set, nat_le, nat_lt, ◌==◌, if◌then◌else◌}
+use Rattle.std.proofs.Common.{◌≡◌, ◌≢◌, ◌⊎◌, inl, inr, ℕ, ◌+◌, ◌<◌, ◌≤◌, Bool, true, false, ◌&&◌, ◌||◌, List, length, Some, refl, sym, ◌∙◌, ap, subst, arith}
+use Rattle.std.specs.Prelude.{slice_get, nat_le, nat_lt, ◌==◌, if◌then◌else◌}
 use Rattle.std.proofs.lemmas.Bool.{and_parts, leb-true, ltb-true, eqb-true}
 use Rattle.std.proofs.lemmas.Bool.Decides.{nat_tests}
-use Rattle.std.proofs.lemmas.Option.{same_Some, none-some, slice_get_within}
+use Rattle.std.proofs.lemmas.List.FromFn.{length-range_with_len}
+use Rattle.std.proofs.lemmas.Option.{same_Some, slice_get_within}
 use Rattle.labelled_disk.specs.declared.label.Label.{Label}
 use Rattle.labelled_disk.specs.declared.layout.Layout.{Layout}
 use Rattle.labelled_disk.specs.Calls.{TellsSame}
-use Rattle.labelled_disk.specs.Runs.{growth, zero_bytes}
-use Rattle.labelled_disk.specs.Label.{page_label}
+use Rattle.labelled_disk.specs.Runs.{growth}
 use Rattle.labelled_disk.specs.Sectors.{Sector}
 use Rattle.labelled_disk.specs.State.{DiskState}
 use Rattle.labelled_disk.specs.WriteRuns.{after_writes}
-use Rattle.labelled_disk.proofs.Finds.{get_set_same}
 use Rattle.frame_pool.specs.Frames.{Slots}
 use Rattle.alloc_map.specs.Runs.{IsDataRun}
 use Rattle.file_map.specs.declared.run.Run.{Run}
@@ -35,14 +34,14 @@ use Rattle.filer_kernel.proofs.MapLemmas.{within_or_not}
 use Rattle.file_manager.specs.Grounds.{IsMapsHome, IsUnframed, MakesFor}
 use Rattle.file_manager.specs.Making.{sectors_of}
 pub use Rattle.file_manager.specs.KeepLaws.{unframed_still}
-use Rattle.file_manager.specs.TabledLaws.{BringsNoLabel, KeepsSectors, front_only, keeps_undiffering}
+use Rattle.file_manager.specs.TabledLaws.{KeepsSectors, front_only, keeps_undiffering}
 use Rattle.file_manager.specs.Taking.{IsTakenFor, TakesLabels, TakesBits, TakesSectors, NamesNoneOf, AddsPages, no_page_of}
 use Rattle.file_manager.proofs.FreedRun.{behind_map, first_is, one_memory, shows_still}
 use Rattle.file_manager.proofs.FreedSectors.{row_at}
 use Rattle.file_manager.proofs.GrowSteps.{long_grown}
-use Rattle.file_manager.proofs.RowLemmas.{is_in, in_row, growth_labels, growth_elsewhere}
+use Rattle.file_manager.proofs.RowLemmas.{is_in, in_row, growth_labels, growth_elsewhere, growth_own, growth_page}
 use Rattle.file_manager.proofs.RunStages.{beside_map, there_is}
-use Rattle.file_manager.proofs.TakingLemmas.{takes_none, takes_then, takes_wider, sectors_then, adds_none}
+use Rattle.file_manager.proofs.TakingLemmas.{not_taken, takes_none, takes_then, takes_wider, sectors_then, adds_none}
 
 -- ---- Frames.
 
@@ -96,6 +95,7 @@ made_read {layout = layout} id {b = b} {t = t} size beside stays = record {
         now.1,
         record {
           taken = file_map_alone layout id m now.0 now.2;
+          of = λ other sector from taken. absurd (not_taken id m now.0 sector other taken (λ s here. other_sector now.0 m (sym now.2.labels) sector s here));
           names = λ named map nothing.
               let told = stays map.bytes (record { memory = m; stands = stands; shows = map.shows; size = size }) in
               let same = one_memory b t told.memory now.0 told.stands now.1 in
@@ -112,21 +112,6 @@ made_look layout id {a = a} {b = b} {s = s} told frames = subst (λ (u : Slots).
 })
 
 -- ---- A run: its sectors are taken, and labelled.
-
--- the labels of a growth are of its file
-growth_own : (id kind page : ℕ) (is : List ℕ) (d : List Sector) (j k : ℕ) (s : Sector) → slice_get is j ≡ Some k → slice_get (after_writes (growth id kind page is) d) k ≡ Some s → s.0.id ≡ id
-growth_own id kind page [] d j k s at here = absurd (none-some k at)
-growth_own id kind page (i ∷ is) d (suc j) k s at here = growth_own id kind (page + 1) is (slice_set d i (page_label id kind page, zero_bytes)) j k s at here
-growth_own id kind page (i ∷ is) d zero k s at here = elim (is_in is k) [
-  | inl (j, later) ↦ growth_own id kind (page + 1) is (slice_set d i (page_label id kind page, zero_bytes)) j k s later here
-  | inr none ↦
-      let own : i ≡ k = same_Some i k at in
-      let now : slice_get (slice_set d i (page_label id kind page, zero_bytes)) i ≡ Some s =
-      ap (slice_get (slice_set d i (page_label id kind page, zero_bytes))) own ∙ sym (growth_elsewhere id kind (page + 1) is (slice_set d i (page_label id kind page, zero_bytes)) k none) ∙ here in
-      let within = slice_get_within (slice_set d i (page_label id kind page, zero_bytes)) i s now in
-      let inside : i < length d = let long = length-set d i (page_label id kind page, zero_bytes) in omega (arith, within, long) in
-      ap (λ (t : Sector). t.0.id) (same_Some {A = Sector} s (page_label id kind page, zero_bytes) (sym now ∙ get_set_same d i (page_label id kind page, zero_bytes) inside))
-]
 
 -- the pages of a run
 run_pages : (run : Run) (id page : ℕ) → holds run id page ≡ true → (run.id ≡ id) × (run.first ≤ page) × (page < run.first + run.pages)
@@ -151,13 +136,12 @@ run_adds run named = record {
         let own = run_pages run i page held in
         inr (sym own.0, (own.1, own.2))
 
--- The file has taken the run's sectors, and the file map's pages are as they were. Where it is not that of the space tables, no
--- sector has a label of theirs besides, and those that had one are as they were.
+-- The file has taken the run's sectors, and the file map's pages are as they were; so are sectors that had labels of the space
+-- tables.
 pub record IsLabelledFor (layout : Layout) (id : ℕ) (m n : List Sector) : Type 0 where
   pub taken : TakesSectors layout id m n
   pub map : (bytes : List ℕ) → Shows FileMap m layout bytes → Shows FileMap n layout bytes
-  pub brings : id ≢ 3 → BringsNoLabel layout m n
-  pub keeps : id ≢ 3 → KeepsSectors layout m n
+  pub keeps : KeepsSectors layout m n
 
 module _ {layout l1 : Layout} {a b c : DiskState} {s t : Slots} (is : IsLayout layout) (run : Run) (kind most : ℕ) (form : IsDataRun layout.first layout.sectors most (run.sector, run.pages)) (taken : Beside AllocationMap a s layout b t l1)
     (marked_so : (m : List Sector) (marks : Marks) → Stands a s m → BitsAre layout marks m → Becomes AllocationMap layout m (BitsAre layout (marked true run.sector run.pages marks)) b t)
@@ -229,12 +213,6 @@ module _ {layout l1 : Layout} {a b c : DiskState} {s t : Slots} (is : IsLayout l
         ∙ differs.pages (1 + layout.vam + k) s here (behind_map AllocationMap layout (1 + layout.vam + k) s.0 (omega arith))) shows
 
     -- sectors with labels of the space tables
-    in_tables_before : run.id ≢ 3 → BringsNoLabel layout m m2
-    in_tables_before other k s from here own = elim (is_in (sectors_of run) k) [
-      | inl (j, at) ↦ absurd (other (sym (growth_own run.id kind run.first (sectors_of run) m1 j k s at (ap (λ (l : List Sector). slice_get l k) (sym is2) ∙ here)) ∙ own))
-      | inr none ↦ other_sector m m1 differs.labels k s (sym (elsewhere k none) ∙ here)
-    ]
-
     in_tables_still : KeepsSectors layout m m2
     in_tables_still k s from here own = elim (is_in (sectors_of run) k) [
       | inl (j, at) ↦
@@ -245,6 +223,17 @@ module _ {layout l1 : Layout} {a b c : DiskState} {s t : Slots} (is : IsLayout l
           let free : s.0.id ≡ 0 = ap (λ (t : Sector). t.0.id) (sym same) ∙ ap (λ (l : Label). l.id) one.2 ∙ eqb-true disk.0.0.id 0 disk.2 in
           absurd (omega (arith, free, own))
       | inr none ↦ elsewhere k none ∙ keeps_undiffering layout m m1 differs (λ sector l above named. front_only AllocationMap layout sector l is above) k s from here own
+    ]
+
+    -- sectors that were taken have labels of the run's pages
+    run_of : run.id ≢ 0 → (k : ℕ) → IsTakenFor run.id m m2 k → (s : Sector) → slice_get m2 k ≡ Some s → (run.first ≤ s.0.page) × (s.0.page < run.first + run.pages)
+    run_of other k taken s here = elim (is_in (sectors_of run) k) [
+      | inl (j, at) ↦
+          let own = growth_page run.id kind run.first (sectors_of run) m1 j k s at (ap (λ (l : List Sector). slice_get l k) (sym is2) ∙ here) in
+          let below = own.1 in
+          let long = length-range_with_len run.sector run.pages in
+          (own.0, omega (arith, below, long))
+      | inr none ↦ absurd (not_taken run.id m m2 k other taken (λ t there. let one = other_sector m1 m (sym differs.labels) k t there in (one.0, elsewhere k none ∙ one.1, one.2)))
     ]
 
     run_taken : TakesSectors layout run.id m m2
@@ -266,10 +255,16 @@ module _ {layout l1 : Layout} {a b c : DiskState} {s t : Slots} (is : IsLayout l
         record {
           taken = run_taken m stands one.0 one.1 one.2 two.0 two.2;
           map = map_stays m stands one.0 one.1 one.2 two.0 two.2;
-          brings = in_tables_before m stands one.0 one.1 one.2 two.0 two.2;
-          keeps = λ other. in_tables_still m stands one.0 one.1 one.2 two.0 two.2;
+          keeps = in_tables_still m stands one.0 one.1 one.2 two.0 two.2;
         },
       )
+
+  labelled_of : IsUnframed s 0 → (m : List Sector) → Stands a s m → (n : List Sector) → Stands c t n → run.id ≢ 0 → (k : ℕ) → IsTakenFor run.id m n k → (x : Sector) → slice_get n k ≡ Some x → (run.first ≤ x.0.page) × (x.0.page < run.first + run.pages)
+  labelled_of none m stands n stands_n =
+      let one = taken.goes.memory m stands in
+      let two = (made.goes (none_over (unframed_still (maps_come taken) none) one.0 one.1)).memory one.0 one.1 in
+      subst (λ (y : List Sector). run.id ≢ 0 → (k : ℕ) → IsTakenFor run.id m y k → (x : Sector) → slice_get y k ≡ Some x → (run.first ≤ x.0.page) × (x.0.page < run.first + run.pages)) (one_memory c t two.0 n two.1 stands_n)
+      (run_of m stands one.0 one.1 one.2 two.0 two.2)
 
   -- the bits of the run's sectors alone are other ones
   pub labelled_bits : IsUnframed s 0 → (m : List Sector) → Stands a s m → (marks : Marks) → BitsAre layout marks m → (n : List Sector) → Stands c t n → BitsAre layout (marked true run.sector run.pages marks) n
@@ -304,6 +299,10 @@ module _ {layout l1 : Layout} {a b c : DiskState} {s t : Slots} (is : IsLayout l
             last.1,
             record {
               taken = sectors_then now.2.taken (file_map_alone layout run.id now.0 last.0 last.2);
+              of = λ other sector from taken_so.
+                  let back = other_sector now.0 last.0 last.2.labels sector taken_so.now.0 taken_so.now.1 in
+                  let own = labelled_of none m stands now.0 now.1 other sector (record { was = taken_so.was; now = (back.0, back.1, ap (λ (l : Label). l.id) back.2 ∙ taken_so.now.2) }) back.0 back.1 in
+                  (taken_so.now.0, taken_so.now.1, subst (λ (p : ℕ). (run.first ≤ p) × (p < run.first + run.pages)) (ap (λ (l : Label). l.page) back.2) own);
               names = λ named map nothing.
                   let more = added now.0 named now.1 (map_then m now.0 named now.2 map) (new_run run named nothing) in
                   let one = one_memory d u more.memory last.0 more.stands last.1 in

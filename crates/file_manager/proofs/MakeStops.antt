@@ -34,12 +34,13 @@ use Rattle.filer_kernel.specs.Causes.{MapShows, AddEvidence, AddHalts, IsFaultOr
 use Rattle.filer_kernel.specs.Marks.{Marks, BitsAre, AreAll}
 use Rattle.filer_kernel.specs.Triples.{MapIs}
 use Rattle.session_words.specs.Volume.{volume_page}
-use Rattle.file_manager.specs.Grounds.{IsMapsHome, IsUnframed, MakesFor, IsBrokenOrFull, LabelsOne, LabelsRun, EndsAt, HadAdded, IsFilled, StopsInForm, StopsAddition, WasClear, HasNoRoom, IsToBeFree, TakeEvidence, TakeHalts, MakeEvidence, MakeHalts}
+use Rattle.file_manager.specs.Grounds.{IsMapsHome, IsUnframed, MakesFor, IsBrokenOrFull, LabelsOne, LabelsRun, EndsAt, HadAdded, IsFilled, StopsInForm, StopsAddition, WasClear, IsToBeFree, TakeEvidence, TakeHalts, MakeEvidence, MakeHalts}
 use Rattle.file_manager.specs.Making.{sectors_of}
 use Rattle.file_manager.specs.Taking.{TakesSectors, AddsPages, NamesNoneOf, every_page, no_page_of}
 use Rattle.file_manager.proofs.Keeping.{broken_shown}
 use Rattle.file_manager.proofs.MadeRun.{IsLabelledFor, made_none, unframed_still, new_run}
-use Rattle.file_manager.proofs.TakingLemmas.{taken_then, taken_before, labels_then, labels_none, adds_none, adds_then, none_later}
+use Rattle.file_manager.proofs.RoomStops.{room_before}
+use Rattle.file_manager.proofs.TakingLemmas.{not_taken, taken_then, taken_before, labels_then, labels_none, adds_none, adds_then, none_later}
 
 -- with the layout that there was
 pub beside_here : {layout later : Layout} {a b : DiskState} {s t : Slots} → Beside FileMap a s layout b t later → Beside FileMap a s layout b t layout
@@ -89,21 +90,6 @@ module _ {layout : Layout} {id : ℕ} {a b : DiskState} {s t : Slots} (come : Br
   label_home_before home (inr (inl own)) = inr (inl own)
   label_home_before home (inr (inr free)) = inr (inr (record { free = free.free; from = free.from; below = free.below; was = clear_before home.sector free.from free.was }))
 
-  pub room_before : (c : DiskState) (u : Slots) → HasNoRoom layout id b t c u → HasNoRoom layout id a s c u
-  room_before c u full none m marks stands bits =
-      let now = since none m stands in
-      let later = now.2.bits marks bits in
-      let took = full (unframed_still come none) now.0 later.0 now.1 later.1 in
-      record {
-        memory = took.memory;
-        stands = took.stands;
-        labels = labels_then now.2.labels took.labels;
-        all = λ sector from below free. elim (later.2 sector from) [
-          | inl same ↦ taken_before sector from now.2.labels (took.all sector from below (same ∙ free))
-          | inr (used, taken) ↦ taken_then sector from taken took.labels
-        ];
-      }
-
 -- ---- And the file map.
 
 filled_before : (layout : Layout) (id : ℕ) (p : ℕ → Type 0) (named later : Triples) (c : DiskState) (u : Slots) → AddsPages id p named later → IsFilled layout id later c u → IsFilled layout id named c u
@@ -132,6 +118,7 @@ leaves_apart layout id p q r a s of_p of_q apart = record {
 }
 
 module _ {layout : Layout} {id : ℕ} (p q r : ℕ → Type 0) {run : List DiskWrite} {a b : DiskState} {s t : Slots} (makes : Makes volume_page run a s b t) (since : MakesFor layout id p a s b t) (leaves : LeavesUnnamed layout id p q r a s)
+    (before wanted : ℕ → Type 0) (of : (page : ℕ) → before page → wanted page) (apart : (page : ℕ) → before page → p page → ⊥)
     (begun : (IsUnframed s 0 → (bytes : List ℕ) → Tells FileMap a s layout bytes → Tells FileMap b t layout bytes) ⊎ LabelsRun layout id a s b t) (c : DiskState) (u : Slots) where
   form_before : (page : ℕ) → StopsInForm layout id q page b t c u → StopsInForm layout id r page a s c u
   form_before page stops none m named stands map nothing =
@@ -193,19 +180,19 @@ module _ {layout : Layout} {id : ℕ} (p q r : ℕ → Type 0) {run : List DiskW
     ];
   }
 
-  evidence_before : (e : Evidence) → MakeEvidence layout id q b t c u e → MakeEvidence layout id r a s c u e
-  evidence_before (Mismatch sector wanted found) is = label_home_before since.brings (λ none m stands. let now = since.memory none m stands in (now.0, now.1, now.2.taken)) (home_at sector wanted) is
+  evidence_before : (e : Evidence) → MakeEvidence layout id q before b t c u e → MakeEvidence layout id r wanted a s c u e
+  evidence_before (Mismatch sector label found) is = label_home_before since.brings (λ none m stands. let now = since.memory none m stands in (now.0, now.1, now.2.taken)) (home_at sector label) is
   evidence_before (Malformed window page) is = (is.0, stops_before page is.1)
-  evidence_before (Missing missing page) is = (is.0, is.1, room_before since.brings (λ none m stands. let now = since.memory none m stands in (now.0, now.1, now.2.taken)) c u is.2)
+  evidence_before (Missing missing page) is = (is.0, is.1, room_before p before wanted of apart since.brings (λ none m stands. let now = since.memory none m stands in (now.0, now.1, (now.2.taken, now.2.of))) c u is.2)
 
-  pub make_halts_before : (halt : Halt) → MakeHalts layout id q b t c u halt → MakeHalts layout id r a s c u halt
+  pub make_halts_before : (halt : Halt) → MakeHalts layout id q before b t c u halt → MakeHalts layout id r wanted a s c u halt
   make_halts_before Disk is = rose_wider a.faults b.faults c.faults c.faults makes.went.faults (omega arith) is
   make_halts_before (Damaged e) is = evidence_before e is
 
--- where more pages are said not to be named
-pub make_halts_wider : (layout : Layout) (id : ℕ) (q r : ℕ → Type 0) → ((page : ℕ) → q page → r page) → (a c : DiskState) (s u : Slots) (halt : Halt) → MakeHalts layout id q a s c u halt → MakeHalts layout id r a s c u halt
-make_halts_wider layout id q r of_q a c s u halt is =
-    make_halts_before no_page_of q r (makes_nothing volume_page a s) (made_none layout id no_page_of a s) (leaves_apart layout id no_page_of q r a s (λ page not. absurd not) of_q (λ page own not. not)) (inl (λ none bytes tells. tells)) c u halt is
+-- where more pages are said not to be named, and more are wanted
+pub make_halts_wider : (layout : Layout) (id : ℕ) (q r before wanted : ℕ → Type 0) → ((page : ℕ) → q page → r page) → ((page : ℕ) → before page → wanted page) → (a c : DiskState) (s u : Slots) (halt : Halt) → MakeHalts layout id q before a s c u halt → MakeHalts layout id r wanted a s c u halt
+make_halts_wider layout id q r before wanted of_q of a c s u halt is =
+    make_halts_before no_page_of q r (makes_nothing volume_page a s) (made_none layout id no_page_of a s) (leaves_apart layout id no_page_of q r a s (λ page not. absurd not) of_q (λ page own not. not)) before wanted of (λ page own not. not) (inl (λ none bytes tells. tells)) c u halt is
 
 -- ---- Of single calls.
 
@@ -217,27 +204,33 @@ taken_halt layout a b s t (Damaged (Malformed window page)) is = is
 taken_halt layout a b s t (Damaged (Missing id page)) is = absurd is
 
 -- sectors are taken
-module _ (layout : Layout) (id : ℕ) (pages : ℕ → Type 0) (a b : DiskState) (s t : Slots) where
-  take_evidence : (e : Evidence) → TakeEvidence layout a s b t e → MakeEvidence layout id pages a s b t e
-  take_evidence (Mismatch sector wanted found) is = elim is.reason [ inl held ↦ inl held | inr own ↦ inr (inl (AllocationMap, own)) ]
-  take_evidence (Malformed window page) is = absurd is
-  take_evidence (Missing missing page) is = (
+module _ (layout : Layout) (id : ℕ) (pages wanted : ℕ → Type 0) (page : ℕ) (own : wanted page) (a b : DiskState) (s t : Slots) where
+  take_evidence : (e : Evidence) → TakeEvidence layout a s b t e → MakeEvidence layout id pages wanted a s b t e
+  take_evidence (Mismatch sector label found) is = elim is.reason [ inl held ↦ inl held | inr own ↦ inr (inl (AllocationMap, own)) ]
+  take_evidence (Malformed window broken) is = absurd is
+  take_evidence (Missing missing lacked) is = (
     is.0,
     is.1,
     λ none m marks stands bits.
         let full = is.2 m marks stands bits in
-        record { memory = m; stands = full.1; labels = labels_none layout id m; all = λ sector from below free. absurd (true≢false (sym (full.0 sector from below) ∙ free)) },
+        record {
+          memory = m;
+          stands = full.1;
+          labels = labels_none layout id m;
+          all = λ sector from below free. absurd (true≢false (sym (full.0 sector from below) ∙ free));
+          lacking = λ other. (page, own, λ sector from taken has. not_taken id m m sector other taken (λ x here. (x, here, refl)));
+        },
   )
 
-  pub take_halts : (halt : Halt) → TakeHalts layout a s b t halt → MakeHalts layout id pages a s b t halt
+  pub take_halts : (halt : Halt) → TakeHalts layout a s b t halt → MakeHalts layout id pages wanted a s b t halt
   take_halts Disk is = is
   take_halts (Damaged e) is = take_evidence e is
 
 -- sectors are taken, and labels written
 module _ {layout later : Layout} {a b : DiskState} {s t : Slots} (taken : Beside AllocationMap a s layout b t later) (sector count : ℕ) (from : layout.first ≤ sector) (inside : sector + count ≤ layout.sectors)
-    (lowest : (m : List Sector) (marks : Marks) → Stands a s m → BitsAre layout marks m → AreAll false marks sector (sector + count)) (id : ℕ) (pages : ℕ → Type 0) (c : DiskState) (u : Slots) where
-  taken_label : (e : Evidence) → IsOneTaken sector count b e → MakeEvidence layout id pages a s c u e
-  taken_label (Mismatch place wanted found) (k, below, (at, nobody, has, other)) = inr (inr (record {
+    (lowest : (m : List Sector) (marks : Marks) → Stands a s m → BitsAre layout marks m → AreAll false marks sector (sector + count)) (id : ℕ) (pages wanted : ℕ → Type 0) (c : DiskState) (u : Slots) where
+  taken_label : (e : Evidence) → IsOneTaken sector count b e → MakeEvidence layout id pages wanted a s c u e
+  taken_label (Mismatch place label found) (k, below, (at, nobody, has, other)) = inr (inr (record {
     free = ap (home_at place) nobody;
     from = omega (arith, from, at);
     below = omega (arith, inside, below, at);
@@ -246,7 +239,7 @@ module _ {layout later : Layout} {a b : DiskState} {s t : Slots} (taken : Beside
   taken_label (Malformed window page) (k, below, is) = absurd is
   taken_label (Missing missing page) (k, below, is) = absurd is
 
-  pub label_halts : (halt : Halt) → HasCause (IsOneTaken sector count b) b c halt → MakeHalts layout id pages a s c u halt
+  pub label_halts : (halt : Halt) → HasCause (IsOneTaken sector count b) b c halt → MakeHalts layout id pages wanted a s c u halt
   label_halts Disk is = rose_wider a.faults b.faults c.faults c.faults taken.goes.makes.went.faults (omega arith) is
   label_halts (Damaged e) is = taken_label e is
 
@@ -258,7 +251,7 @@ page_in (Damaged (Malformed window page)) = page
 page_in (Damaged (Missing missing page)) = 0
 
 -- A run is added to the map, behind its labels.
-module _ {layout later : Layout} (run : Run) (kind : ℕ) (pages : ℕ → Type 0) (some : 1 ≤ run.pages) (few : (page : ℕ) → (run.first ≤ page) × (page < run.first + run.pages) → pages page) {a b c : DiskState} {s t u : Slots}
+module _ {layout later : Layout} (run : Run) (kind : ℕ) (pages wanted : ℕ → Type 0) (some : 1 ≤ run.pages) (few : (page : ℕ) → (run.first ≤ page) × (page < run.first + run.pages) → pages page) {a b c : DiskState} {s t u : Slots}
     (come : Brings (IsMapsHome layout) s t) (labels : Makes volume_page (growth run.id kind run.first (sectors_of run)) a s b t) (makes : Makes volume_page (growth run.id kind run.first (sectors_of run)) a s c u)
     (labelled : IsUnframed s 0 → (m : List Sector) → Stands a s m → (n : List Sector) × Stands b t n × IsLabelledFor layout run.id m n)
     (told : IsUnframed s 0 → (bytes : List ℕ) → Tells FileMap a s layout bytes → Tells FileMap b t layout bytes) (beside : Beside FileMap b t layout c u later) where
@@ -284,9 +277,9 @@ module _ {layout later : Layout} (run : Run) (kind : ℕ) (pages : ℕ → Type 
         )
       ]
 
-  added_evidence : (e : Evidence) → AddEvidence layout b t e → ((n : List Sector) (named : Triples) → Stands b t n → MapIs layout named n → IsNew named run → IsFaultOrMost layout b t (Damaged e)) → MakeEvidence layout run.id pages a s c u e
-  added_evidence (Mismatch sector wanted found) is right = elim is.reason [
-    | inl held ↦ elim (come.homes (home_at sector wanted) held) [ inl was ↦ inl was | inr own ↦ inr (inl own) ]
+  added_evidence : (e : Evidence) → AddEvidence layout b t e → ((n : List Sector) (named : Triples) → Stands b t n → MapIs layout named n → IsNew named run → IsFaultOrMost layout b t (Damaged e)) → MakeEvidence layout run.id pages wanted a s c u e
+  added_evidence (Mismatch sector label found) is right = elim is.reason [
+    | inl held ↦ elim (come.homes (home_at sector label) held) [ inl was ↦ inl was | inr own ↦ inr (inl own) ]
     | inr own ↦ inr (inl (FileMap, own))
   ]
   added_evidence (Malformed window page) is right = (
@@ -301,6 +294,6 @@ module _ {layout later : Layout} (run : Run) (kind : ℕ) (pages : ℕ → Type 
   )
   added_evidence (Missing missing page) is right = absurd is
 
-  pub added_halts : (halt : Halt) → AddHalts layout b t c halt → ((n : List Sector) (named : Triples) → Stands b t n → MapIs layout named n → IsNew named run → IsFaultOrMost layout b t halt) → MakeHalts layout run.id pages a s c u halt
+  pub added_halts : (halt : Halt) → AddHalts layout b t c halt → ((n : List Sector) (named : Triples) → Stands b t n → MapIs layout named n → IsNew named run → IsFaultOrMost layout b t halt) → MakeHalts layout run.id pages wanted a s c u halt
   added_halts Disk is right = rose_wider a.faults b.faults c.faults c.faults labels.went.faults (omega arith) is
   added_halts (Damaged e) is right = added_evidence e is right

@@ -43,7 +43,7 @@ use Rattle.file_manager.specs.Making.{LedAndGrown, CreatedBy, CreatesAll, Create
 use Rattle.file_manager.proofs.FreedRun.{one_memory, map_makes, map_brings}
 use Rattle.file_manager.proofs.FreesLemmas.{no_map}
 use Rattle.file_manager.proofs.GrowSteps.{marks_alike, renamed, long_grown}
-use Rattle.file_manager.specs.MapOnce.{named_once}
+use Rattle.filer_kernel.specs.MapOnce.{named_once}
 use Rattle.file_manager.proofs.NewBooks.{behind, labels_cut, long_cut, map_cut, mark_cut}
 use Rattle.file_manager.proofs.RunStages.{beside_map, vam_is, vfm_is}
 

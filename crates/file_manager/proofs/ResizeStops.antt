@@ -13,7 +13,7 @@ use Rattle.file_map.specs.declared.run.Run.{Run}
 use Rattle.file_map.specs.FileMap.{Triples, IsSize}
 use Rattle.swapper_kernel.specs.Homes.{home_at}
 use Rattle.filer_kernel.specs.Causes.{MapEvidence, IsRunHome}
-use Rattle.file_manager.specs.Causes.{LeaderEvidence}
+use Rattle.file_manager.specs.Causes.{LeaderEvidence, NamesNone}
 use Rattle.file_manager.specs.Finding.{IsNoLeader, FileHalts}
 use Rattle.file_manager.specs.Grounds.{IsUnframed, IsBelowSize, FreeEvidence, MakeHalts, ShrinkHalts, ResizeHalts}
 use Rattle.file_manager.specs.Taking.{AddsPages, NamesNoneOf, no_page_of}
@@ -43,7 +43,7 @@ module _ (layout : Layout) (kept : List Run) (id pages : ℕ) (a c : DiskState) 
   resize_of_file (Damaged e) is = elim is [ inl map ↦ inl (searched e map) | inr other ↦ inl (no_leader e other) ]
 
   -- where pages are made
-  pub resize_of_make : (halt : Halt) → MakeHalts layout id no_page_of a s c u halt → ResizeHalts layout kept id pages a s c u halt
+  pub resize_of_make : (halt : Halt) → MakeHalts layout id no_page_of (λ p. (p < pages) × NamesNone layout a s id p) a s c u halt → ResizeHalts layout kept id pages a s c u halt
   resize_of_make Disk is = is
   resize_of_make (Damaged e) is = inr (inl is)
 

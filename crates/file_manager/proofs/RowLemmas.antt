@@ -196,3 +196,42 @@ growth_fresh id kind page (i ∷ is) d zero k s at here = elim (is_in is k) [
       let inside : i < length d = let long = length-set d i (page_label id kind page, zero_bytes) in omega (arith, within, long) in
       ap (λ (t : Sector). t.1) (same_Some {A = Sector} s (page_label id kind page, zero_bytes) (sym now ∙ get_set_same d i (page_label id kind page, zero_bytes) inside))
 ]
+
+-- the labels of a growth are of its file
+pub growth_own : (id kind page : ℕ) (is : List ℕ) (d : List Sector) (j k : ℕ) (s : Sector) → slice_get is j ≡ Some k → slice_get (after_writes (growth id kind page is) d) k ≡ Some s → s.0.id ≡ id
+growth_own id kind page [] d j k s at here = absurd (none-some k at)
+growth_own id kind page (i ∷ is) d (suc j) k s at here = growth_own id kind (page + 1) is (slice_set d i (page_label id kind page, zero_bytes)) j k s at here
+growth_own id kind page (i ∷ is) d zero k s at here = elim (is_in is k) [
+  | inl (j, later) ↦ growth_own id kind (page + 1) is (slice_set d i (page_label id kind page, zero_bytes)) j k s later here
+  | inr none ↦
+      let own : i ≡ k = same_Some i k at in
+      let now : slice_get (slice_set d i (page_label id kind page, zero_bytes)) i ≡ Some s =
+      ap (slice_get (slice_set d i (page_label id kind page, zero_bytes))) own ∙ sym (growth_elsewhere id kind (page + 1) is (slice_set d i (page_label id kind page, zero_bytes)) k none) ∙ here in
+      let within = slice_get_within (slice_set d i (page_label id kind page, zero_bytes)) i s now in
+      let inside : i < length d = let long = length-set d i (page_label id kind page, zero_bytes) in omega (arith, within, long) in
+      ap (λ (t : Sector). t.0.id) (same_Some {A = Sector} s (page_label id kind page, zero_bytes) (sym now ∙ get_set_same d i (page_label id kind page, zero_bytes) inside))
+]
+
+-- and of its pages
+pub growth_page : (id kind page : ℕ) (is : List ℕ) (d : List Sector) (j k : ℕ) (s : Sector) → slice_get is j ≡ Some k → slice_get (after_writes (growth id kind page is) d) k ≡ Some s → (page ≤ s.0.page) × (s.0.page < page + length is)
+growth_page id kind page [] d j k s at here = absurd (none-some k at)
+growth_page id kind page (i ∷ is) d (suc j) k s at here =
+    let rest = growth_page id kind (page + 1) is (slice_set d i (page_label id kind page, zero_bytes)) j k s at here in
+    let from = rest.0 in
+    let below = rest.1 in
+    (omega (arith, from), omega (arith, below))
+growth_page id kind page (i ∷ is) d zero k s at here = elim (is_in is k) [
+  | inl (j, later) ↦
+      let rest = growth_page id kind (page + 1) is (slice_set d i (page_label id kind page, zero_bytes)) j k s later here in
+      let from = rest.0 in
+      let below = rest.1 in
+      (omega (arith, from), omega (arith, below))
+  | inr none ↦
+      let own : i ≡ k = same_Some i k at in
+      let now : slice_get (slice_set d i (page_label id kind page, zero_bytes)) i ≡ Some s =
+      ap (slice_get (slice_set d i (page_label id kind page, zero_bytes))) own ∙ sym (growth_elsewhere id kind (page + 1) is (slice_set d i (page_label id kind page, zero_bytes)) k none) ∙ here in
+      let within = slice_get_within (slice_set d i (page_label id kind page, zero_bytes)) i s now in
+      let inside : i < length d = let long = length-set d i (page_label id kind page, zero_bytes) in omega (arith, within, long) in
+      let same : s.0.page ≡ page = ap (λ (t : Sector). t.0.page) (same_Some {A = Sector} s (page_label id kind page, zero_bytes) (sym now ∙ get_set_same d i (page_label id kind page, zero_bytes) inside)) in
+      (omega (arith, same), omega (arith, same))
+]

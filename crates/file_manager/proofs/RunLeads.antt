@@ -53,7 +53,7 @@ use Rattle.session_words.proofs.KnownLemmas.{frames_brought}
 use Rattle.session_words.proofs.ShownLemmas.{shown_laws}
 use Rattle.file_manager.specs.Book.{BooksUpto, AreTrue, BringsOwn, Leads}
 use Rattle.file_manager.specs.Making.{ShowsNoFree, MakesSome, sectors_of}
-use Rattle.file_manager.specs.MapOnce.{named_once}
+use Rattle.filer_kernel.specs.MapOnce.{named_once}
 use Rattle.file_manager.proofs.RowLemmas.{in_row, row_marks, row_names, row_free, growth_labels, growth_elsewhere, growth_fresh}
 use Rattle.file_manager.proofs.GrowSteps.{marks_alike, renamed, data_no_map, long_grown}
 use Rattle.file_manager.proofs.RunStages.{there_is, uncovered, shows_still, beside_map, maps_named, vam_is, marks_shown, mark_is, free_by_mark, map_is}

@@ -1,9 +1,8 @@
 -- A run of the space tables that is taken, labelled and added: the bytes of their pages are told as before, and those of the run's are zeros.
-use Rattle.std.proofs.Common.{◌≡◌, ◌≢◌, ◌⊎◌, inl, inr, ℕ, zero, suc, ◌+◌, ◌-◌, ◌*◌, ◌<◌, ◌≤◌, Bool, true, false, ◌&&◌, ◌||◌, List, ◌++◌, length, Some, None, refl, sym, ◌∙◌, ap, subst, arith, length-set}
-use Rattle.std.specs.Prelude.{slice_get, slice_set, nat_le, nat_lt, ◌==◌, take, drop, replicate}
+use Rattle.std.proofs.Common.{◌≡◌, ◌≢◌, inl, inr, ℕ, zero, suc, ◌+◌, ◌-◌, ◌*◌, ◌<◌, ◌≤◌, Bool, true, ◌||◌, List, ◌++◌, length, Some, None, refl, sym, ◌∙◌, ap, subst, arith, length-set}
+use Rattle.std.specs.Prelude.{slice_get, slice_set, ◌==◌, take, drop, replicate}
 use Rattle.std.specs.List.{range_with_len}
-use Rattle.std.proofs.lemmas.Bool.{cases_lt, eqb-true, true≢false}
-use Rattle.std.proofs.lemmas.Bool.Decides.{nat_tests}
+use Rattle.std.proofs.lemmas.Bool.{cases_lt, eqb-true}
 use Rattle.std.proofs.lemmas.Option.{same_Some, slice_get_within}
 use Rattle.std.proofs.lemmas.List.{length-append, length-drop, length-replicate, take-append-le, take-replicate, drop-append-le, drop-replicate}
 use Rattle.std.proofs.Math.Seq.{drop-append-add}
@@ -22,7 +21,7 @@ use Rattle.file_map.specs.declared.run.Run.{Run}
 use Rattle.file_map.specs.FileMap.{Triples, IsNew, with_run, run_names}
 use Rattle.swapper_kernel.specs.declared.manager.Manager.TheVariants.{AllocationMap, FileMap}
 use Rattle.swapper_kernel.specs.Differs.{Differs}
-use Rattle.swapper_kernel.specs.DiffersLaws.{other_sector, same_place, names_id, names_page}
+use Rattle.swapper_kernel.specs.DiffersLaws.{other_sector, same_place, names_id}
 use Rattle.swapper_kernel.specs.Goes.{Makes}
 use Rattle.swapper_kernel.specs.Homes.{IsLayout}
 use Rattle.swapper_kernel.specs.Stands.{Stands}
@@ -34,7 +33,6 @@ use Rattle.filer_kernel.specs.Marks.{Marks, BitsAre, marked}
 use Rattle.filer_kernel.specs.PlaceLaws.{on_data}
 use Rattle.filer_kernel.specs.Tables.{IsTablePage}
 use Rattle.filer_kernel.specs.Triples.{MapIs}
-use Rattle.filer_kernel.proofs.MapLemmas.{within_or_not}
 use Rattle.session_words.specs.Volume.{volume_page}
 use Rattle.session_words.proofs.GrownLemmas.{page_label_named}
 use Rattle.file_manager.specs.Grounds.{IsUnframed}
@@ -149,31 +147,11 @@ module _ {layout l1 : Layout} {a b c : DiskState} {s t : Slots} (is : IsLayout l
 
 -- ---- Pages of the space tables.
 
--- a label of a page in front is not that of this one
-not_page : (kind page k : ℕ) → page < k → names (page_label 3 kind page) (record { id = 3; page = k }) ≡ false
-not_page kind page k below = grind (arith, nat_tests)
-
 -- a free label is that of none
 not_free : (l : Label) (k : ℕ) → free_ones l → names l (record { id = 3; page = k }) ≡ true → ⊥
 not_free l k none is = let of : l.id ≡ 3 = names_id l (record { id = 3; page = k }) is in let nobody : l.id ≡ 0 = eqb-true l.id 0 none in omega (arith, of, nobody)
 
 module _ (layout : Layout) (run : Run) (kind : ℕ) (named : Triples) (m n : List Sector) (is : IsLayout layout) (tables : run.id ≡ 3) (from : layout.first ≤ run.sector) (map : MapIs layout named m) (g : IsGrown layout run kind m n) where
-  -- a data sector is one of the run's, or as it was
-  run_or_not : (k : ℕ) → layout.first ≤ k → ((j : ℕ) × (j < run.pages) × (k ≡ run.sector + j)) ⊎ (slice_get n k ≡ slice_get m k)
-  run_or_not k above = elim (within_or_not run.sector run.pages k) [
-    | inl out ↦ inr (g.other k above (λ j below same. true≢false (sym (inside j below same) ∙ out)))
-    | inr own ↦ inl own
-  ]
-    where
-      inside : (j : ℕ) → j < run.pages → k ≡ run.sector + j → (nat_le run.sector k && nat_lt k (run.sector + run.pages)) ≡ true
-      inside j below same = grind (arith, nat_tests)
-
-  -- the label of one of the run's
-  made_label : (j k : ℕ) (s : Sector) → j < run.pages → k ≡ run.sector + j → slice_get n k ≡ Some s → s.0 ≡ page_label 3 kind (run.first + j)
-  made_label j k s below same here =
-      let now : slice_get n k ≡ Some (page_label 3 kind (run.first + j), zero_bytes) = ap (slice_get n) same ∙ g.made j below ∙ ap (λ (i : ℕ). Some (page_label i kind (run.first + j), zero_bytes)) tables in
-      ap (λ (x : Sector). x.0) (same_Some {A = Sector} s (page_label 3 kind (run.first + j), zero_bytes) (sym here ∙ now))
-
   -- a page in front is as it was
   old_page : (k : ℕ) (page : List ℕ) → k < run.first → IsTablePage layout named m k page → IsTablePage layout (with_run named run) n k page
   old_page k page before p = record {
@@ -185,22 +163,14 @@ module _ (layout : Layout) (run : Run) (kind : ℕ) (named : Triples) (m n : Lis
         let label : p.label ≡ free.0.0 = ap (λ (x : Sector). x.0) (same_Some {A = Sector} (p.label, page) free.0 (sym p.keeps ∙ ap (slice_get m) same ∙ free.1)) in
         not_free free.0.0 k free.2 (ap (λ (l : Label). names l (record { id = 3; page = k })) (sym label) ∙ p.named_so)) ∙ p.keeps;
     named_so = p.named_so;
-    alone = λ other s above here own. elim (run_or_not other above) [
-      | inl (j, below, same) ↦
-          let label = made_label j other s below same here in
-          let page : run.first + j ≡ k = names_page (page_label 3 kind (run.first + j)) (record { id = 3; page = k }) (ap (λ (l : Label). names l (record { id = 3; page = k })) (sym label) ∙ own) in
-          absurd (omega (arith, page, before))
-      | inr stays ↦ p.alone other s above (sym stays ∙ here) own
-    ];
   }
     where
       place : layout.first ≤ p.sector
       place = on_data layout named m map is 3 k p.sector p.found
 
   -- one of the run's has zeros
-  new_page : (k : ℕ) (page : List ℕ) → run.first ≤ k → k < run.first + run.pages → page ≡ zero_bytes
-      → ((sector : ℕ) (s : Sector) → layout.first ≤ sector → slice_get m sector ≡ Some s → names s.0 (record { id = 3; page = k }) ≡ false) → IsTablePage layout (with_run named run) n k page
-  new_page k page behind below zeros none =
+  new_page : (k : ℕ) (page : List ℕ) → run.first ≤ k → k < run.first + run.pages → page ≡ zero_bytes → IsTablePage layout (with_run named run) n k page
+  new_page k page behind below zeros =
       let j = k - run.first in
       let of : run.first + j ≡ k = omega (arith, behind) in
       let inside : j < run.pages = omega (arith, behind, below) in
@@ -210,22 +180,7 @@ module _ (layout : Layout) (run : Run) (kind : ℕ) (named : Triples) (m n : Lis
         found = or_right (named 3 k (run.sector + j)) (run_names run 3 k (run.sector + j)) (names_turn run 3 k (run.sector + j) j tables of inside refl);
         keeps = g.made j inside ∙ (λ i. Some (page_label (tables i) kind (of i), sym zeros i));
         named_so = page_label_named 3 kind k;
-        alone = λ other s above here own. elim (run_or_not other above) [
-          | inl (i, within, same) ↦
-              let label = made_label i other s within same here in
-              let place : run.first + i ≡ k = names_page (page_label 3 kind (run.first + i)) (record { id = 3; page = k }) (ap (λ (l : Label). names l (record { id = 3; page = k })) (sym label) ∙ own) in
-              omega (arith, same, place, of, behind)
-          | inr stays ↦ absurd (true≢false (sym own ∙ none other s above (sym stays ∙ here)))
-        ];
       }
-
-  -- no sector has the label of a page behind
-  none_behind : (k : ℕ) → run.first + run.pages ≤ k → ((sector : ℕ) (s : Sector) → layout.first ≤ sector → slice_get m sector ≡ Some s → names s.0 (record { id = 3; page = k }) ≡ false)
-      → (sector : ℕ) (s : Sector) → layout.first ≤ sector → slice_get n sector ≡ Some s → names s.0 (record { id = 3; page = k }) ≡ false
-  none_behind k behind none sector s above here = elim (run_or_not sector above) [
-    | inl (j, below, same) ↦ ap (λ (l : Label). names l (record { id = 3; page = k })) (made_label j sector s below same here) ∙ not_page kind (run.first + j) k (omega (arith, below, behind))
-    | inr stays ↦ none sector s above (sym stays ∙ here)
-  ]
 
   tabled_grown : (bytes : List ℕ) → length bytes ≡ 512 * run.first → run.first + run.pages ≤ 96 → AreTabled layout named m bytes → AreTabled layout (with_run named run) n (bytes ++ replicate (512 * run.pages) 0)
   tabled_grown bytes long fits h =
@@ -240,9 +195,8 @@ module _ (layout : Layout) (run : Run) (kind : ℕ) (named : Triples) (m n : Lis
               let same = part_front bytes (replicate (512 * run.pages) 0) (512 * k) 512 (omega (arith, before, long)) in
               subst (IsTablePage layout (with_run named run) n k) (sym same) (old_page k (part bytes (512 * k) 512) before (h.page k (omega (arith, before, count))))
           | inr behind ↦
-              new_page k (part (bytes ++ replicate (512 * run.pages) 0) (512 * k) 512) behind below (zeros_behind bytes run.first run.pages k long behind below) (h.none k (omega (arith, behind, count)) (omega (arith, below, fits)))
+              new_page k (part (bytes ++ replicate (512 * run.pages) 0) (512 * k) 512) behind below (zeros_behind bytes run.first run.pages k long behind below)
         ];
-        none = λ k behind below. none_behind k behind (h.none k (omega (arith, behind, count)) below);
       }
 
 -- ---- What keeps to an outset.
@@ -261,6 +215,6 @@ module _ (o : Outset) {x l1 l3 : Layout} {k : List Run} {a b c d : DiskState} {s
       let more = added mid.0 named mid.1 map (new_run run named nothing) in
       let g = grown_then is form.above (grown is run kind most form taken marked_so made were h.unframed h.memory h.stands mid.0 mid.1) more.differs in
       let tabled = tabled_grown x run kind named h.memory more.memory is tables form.above h.map g bytes long fits h.tabled in
-      let keeps = run_keeps (retold None h tt) is run kind most form taken marked_so made were beside makes nothing (λ own. refl) added in
+      let keeps = run_keeps (retold None h tt) is run kind most form taken marked_so made were beside makes nothing (λ client. absurd (omega (arith, tables, client))) (λ own. refl) added in
       retold (Some (bytes ++ replicate (512 * run.pages) 0)) keeps
       (subst (λ (m : List Sector). AreTabled x (with_run named run) m (bytes ++ replicate (512 * run.pages) 0)) (one_memory d u more.memory keeps.memory more.stands keeps.stands) tabled)

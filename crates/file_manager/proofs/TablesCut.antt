@@ -40,7 +40,7 @@ use Rattle.file_manager.proofs.BookLemmas.{true_by_map, known_after}
 use Rattle.file_manager.proofs.FreedRun.{map_brings, map_makes}
 use Rattle.file_manager.proofs.FreesLemmas.{no_map}
 use Rattle.file_manager.proofs.GrowSteps.{marks_alike, renamed}
-use Rattle.file_manager.specs.MapOnce.{named_once}
+use Rattle.filer_kernel.specs.MapOnce.{named_once}
 use Rattle.file_manager.proofs.NewBooks.{not_cut}
 use Rattle.file_manager.proofs.RunLeads.{one_memory}
 use Rattle.file_manager.proofs.RunStages.{shows_still, beside_map, vam_is, vfm_is, in_bits, are_shown, shown_bits, mark_is}

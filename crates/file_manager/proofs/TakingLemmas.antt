@@ -1,12 +1,14 @@
 -- Sectors that a file takes, step after step.
-use Rattle.std.proofs.Common.{◌≡◌, inl, inr, ℕ, ◌≤◌, Bool, true, false, List, refl, sym, ◌∙◌, ap, arith}
-use Rattle.std.proofs.lemmas.Bool.{true≢false}
+use Rattle.std.proofs.Common.{◌≡◌, ◌≢◌, inl, inr, ℕ, ◌≤◌, Bool, true, false, List, Some, refl, sym, ◌∙◌, ap, subst, arith}
+use Rattle.std.specs.Prelude.{slice_get}
+use Rattle.std.proofs.lemmas.Bool.{eqb-true, true≢false}
 use Rattle.std.proofs.lemmas.Option.{same_Some, slice_get_within}
 use Rattle.labelled_disk.specs.declared.label.Label.{Label}
 use Rattle.labelled_disk.specs.declared.layout.Layout.{Layout}
 use Rattle.labelled_disk.specs.Label.{is_free}
 use Rattle.labelled_disk.specs.Sectors.{Sector}
 use Rattle.file_map.specs.FileMap.{Triples}
+use Rattle.label_calls.specs.Labels.{HasOne}
 use Rattle.filer_kernel.specs.Marks.{Marks}
 use Rattle.file_manager.specs.Taking.{IsTakenFor, TakesLabels, TakesBits, TakesSectors, TakesFor, NamesNoneOf, AddsPages, no_page_of}
 use Rattle.file_manager.proofs.RunStages.{there_is}
@@ -64,6 +66,14 @@ module _ {layout : Layout} {id : ℕ} {m n o : List Sector} where
         (two.0, two.1, bits_then marks one.0 two.0 first.labels next.labels one.2 two.2);
   }
 
+-- a sector whose label stayed was not taken
+pub not_taken : (id : ℕ) (m n : List Sector) (sector : ℕ) → id ≢ 0 → IsTakenFor id m n sector → ((s : Sector) → slice_get m sector ≡ Some s → HasOne (λ label. label ≡ s.0) n sector) → ⊥
+not_taken id m n sector other taken stays =
+    let was = taken.was in
+    let same = stays was.0 was.1 in
+    let one : same.0 ≡ taken.now.0 = same_Some same.0 taken.now.0 (sym same.1 ∙ taken.now.1) in
+    other (sym taken.now.2 ∙ ap (λ (x : Sector). x.0.id) (sym one) ∙ ap (λ (l : Label). l.id) same.2 ∙ eqb-true was.0.0.id 0 was.2)
+
 pub labels_none : (layout : Layout) (id : ℕ) (m : List Sector) → TakesLabels layout id m m
 labels_none layout id m = record { long = refl; each = λ sector s from here. inl (s, here, refl) }
 
@@ -99,12 +109,27 @@ none_later id p q named later adds none apart page sector own = either (later id
 -- ---- Both.
 
 pub takes_none : (layout : Layout) (id : ℕ) (m : List Sector) → TakesFor layout id no_page_of m m
-takes_none layout id m = record { taken = sectors_none layout id m; names = λ named map none. (named, map, adds_none id no_page_of named) }
+takes_none layout id m = record {
+  taken = sectors_none layout id m;
+  of = λ other sector from taken. absurd (not_taken id m m sector other taken (λ s here. (s, here, refl)));
+  names = λ named map none. (named, map, adds_none id no_page_of named);
+}
 
 pub takes_then : {layout : Layout} {id : ℕ} (p q r : ℕ → Type 0) {m n o : List Sector} → ((page : ℕ) → p page → r page) → ((page : ℕ) → q page → r page) → ((page : ℕ) → q page → p page → ⊥)
     → TakesFor layout id p m n → TakesFor layout id q n o → TakesFor layout id r m o
 takes_then {id = id} p q r of_p of_q apart first next = record {
   taken = sectors_then first.taken next.taken;
+  of = λ other sector from taken. elim (first.taken.labels.each sector taken.was.0 from taken.was.1) [
+    | inl same ↦
+        let own = next.of other sector from (record { was = (same.0, same.1, ap is_free same.2 ∙ taken.was.2); now = taken.now }) in
+        (own.0, own.1, of_q own.0.0.page own.2)
+    | inr earlier ↦
+        let own = first.of other sector from earlier in
+        elim (next.taken.labels.each sector own.0 from own.1) [
+          | inl again ↦ (again.0, again.1, of_p again.0.0.page (subst p (ap (λ (l : Label). l.page) (sym again.2)) own.2))
+          | inr more ↦ let later = next.of other sector from more in (later.0, later.1, of_q later.0.0.page later.2)
+        ]
+  ];
   names = λ named map none.
       let one = first.names named map (λ page sector own. none page sector (of_p page own)) in
       let two = next.names one.0 one.1 (none_later id p q named one.0 one.2 (λ page sector own. none page sector (of_q page own)) apart) in
@@ -115,6 +140,7 @@ takes_then {id = id} p q r of_p of_q apart first next = record {
 pub takes_wider : {layout : Layout} {id : ℕ} (p q : ℕ → Type 0) {m n : List Sector} → ((page : ℕ) → p page → q page) → TakesFor layout id p m n → TakesFor layout id q m n
 takes_wider {id = id} p q of_p takes = record {
   taken = takes.taken;
+  of = λ other sector from taken. let own = takes.of other sector from taken in (own.0, own.1, of_p own.0.0.page own.2);
   names = λ named map none.
       let one = takes.names named map (λ page sector own. none page sector (of_p page own)) in
       (one.0, one.1, record { kept = one.2.kept; only = λ i page sector is. elim (one.2.only i page sector is) [ inl was ↦ inl was | inr (same, own) ↦ inr (same, of_p page own) ] });

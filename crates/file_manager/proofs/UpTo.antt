@@ -28,7 +28,7 @@ use Rattle.session_words.specs.GrowLaws.{Grows}
 use Rattle.session_words.specs.Volume.{volume_page}
 use Rattle.file_manager.specs.Book.{Books, Leads, AreTrue}
 use Rattle.file_manager.specs.Making.{AreUnowned, ShowsNoFree, MayGrow, GrownBy, MakesAll, MakesSome, IsRunFor, free_count, sectors_of}
-use Rattle.file_manager.specs.Grounds.{IsMapsHome, IsUnframed, LabelsRun, EndsAt, MakesFor, MakeHalts}
+use Rattle.file_manager.specs.Grounds.{IsMapsHome, IsUnframed, LabelsRun, EndsAt, MakesFor, MakeHalts, RangeHalts}
 use Rattle.file_manager.proofs.GrowSteps.{growth_append, grows_none}
 use Rattle.file_manager.proofs.KeptUpTo.{RunKeeps, KeepsUpTo, keeps_more}
 use Rattle.file_manager.proofs.RunLeads.{one_memory}
@@ -81,7 +81,7 @@ up_none id kind from end d0 s0 layout kept order size = record {
   takes = made_none layout id (λ p. (from ≤ p) × (p < from)) d0 s0;
   untouched = λ same bytes tells. tells;
   last = λ past below. absurd (omega (arith, past));
-  keeps = λ o named h untold none. (named, h, none, (λ i p sector is. is), (λ p above below. absurd (omega (arith, above, below))));
+  keeps = λ o named h may untold none. (named, h, none, (λ i p sector is. is), (λ p above below. absurd (omega (arith, above, below))));
   told = λ x shapes spaces f may is. record {
     sectors = [];
     long = omega arith;
@@ -224,7 +224,7 @@ module _ (id kind from end page : ℕ) (d0 : DiskState) (s0 : Slots) (layout : L
       }
 
   -- why it stopped
-  pub up_cause : (r : ℕ → Type 0) → ((p : ℕ) → (from ≤ p) × (p < end) → r p) → (d2 : DiskState) (s2 : Slots) (e : Halt) → page < end → MakeHalts layout id (λ p. (page ≤ p) × (p < page + (end - page))) d s d2 s2 e → MakeHalts layout id r d0 s0 d2 s2 e
+  pub up_cause : (r : ℕ → Type 0) → ((p : ℕ) → (from ≤ p) × (p < end) → r p) → (d2 : DiskState) (s2 : Slots) (e : Halt) → page < end → RangeHalts layout id page (page + (end - page)) d s d2 s2 e → MakeHalts layout id r r d0 s0 d2 s2 e
   up_cause r within d2 s2 e below why =
       let above = up.above in
       make_halts_before (λ p. (from ≤ p) × (p < page)) (λ p. (page ≤ p) × (p < page + (end - page))) r up.makes.makes up.takes
@@ -232,6 +232,9 @@ module _ (id kind from end page : ℕ) (d0 : DiskState) (s0 : Slots) (layout : L
       (λ p own. within p (own.0, let before = own.1 in omega (arith, before, below)))
       (λ p own. within p (let after = own.0 in omega (arith, after, above), let before = own.1 in omega (arith, before, below)))
       (λ p own other. let after = own.0 in let before = other.1 in omega (arith, after, before)))
+      (λ p. (page ≤ p) × (p < page + (end - page))) r
+      (λ p own. within p (let after = own.0 in omega (arith, after, above), let before = own.1 in omega (arith, before, below)))
+      (λ p own other. let after = own.0 in let before = other.1 in omega (arith, after, before))
       begun d2 s2 e why
     where
       begun : (IsUnframed s0 0 → (bytes : List ℕ) → Tells FileMap d0 s0 layout bytes → Tells FileMap d s layout bytes) ⊎ LabelsRun layout id d0 s0 d s

@@ -17,7 +17,7 @@ use Rattle.file_manager.specs.Book.{Leads}
 abbrev pub next_id : Root → ℕ
 next_id root = root.serial * 2 ^ 32 + root.counter
 
--- a later root of the same volume, which gives out next no identifier below that which the earlier one does
+-- the same root or a later one of the same volume: it gives out next no identifier below that which the earlier one does
 abbrev pub IsOnward : Root → Root → Type 0
 IsOnward old new = (next_id old ≤ next_id new) × (new.serial ≡ old.serial)
 

@@ -1,5 +1,5 @@
 -- Why the calls that free and make pages of files stop the session: what was wanted in a sector, and what the maps said.
-use Rattle.std.specs.Prelude.{◌≡◌, ◌⊎◌, ℕ, ◌<◌, ◌≤◌, ◌+◌, true, false, List, ◌++◌, Some, slice_get}
+use Rattle.std.specs.Prelude.{◌≡◌, ◌≢◌, ◌⊎◌, ℕ, ◌<◌, ◌≤◌, ◌+◌, true, false, List, ◌++◌, Some, slice_get}
 use Rattle.labelled_disk.specs.declared.disk.DiskWrite.{DiskWrite}
 use Rattle.labelled_disk.specs.declared.disk.DiskWrite.TheVariants.{Whole}
 use Rattle.labelled_disk.specs.declared.evidence.Evidence.{Evidence}
@@ -23,7 +23,7 @@ use Rattle.swapper_kernel.specs.Halts.{HasCause, IsOther, held_or}
 use Rattle.swapper_kernel.specs.Stands.{Stands}
 use Rattle.swapper_kernel.specs.Goes.{Makes}
 use Rattle.swapper_kernel.specs.Window.{Tells, Beside}
-use Rattle.label_calls.specs.Labels.{nobody}
+use Rattle.label_calls.specs.Labels.{HasOne, nobody}
 use Rattle.file_map.specs.Entries.{Stops}
 use Rattle.filer_kernel.specs.Causes.{MapShows, MapCounts, IsGiven, IsRunHome}
 use Rattle.filer_kernel.specs.Marks.{Marks, BitsAre, AreAll}
@@ -184,16 +184,18 @@ TakeEvidence layout old before new after (Missing id page) =
 abbrev pub TakeHalts : Layout → DiskState → Slots → DiskState → Slots → Halt → Type 0
 TakeHalts layout old before new after halt = HasCause (TakeEvidence layout old before new after) old new halt
 
--- Each data sector that the allocation map had as free was taken for the file.
-pub record TookAll (layout : Layout) (id : ℕ) (m : List Sector) (marks : Marks) (new : DiskState) (after : Slots) : Type 0 where
+-- Each data sector that the allocation map had as free was taken for the file; and where its identifier is not 0, one of the pages
+-- that were wanted got none.
+pub record TookAll (layout : Layout) (id : ℕ) (wanted : ℕ → Type 0) (m : List Sector) (marks : Marks) (new : DiskState) (after : Slots) : Type 0 where
   pub memory : List Sector
   pub stands : Stands new after memory
   pub labels : TakesLabels layout id m memory
   pub all : (sector : ℕ) → layout.first ≤ sector → sector < layout.sectors → marks sector ≡ false → IsTakenFor id m memory sector
+  pub lacking : id ≢ 0 → (page : ℕ) × wanted page × ((sector : ℕ) → layout.first ≤ sector → IsTakenFor id m memory sector → HasOne (λ label. label.page ≡ page) memory sector → ⊥)
 
 -- that is so, where no frame had a page that a free label would name
-abbrev pub HasNoRoom : Layout → ℕ → DiskState → Slots → DiskState → Slots → Type 0
-HasNoRoom layout id old before new after = IsUnframed before 0 → (m : List Sector) (marks : Marks) → Stands old before m → BitsAre layout marks m → TookAll layout id m marks new after
+abbrev pub HasNoRoom : Layout → ℕ → (ℕ → Type 0) → DiskState → Slots → DiskState → Slots → Type 0
+HasNoRoom layout id wanted old before new after = IsUnframed before 0 → (m : List Sector) (marks : Marks) → Stands old before m → BitsAre layout marks m → TookAll layout id wanted m marks new after
 
 -- a data sector, where nobody's page is wanted, since the allocation map had it as free
 pub record IsToBeFree (layout : Layout) (old : DiskState) (before : Slots) (home : Home) : Type 0 where
@@ -203,15 +205,23 @@ pub record IsToBeFree (layout : Layout) (old : DiskState) (before : Slots) (home
   pub was : WasClear layout old before home.sector
 
 -- The evidence is a label in a home of a map or of a frame, or one of a data sector that was to be free; or a page of the
--- map that stops an addition; or a page of the space tables, where no data sector is left.
-abbrev pub MakeEvidence : Layout → ℕ → (ℕ → Type 0) → DiskState → Slots → DiskState → Slots → Evidence → Type 0
-MakeEvidence layout file pages old before new after (Mismatch sector wanted found) = held_or before (λ home. IsMapsHome layout home ⊎ IsToBeFree layout old before home) (home_at sector wanted)
-MakeEvidence layout file pages old before new after (Malformed window page) = (window ≡ 2) × StopsAddition layout file pages page old before new after
-MakeEvidence layout file pages old before new after (Missing id page) = (id ≡ 3) × (page ≡ 0) × HasNoRoom layout file old before new after
+-- map that stops an addition; or a page of the space tables, where no data sector is left for one of the pages that are wanted.
+abbrev pub MakeEvidence : Layout → ℕ → (ℕ → Type 0) → (ℕ → Type 0) → DiskState → Slots → DiskState → Slots → Evidence → Type 0
+MakeEvidence layout file pages wanted old before new after (Mismatch sector other found) = held_or before (λ home. IsMapsHome layout home ⊎ IsToBeFree layout old before home) (home_at sector other)
+MakeEvidence layout file pages wanted old before new after (Malformed window page) = (window ≡ 2) × StopsAddition layout file pages page old before new after
+MakeEvidence layout file pages wanted old before new after (Missing id page) = (id ≡ 3) × (page ≡ 0) × HasNoRoom layout file wanted old before new after
 
--- the halt of a call that makes these pages of a file
-abbrev pub MakeHalts : Layout → ℕ → (ℕ → Type 0) → DiskState → Slots → DiskState → Slots → Halt → Type 0
-MakeHalts layout id pages old before new after halt = HasCause (MakeEvidence layout id pages old before new after) old new halt
+-- the halt of a call that makes pages of a file: these, which are wanted, or some of those
+abbrev pub MakeHalts : Layout → ℕ → (ℕ → Type 0) → (ℕ → Type 0) → DiskState → Slots → DiskState → Slots → Halt → Type 0
+MakeHalts layout id pages wanted old before new after halt = HasCause (MakeEvidence layout id pages wanted old before new after) old new halt
+
+-- the halt of a call that makes those from one on, in front of another
+abbrev pub RangeHalts : Layout → ℕ → ℕ → ℕ → DiskState → Slots → DiskState → Slots → Halt → Type 0
+RangeHalts layout id from end old before new after halt = MakeHalts layout id (λ p. (from ≤ p) × (p < end)) (λ p. (from ≤ p) × (p < end)) old before new after halt
+
+-- the page is the leader of a new file of this size, or below it
+abbrev pub IsNewPage : ℕ → ℕ → Type 0
+IsNewPage pages page = (page ≡ leader_page) ⊎ (page < pages)
 
 -- ---- A new file, which the map is cut of first.
 
@@ -224,15 +234,15 @@ pub record StopsCreation (layout : Layout) (id page : ℕ) (old : DiskState) (be
 
 -- As where its pages are made. Or the page of the map broke its form at the start; or the map had a record of the file, which
 -- was to be taken out.
-abbrev pub CreateEvidence : Layout → ℕ → DiskState → Slots → DiskState → Slots → Evidence → Type 0
-CreateEvidence layout file old before new after (Mismatch sector wanted found) = held_or before (λ home. IsMapsHome layout home ⊎ IsToBeFree layout old before home) (home_at sector wanted)
-CreateEvidence layout file old before new after (Malformed window page) =
+abbrev pub CreateEvidence : Layout → ℕ → (ℕ → Type 0) → DiskState → Slots → DiskState → Slots → Evidence → Type 0
+CreateEvidence layout file wanted old before new after (Mismatch sector other found) = held_or before (λ home. IsMapsHome layout home ⊎ IsToBeFree layout old before home) (home_at sector other)
+CreateEvidence layout file wanted old before new after (Malformed window page) =
     (window ≡ 2) × (IsBroken layout.sectors (MapShows layout old before) page ⊎ (IsToCut file 0 (MapShows layout old before) ⊎ StopsCreation layout file page old before new after))
-CreateEvidence layout file old before new after (Missing id page) = (id ≡ 3) × (page ≡ 0) × HasNoRoom layout file old before new after
+CreateEvidence layout file wanted old before new after (Missing id page) = (id ≡ 3) × (page ≡ 0) × HasNoRoom layout file wanted old before new after
 
--- the halt of a call that creates this file
-abbrev pub CreateHalts : Layout → ℕ → DiskState → Slots → DiskState → Slots → Halt → Type 0
-CreateHalts layout id old before new after halt = HasCause (CreateEvidence layout id old before new after) old new halt
+-- the halt of a call that creates this file, with the pages that are wanted
+abbrev pub CreateHalts : Layout → ℕ → (ℕ → Type 0) → DiskState → Slots → DiskState → Slots → Halt → Type 0
+CreateHalts layout id wanted old before new after halt = HasCause (CreateEvidence layout id wanted old before new after) old new halt
 
 -- ---- Another size.
 
@@ -266,6 +276,6 @@ ShrinkHalts given layout kept id from pages old before new after halt =
 -- new size on are freed.
 abbrev pub ResizeHalts : Layout → List Run → ℕ → ℕ → DiskState → Slots → DiskState → Slots → Halt → Type 0
 ResizeHalts layout kept id pages old before new after halt =
-    HasCause (λ evidence. LeaderEvidence layout kept id old before evidence ⊎ (MakeEvidence layout id no_page_of old before new after evidence
+    HasCause (λ evidence. LeaderEvidence layout kept id old before evidence ⊎ (MakeEvidence layout id no_page_of (λ page. (page < pages) × NamesNone layout old before id page) old before new after evidence
     ⊎ (FreeEvidence (IsUnframed before id) layout kept id (λ page. (pages ≤ page) × IsBelowSize layout old before id page) old before evidence
     ⊎ (TakesOut (IsUnframed before id) layout id pages old before evidence ⊎ PutsBack (IsUnframed before id) layout old before new after evidence)))) old new halt

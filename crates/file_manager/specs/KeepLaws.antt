@@ -1,6 +1,7 @@
 -- What keeps to an outset does so behind a call.
-use Rattle.std.proofs.Common.{◌≡◌, ◌⊎◌, inl, inr, ℕ, ◌<◌, ◌≤◌, true, false, List, [], map, refl, sym, ◌∙◌, ap, subst, arith}
-use Rattle.std.specs.Prelude.{IfSome}
+use Rattle.std.proofs.Common.{◌≡◌, ◌≢◌, ◌⊎◌, inl, inr, ℕ, ◌<◌, ◌≤◌, true, false, List, [], Some, map, refl, sym, ◌∙◌, ap, subst, arith}
+use Rattle.std.specs.Prelude.{IfSome, slice_get}
+use Rattle.std.proofs.lemmas.Bool.{cases_eq}
 use Rattle.std.proofs.lemmas.Option.{none-some}
 use Rattle.labelled_disk.specs.declared.disk.Disk.{Ghosts}
 use Rattle.labelled_disk.specs.declared.disk.DiskWrite.{DiskWrite}
@@ -23,11 +24,14 @@ use Rattle.filer_kernel.specs.declared.cached.CachedRuns.{CachedRuns}
 use Rattle.filer_kernel.specs.declared.filer.FilerOver.{FilerOver}
 use Rattle.filer_kernel.specs.Cached.{runs_of}
 use Rattle.filer_kernel.specs.Marks.{Marks, BitsAre}
+use Rattle.filer_kernel.specs.Tables.{AreOverTables}
 use Rattle.filer_kernel.specs.Triples.{MapIs, AreOf}
 use Rattle.file_manager.specs.Grounds.{IsMapsHome, IsUnframed}
 use Rattle.file_manager.specs.Looking.{Looks}
-use Rattle.file_manager.specs.Reasons.{Outset, AreTabled, HasTables, MayBeFree, IsAtHome, IsLet, KeepsTo, KeepsFrom, KeepsOn, IsUsed}
-use Rattle.file_manager.specs.LaterLaws.{GivesNot, TakesNot, at_home_later, let_later, may_be_free_later, since_later, UpNot, used_later}
+use Rattle.file_manager.specs.Reasons.{Outset, AreTabled, HasTables, MayBeFree, IsAtHome, IsLet, KeepsTo, KeepsFrom, KeepsOn, IsUsed, Gives, MayTake}
+use Rattle.file_manager.specs.TabledLaws.{StaysNamed}
+use Rattle.file_manager.specs.LaterLaws.{at_home_later, given_either, let_later, may_be_free_later, root_either, since_later, used_later}
+use Rattle.file_manager.specs.WriteLaws.{GivesNot, RootsBelow, TakesNot, UpNot, no_roots}
 
 -- ---- Pages of the maps in frames.
 
@@ -42,8 +46,44 @@ unframed_still {x = x} brings none page there = elim (brings.homes there.frame.h
   | inr own ↦ map_no_free x there.frame.home own there.same_id
 ]
 
+-- nor is one of the space tables one of a map's
+map_no_table : (x : Layout) (home : Home) → IsMapsHome x home → home.id ≡ 3 → ⊥
+map_no_table x home (AllocationMap, (page, below, at)) own = let is : home.id ≡ 1 = ap (λ (h : Home). h.id) at in omega (arith, is, own)
+map_no_table x home (FileMap, (page, below, at)) own = let is : home.id ≡ 2 = ap (λ (h : Home). h.id) at in omega (arith, is, own)
+
 maps_brought : (which : Manager) {x : Layout} {s t : Slots} → Brings (IsMapHome which x) s t → Brings (IsMapsHome x) s t
 maps_brought which {x = x} brings = brings_wider (IsMapsHome x) (λ home own. (which, own)) brings
+
+-- ---- Frames of pages of the space tables.
+
+-- no frame has one of the 96
+abbrev pub IsUntabled : Slots → Type 0
+IsUntabled slots = (home : Home) → IsHeld slots home → home.id ≡ 3 → home.page < 96 → ⊥
+
+pub unframed_untabled : {s : Slots} → IsUnframed s 3 → IsUntabled s
+unframed_untabled none home held own few = none home.page (record { slot = held.slot; frame = held.frame; has = held.has; same_id = ap (λ (h : Home). h.id) held.at ∙ own; same_page = ap (λ (h : Home). h.page) held.at })
+
+pub client_untabled : {s : Slots} (id : ℕ) → 16 ≤ id → id ≡ 3 → IsUntabled s
+client_untabled id client same = absurd (omega (arith, client, same))
+
+-- where pages of the maps alone came in, none has one still
+pub untabled_still : {x : Layout} {s t : Slots} → Brings (IsMapsHome x) s t → IsUntabled s → IsUntabled t
+untabled_still {x = x} brings none home held own few = elim (brings.homes home held) [ inl was ↦ none home was own few | inr map ↦ map_no_table x home map own ]
+
+-- they are where the map has these: where it has those that it had, and each other page that came in
+pub over_after : {x : Layout} {s t : Slots} (named later : Triples) → AreOverTables s named → ((home : Home) → IsHeld t home → IsHeld s home ⊎ (IsMapsHome x home ⊎ (named home.id home.page home.sector ≡ true))) → StaysNamed named later → AreOverTables t later
+over_after {x = x} named later over frames stays home held own few = stays home.page home.sector (elim (frames home held) [
+  | inl was ↦ over home was own few
+  | inr (inl map) ↦ absurd (map_no_table x home map own)
+  | inr (inr is) ↦ (λ i. named (sym own i) home.page home.sector) ∙ is
+])
+
+-- and where file 3 alone may lose pages, and no frame has one of these then
+pub over_left : {x : Layout} {s t : Slots} (named later : Triples) (id : ℕ) → AreOverTables s named → Brings (IsMapsHome x) s t → (id ≡ 3 → IsUntabled s) → (id ≢ 3 → StaysNamed named later) → AreOverTables t later
+over_left {x = x} named later id over brings none stays = elim (cases_eq id 3) [
+  | inl own ↦ λ home held of few. absurd (untabled_still brings (none own) home held of few)
+  | inr other ↦ over_after {x = x} named later over (λ home held. elim (brings.homes home held) [ inl was ↦ inl was | inr map ↦ inr (inl map) ]) (stays other)
+]
 
 -- ---- What keeps to an outset.
 
@@ -59,19 +99,20 @@ module _ {o : Outset} {x : Layout} {k : List Run} {a : DiskState} {s : Slots} {n
       → (home : Home) → x.first ≤ home.sector → 16 ≤ home.id → (later home.id home.page home.sector ≡ true) ⊎ IsLet o b home
   rest_after later still given home from may = elim (given home from may) [
     | inl is ↦ inl is
-    | inr none ↦ elim (h.rest home from may) [ inl is ↦ still home from may is | inr let_go ↦ inr (let_later o makes h.since home none let_go) ]
+    | inr none ↦ elim (h.rest home from may) [ inl is ↦ still home from may is | inr let_go ↦ inr (let_later o makes home none let_go) ]
   ]
 
   -- behind a call of which this is known
   pub keeps_after : (n : List Sector) → Stands b t n → (later : Triples) → MapIs x later n
       → ((home : Home) → later home.id home.page home.sector ≡ true → (named home.id home.page home.sector ≡ true) ⊎ IsAtHome o b home) → (l : List Run) → AreOf later l
-      → ((home : Home) → IsHeld t home → IsHeld s home ⊎ (IsMapsHome x home ⊎ (named home.id home.page home.sector ≡ true))) → IsUnframed t 0
+      → ((home : Home) → IsHeld t home → IsHeld s home ⊎ (IsMapsHome x home ⊎ (named home.id home.page home.sector ≡ true))) → IsUnframed t 0 → AreOverTables t later
       → (marks : Marks) → BitsAre x marks n → ((sector : ℕ) → x.first ≤ sector → sector < x.sectors → marks sector ≡ false → ((h.marks sector ≡ false) × TakesNot run sector) ⊎ MayBeFree o b sector)
       → ((home : Home) → x.first ≤ home.sector → 16 ≤ home.id → named home.id home.page home.sector ≡ true → (later home.id home.page home.sector ≡ true) ⊎ IsLet o b home)
       → ((home : Home) → x.first ≤ home.sector → 16 ≤ home.id → (later home.id home.page home.sector ≡ true) ⊎ GivesNot run home)
       → ((sector : ℕ) → x.first ≤ sector → sector < x.sectors → marks sector ≡ true → ((h.marks sector ≡ true) × UpNot run sector) ⊎ IsUsed o b sector)
+      → RootsBelow o.next run → ((home : Home) (turn : ℕ) (w : DiskWrite) → slice_get run turn ≡ Some w → Gives home w → MayTake o home.id)
       → (IfSome o.tables (AreTabled x named h.memory) → IfSome o.tables (AreTabled x later n)) → KeepsTo o x l b t later
-  keeps_after n stands later map homes l are frames unframed marks bits free still given used tables = record {
+  keeps_after n stands later map homes l are frames unframed over marks bits free still given used below taken tables = record {
     since = since_later o makes h.since;
     memory = n;
     stands = stands;
@@ -85,13 +126,25 @@ module _ {o : Outset} {x : Layout} {k : List Run} {a : DiskState} {s : Slots} {n
       | inr (inr is) ↦ inr (at_home_later o makes home (h.homes home is))
     ];
     unframed = unframed;
+    over = over;
     marks = marks;
     bits = bits;
-    free = λ sector from below is. elim (free sector from below is) [ inl was ↦ may_be_free_later o makes h.since sector was.1 (h.free sector from below was.0) | inr now ↦ now ];
+    free = λ sector from below is. elim (free sector from below is) [ inl was ↦ may_be_free_later o makes sector was.1 (h.free sector from below was.0) | inr now ↦ now ];
     rest = rest_after later still given;
-    used = λ sector from below is. elim (used sector from below is) [ inl was ↦ used_later o makes h.since sector was.1 (h.used sector from below was.0) | inr now ↦ now ];
+    used = λ sector from below is. elim (used sector from below is) [ inl was ↦ used_later o makes sector was.1 (h.used sector from below was.0) | inr now ↦ now ];
+    roots = λ root made. elim (root_either o makes h.since root made) [ inl was ↦ h.roots root was | inr (turn, now) ↦ below root turn now ];
+    taken = λ home made. elim (given_either o makes h.since home made) [ inl was ↦ h.taken home was | inr (turn, (w, (here, gives))) ↦ taken home turn w here gives ];
     tabled = tables h.tabled;
   }
+
+-- ---- Files that may be given pages.
+
+module _ {o : Outset} {x : Layout} {k : List Run} {a : DiskState} {s : Slots} {named : Triples} (h : KeepsTo o x k a s named) where
+  -- a file of which the map names a page may be given others
+  pub named_takes : (id page sector : ℕ) → named id page sector ≡ true → MayTake o id
+  named_takes id page sector is client =
+      let home : Home = record { sector = sector; id = id; page = page } in
+      elim (h.homes home is) [ inl had ↦ inr (page, sector, had) | inr given ↦ h.taken home given client ]
 
 -- ---- Behind a call that wrote no label.
 
@@ -100,8 +153,8 @@ module _ {o : Outset} {x : Layout} {k : List Run} {a : DiskState} {s : Slots} {n
   pub keeps_same : Stands b t h.memory → (l : List Run) → AreOf named l → Brings (IsMapsHome x) s t → KeepsTo o x l b t named
   keeps_same stands l are brings =
       keeps_after h makes h.memory stands named h.map (λ home is. inl is) l are (λ home held. elim (brings.homes home held) [ inl was ↦ inl was | inr own ↦ inr (inl own) ])
-      (unframed_still brings h.unframed) h.marks h.bits (λ sector from below is. inl (is, λ k w at takes. none-some w at))
-      (λ home from may is. inl is) (λ home from may. inr (λ k w at gives. none-some w at)) (λ sector from below is. inl (is, λ k w at up. none-some w at)) (λ tables. tables)
+      (unframed_still brings h.unframed) (over_left named named 0 h.over brings (λ same. absurd (omega (arith, same))) (λ other page sector own. own)) h.marks h.bits (λ sector from below is. inl (is, λ k w at takes. none-some w at))
+      (λ home from may is. inl is) (λ home from may. inr (λ k w at gives. none-some w at)) (λ sector from below is. inl (is, λ k w at up. none-some w at)) (no_roots o.next) (λ home turn w at gives. absurd (none-some w at)) (λ tables. tables)
 
 module _ {o : Outset} {x : Layout} {k : List Run} {a : DiskState} {s : Slots} {named : Triples} (h : KeepsTo o x k a s named) {b : DiskState} {t : Slots} where
   -- a look at files

@@ -21,9 +21,9 @@ pub mod Reasons
 pub mod Forgetting
 pub mod ReasonLaws
 pub mod KeepLaws
+pub mod WriteLaws
 pub mod LaterLaws
 pub mod ShownLaws
 pub mod TabledLaws
-pub mod MapOnce
 pub mod RetoldLaws
 pub mod ToldLaws

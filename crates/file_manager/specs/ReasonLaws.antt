@@ -1,5 +1,5 @@
 -- What a call tells as evidence has its reason, where disk and frames keep to an outset.
-use Rattle.std.proofs.Common.{◌≡◌, ◌⊎◌, inl, inr, ℕ, ◌<◌, ◌≤◌, true, false, not, List, [], map, refl, sym, ◌∙◌, subst}
+use Rattle.std.proofs.Common.{◌≡◌, ◌⊎◌, inl, inr, ℕ, ◌<◌, ◌≤◌, true, false, List, [], refl, sym, ◌∙◌, subst}
 use Rattle.std.proofs.lemmas.Bool.{true≢false}
 use Rattle.std.proofs.lemmas.Option.{none-some}
 use Rattle.labelled_disk.specs.declared.disk.DiskWrite.{DiskWrite}
@@ -60,7 +60,7 @@ module _ {o : Outset} {x : Layout} {k : List Run} {a : DiskState} {s : Slots} {n
         let home : Home = record { sector = sector; id = id; page = page } in
         elim (h.rest home from client) [
           | inl is ↦ absurd (true≢false (sym is ∙ nowhere h.memory named h.stands h.map sector))
-          | inr let_go ↦ let_later o makes h.since home (λ k w at gives. none-some w at) let_go
+          | inr let_go ↦ let_later o makes home (λ k w at gives. none-some w at) let_go
         ],
   )
 
@@ -76,4 +76,4 @@ module _ {o : Outset} {x : Layout} {k : List Run} {a : DiskState} {s : Slots} {n
 module _ {o : Outset} {x : Layout} {k : List Run} {a : DiskState} {s : Slots} {named : Triples} (h : KeepsTo o x k a s named) {pages : Pages} {b : DiskState} {t : Slots} (makes : Makes pages [] a s b t) where
   -- the allocation map has each data sector as used
   pub room_reason : ((sector : ℕ) → x.first ≤ sector → sector < x.sectors → h.marks sector ≡ true) → HasReason o x b (Missing 3 0)
-  room_reason all = inl (refl, refl, λ sector from below. used_later o makes h.since sector (λ turn w at up. none-some w at) (h.used sector from below (all sector from below)))
+  room_reason all = inl (refl, refl, λ sector from below. used_later o makes sector (λ turn w at up. none-some w at) (h.used sector from below (all sector from below)))

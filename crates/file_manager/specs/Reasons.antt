@@ -1,5 +1,5 @@
 -- Why a page may be wanted in a sector: what both maps said when a time began, and what was given and given up since then.
-use Rattle.std.specs.Prelude.{◌≡◌, ◌≢◌, ◌⊎◌, ◌≤◌, ◌<◌, ◌+◌, ◌*◌, ◌^◌, ℕ, true, false, List, [], ◌++◌, Option, Some, None, IfSome, length, slice_get}
+use Rattle.std.specs.Prelude.{◌≡◌, ◌≢◌, ◌⊎◌, ◌≤◌, ◌<◌, ◌+◌, ◌*◌, ℕ, true, false, List, [], ◌++◌, Option, Some, None, IfSome, length, slice_get}
 use Rattle.labelled_disk.specs.declared.disk.Disk.{Ghosts}
 use Rattle.labelled_disk.specs.declared.disk.DiskWrite.{DiskWrite}
 use Rattle.labelled_disk.specs.declared.disk.DiskWrite.TheVariants.{LabelOnly, Whole}
@@ -7,9 +7,10 @@ use Rattle.labelled_disk.specs.declared.evidence.Evidence.{Evidence}
 use Rattle.labelled_disk.specs.declared.evidence.Evidence.TheVariants.{Mismatch, Malformed, Missing}
 use Rattle.labelled_disk.specs.declared.evidence.Halt.{Halt}
 use Rattle.labelled_disk.specs.declared.evidence.Halt.TheVariants.{Disk, Damaged}
+use Rattle.labelled_disk.specs.declared.label.Label.{Label}
 use Rattle.labelled_disk.specs.declared.layout.Layout.{Layout}
 use Rattle.flat_mem.specs.Memory.{part}
-use Rattle.labelled_disk.specs.Label.{names, page_label}
+use Rattle.labelled_disk.specs.Label.{leader_page, page_label}
 use Rattle.labelled_disk.specs.Root.{root_page}
 use Rattle.labelled_disk.specs.Runs.{zero_bytes}
 use Rattle.labelled_disk.specs.Sectors.{Sector, free_label}
@@ -24,31 +25,41 @@ use Rattle.label_calls.specs.Labels.{nobody}
 use Rattle.filer_kernel.specs.declared.filer.FilerOver.{FilerOver}
 use Rattle.filer_kernel.specs.Cached.{runs_of}
 use Rattle.filer_kernel.specs.Marks.{Marks, BitsAre}
-use Rattle.filer_kernel.specs.Tables.{IsTablePage}
+use Rattle.filer_kernel.specs.Tables.{AreOverTables, IsTablePage}
 use Rattle.filer_kernel.specs.Triples.{MapIs, AreOf}
 use Rattle.session_words.specs.Parts.{is_marked}
 use Rattle.volume_root.specs.declared.root.Root.{Root}
-use Rattle.volume_root.specs.RootPage.{root_in, root_write}
-use Rattle.file_manager.specs.Creating.{next_id}
+use Rattle.volume_root.specs.RootPage.{root_in}
+use Rattle.file_manager.specs.Creating.{IsOnward, next_id}
 use Rattle.file_manager.specs.Grounds.{IsMapsHome, IsUnframed}
 
 -- What stood when the time began: which triples the file map named, which sectors the allocation map had as used, the root, and
--- the writes that had been made. Beside it, where they are told, the bytes that the first pages of
--- the space tables have meanwhile.
+-- the writes that had been made. Beside it what is so meanwhile: from which identifier on no root that was written since has given
+-- one out; and, where they are told, the bytes that the first pages of the space tables have.
 pub record Outset : Type 0 where
   pub named : Triples
   pub marks : Marks
   pub root : Root
   pub writes : List DiskWrite
+  pub next : ℕ
   pub tables : Option (List ℕ)
 
 -- on a disk of these sectors, whose file map names these triples, and which tells that so much was written
 abbrev pub outset : List Sector → Triples → List DiskWrite → Outset
-outset sectors named writes = record { named = named; marks = is_marked sectors; root = root_in (root_page sectors); writes = writes; tables = None }
+outset sectors named writes = record { named = named; marks = is_marked sectors; root = root_in (root_page sectors); writes = writes; next = next_id (root_in (root_page sectors)); tables = None }
 
 -- the same, with these bytes of the space tables told
 abbrev pub telling : Outset → List ℕ → Outset
 telling o bytes = record o { tables = Some bytes }
+
+-- the same, where no root that was written since has given out an identifier from this one on
+abbrev pub giving : Outset → ℕ → Outset
+giving o next = record o { next = next }
+
+-- the root is that of the outset or a later one, and none that was written since has given out the identifier that it gives out next
+pub record IsAhead (o : Outset) (root : Root) : Type 0 where
+  pub onward : IsOnward o.root root
+  pub next : o.next ≤ next_id root
 
 -- the identifier is not that of the space tables, or no page of them is told
 abbrev pub LeavesTables : Outset → ℕ → Type 0
@@ -58,47 +69,74 @@ LeavesTables o id = id ≡ 3 → IfSome o.tables (λ b. b ≡ [])
 abbrev pub IsSince : Outset → DiskState → Type 0
 IsSince o disk = (more : List DiskWrite) × (disk.writes ≡ Some (o.writes ++ more))
 
--- this is one of the writes that the disk tells since then
-pub record WasMade (o : Outset) (disk : DiskState) (w : DiskWrite) : Type 0 where
+-- this is so of one of the writes that are told behind these: of all of them, and its turn among them
+pub record HasMade (writes : List DiskWrite) (now : Option (List DiskWrite)) (is : List DiskWrite → ℕ → Type 0) : Type 0 where
   pub more : List DiskWrite
-  pub told : disk.writes ≡ Some (o.writes ++ more)
+  pub told : now ≡ Some (writes ++ more)
   pub turn : ℕ
-  pub is : slice_get more turn ≡ Some w
+  pub so : is more turn
+
+-- the write at that turn is this one
+abbrev pub IsAt : DiskWrite → List DiskWrite → ℕ → Type 0
+IsAt w more turn = slice_get more turn ≡ Some w
+
+-- this is one of the writes that the disk tells since then
+abbrev pub WasMade : Outset → DiskState → DiskWrite → Type 0
+WasMade o disk w = HasMade o.writes disk.writes (IsAt w)
 
 -- the sector was given to the page since then
 abbrev pub WasGiven : Outset → DiskState → Home → Type 0
 WasGiven o disk home = (kind : ℕ) × WasMade o disk (Whole home.sector (page_label home.id kind home.page) zero_bytes)
 
--- it was given up since then
-abbrev pub WasGivenUp : Outset → DiskState → ℕ → Type 0
-WasGivenUp o disk sector = WasMade o disk (LabelOnly sector free_label)
-
 -- a page of a file is or was at home in the sector: the file map named it there at the outset, or it was given the sector since
 abbrev pub IsAtHome : Outset → DiskState → Home → Type 0
 IsAtHome o disk home = (o.named home.id home.page home.sector ≡ true) ⊎ WasGiven o disk home
 
--- the sector was given to some page
-abbrev pub WasTaken : Outset → DiskState → ℕ → Type 0
-WasTaken o disk sector = (id page : ℕ) × WasGiven o disk (record { sector = sector; id = id; page = page })
+-- the page is or was at home in some sector
+abbrev pub WasThere : Outset → DiskState → ℕ → ℕ → Type 0
+WasThere o disk id page = (sector : ℕ) × IsAtHome o disk (record { sector = sector; id = id; page = page })
 
--- the later root is of the same volume, and its counter fits its four bytes; under it this identifier was the last that had been
--- given out, and under the earlier one it had not been
+-- this page of the file, or a later one but the leader, is or was
+abbrev pub WasBelow : Outset → DiskState → ℕ → ℕ → Type 0
+WasBelow o disk id page = (later : ℕ) × (page ≤ later) × (later < leader_page) × WasThere o disk id later
+
+-- the page is the leader, which is or was at home, or is at most as high as such a page of the file
+abbrev pub IsOfFile : Outset → DiskState → ℕ → ℕ → Type 0
+IsOfFile o disk id page = ((page ≡ leader_page) × WasThere o disk id leader_page) ⊎ WasBelow o disk id page
+
+-- the write at that turn is of a page in sector 0, which has this root
+abbrev pub HasRoot : Root → List DiskWrite → ℕ → Type 0
+HasRoot root more turn = (label : Label) × ((page : List ℕ) × (IsAt (Whole 0 label page) more turn × (root_in page ≡ root)))
+
+-- the later root is of the same volume; under it this identifier was the last that had been given out, and under the earlier one it
+-- had not been
 pub record IsCountedAs (old root : Root) (id : ℕ) : Type 0 where
   pub serial : root.serial ≡ old.serial
-  pub fits : root.counter < 2 ^ 32
   pub last : id + 1 ≡ next_id root
   pub since : next_id old ≤ id
 
--- a write lets a home of a page: its sector is given up, or a root of the volume is written under which the identifier of the
--- page's file was the last that had been given out, and that had not been when the time began
-abbrev pub Lets : Outset → Home → DiskWrite → Type 0
-Lets o home w = (w ≡ LabelOnly home.sector free_label) ⊎ ((root : Root) × (w ≡ root_write root) × IsCountedAs o.root root home.id)
+-- The write at that turn gives the identifier out: it is of a root under which this was the last that had been given out, and it had
+-- not been under the earlier one, nor under any that was written before.
+pub record GivesOut (old : Root) (id : ℕ) (more : List DiskWrite) (turn : ℕ) : Type 0 where
+  pub root : Root
+  pub is : HasRoot root more turn
+  pub counts : IsCountedAs old root id
+  pub first : (earlier : ℕ) (other : Root) → earlier < turn → HasRoot other more earlier → next_id other ≤ id
 
--- one of the writes gives the sector to the page
+-- the file map named some page of the file at the outset
+abbrev pub HadNamed : Outset → ℕ → Type 0
+HadNamed o id = (page sector : ℕ) × (o.named id page sector ≡ true)
+
+-- the write at that turn lets a home of a page: it gives its sector up, or gives out the identifier of the page's file, of which the
+-- file map lied before
+abbrev pub Lets : Type 0 → Root → Home → List DiskWrite → ℕ → Type 0
+Lets lied old home more turn = IsAt (LabelOnly home.sector free_label) more turn ⊎ (lied × GivesOut old home.id more turn)
+
+-- the write gives the sector to the page
 abbrev pub Gives : Home → DiskWrite → Type 0
 Gives home w = (kind : ℕ) × (w ≡ Whole home.sector (page_label home.id kind home.page) zero_bytes)
 
--- one of the writes gives the sector to some page
+-- it gives the sector to some page
 abbrev pub Takes : ℕ → DiskWrite → Type 0
 Takes sector w = (id page : ℕ) × Gives (record { sector = sector; id = id; page = page }) w
 
@@ -106,33 +144,51 @@ Takes sector w = (id page : ℕ) × Gives (record { sector = sector; id = id; pa
 abbrev pub GivesUp : ℕ → DiskWrite → Type 0
 GivesUp sector w = w ≡ LabelOnly sector free_label
 
+-- the write at that turn does so
+abbrev pub IsOne : (DiskWrite → Type 0) → List DiskWrite → ℕ → Type 0
+IsOne does more turn = (w : DiskWrite) × does w × IsAt w more turn
+
 -- behind each of the writes of the one kind there is one of the other
-abbrev pub AreAnswered : (DiskWrite → Type 0) → (DiskWrite → Type 0) → List DiskWrite → Type 0
-AreAnswered gives lets ws =
-    (turn : ℕ) (w : DiskWrite) → slice_get ws turn ≡ Some w → gives w
-    → (later : ℕ) × (turn < later) × ((v : DiskWrite) × lets v × (slice_get ws later ≡ Some v))
+abbrev pub AreAnswered : (DiskWrite → Type 0) → (List DiskWrite → ℕ → Type 0) → List DiskWrite → Type 0
+AreAnswered gives lets ws = (turn : ℕ) (w : DiskWrite) → slice_get ws turn ≡ Some w → gives w → (later : ℕ) × (turn < later) × lets ws later
 
--- so it is of the writes that the disk tells since then
-abbrev pub AnsweredSince : Outset → DiskState → (DiskWrite → Type 0) → (DiskWrite → Type 0) → Type 0
-AnsweredSince o disk gives lets = (more : List DiskWrite) × (disk.writes ≡ Some (o.writes ++ more)) × AreAnswered gives lets more
+-- so it is of the writes that are told behind these
+abbrev pub AnsweredSince : List DiskWrite → Option (List DiskWrite) → (DiskWrite → Type 0) → (List DiskWrite → ℕ → Type 0) → Type 0
+AnsweredSince writes now gives lets = (more : List DiskWrite) × (now ≡ Some (writes ++ more)) × AreAnswered gives lets more
 
--- The sector may be free: the allocation map had it so at the outset, or it was given up since; and behind each write since then
--- that gave it to a page it was given up.
-pub record MayBeFree (o : Outset) (disk : DiskState) (sector : ℕ) : Type 0 where
-  pub outset : (o.marks sector ≡ false) ⊎ WasGivenUp o disk sector
-  pub since : AnsweredSince o disk (Takes sector) (GivesUp sector)
+-- The sector may be free: it was so at first, or was given up since; and behind each write since then that gave it to a page it was
+-- given up.
+pub record IsFreeSince (was : Type 0) (writes : List DiskWrite) (now : Option (List DiskWrite)) (sector : ℕ) : Type 0 where
+  pub outset : was ⊎ HasMade writes now (IsAt (LabelOnly sector free_label))
+  pub since : AnsweredSince writes now (Takes sector) (IsOne (GivesUp sector))
 
--- It is used: the allocation map had it so at the outset, or it was given to a page since; and behind each write since then that
--- gave it up it was given to a page.
-pub record IsUsed (o : Outset) (disk : DiskState) (sector : ℕ) : Type 0 where
-  pub outset : (o.marks sector ≡ true) ⊎ WasTaken o disk sector
-  pub since : AnsweredSince o disk (GivesUp sector) (Takes sector)
+-- by what the allocation map had as free at the outset
+abbrev pub MayBeFree : Outset → DiskState → ℕ → Type 0
+MayBeFree o disk sector = IsFreeSince (o.marks sector ≡ false) o.writes disk.writes sector
 
--- Nothing makes the page be at home there: what the file map said at the outset was let since; and behind each write since then
--- that gave the sector to the page there is one that lets it.
-pub record IsLet (o : Outset) (disk : DiskState) (home : Home) : Type 0 where
-  pub outset : o.named home.id home.page home.sector ≡ true → (v : DiskWrite) × Lets o home v × WasMade o disk v
-  pub since : AnsweredSince o disk (Gives home) (Lets o home)
+-- It is used: it was so at first, or was given to a page since; and behind each write since then that gave it up it was given to a
+-- page.
+pub record IsUsedSince (was : Type 0) (writes : List DiskWrite) (now : Option (List DiskWrite)) (sector : ℕ) : Type 0 where
+  pub outset : was ⊎ HasMade writes now (IsOne (Takes sector))
+  pub since : AnsweredSince writes now (GivesUp sector) (IsOne (Takes sector))
+
+-- by what the allocation map had as used at the outset
+abbrev pub IsUsed : Outset → DiskState → ℕ → Type 0
+IsUsed o disk sector = IsUsedSince (o.marks sector ≡ true) o.writes disk.writes sector
+
+-- Nothing makes the page be at home there: what was so at first was let since; and behind each write since then that gave the sector
+-- to the page there is one that lets it.
+pub record IsLetSince (was lied : Type 0) (old : Root) (writes : List DiskWrite) (now : Option (List DiskWrite)) (home : Home) : Type 0 where
+  pub outset : was → HasMade writes now (Lets lied old home)
+  pub since : AnsweredSince writes now (Gives home) (Lets lied old home)
+
+-- by what the file map named at the outset: a root lets only what it named of a file whose identifier had not been given out
+abbrev pub IsLet : Outset → DiskState → Home → Type 0
+IsLet o disk home = IsLetSince (o.named home.id home.page home.sector ≡ true) (HadNamed o home.id) o.root o.writes disk.writes home
+
+-- a file may be given pages: it is the space tables', its identifier was given out, or the file map named a page of it at the outset
+abbrev pub MayTake : Outset → ℕ → Type 0
+MayTake o id = 16 ≤ id → (id < o.next) ⊎ HadNamed o id
 
 -- so is each home that these triples have of some pages of a file
 abbrev pub AreLet : Outset → DiskState → Triples → ℕ → (ℕ → Type 0) → Type 0
@@ -157,19 +213,19 @@ pub record AreHomes (are : Homes) (count : ℕ) : Type 0 where
 abbrev pub IsFilledUp : Outset → Layout → DiskState → Type 0
 IsFilledUp o layout disk = AreHomes (IsAtHome o disk) (most_records layout.sectors + 1)
 
--- The first pages of the space tables have these bytes, where the file map has them; and no data sector has the label of a page
--- behind them.
+-- the first pages of the space tables have these bytes, where the file map has them
 pub record AreTabled (layout : Layout) (named : Triples) (memory : List Sector) (bytes : List ℕ) : Type 0 where
   pub count : ℕ
   pub most : count ≤ 96
   pub long : length bytes ≡ 512 * count
   pub page : (k : ℕ) → k < count → IsTablePage layout named memory k (part bytes (512 * k) 512)
-  pub none : (k : ℕ) → count ≤ k → k < 96 → (sector : ℕ) (s : Sector) → layout.first ≤ sector → slice_get memory sector ≡ Some s → names s.0 (record { id = 3; page = k }) ≡ false
 
 -- Disk and frames make a memory whose file map is in form. Each page that it names is or was at home there, and so is each page of
 -- a frame, unless the layout has it there; runs that are kept are the map's; and each data sector that the allocation map has as
 -- free may be so. The other way, each home of a page of a client's file is named, or let, and each data sector that the
--- allocation map has as used is used. Where bytes of the space tables are told, they have them.
+-- allocation map has as used is used. Each root that was written since has given out only lower identifiers than that which the
+-- outset has for them, and pages were given to such files alone as may be given some. Frames of pages of the space tables are where
+-- the map has these; and where bytes of these are told, they have them.
 pub record KeepsTo (o : Outset) (layout : Layout) (runs : List Run) (disk : DiskState) (slots : Slots) (named : Triples) : Type 0 where
   pub since : IsSince o disk
   pub memory : List Sector
@@ -180,17 +236,20 @@ pub record KeepsTo (o : Outset) (layout : Layout) (runs : List Run) (disk : Disk
   pub kept : AreOf named runs
   pub frames : (home : Home) → IsHeld slots home → IsMapsHome layout home ⊎ IsAtHome o disk home
   pub unframed : IsUnframed slots 0
+  pub over : AreOverTables slots named
   pub marks : Marks
   pub bits : BitsAre layout marks memory
   pub free : (sector : ℕ) → layout.first ≤ sector → sector < layout.sectors → marks sector ≡ false → MayBeFree o disk sector
   pub rest : (home : Home) → layout.first ≤ home.sector → 16 ≤ home.id → (named home.id home.page home.sector ≡ true) ⊎ IsLet o disk home
   pub used : (sector : ℕ) → layout.first ≤ sector → sector < layout.sectors → marks sector ≡ true → IsUsed o disk sector
+  pub roots : (root : Root) → HasMade o.writes disk.writes (HasRoot root) → next_id root ≤ o.next
+  pub taken : (home : Home) → WasGiven o disk home → MayTake o home.id
   pub tabled : IfSome o.tables (AreTabled layout named memory)
 
 -- A label is told where the layout has the page of a map there, where the wanted page is or was at home, or where nobody's is
 -- wanted and the sector may be free. Of the file map page 0 alone is told as broken, where more pages are or were at home than it
--- may have records; of the space tables any page is, unless their bytes are told. A page is told as missing that nothing makes be at home anywhere, or page 0
--- of the space tables where each data sector is used.
+-- may have records; of the space tables any page is, unless their bytes are told. A page is told as missing that nothing makes be at
+-- home anywhere, or page 0 of the space tables where each data sector is used.
 abbrev pub HasReason : Outset → Layout → DiskState → Evidence → Type 0
 HasReason o layout disk (Mismatch sector wanted found) =
     IsMapsHome layout (home_at sector wanted) ⊎ (IsAtHome o disk (home_at sector wanted) ⊎ ((wanted ≡ nobody) × MayBeFree o disk sector))
@@ -214,6 +273,13 @@ MayLack named id page = (16 ≤ id) ⊎ ((id ≡ 3) × (page < 96) × NamesTable
 abbrev pub ShowsReason : Outset → Layout → DiskState → Halt → Type 0
 ShowsReason o layout disk Disk = Unit {0}
 ShowsReason o layout disk (Damaged evidence) = HasReason o layout disk evidence
+
+-- the halt is not that a page is missing
+abbrev pub LacksNone : Halt → Type 0
+LacksNone Disk = Unit {0}
+LacksNone (Damaged (Mismatch sector wanted found)) = Unit {0}
+LacksNone (Damaged (Malformed window page)) = Unit {0}
+LacksNone (Damaged (Missing id page)) = ⊥
 
 module _ {D A : Type 0} {G : Ghosts D} where
   -- a filer's disk, frames and runs keep to it, and its file map names these triples

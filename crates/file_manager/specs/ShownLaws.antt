@@ -1,5 +1,5 @@
 -- What a file map in form names: pages of runs that were kept or are shown, and as many homes as it counts records.
-use Rattle.std.proofs.Common.{◌≡◌, inl, inr, ℕ, zero, suc, ◌<◌, ◌≤◌, ◌^◌, true, List, [], ◌∷◌, length, map, Some, refl, sym, ◌∙◌, ap, arith}
+use Rattle.std.proofs.Common.{◌≡◌, ℕ, zero, suc, ◌<◌, ◌≤◌, ◌^◌, true, List, [], ◌∷◌, length, map, Some, refl, sym, ◌∙◌, ap, arith}
 use Rattle.std.specs.Prelude.{slice_get}
 use Rattle.std.proofs.lemmas.List.{length-map}
 use Rattle.std.proofs.lemmas.Option.{same_Some, none-some}
@@ -13,16 +13,15 @@ use Rattle.page_tree.specs.Page.{page_at, count_in}
 use Rattle.file_map.specs.declared.run.Run.{Run}
 use Rattle.file_map.specs.Cause.{IsBroken}
 use Rattle.file_map.specs.FileMap.{Triples}
-use Rattle.file_map.specs.Run.{holds, sector_at}
-use Rattle.file_map.proofs.InForm.{shown_run, shown_unbroken}
-use Rattle.file_map.proofs.Runs.{has_page}
+use Rattle.file_map.proofs.InForm.{shown_unbroken}
 use Rattle.swapper_kernel.specs.declared.manager.Manager.TheVariants.{FileMap}
 use Rattle.swapper_kernel.specs.Homes.{IsLayout}
 use Rattle.swapper_kernel.specs.OnceLaws.{tells_once}
 use Rattle.swapper_kernel.specs.Stands.{Stands}
 use Rattle.swapper_kernel.specs.Window.{Tells}
-use Rattle.filer_kernel.specs.Causes.{MapShows, MapCounts, IsRunHome}
-use Rattle.filer_kernel.specs.Triples.{MapIs, AreOf}
+use Rattle.filer_kernel.specs.Causes.{MapShows, MapCounts}
+pub use Rattle.filer_kernel.specs.NamedLaws.{run_home_named}
+use Rattle.filer_kernel.specs.Triples.{MapIs}
 use Rattle.file_manager.specs.CountedRuns.{counted_runs, first_named, firsts_apart}
 use Rattle.file_manager.specs.Reasons.{AreHomes}
 
@@ -56,16 +55,6 @@ module _ {x : Layout} {named : Triples} {a : DiskState} {s : Slots} {m : List Se
 
   most : x.vfm ≤ 2 ^ 18
   most = let n = is.0.1 in let p = map_pages in omega (arith, n, p)
-
-  -- what a run that was kept, or that the map shows, says is named
-  pub run_home_named : (k : List Run) → AreOf named k → (home : Home) → IsRunHome x a s k home → named home.id home.page home.sector ≡ true
-  run_home_named k are home h = elim h.given [
-    | inl (j, at) ↦
-        let same = (has_page h.run home.id home.page h.has).same in
-        let held : holds h.run h.run.id home.page ≡ true = ap (λ (i : ℕ). holds h.run i home.page) same ∙ h.has in
-        ap (named home.id home.page) h.at ∙ ap (λ (i : ℕ). named i home.page (sector_at h.run home.page)) (sym same) ∙ are j h.run at home.page held
-    | inr (page, shows) ↦ ap (named home.id home.page) h.at ∙ shown_run x.sectors x.vfm map.bytes named map.names few least most page h.run h.form (shows map.bytes bytes_told) home.id home.page h.has
-  ]
 
   -- no page of it breaks its form
   pub in_form : (page : ℕ) → IsBroken x.sectors (MapShows x a s) page → ⊥

@@ -1,18 +1,18 @@
 -- What bytes the pages of the space tables have stays, where sectors with their labels do.
-use Rattle.std.proofs.Common.{◌≡◌, ◌≢◌, inl, inr, ℕ, ◌+◌, ◌*◌, ◌≤◌, Bool, true, false, List, [], length, Option, Some, None, refl, sym, ◌∙◌, ap, subst, arith}
+use Rattle.std.proofs.Common.{◌≡◌, ◌≢◌, inl, inr, ℕ, ◌+◌, ◌*◌, ◌≤◌, Bool, true, false, List, [], length, Option, Some, None, sym, ap, subst, arith}
 use Rattle.std.specs.Prelude.{slice_get, IfSome}
 use Rattle.std.proofs.lemmas.Bool.{cases_eq}
 use Rattle.std.proofs.lemmas.Bool.Decides.{nat_tests}
 use Rattle.labelled_disk.specs.declared.label.Label.{Label}
 use Rattle.labelled_disk.specs.declared.layout.Layout.{Layout}
-use Rattle.labelled_disk.specs.Label.{is_file_id, names}
+use Rattle.labelled_disk.specs.Label.{is_file_id}
 use Rattle.labelled_disk.specs.Sectors.{Sector}
 use Rattle.flat_mem.specs.Memory.{part}
 use Rattle.file_map.specs.FileMap.{Triples}
 use Rattle.swapper_kernel.specs.declared.manager.Manager.{Manager}
 use Rattle.swapper_kernel.specs.declared.manager.Manager.TheVariants.{AllocationMap, FileMap}
 use Rattle.swapper_kernel.specs.Differs.{Differs}
-use Rattle.swapper_kernel.specs.DiffersLaws.{names_id, other_sector}
+use Rattle.swapper_kernel.specs.DiffersLaws.{names_id}
 use Rattle.swapper_kernel.specs.Homes.{IsLayout}
 use Rattle.swapper_kernel.specs.Window.{in_map}
 use Rattle.swapper_kernel.proofs.PlacedLemmas.{parts}
@@ -24,11 +24,7 @@ use Rattle.file_manager.specs.Reasons.{Outset, AreTabled, LeavesTables}
 
 -- ---- Memories that have the same labels of the space tables.
 
--- each data sector of the later one with such a label had that label before
-abbrev pub BringsNoLabel : Layout → List Sector → List Sector → Type 0
-BringsNoLabel layout m n = (sector : ℕ) (s : Sector) → layout.first ≤ sector → slice_get n sector ≡ Some s → s.0.id ≡ 3 → (t : Sector) × (slice_get m sector ≡ Some t) × (t.0 ≡ s.0)
-
--- and each data sector of the earlier one with such a label is as it was
+-- each data sector of the earlier one with such a label is as it was
 abbrev pub KeepsSectors : Layout → List Sector → List Sector → Type 0
 KeepsSectors layout m n = (sector : ℕ) (s : Sector) → layout.first ≤ sector → slice_get m sector ≡ Some s → s.0.id ≡ 3 → slice_get n sector ≡ Some s
 
@@ -36,32 +32,14 @@ KeepsSectors layout m n = (sector : ℕ) (s : Sector) → layout.first ≤ secto
 abbrev pub StaysNamed : Triples → Triples → Type 0
 StaysNamed named later = (page sector : ℕ) → named 3 page sector ≡ true → later 3 page sector ≡ true
 
--- a label that names another's page has another's identifier
-not_named : (l : Label) (k : ℕ) (is : Bool) → names l (record { id = 3; page = k }) ≡ is → (l.id ≡ 3 → names l (record { id = 3; page = k }) ≡ false) → names l (record { id = 3; page = k }) ≡ false
-not_named l k true is other = other (names_id l (record { id = 3; page = k }) is)
-not_named l k false is other = is
-
-module _ (layout : Layout) (named later : Triples) (m n : List Sector) (brings : BringsNoLabel layout m n) where
-  -- a page whose label no data sector had is still none's
-  none_still : (k : ℕ) → ((sector : ℕ) (s : Sector) → layout.first ≤ sector → slice_get m sector ≡ Some s → names s.0 (record { id = 3; page = k }) ≡ false)
-      → (sector : ℕ) (s : Sector) → layout.first ≤ sector → slice_get n sector ≡ Some s → names s.0 (record { id = 3; page = k }) ≡ false
-  none_still k none sector s from here = not_named s.0 k (names s.0 (record { id = 3; page = k })) refl (λ own.
-      let was = brings sector s from here own in
-      ap (λ (l : Label). names l (record { id = 3; page = k })) (sym was.2) ∙ none sector was.0 from was.1)
-
+module _ (layout : Layout) (named later : Triples) (m n : List Sector) where
   -- where no page of theirs is told, none is
   pub none_tabled : (bytes : List ℕ) → bytes ≡ [] → AreTabled layout named m bytes → AreTabled layout later n bytes
   none_tabled bytes empty h =
       let size : 0 ≡ length bytes = ap (λ (b : List ℕ). length b) (sym empty) in
       let long = h.long in
       let count : h.count ≡ 0 = omega (arith, size, long) in
-      record {
-        count = h.count;
-        most = h.most;
-        long = h.long;
-        page = λ k below. absurd (omega (arith, below, count));
-        none = λ k from below. none_still k (h.none k from below);
-      }
+      record { count = h.count; most = h.most; long = h.long; page = λ k below. absurd (omega (arith, below, count)) }
 
   module _ (is : IsLayout layout) (map : MapIs layout named m) (keeps : KeepsSectors layout m n) (stays : StaysNamed named later) where
     page_still : (k : ℕ) (page : List ℕ) → IsTablePage layout named m k page → IsTablePage layout later n k page
@@ -71,9 +49,6 @@ module _ (layout : Layout) (named later : Triples) (m n : List Sector) (brings :
       found = stays k p.sector p.found;
       keeps = keeps p.sector (p.label, page) (on_data layout named m map is 3 k p.sector p.found) p.keeps (names_id p.label (record { id = 3; page = k }) p.named_so);
       named_so = p.named_so;
-      alone = λ other s from here own.
-          let was = brings other s from here (names_id s.0 (record { id = 3; page = k }) own) in
-          p.alone other was.0 from was.1 (ap (λ (l : Label). names l (record { id = 3; page = k })) was.2 ∙ own);
     }
 
     -- else the bytes of those that are told stay
@@ -83,35 +58,30 @@ module _ (layout : Layout) (named later : Triples) (m n : List Sector) (brings :
       most = h.most;
       long = h.long;
       page = λ k below. page_still k (part bytes (512 * k) 512) (h.page k below);
-      none = λ k from below. none_still k (h.none k from below);
     }
 
 -- what is told of them stays so
-pub tables_told : (layout : Layout) (named later : Triples) (m n : List Sector) (tables : Option (List ℕ)) → IsLayout layout → MapIs layout named m → BringsNoLabel layout m n → KeepsSectors layout m n → StaysNamed named later
+pub tables_told : (layout : Layout) (named later : Triples) (m n : List Sector) (tables : Option (List ℕ)) → IsLayout layout → MapIs layout named m → KeepsSectors layout m n → StaysNamed named later
     → IfSome tables (AreTabled layout named m) → IfSome tables (AreTabled layout later n)
-tables_told layout named later m n None is map brings keeps stays h = tt
-tables_told layout named later m n (Some bytes) is map brings keeps stays h = tabled_still layout named later m n brings is map keeps stays bytes h
+tables_told layout named later m n None is map keeps stays h = tt
+tables_told layout named later m n (Some bytes) is map keeps stays h = tabled_still layout named later m n is map keeps stays bytes h
 
 -- so it does where no page is told
-pub none_told : (layout : Layout) (named later : Triples) (m n : List Sector) (tables : Option (List ℕ)) → IfSome tables (λ b. b ≡ []) → BringsNoLabel layout m n → IfSome tables (AreTabled layout named m) → IfSome tables (AreTabled layout later n)
-none_told layout named later m n None none brings is = tt
-none_told layout named later m n (Some bytes) none brings is = none_tabled layout named later m n brings bytes none is
+pub none_told : (layout : Layout) (named later : Triples) (m n : List Sector) (tables : Option (List ℕ)) → IfSome tables (λ b. b ≡ []) → IfSome tables (AreTabled layout named m) → IfSome tables (AreTabled layout later n)
+none_told layout named later m n None none is = tt
+none_told layout named later m n (Some bytes) none is = none_tabled layout named later m n bytes none is
 
 -- behind a call on a file: where it is not that of the space tables, sectors with labels of theirs are as they were
-pub told_left : (layout : Layout) (named later : Triples) (m n : List Sector) (o : Outset) (id : ℕ) → IsLayout layout → MapIs layout named m → LeavesTables o id → BringsNoLabel layout m n → (id ≢ 3 → KeepsSectors layout m n) → (id ≢ 3 → StaysNamed named later)
+pub told_left : (layout : Layout) (named later : Triples) (m n : List Sector) (o : Outset) (id : ℕ) → IsLayout layout → MapIs layout named m → LeavesTables o id → (id ≢ 3 → KeepsSectors layout m n) → (id ≢ 3 → StaysNamed named later)
     → IfSome o.tables (AreTabled layout named m) → IfSome o.tables (AreTabled layout later n)
-told_left layout named later m n o id is map spares brings keeps stays h = elim (cases_eq id 3) [
-  | inl own ↦ none_told layout named later m n o.tables (spares own) brings h
-  | inr other ↦ tables_told layout named later m n o.tables is map brings (keeps other) (stays other) h
+told_left layout named later m n o id is map spares keeps stays h = elim (cases_eq id 3) [
+  | inl own ↦ none_told layout named later m n o.tables (spares own) h
+  | inr other ↦ tables_told layout named later m n o.tables is map (keeps other) (stays other) h
 ]
 
 -- ---- Sectors that do not differ.
 
--- where the labels are the same
-pub labels_alike : {test : ℕ → Label → Bool} (layout : Layout) (m n : List Sector) → Differs test m n → BringsNoLabel layout m n
-labels_alike layout m n differs sector s from here own = other_sector m n differs.labels sector s here
-
--- and data sectors with such labels do not pass
+-- data sectors with such labels that do not pass are as they were
 pub keeps_undiffering : {test : ℕ → Label → Bool} (layout : Layout) (m n : List Sector) → Differs test m n → ((sector : ℕ) (l : Label) → layout.first ≤ sector → l.id ≡ 3 → test sector l ≡ false) → KeepsSectors layout m n
 keeps_undiffering layout m n differs fails sector s from here own = differs.pages sector s here (fails sector s.0 from own)
 
@@ -123,21 +93,15 @@ front_only FileMap layout sector l is from = let first : layout.first ≡ 1 + la
 pub told_beside : (layout : Layout) (named : Triples) (m n : List Sector) (tables : Option (List ℕ)) (which : Manager) → IsLayout layout → MapIs layout named m → Differs (in_map which layout) m n
     → IfSome tables (AreTabled layout named m) → IfSome tables (AreTabled layout named n)
 told_beside layout named m n tables which is map differs h =
-    tables_told layout named named m n tables is map (labels_alike layout m n differs) (keeps_undiffering layout m n differs (λ sector l from own. front_only which layout sector l is from)) (λ page sector own. own) h
+    tables_told layout named named m n tables is map (keeps_undiffering layout m n differs (λ sector l from own. front_only which layout sector l is from)) (λ page sector own. own) h
 
 -- and where the file map names no other page of theirs
 pub told_renamed : (layout : Layout) (named later : Triples) (m n : List Sector) (o : Outset) (id : ℕ) → IsLayout layout → MapIs layout named m → LeavesTables o id → Differs (in_map FileMap layout) m n → (id ≢ 3 → StaysNamed named later)
     → IfSome o.tables (AreTabled layout named m) → IfSome o.tables (AreTabled layout later n)
 told_renamed layout named later m n o id is map spares differs stays h =
-    told_left layout named later m n o id is map spares (labels_alike layout m n differs) (λ other. keeps_undiffering layout m n differs (λ sector l from own. front_only FileMap layout sector l is from)) stays h
+    told_left layout named later m n o id is map spares (λ other. keeps_undiffering layout m n differs (λ sector l from own. front_only FileMap layout sector l is from)) stays h
 
 -- from a memory to another, and then to a third
-pub brings_no_label_then : (layout : Layout) (l m n : List Sector) → BringsNoLabel layout l m → BringsNoLabel layout m n → BringsNoLabel layout l n
-brings_no_label_then layout l m n first next sector s from here own =
-    let mid = next sector s from here own in
-    let was = first sector mid.0 from mid.1 (ap (λ (x : Label). x.id) mid.2 ∙ own) in
-    (was.0, was.1, was.2 ∙ mid.2)
-
 pub keeps_sectors_then : (layout : Layout) (l m n : List Sector) → KeepsSectors layout l m → KeepsSectors layout m n → KeepsSectors layout l n
 keeps_sectors_then layout l m n first next sector s from here own = next sector s from (first sector s from here own) own
 

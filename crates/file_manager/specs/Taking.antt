@@ -1,5 +1,5 @@
 -- Memories of which a file has taken sectors: labels, bits and triples.
-use Rattle.std.specs.Prelude.{◌≡◌, ◌⊎◌, ℕ, ◌≤◌, true, false, List, length, Some, slice_get}
+use Rattle.std.specs.Prelude.{◌≡◌, ◌≢◌, ◌⊎◌, ℕ, ◌≤◌, true, false, List, length, Some, slice_get}
 use Rattle.labelled_disk.specs.declared.layout.Layout.{Layout}
 use Rattle.labelled_disk.specs.Sectors.{Sector}
 use Rattle.label_calls.specs.Labels.{HasOne, free_ones}
@@ -42,8 +42,13 @@ pub record TakesSectors (layout : Layout) (id : ℕ) (m n : List Sector) : Type 
   pub labels : TakesLabels layout id m n
   pub bits : (marks : Marks) → BitsAre layout marks m → (later : Marks) × BitsAre layout later n × TakesBits layout id m n marks later
 
+-- where the identifier is not 0, data sectors that were taken have labels of these pages
+abbrev pub AreOfPages : Layout → ℕ → (ℕ → Type 0) → List Sector → List Sector → Type 0
+AreOfPages layout id pages m n = id ≢ 0 → (sector : ℕ) → layout.first ≤ sector → IsTakenFor id m n sector → HasOne (λ label. pages label.page) n sector
+
 -- It has taken them for these pages: where the file map was in form, and named none of these, it is in form, and names what it
 -- named and these alone.
 pub record TakesFor (layout : Layout) (id : ℕ) (pages : ℕ → Type 0) (m n : List Sector) : Type 0 where
   pub taken : TakesSectors layout id m n
+  pub of : AreOfPages layout id pages m n
   pub names : (named : Triples) → MapIs layout named m → NamesNoneOf id pages named → (later : Triples) × MapIs layout later n × AddsPages id pages named later

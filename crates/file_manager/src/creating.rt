@@ -10,13 +10,13 @@ ghost use Rattle.label_calls.specs.Labels.{MayHaveWritten};
 ghost use Rattle.session_words.specs.Parts.{Shapes};
 ghost use Rattle.swapper_kernel.specs.Goes.{Goes, no_page};
 ghost use Rattle.volume_root.specs.RootPage.{IsValidRoot, root_write};
-ghost use Rattle.file_manager.specs.Grounds.{CreateHalts};
+ghost use Rattle.file_manager.specs.Grounds.{CreateHalts, IsNewPage};
 ghost use Rattle.filer_kernel.specs.Evidence.{ShowsSo};
 ghost use Rattle.file_manager.specs.CreateBroken.{CreatedSome};
-ghost use Rattle.file_manager.specs.Creating.{next_id, counted, IsOnward, CreatedAs, NewMade, NewSome};
+ghost use Rattle.file_manager.specs.Creating.{next_id, counted, CreatedAs, NewMade, NewSome};
 ghost use Rattle.file_manager.specs.Making.{MayCreate};
 ghost use Rattle.file_manager.specs.Roots.{RootCounts};
-ghost use Rattle.file_manager.specs.Reasons.{Keeps, KeepsFrom, Outset, ShowsReason};
+ghost use Rattle.file_manager.specs.Reasons.{giving, IsAhead, Keeps, KeepsFrom, Outset, ShowsReason};
 
 use crate::Volume;
 use crate::growth::frames_of;
@@ -56,7 +56,7 @@ pub fn write_over<D: Disk, A: Allocator>(
     ensures made { OnOk result (Goes (λ m n. n ≡ written (root_write root) m) no_page (root_write root ∷ []) (D.state filer.old.swapper.under) filer.old.swapper.pool (D.state filer.new.swapper.under) filer.old.swapper.pool) }
     ensures stopped { OnErr result (MayHaveWritten (root_write root) (D.state filer.old.swapper.under) filer.old.swapper.pool (D.state filer.new.swapper.under)) }
     ensures fault { IfErr result (λ e. e ≡ halt.Disk) }
-    ensures keeps_to { (o : Outset) (named : Triples) → Keeps o filer.old named → OnOk result (Keeps o filer.new named) }
+    ensures keeps_to { (o : Outset) (named : Triples) → Keeps o filer.old named → next_id root ≤ o.next → OnOk result (Keeps o filer.new named) }
     ensures reasons { (o : Outset) (named : Triples) → Keeps o filer.old named → IfErr result (ShowsReason o filer.old.swapper.layout (D.state filer.new.swapper.under)) }
     ensures counted { OnErr result (Rose (D.state filer.old.swapper.under).faults (D.state filer.new.swapper.under).faults) }
     ensures frames { filer.new.swapper.pool ≡ filer.old.swapper.pool }
@@ -90,9 +90,9 @@ pub fn create<D: Disk, A: Allocator>(
         → IfErr result (λ e. e ≡ halt.Disk) }
     ensures broken { (x : List Sector) (shapes : Shapes) (spaces : List Space) → MayCreate (D.state filer.old.swapper.under) filer.old.swapper.pool filer.old.swapper.layout filer.old.runs shapes spaces (next_id volume.old.root) pages x
         → OnErr result (CreatedSome (root_write (counted volume.old.root) ∷ []) (next_id volume.old.root) kind pages x (D.state filer.old.swapper.under) filer.old.swapper.pool (D.state filer.new.swapper.under) filer.new.swapper.pool) }
-    ensures cause { IfErr result (CreateHalts filer.old.swapper.layout (next_id volume.old.root) (D.state filer.old.swapper.under) filer.old.swapper.pool (D.state filer.new.swapper.under) filer.new.swapper.pool) }
-    ensures keeps_to { (o : Outset) (named : Triples) → Keeps o filer.old named → IsOnward o.root volume.old.root → OnOk result (KeepsFrom o named filer.new) }
-    ensures reasons { (o : Outset) (named : Triples) → Keeps o filer.old named → IsOnward o.root volume.old.root → IfErr result (ShowsReason o filer.old.swapper.layout (D.state filer.new.swapper.under)) }
+    ensures cause { IfErr result (CreateHalts filer.old.swapper.layout (next_id volume.old.root) (IsNewPage pages) (D.state filer.old.swapper.under) filer.old.swapper.pool (D.state filer.new.swapper.under) filer.new.swapper.pool) }
+    ensures keeps_to { (o : Outset) (named : Triples) → Keeps o filer.old named → IsAhead o volume.old.root → OnOk result (KeepsFrom (giving o (next_id volume.new.root)) named filer.new) }
+    ensures reasons { (o : Outset) (named : Triples) → Keeps o filer.old named → IsAhead o volume.old.root → IfErr result (ShowsReason o filer.old.swapper.layout (D.state filer.new.swapper.under)) }
     ensures so { IfErr result (ShowsSo (D.state filer.new.swapper.under)) }
     ensures counted { result ≡ Err halt.Disk → Rose (D.state filer.old.swapper.under).faults (D.state filer.new.swapper.under).faults }
     ensures new_volume { OnOk result (volume.new ≡ record volume.old { root = counted volume.old.root; used = volume.old.used + pages + 1 }) }

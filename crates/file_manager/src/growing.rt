@@ -7,11 +7,11 @@ ghost use Rattle.labelled_disk.specs.Sectors.{Sector};
 ghost use Rattle.file_map.specs.FileMap.{Triples};
 ghost use Rattle.flat_machine.specs.declared.space.Space.{Space};
 ghost use Rattle.session_words.specs.Parts.{Shape, Shapes};
-ghost use Rattle.file_manager.specs.Grounds.{MakeHalts};
+ghost use Rattle.file_manager.specs.Grounds.{RangeHalts};
 ghost use Rattle.filer_kernel.specs.Evidence.{ShowsSo};
 ghost use Rattle.file_manager.specs.Broken.{GrewSome};
 ghost use Rattle.file_manager.specs.Making.{MayGrow, GrownBy, MakesAll, MakesSome};
-ghost use Rattle.file_manager.specs.Reasons.{Keeps, KeepsFrom, Outset, ShowsReason};
+ghost use Rattle.file_manager.specs.Reasons.{Keeps, KeepsFrom, MayTake, Outset, ShowsReason};
 ghost use Rattle.file_manager.specs.Taking.{NamesNoneOf};
 
 use crate::Volume;
@@ -41,9 +41,9 @@ pub fn grow<D: Disk, A: Allocator>(
         → OnErr result (GrewSome id kind size (pages - size) x (D.state filer.old.swapper.under) filer.old.swapper.pool (D.state filer.new.swapper.under) filer.new.swapper.pool) }
     ensures makes { OnOk result (MakesAll id kind size (pages - size) (D.state filer.old.swapper.under) filer.old.swapper.pool (D.state filer.new.swapper.under) filer.new.swapper.pool) }
     ensures stopped { OnErr result (MakesSome id kind size (pages - size) (D.state filer.old.swapper.under) filer.old.swapper.pool (D.state filer.new.swapper.under) filer.new.swapper.pool) }
-    ensures cause { IfErr result (MakeHalts filer.old.swapper.layout id (λ p. (size ≤ p) × (p < pages)) (D.state filer.old.swapper.under) filer.old.swapper.pool (D.state filer.new.swapper.under) filer.new.swapper.pool) }
-    ensures keeps_to { (o : Outset) (named : Triples) → Keeps o filer.old named → NamesNoneOf id (λ p. (size ≤ p) × (p < pages)) named → OnOk result (KeepsFrom o named filer.new) }
-    ensures reasons { (o : Outset) (named : Triples) → Keeps o filer.old named → NamesNoneOf id (λ p. (size ≤ p) × (p < pages)) named → IfErr result (ShowsReason o filer.old.swapper.layout (D.state filer.new.swapper.under)) }
+    ensures cause { IfErr result (RangeHalts filer.old.swapper.layout id size pages (D.state filer.old.swapper.under) filer.old.swapper.pool (D.state filer.new.swapper.under) filer.new.swapper.pool) }
+    ensures keeps_to { (o : Outset) (named : Triples) → Keeps o filer.old named → MayTake o id → NamesNoneOf id (λ p. (size ≤ p) × (p < pages)) named → OnOk result (KeepsFrom o named filer.new) }
+    ensures reasons { (o : Outset) (named : Triples) → Keeps o filer.old named → MayTake o id → NamesNoneOf id (λ p. (size ≤ p) × (p < pages)) named → IfErr result (ShowsReason o filer.old.swapper.layout (D.state filer.new.swapper.under)) }
     ensures so { IfErr result (ShowsSo (D.state filer.new.swapper.under)) }
     ensures counted { result ≡ Err halt.Disk → Rose (D.state filer.old.swapper.under).faults (D.state filer.new.swapper.under).faults }
     ensures used { OnOk result (volume.new ≡ record volume.old { used = min (volume.old.used + (pages - size)) volume.old.layout.capacity }) }

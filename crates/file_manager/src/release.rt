@@ -22,7 +22,7 @@ ghost use Rattle.filer_kernel.specs.Causes.{IsRunHome};
 ghost use Rattle.swapper_kernel.specs.Halts.{HasCause};
 ghost use Rattle.filer_kernel.specs.Evidence.{MayBeMissing, ShowsSo};
 ghost use Rattle.file_manager.specs.Freeing.{MayFree, Freed, FreedSome, IsPartOf, NamesAll, MakesFree, MakesSomeFree, run_sectors};
-ghost use Rattle.file_manager.specs.Reasons.{AreLet, Keeps, LeavesTables, MayLack, Outset, ShowsReason};
+ghost use Rattle.file_manager.specs.Reasons.{AreLet, Keeps, LacksNone, LeavesTables, MayLack, Outset, ShowsReason};
 
 use crate::forgetting::forget_run;
 use file_map::Run;
@@ -43,6 +43,7 @@ fn part_of<D: Disk, A: Allocator>(
     ensures cause { IfErr result (FreeHalts (IsUnframed filer.old.swapper.pool id) filer.old.swapper.layout (runs_of filer.old.swapper.layout.sectors filer.old.runs) id (λ p. p ≡ page) (D.state filer.old.swapper.under) filer.old.swapper.pool (D.state filer.new.swapper.under)) }
     ensures keeps_to { (o : Outset) (named : Triples) → Keeps o filer.old named → OnOk result (Keeps o filer.new named) }
     ensures reasons { (o : Outset) (named : Triples) → Keeps o filer.old named → MayLack named id page → IfErr result (ShowsReason o filer.old.swapper.layout (D.state filer.new.swapper.under)) }
+    ensures right { (o : Outset) (named : Triples) (sector : ℕ) → Keeps o filer.old named → named id page sector ≡ true → IfErr result LacksNone }
     ensures homes { IfOk result (λ run. (k : ℕ) → k < run.pages → IsRunHome filer.old.swapper.layout (D.state filer.old.swapper.under) filer.old.swapper.pool (runs_of filer.old.swapper.layout.sectors filer.old.runs) (home_at (run.sector + k) (record { id = id; page = run.first + k }))) }
     ensures keeps { (id ≡ 3) ⊎ (16 ≤ id) → KeepsMap (IsUnframed filer.old.swapper.pool id) filer.old.swapper.layout id (D.state filer.old.swapper.under) filer.old.swapper.pool (runs_of filer.old.swapper.layout.sectors filer.old.runs) (D.state filer.new.swapper.under) filer.new.swapper.pool (runs_of filer.old.swapper.layout.sectors filer.new.runs) }
     ensures so { MayBeMissing id page → IfErr result (ShowsSo (D.state filer.new.swapper.under)) }
@@ -124,6 +125,7 @@ pub(crate) fn free_run<D: Disk, A: Allocator>(
     ensures keeps_to { (o : Outset) (named : Triples) → Keeps o filer.old named → LeavesTables o id → OnOk result (Keeps o filer.new named) }
     ensures let_go { (o : Outset) (named : Triples) → Keeps o filer.old named → LeavesTables o id → IfOk result (λ pages. AreLet o (D.state filer.new.swapper.under) named id (λ p. (page ≤ p) × (p < page + pages))) }
     ensures reasons { (o : Outset) (named : Triples) → Keeps o filer.old named → LeavesTables o id → MayLack named id page → IfErr result (ShowsReason o filer.old.swapper.layout (D.state filer.new.swapper.under)) }
+    ensures right { (o : Outset) (named : Triples) (sector : ℕ) → Keeps o filer.old named → named id page sector ≡ true → IfErr result LacksNone }
     ensures keeps { OnOk result (KeepsMap (IsUnframed filer.old.swapper.pool id) filer.old.swapper.layout id (D.state filer.old.swapper.under) filer.old.swapper.pool (runs_of filer.old.swapper.layout.sectors filer.old.runs) (D.state filer.new.swapper.under) filer.new.swapper.pool (runs_of filer.old.swapper.layout.sectors filer.new.runs)) }
     ensures so { MayBeMissing id page → IfErr result (ShowsSo (D.state filer.new.swapper.under)) }
     ensures counted { result ≡ Err halt.Disk → Rose (D.state filer.old.swapper.under).faults (D.state filer.new.swapper.under).faults }
@@ -170,6 +172,7 @@ pub(crate) fn free_up<D: Disk, A: Allocator>(
     ensures keeps_to { (o : Outset) (named : Triples) → Keeps o filer.old named → LeavesTables o id → OnOk result (Keeps o filer.new named) }
     ensures let_go { (o : Outset) (named : Triples) → Keeps o filer.old named → LeavesTables o id → OnOk result (AreLet o (D.state filer.new.swapper.under) named id (λ p. (from ≤ p) × (p < end))) }
     ensures reasons { (o : Outset) (named : Triples) → Keeps o filer.old named → LeavesTables o id → ((page : ℕ) → page < end → MayLack named id page) → IfErr result (ShowsReason o filer.old.swapper.layout (D.state filer.new.swapper.under)) }
+    ensures right { (o : Outset) (named : Triples) → Keeps o filer.old named → LeavesTables o id → ((page : ℕ) → page < end → (sector : ℕ) × (named id page sector ≡ true)) → IfErr result LacksNone }
     ensures keeps { OnOk result (KeepsMap (IsUnframed filer.old.swapper.pool id) filer.old.swapper.layout id (D.state filer.old.swapper.under) filer.old.swapper.pool (runs_of filer.old.swapper.layout.sectors filer.old.runs) (D.state filer.new.swapper.under) filer.new.swapper.pool (runs_of filer.old.swapper.layout.sectors filer.new.runs)) }
     ensures so { ((page : ℕ) → page < end → MayBeMissing id page) → IfErr result (ShowsSo (D.state filer.new.swapper.under)) }
     ensures counted { result ≡ Err halt.Disk → Rose (D.state filer.old.swapper.under).faults (D.state filer.new.swapper.under).faults }

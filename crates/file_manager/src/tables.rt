@@ -11,7 +11,7 @@ ghost use Rattle.swapper_kernel.specs.Differs.{Differs, of_run};
 ghost use Rattle.swapper_kernel.specs.Goes.{Goes, no_page};
 ghost use Rattle.swapper_kernel.specs.Stands.{Stands};
 ghost use Rattle.session_words.specs.Parts.{Shapes};
-ghost use Rattle.file_manager.specs.Grounds.{AreTables, CreateHalts, CutFileHalts, MakeHalts};
+ghost use Rattle.file_manager.specs.Grounds.{AreTables, CreateHalts, CutFileHalts, IsUnframed, MakeHalts};
 ghost use Rattle.filer_kernel.specs.Cached.{runs_of};
 ghost use Rattle.filer_kernel.specs.Evidence.{ShowsSo};
 ghost use Rattle.file_manager.specs.Book.{Books};
@@ -19,7 +19,7 @@ ghost use Rattle.file_manager.specs.Freeing.{MakesFree, MakesSomeFree};
 ghost use Rattle.file_manager.specs.Making.{MakesAll, MakesSome};
 ghost use Rattle.file_manager.specs.Tables.{MayBegin, BegunBy, EndedBy, EndedSome};
 ghost use Rattle.file_manager.specs.Roots.{RootStays};
-ghost use Rattle.file_manager.specs.Reasons.{Keeps, KeepsBare, KeepsOn, KeepsTold, NamesTables, Outset, ShowsReason, telling};
+ghost use Rattle.file_manager.specs.Reasons.{Keeps, KeepsBare, KeepsOn, KeepsTold, LacksNone, NamesTables, Outset, ShowsReason, telling};
 ghost use Rattle.file_manager.specs.Taking.{NamesNoneOf};
 
 use crate::growth::{TABLES, frames_of, make_run};
@@ -41,7 +41,7 @@ fn make_pages<D: Disk, A: Allocator>(filer: &mut FilerOver<D, A>) -> Result<(), 
         → IfErr result (λ e. e ≡ halt.Disk) }
     ensures makes { OnOk result (MakesAll 3 0 0 96 (D.state filer.old.swapper.under) filer.old.swapper.pool (D.state filer.new.swapper.under) filer.new.swapper.pool) }
     ensures stopped { OnErr result (MakesSome 3 0 0 96 (D.state filer.old.swapper.under) filer.old.swapper.pool (D.state filer.new.swapper.under) filer.new.swapper.pool) }
-    ensures cause { IfErr result (MakeHalts filer.old.swapper.layout 3 (λ p. p < 96) (D.state filer.old.swapper.under) filer.old.swapper.pool (D.state filer.new.swapper.under) filer.new.swapper.pool) }
+    ensures cause { IfErr result (MakeHalts filer.old.swapper.layout 3 (λ p. p < 96) (λ p. p < 96) (D.state filer.old.swapper.under) filer.old.swapper.pool (D.state filer.new.swapper.under) filer.new.swapper.pool) }
     ensures keeps_to { (o : Outset) (named : Triples) → Keeps o filer.old named → o.tables ≡ None → NamesNoneOf 3 (λ p. p < 96) named → OnOk result (KeepsOn o filer.new) }
     ensures reasons { (o : Outset) (named : Triples) → Keeps o filer.old named → o.tables ≡ None → NamesNoneOf 3 (λ p. p < 96) named → IfErr result (ShowsReason o filer.old.swapper.layout (D.state filer.new.swapper.under)) }
     ensures tables { (o : Outset) (named : Triples) → Keeps (telling o []) filer.old named → NamesNoneOf 3 (λ p. p < 96) named → OnOk result (KeepsTold o filer.new) }
@@ -72,10 +72,10 @@ pub fn make_tables<D: Disk, A: Allocator>(filer: &mut FilerOver<D, A>) -> Result
         → IfErr result (λ e. e ≡ halt.Disk) }
     ensures makes { OnOk result (MakesAll 3 0 0 96 (D.state filer.old.swapper.under) filer.old.swapper.pool (D.state filer.new.swapper.under) filer.new.swapper.pool) }
     ensures stopped { OnErr result (MakesSome 3 0 0 96 (D.state filer.old.swapper.under) filer.old.swapper.pool (D.state filer.new.swapper.under) filer.new.swapper.pool) }
-    ensures cause { IfErr result (CreateHalts filer.old.swapper.layout 3 (D.state filer.old.swapper.under) filer.old.swapper.pool (D.state filer.new.swapper.under) filer.new.swapper.pool) }
-    ensures keeps_to { (o : Outset) (named : Triples) → Keeps o filer.old named → o.tables ≡ None → OnOk result (KeepsOn o filer.new) }
-    ensures reasons { (o : Outset) (named : Triples) → Keeps o filer.old named → o.tables ≡ None → IfErr result (ShowsReason o filer.old.swapper.layout (D.state filer.new.swapper.under)) }
-    ensures tables { (o : Outset) (named : Triples) → Keeps (telling o []) filer.old named → OnOk result (KeepsTold o filer.new) }
+    ensures cause { IfErr result (CreateHalts filer.old.swapper.layout 3 (λ p. p < 96) (D.state filer.old.swapper.under) filer.old.swapper.pool (D.state filer.new.swapper.under) filer.new.swapper.pool) }
+    ensures keeps_to { (o : Outset) (named : Triples) → Keeps o filer.old named → IsUnframed filer.old.swapper.pool 3 → o.tables ≡ None → OnOk result (KeepsOn o filer.new) }
+    ensures reasons { (o : Outset) (named : Triples) → Keeps o filer.old named → IsUnframed filer.old.swapper.pool 3 → o.tables ≡ None → IfErr result (ShowsReason o filer.old.swapper.layout (D.state filer.new.swapper.under)) }
+    ensures tables { (o : Outset) (named : Triples) → Keeps (telling o []) filer.old named → IsUnframed filer.old.swapper.pool 3 → OnOk result (KeepsTold o filer.new) }
     ensures so { IfErr result (ShowsSo (D.state filer.new.swapper.under)) }
     ensures counted { result ≡ Err halt.Disk → Rose (D.state filer.old.swapper.under).faults (D.state filer.new.swapper.under).faults }
     ensures root { RootStays (D.state filer.old.swapper.under) (D.state filer.new.swapper.under) }
@@ -125,6 +125,7 @@ pub fn free_tables<D: Disk, A: Allocator>(filer: &mut FilerOver<D, A>) -> Result
     ensures cause { IfErr result (CutFileHalts (AreTables filer.old.swapper.pool) filer.old.swapper.layout (runs_of filer.old.swapper.layout.sectors filer.old.runs) 3 0 (λ page. page < 96) (D.state filer.old.swapper.under) filer.old.swapper.pool (D.state filer.new.swapper.under)) }
     ensures keeps_to { (o : Outset) (named : Triples) → Keeps o filer.old named → o.tables ≡ None → OnOk result (KeepsBare o filer.new) }
     ensures reasons { (o : Outset) (named : Triples) → Keeps o filer.old named → o.tables ≡ None → NamesTables named → IfErr result (ShowsReason o filer.old.swapper.layout (D.state filer.new.swapper.under)) }
+    ensures right { (o : Outset) (named : Triples) → Keeps o filer.old named → o.tables ≡ None → NamesTables named → IfErr result LacksNone }
     ensures so { IfErr result (ShowsSo (D.state filer.new.swapper.under)) }
     ensures counted { result ≡ Err halt.Disk → Rose (D.state filer.old.swapper.under).faults (D.state filer.new.swapper.under).faults }
     ensures root { RootStays (D.state filer.old.swapper.under) (D.state filer.new.swapper.under) }

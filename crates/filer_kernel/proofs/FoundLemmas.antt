@@ -32,7 +32,7 @@ use Rattle.filer_kernel.specs.Triples.{MapIs, AreOf, IsOneOf}
 use Rattle.filer_kernel.specs.Causes.{IsGiven, MapHalts}
 use Rattle.filer_kernel.specs.PlaceLaws.{data_first, one_sector}
 use Rattle.filer_kernel.specs.Tables.{in_tables, table_pages, IsFoundHome, FoundHalts, IfMissing, IsComing, IsChanging, IsTablePage, TablesTell, BesideTables, IsTableAccounted}
-use Rattle.filer_kernel.specs.TableOnce.{tables_stay}
+use Rattle.filer_kernel.specs.TableOnce.{map_over, tables_stay}
 use Rattle.filer_kernel.proofs.MapLemmas.{same_elements, stays_shown}
 
 same_memory : (d : DiskState) (s : Slots) (m n : List Sector) → Stands d s m → Stands d s n → m ≡ n
@@ -61,7 +61,7 @@ beside_found {a = a} {s = s} {x = x} {k = k} h stays given are = record {
   layout = h.layout;
   given = given;
   runs_are = are;
-  told = λ bytes tells. (bytes, tables_stay h.layout h.goes.makes.went.sectors (λ m named stands map. stays m stands) are bytes tells);
+  told = λ bytes tells. (bytes, tables_stay h.layout h.goes.makes.went.sectors (λ m named stands map. stays m stands) are bytes tells (map_over x tells.triples h.brings));
 }
 
 -- the home that a run gives to a page of the space tables

@@ -21,7 +21,7 @@ use Rattle.filer_kernel.specs.declared.cached.CachedRuns.{CachedRuns}
 use Rattle.filer_kernel.specs.Cached.{runs_of}
 use Rattle.filer_kernel.specs.Marks.{Marks, BitsAre}
 use Rattle.filer_kernel.specs.PlaceLaws.{on_data}
-use Rattle.filer_kernel.specs.Tables.{IsTablePage, TablesTell}
+use Rattle.filer_kernel.specs.Tables.{AreOverTables, IsTablePage, TablesTell}
 use Rattle.filer_kernel.specs.Triples.{MapIs, AreOf}
 
 -- the sectors before the data sectors
@@ -55,8 +55,8 @@ pub tables_told : (old new : DiskState) (before after : Slots) (layout : Layout)
     → (told : TablesTell old before layout kept b) → Stands new after n → new.sectors ≡ layout.sectors → MapIs layout named n → AreOf named (runs_of layout.sectors runs)
     → ((page sector : ℕ) → page < 96 → told.triples 3 page sector ≡ true → named 3 page sector ≡ true)
     → ((sector : ℕ) (s : Sector) → layout.first ≤ sector → s.0.id ≡ 3 → slice_get told.memory sector ≡ Some s ↔ slice_get n sector ≡ Some s)
-    → TablesTell new after layout runs b
-tables_told old new before after layout kept runs b n named is told stands size map are has same = record {
+    → AreOverTables after named → TablesTell new after layout runs b
+tables_told old new before after layout kept runs b n named is told stands size map are has same over = record {
   memory = n;
   stands = stands;
   triples = named;
@@ -73,6 +73,6 @@ tables_told old new before after layout kept runs b n named is told stands size 
         found = has k p.sector below p.found;
         keeps = (same p.sector (p.label, part b (512 * k) 512) from (of_tables p.label k p.named_so)).0 p.keeps;
         named_so = p.named_so;
-        alone = λ other s from_data there so. p.alone other s from_data ((same other s from_data (of_tables s.0 k so)).1 there) so;
       };
+  held = over;
 }

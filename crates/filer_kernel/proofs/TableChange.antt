@@ -1,5 +1,5 @@
 -- A page of the space tables changes in its frame.
-use Rattle.std.proofs.Common.{◌≡◌, ◌≢◌, inl, inr, ℕ, ◌+◌, ◌*◌, ◌<◌, ◌≤◌, true, List, [], length, Some, sym, ◌∙◌, ap, arith, rules}
+use Rattle.std.proofs.Common.{◌≡◌, ◌≢◌, inl, inr, ℕ, ◌+◌, ◌*◌, ◌<◌, ◌≤◌, true, List, [], length, Some, refl, sym, ◌∙◌, ap, arith, rules}
 use Rattle.std.specs.Prelude.{slice_get, slice_set}
 use Rattle.std.proofs.lemmas.Bool.{cases_eq, true≢false}
 use Rattle.std.proofs.lemmas.Bool.Decides.{nat_tests}
@@ -17,17 +17,17 @@ use Rattle.frame_pool.specs.Frames.{Slots, Frame, Has, changed}
 use Rattle.frame_pool.specs.FrameLaws.{has_set, has_below}
 use Rattle.frame_pool.specs.ListLaws.{get_other, get_same, below_of}
 use Rattle.file_map.specs.FileMap.{Triples}
-use Rattle.swapper_kernel.specs.Homes.{IsLayout, IsPlaced, no_home}
+use Rattle.swapper_kernel.specs.Homes.{IsLayout, IsHeld, IsPlaced, no_home}
 use Rattle.swapper_kernel.specs.Goes.{Goes, this_page}
 use Rattle.swapper_kernel.specs.GoesLaws.{goes_wider}
 use Rattle.swapper_kernel.specs.Differs.{ChangesAt, Differs}
-use Rattle.swapper_kernel.specs.DiffersLaws.{set_labels, other_sector, names_id, names_page}
+use Rattle.swapper_kernel.specs.DiffersLaws.{set_labels, names_id, names_page}
 use Rattle.swapper_kernel.specs.Steps.{Steps}
 use Rattle.swapper_kernel.specs.CourseLaws.{steps_wider}
 use Rattle.swapper_kernel.proofs.WindowLemmas.{part_elsewhere}
 use Rattle.filer_kernel.specs.declared.cached.CachedRuns.{CachedRuns}
 use Rattle.filer_kernel.specs.Cached.{runs_of}
-use Rattle.filer_kernel.specs.PlaceLaws.{map_kept}
+use Rattle.filer_kernel.specs.PlaceLaws.{map_kept, one_sector}
 use Rattle.filer_kernel.specs.Tables.{in_tables, table_pages, IsTableHome, IsComing, IsChanging, IsTablePage, TablesTell, BesideTables}
 use Rattle.filer_kernel.proofs.TableLemmas.{table_on_data}
 
@@ -56,22 +56,15 @@ module _ (x : Layout) (k from : ℕ) (bytes : List ℕ) (home : Home) (m n : Lis
     ];
   }
 
-  -- a label of the new memory is alone where it was in the old one
-  still_alone : (j sector : ℕ) → ((o : ℕ) (s : Sector) → x.first ≤ o → slice_get m o ≡ Some s → names s.0 (record { id = 3; page = j }) ≡ true → o ≡ sector)
-      → (o : ℕ) (s : Sector) → x.first ≤ o → slice_get n o ≡ Some s → names s.0 (record { id = 3; page = j }) ≡ true → o ≡ sector
-  still_alone j sector alone o s below here named =
-      let was = other_sector m n change_differs.labels o s here in
-      alone o was.0 below was.1 (ap (λ (l : Label). names l (record { id = 3; page = j })) was.2 ∙ named)
-
-  -- so are the bytes
-  module _ (named : Triples) (b : List ℕ) (page : (j : ℕ) → j < 96 → IsTablePage x named m j (part b (512 * j) 512)) (long : length b ≡ 512 * 96) (below : k < 96) (fits : from + length bytes ≤ 512) where
+  -- the bytes of each page are those that are told then
+  module _ (named : Triples) (over : (sector : ℕ) → named 3 k sector ≡ true → home.sector ≡ sector) (b : List ℕ) (page : (j : ℕ) → j < 96 → IsTablePage x named m j (part b (512 * j) 512)) (long : length b ≡ 512 * 96) (below : k < 96) (fits : from + length bytes ≤ 512) where
     piece : 512 * k + from + length bytes ≤ length b
     piece = omega (arith, long, below, fits)
 
     page_same : (j : ℕ) → j < 96 → j ≡ k → IsTablePage x named n j (part (overwritten b (512 * k + from) bytes) (512 * j) 512)
     page_same j j_below same =
         let p : IsTablePage x named m k (part b (512 * k) 512) = page k below in
-        let sector : home.sector ≡ p.sector = p.alone home.sector c.s first c.here named_here in
+        let sector : home.sector ≡ p.sector = over p.sector p.found in
         let old : c.s ≡ (p.label, part b (512 * k) 512) = same_Some {A = Sector} c.s (p.label, part b (512 * k) 512) (sym c.here ∙ ap (slice_get m) sector ∙ p.keeps) in
         let now : IsTablePage x named n k (part (overwritten b (512 * k + from) bytes) (512 * k) 512) = record {
           sector = p.sector;
@@ -81,7 +74,6 @@ module _ (x : Layout) (k from : ℕ) (bytes : List ℕ) (home : Home) (m n : Lis
               ∙ ap (λ (l : List Sector). slice_get l home.sector) c.is ∙ get_same m home.sector (c.s.0, overwritten c.s.1 from bytes) (below_of m home.sector c.s c.here)
               ∙ ap (λ (l : List ℕ). Some (c.s.0, l)) (ap (λ (t : Sector). overwritten t.1 from bytes) old ∙ sym (part-overwritten b bytes (512 * k) 512 from (omega (arith, long, below)) fits));
           named_so = named_here;
-          alone = still_alone k p.sector p.alone;
         } in
         rw same now
 
@@ -98,19 +90,29 @@ module _ (x : Layout) (k from : ℕ) (bytes : List ℕ) (home : Home) (m n : Lis
           keeps = ap (λ (l : List Sector). slice_get l p.sector) c.is ∙ get_other m home.sector p.sector (c.s.0, overwritten c.s.1 from bytes) apart
               ∙ p.keeps ∙ ap (λ (l : List ℕ). Some (p.label, l)) (sym (part_elsewhere b from bytes j k other fits piece));
           named_so = p.named_so;
-          alone = still_alone j p.sector p.alone;
         }
 
     pub changed_page : (j : ℕ) → j < 96 → IsTablePage x named n j (part (overwritten b (512 * k + from) bytes) (512 * j) 512)
     changed_page j j_below = elim (cases_eq j k) [ inl same ↦ page_same j j_below same | inr other ↦ page_other j j_below other ]
 
+-- a frame that changed stays where it was
+held_before : (s t : Slots) (f : Frame) (from : ℕ) (bytes : List ℕ) (i : ℕ) → Has s i f → t ≡ slice_set s i (Some (changed f from bytes)) → (home : Home) → IsHeld t home → IsHeld s home
+held_before s t f from bytes i has slots home held = elim (has_set s i held.slot (Some (changed f from bytes)) held.frame (has_below s i f has) (record { is = ap (λ (l : Slots). slice_get l held.slot) (sym slots) ∙ held.has.is })) [
+  | inl (_, own) ↦ record { slot = i; frame = f; has = has; at = ap (λ (g : Frame). g.home) (same_Some (changed f from bytes) held.frame own) ∙ held.at }
+  | inr (_, was) ↦ record { slot = held.slot; frame = held.frame; has = was; at = held.at }
+]
+
 -- A frame of page `page` was changed.
 module _ {a b : DiskState} {s t : Slots} {x y : Layout} {k : CachedRuns} (is : IsLayout x) (page : ℕ) (below : page < 96) (same : y ≡ x) (f : Frame) (placed : IsPlaced x f.home) (three : f.home.id ≡ 3) (at : f.home.page ≡ page)
-    (from : ℕ) (bytes : List ℕ) (fits : from + length bytes ≤ 512) (goes : Goes (ChangesAt f.home from bytes) (this_page f.home.id f.home.page) [] a s b t) where
+    (from : ℕ) (bytes : List ℕ) (fits : from + length bytes ≤ 512) (goes : Goes (ChangesAt f.home from bytes) (this_page f.home.id f.home.page) [] a s b t)
+    (i : ℕ) (has : Has s i f) (slots : t ≡ slice_set s i (Some (changed f from bytes))) where
   pub tables_changed : (all : List ℕ) → TablesTell a s x k all → TablesTell b t y k (overwritten all (512 * page + from) bytes)
   tables_changed all tells =
       let now = goes.memory tells.memory tells.stands in
       let first = (table_on_data x f.home placed three).0 in
+      let here : tells.triples 3 page f.home.sector ≡ true =
+      ap (λ (j : ℕ). tells.triples 3 j f.home.sector) (sym at) ∙ tells.held f.home (record { slot = i; frame = f; has = has; at = refl }) three (omega (arith, at, below)) in
+      let over = one_sector x tells.triples tells.memory tells.map 3 page f.home.sector in
       let piece : 512 * page + from + length bytes ≤ length all = omega (arith, tells.count, below, fits) in
       let changed : TablesTell b t x k (overwritten all (512 * page + from) bytes) = record {
         memory = now.0;
@@ -120,19 +122,15 @@ module _ {a b : DiskState} {s t : Slots} {x y : Layout} {k : CachedRuns} (is : I
         kept = tells.kept;
         size = goes.makes.went.sectors ∙ tells.size;
         count = length-overwritten all bytes (512 * page + from) piece ∙ tells.count;
-        page = changed_page x page from bytes f.home tells.memory now.0 first three at now.2 tells.triples all tells.page tells.count below fits;
+        page = changed_page x page from bytes f.home tells.memory now.0 first three at now.2 tells.triples (λ sector found. over sector here found) all tells.page tells.count below fits;
+        held = λ home held. tells.held home (held_before s t f from bytes i has slots home held);
       } in
       rw same changed
 
-  pub beside_changed : (i : ℕ) → Has s i f → t ≡ slice_set s i (Some (changed f from bytes)) → Steps no_home (λ (h : Home). h ≡ f.home) a s b t → BesideTables a s x k b t y k
-  beside_changed i has slots steps = record {
+  pub beside_changed : Steps no_home (λ (h : Home). h ≡ f.home) a s b t → BesideTables a s x k b t y k
+  beside_changed steps = record {
     goes = goes_wider (ChangesAt f.home from bytes) (Differs (in_tables x)) table_pages (λ m n c. change_differs x page from bytes f.home m n (table_on_data x f.home placed three).0 three at c) (λ id p own. inl (own.0 ∙ three)) goes;
-    brings = record {
-      homes = λ home held. elim (has_set s i held.slot (Some (changed f from bytes)) held.frame (has_below s i f has) (record { is = ap (λ (l : Slots). slice_get l held.slot) (sym slots) ∙ held.has.is })) [
-        | inl (_, own) ↦ inl (record { slot = i; frame = f; has = has; at = ap (λ (g : Frame). g.home) (same_Some (changed f from bytes) held.frame own) ∙ held.at })
-        | inr (_, was) ↦ inl (record { slot = held.slot; frame = held.frame; has = was; at = held.at })
-      ];
-    };
+    brings = record { homes = λ home held. inl (held_before s t f from bytes i has slots home held) };
     steps = steps_wider (IsComing x a s (runs_of x.sectors k)) (IsChanging x) (λ h no. absurd no) (λ h own. inr (rw own changing)) steps;
     layout = same;
     given = λ r one. inl one;

@@ -1,12 +1,11 @@
 -- Pages of the space tables that are brought into frames.
-use Rattle.std.proofs.Common.{◌≡◌, ◌≢◌, ◌⊎◌, inl, inr, ℕ, ◌*◌, ◌<◌, ◌≤◌, true, List, sym, ◌∙◌, ap, subst, arith}
+use Rattle.std.proofs.Common.{◌≡◌, ◌≢◌, ◌⊎◌, inl, inr, ℕ, ◌*◌, ◌<◌, ◌≤◌, true, List, refl, sym, ◌∙◌, ap, subst, arith}
 use Rattle.std.specs.Prelude.{slice_get, Result, Ok, Err, IfOk, IfErr}
 use Rattle.std.proofs.lemmas.Option.{same_Some}
 use Rattle.labelled_disk.specs.declared.layout.Layout.{Layout}
 use Rattle.labelled_disk.specs.declared.evidence.Halt.{Halt}
 use Rattle.labelled_disk.specs.declared.evidence.Evidence.TheVariants.{Mismatch, Malformed, Missing}
 use Rattle.labelled_disk.specs.declared.evidence.Halt.TheVariants.{Disk, Damaged}
-use Rattle.labelled_disk.specs.Label.{names}
 use Rattle.labelled_disk.specs.Sectors.{Sector}
 use Rattle.labelled_disk.specs.State.{DiskState}
 use Rattle.flat_mem.specs.Memory.{part}
@@ -15,7 +14,7 @@ use Rattle.frame_pool.specs.Frames.{Slots, Frame, Has}
 use Rattle.swapper_kernel.specs.declared.manager.Manager.{Manager}
 use Rattle.swapper_kernel.specs.declared.manager.Manager.TheVariants.{AllocationMap, FileMap}
 use Rattle.swapper_kernel.specs.Maps.{IsMapHome, id_of}
-use Rattle.swapper_kernel.specs.Homes.{ArePlaced, IsPlaced, IsNamed, Brings, no_home}
+use Rattle.swapper_kernel.specs.Homes.{IsLayout, IsPlaced, IsNamed, Brings, no_home}
 use Rattle.swapper_kernel.specs.Stands.{Stands, IsHome}
 use Rattle.swapper_kernel.specs.Differs.{Differs}
 use Rattle.swapper_kernel.specs.Goes.{Same, Swaps}
@@ -26,8 +25,10 @@ use Rattle.swapper_kernel.specs.Steps.{Steps}
 use Rattle.swapper_kernel.specs.CourseLaws.{steps_then, steps_wider}
 use Rattle.filer_kernel.specs.declared.cached.CachedRuns.{CachedRuns}
 use Rattle.filer_kernel.specs.Cached.{runs_of}
+use Rattle.filer_kernel.specs.Causes.{IsRunHome}
+use Rattle.filer_kernel.specs.PlaceLaws.{one_sector}
 use Rattle.filer_kernel.specs.Tables.{in_tables, table_pages, IsFoundHome, FoundHalts, IfMissing, IsComing, IsChanging, IsTablePage, TablesTell, BesideTables, IsTableAccounted}
-use Rattle.filer_kernel.specs.TableOnce.{tables_swapped}
+use Rattle.filer_kernel.specs.TableOnce.{ComeOver, come_over, run_home_over, same_sectors, tables_swapped}
 
 no_map : (id : ℕ) → id ≡ 3 → (which : Manager) → id ≢ id_of which
 no_map id three AllocationMap same = absurd (omega (arith, three, same))
@@ -38,13 +39,14 @@ pub table_on_data : (x : Layout) (home : Home) → IsPlaced x home → home.id �
 table_on_data x home placed three = placed.of_file (no_map home.id three)
 
 -- a frame of the space tables has what is told
-pub table_shown : (x : Layout) (d : DiskState) (s : Slots) (k : CachedRuns) (b : List ℕ) (page i : ℕ) (f : Frame) → page < 96 → ArePlaced s x → TablesTell d s x k b → Has s i f → f.home.id ≡ 3 → f.home.page ≡ page
+pub table_shown : (x : Layout) (d : DiskState) (s : Slots) (k : CachedRuns) (b : List ℕ) (page i : ℕ) (f : Frame) → page < 96 → TablesTell d s x k b → Has s i f → f.home.id ≡ 3 → f.home.page ≡ page
     → f.bytes ≡ part b (512 * page) 512
-table_shown x d s k b page i f below placed tells has three at =
+table_shown x d s k b page i f below tells has three at =
     let home : IsHome tells.memory f = tells.stands.merged.frames i f has in
     let p : IsTablePage x tells.triples tells.memory page (part b (512 * page) 512) = tells.page page below in
-    let named : names home.label (record { id = 3; page = page }) ≡ true = sym (λ j. names home.label (record { id = three j; page = at j })) ∙ home.named in
-    let same : f.home.sector ≡ p.sector = p.alone f.home.sector (home.label, f.bytes) (table_on_data x f.home (placed i f has) three).0 home.keeps named in
+    let over : tells.triples 3 page f.home.sector ≡ true =
+    ap (λ (j : ℕ). tells.triples 3 j f.home.sector) (sym at) ∙ tells.held f.home (record { slot = i; frame = f; has = has; at = refl }) three (omega (arith, at, below)) in
+    let same : f.home.sector ≡ p.sector = one_sector x tells.triples tells.memory tells.map 3 page f.home.sector p.sector over p.found in
     ap (λ (t : Sector). t.1) (same_Some {A = Sector} (home.label, f.bytes) (p.label, part b (512 * page) 512) (sym home.keeps ∙ ap (slice_get tells.memory) same ∙ p.keeps))
 
 -- the frame that a call gives is that of the page
@@ -54,22 +56,33 @@ table_there (Ok i) s home page three at is = (is.0, is.1, is.2 ∙ three, is.3 �
 table_there (Err e) s home page three at is = tt
 
 -- and has what is told
-pub table_shown_there : (r : Result ℕ Halt) (x : Layout) (d : DiskState) (s : Slots) (k : CachedRuns) (b : List ℕ) (page : ℕ) → page < 96 → ArePlaced s x → TablesTell d s x k b
+pub table_shown_there : (r : Result ℕ Halt) (x : Layout) (d : DiskState) (s : Slots) (k : CachedRuns) (b : List ℕ) (page : ℕ) → page < 96 → TablesTell d s x k b
     → IfOk r (λ i. (f : Frame) × Has s i f × (f.home.id ≡ 3) × (f.home.page ≡ page)) → IfOk r (λ i. (f : Frame) × Has s i f × (f.bytes ≡ part b (512 * page) 512))
-table_shown_there (Ok i) x d s k b page below placed tells is = (is.0, is.1, table_shown x d s k b page i is.0 below placed tells is.1 is.2 is.3)
-table_shown_there (Err e) x d s k b page below placed tells is = tt
+table_shown_there (Ok i) x d s k b page below tells is = (is.0, is.1, table_shown x d s k b page i is.0 below tells is.1 is.2 is.3)
+table_shown_there (Err e) x d s k b page below tells is = tt
 
 module _ {a b : DiskState} {s t : Slots} {x y : Layout} {k l : CachedRuns} (home : Home) (h : BesideTables a s x k b t y l) (found : IsFoundHome x a s (runs_of x.sectors k) home) where
+  -- its frame is over the sector where the map has it
+  over_fetched : {u : Slots} → IsLayout x → Brings (λ (o : Home). o ≡ home) t u → (bytes later : List ℕ) → (tells : TablesTell a s x k bytes) → (told : TablesTell b t y l later) → ComeOver t u told.triples
+  over_fetched is brings bytes later tells told =
+      come_over (λ (o : Home). o ≡ home) told.triples (λ o same three.
+      same_sectors is h.layout h.goes tells told 3 o.page o.sector ∙ run_home_over is tells o (subst (IsRunHome x a s (runs_of x.sectors k)) (sym same) found.by_run) three) brings
+
+  -- the same is told
+  pub told_fetched : {c : DiskState} {u : Slots} {z : Layout} → IsLayout x → Swaps b t c u → Brings (λ (o : Home). o ≡ home) t u → z ≡ y → ((bytes : List ℕ) → TablesTell a s x k bytes → TablesTell b t y l bytes)
+      → (bytes : List ℕ) → TablesTell a s x k bytes → TablesTell c u z l bytes
+  told_fetched is swaps brings same mid bytes tells = tables_swapped same swaps bytes (mid bytes tells) (over_fetched is brings bytes bytes tells (mid bytes tells))
+
   -- a page that was found is brought in
-  pub beside_fetched : {c : DiskState} {u : Slots} {z : Layout} → Swaps b t c u → Brings (λ (o : Home). o ≡ home) t u → Steps (λ (o : Home). o ≡ home) no_home b t c u → z ≡ y → BesideTables a s x k c u z l
-  beside_fetched swaps brings steps same = record {
+  pub beside_fetched : {c : DiskState} {u : Slots} {z : Layout} → IsLayout x → Swaps b t c u → Brings (λ (o : Home). o ≡ home) t u → Steps (λ (o : Home). o ≡ home) no_home b t c u → z ≡ y → BesideTables a s x k c u z l
+  beside_fetched is_layout swaps brings steps same = record {
     goes = goes_then (Differs (in_tables x)) Same (Differs (in_tables x)) (λ m n o first last. subst (Differs (in_tables x) m) (sym last) first) h.goes (swaps_wider table_pages swaps);
     brings = brings_then h.brings (brings_wider (IsComing x a s (runs_of x.sectors k)) (λ o is. inr (subst (IsFoundHome x a s (runs_of x.sectors k)) (sym is) found)) brings);
     steps = steps_then h.steps (steps_wider (IsComing x a s (runs_of x.sectors k)) (IsChanging x) (λ o is. inr (subst (IsFoundHome x a s (runs_of x.sectors k)) (sym is) found)) (λ o no. absurd no) steps);
     layout = same ∙ h.layout;
     given = h.given;
     runs_are = h.runs_are;
-    told = λ bytes tells. let mid = h.told bytes tells in (mid.0, tables_swapped same swaps mid.0 mid.1);
+    told = λ bytes tells. let mid = h.told bytes tells in (mid.0, tables_swapped same swaps mid.0 mid.1 (over_fetched is_layout brings bytes mid.0 tells mid.1));
   }
 
   reason_found : (o : Home) → held_or t (λ (i : Home). i ≡ home) o → held_or s (IsMapHome FileMap x) o ⊎ IsFoundHome x a s (runs_of x.sectors k) o

@@ -12,4 +12,6 @@ pub mod EvidenceLaws
 pub mod Tables
 pub mod PlaceLaws
 pub mod TableLaws
+pub mod MapOnce
+pub mod NamedLaws
 pub mod TableOnce

@@ -17,7 +17,7 @@ use Rattle.file_map.specs.FileMap.{Triples, IsNowhere}
 use Rattle.file_map.specs.Cause.{IsBroken}
 use Rattle.swapper_kernel.specs.declared.manager.Manager.TheVariants.{FileMap}
 use Rattle.swapper_kernel.specs.Maps.{IsMapHome}
-use Rattle.swapper_kernel.specs.Homes.{Homes, IsFileHome, AreNamed, Brings}
+use Rattle.swapper_kernel.specs.Homes.{Homes, IsFileHome, IsHeld, AreNamed, Brings}
 use Rattle.swapper_kernel.specs.Stands.{Stands}
 use Rattle.swapper_kernel.specs.Differs.{Differs}
 use Rattle.swapper_kernel.specs.Goes.{Goes, Pages}
@@ -73,17 +73,20 @@ IsComing layout disk slots kept home = IsMapHome FileMap layout home ⊎ IsFound
 abbrev pub IsChanging : Layout → Homes
 IsChanging layout home = IsMapHome FileMap layout home ⊎ IsTableHome layout home
 
--- in this sector, as the map says, stands page k with these bytes, and its label names it; no other data sector's does
+-- in this sector, as the map says, stands page k with these bytes, and its label names it
 pub record IsTablePage (layout : Layout) (named : Triples) (memory : List Sector) (k : ℕ) (page : List ℕ) : Type 0 where
   pub sector : ℕ
   pub label : Label
   pub found : named 3 k sector ≡ true
   pub keeps : slice_get memory sector ≡ Some (label, page)
   pub named_so : names label (record { id = 3; page = k }) ≡ true
-  pub alone : (other : ℕ) (s : Sector) → layout.first ≤ other → slice_get memory other ≡ Some s → names s.0 (record { id = 3; page = k }) ≡ true → other ≡ sector
+
+-- each frame of one of the pages of the space tables is over the sector where the map has that page
+abbrev pub AreOverTables : Slots → Triples → Type 0
+AreOverTables slots named = (home : Home) → IsHeld slots home → home.id ≡ 3 → home.page < 96 → named 3 home.page home.sector ≡ true
 
 -- The disk tells its contents, and with the frames over it the pages of the space tables are these bytes; the runs that
--- are kept are the map's.
+-- are kept are the map's, and frames of these pages are where the map has them.
 pub record TablesTell (disk : DiskState) (slots : Slots) (layout : Layout) (runs : CachedRuns) (b : List ℕ) : Type 0 where
   pub memory : List Sector
   pub stands : Stands disk slots memory
@@ -93,6 +96,7 @@ pub record TablesTell (disk : DiskState) (slots : Slots) (layout : Layout) (runs
   pub size : disk.sectors ≡ layout.sectors
   pub count : length b ≡ 512 * 96
   pub page : (k : ℕ) → k < 96 → IsTablePage layout triples memory k (part b (512 * k) 512)
+  pub held : AreOverTables slots triples
 
 -- how many bytes they are, on a disk of this many sectors
 abbrev pub tables_size : ℕ → Layout → ℕ

@@ -1,5 +1,5 @@
 -- Causes of which none is that a page of the space tables breaks its form.
-use Rattle.std.proofs.Common.{◌≡◌, ◌≢◌, inl, inr, ℕ, List, sym, subst, arith}
+use Rattle.std.proofs.Common.{◌≡◌, ◌≢◌, inl, inr, ℕ, List, arith}
 use Rattle.labelled_disk.specs.declared.evidence.Evidence.TheVariants.{Mismatch, Malformed, Missing}
 use Rattle.labelled_disk.specs.declared.evidence.Halt.{Halt}
 use Rattle.labelled_disk.specs.declared.evidence.Halt.TheVariants as halt
@@ -23,10 +23,6 @@ label_form homes old slots new (halt.Damaged (Mismatch sector wanted found)) is 
 label_form homes old slots new (halt.Damaged (Malformed window page)) is = absurd is
 label_form homes old slots new (halt.Damaged (Missing id page)) is = tt
 
--- a fault of the disk alone
-pub fault_form : (e : Halt) → e ≡ halt.Disk → SparesForm e
-fault_form e is = subst SparesForm (sym is) tt
-
 -- pages of a file are freed, and the file is cut: so it is there too
 pub cut_form : (given : Type 0) (layout : Layout) (kept : List Run) (id from : ℕ) (pages : ℕ → Type 0) (old : DiskState) (before : Slots) (new : DiskState) (e : Halt) → CutFileHalts given layout kept id from pages old before new e → SparesForm e
 cut_form given layout kept id from pages old before new halt.Disk is = tt
@@ -35,8 +31,8 @@ cut_form given layout kept id from pages old before new (halt.Damaged (Malformed
 cut_form given layout kept id from pages old before new (halt.Damaged (Missing missing page)) is = tt
 
 -- a file is created: a page of the file map breaks its form, if any does
-pub create_form : (layout : Layout) (id : ℕ) (old : DiskState) (before : Slots) (new : DiskState) (after : Slots) (e : Halt) → CreateHalts layout id old before new after e → SparesForm e
-create_form layout id old before new after halt.Disk is = tt
-create_form layout id old before new after (halt.Damaged (Mismatch sector wanted found)) is = tt
-create_form layout id old before new after (halt.Damaged (Malformed window page)) is = map_form window is.0
-create_form layout id old before new after (halt.Damaged (Missing missing page)) is = tt
+pub create_form : (layout : Layout) (id : ℕ) (wanted : ℕ → Type 0) (old : DiskState) (before : Slots) (new : DiskState) (after : Slots) (e : Halt) → CreateHalts layout id wanted old before new after e → SparesForm e
+create_form layout id wanted old before new after halt.Disk is = tt
+create_form layout id wanted old before new after (halt.Damaged (Mismatch sector label found)) is = tt
+create_form layout id wanted old before new after (halt.Damaged (Malformed window page)) is = map_form window is.0
+create_form layout id wanted old before new after (halt.Damaged (Missing missing page)) is = tt

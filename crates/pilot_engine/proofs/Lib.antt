@@ -45,3 +45,8 @@ pub mod NewWindow
 pub mod OwnLemmas
 pub mod ShutLemmas
 pub mod UnsetLemmas
+pub mod LackLemmas
+pub mod HomeLemmas
+pub mod SpaceLacks
+pub mod HomeSteps
+pub mod EndSpares

@@ -8,6 +8,7 @@ use Rattle.labelled_disk.specs.declared.disk.DiskWrite.TheVariants as write
 use Rattle.labelled_disk.specs.declared.evidence.Halt.{Halt}
 use Rattle.labelled_disk.specs.declared.layout.Layout.{Layout}
 use Rattle.labelled_disk.specs.Calls.{OnlyReads}
+use Rattle.labelled_disk.specs.Label.{page_label}
 use Rattle.labelled_disk.specs.Layout.{vam}
 use Rattle.labelled_disk.specs.Sectors.{Sector, AreSectors, free_label}
 use Rattle.labelled_disk.specs.State.{DiskState}
@@ -37,22 +38,22 @@ use Rattle.filer_kernel.proofs.LawLemmas.{named_in_sectors}
 use Rattle.session_words.proofs.ShownLemmas.{shown_laws}
 use Rattle.volume_root.specs.declared.root.Root.{Root}
 use Rattle.volume_root.specs.RootPage.{root_write}
+use Rattle.file_manager.specs.Grounds.{IsUnframed}
 use Rattle.file_manager.specs.KeepLaws.{beside_keeps}
 use Rattle.file_manager.specs.ReasonLaws.{label_reasons}
-use Rattle.file_manager.specs.Reasons.{AreTabled, IsLet, KeepsTo, Outset, ShowsReason, outset, telling, WasMade}
-use Rattle.fault_core.specs.Reach.{IsReached, Reaches, ReachHalts, no_break}
+use Rattle.file_manager.specs.Reasons.{AreTabled, giving, HasMade, HasRoot, IsAt, IsLet, WasGiven, IsOne, KeepsTo, Outset, outset, ShowsReason, Takes, telling}
+use Rattle.fault_core.specs.Reach.{IsReached, Reaches}
 use Rattle.fault_core.specs.Touch.{on_data}
 use Rattle.fault_core.specs.View.{View, kept_by}
 use Rattle.fault_core.proofs.ReachLemmas.{reaches_itself}
-use Rattle.fault_core.proofs.TurnLemmas.{brought_halt, reaches_brought}
+use Rattle.fault_core.proofs.TurnLemmas.{reaches_brought}
 use Rattle.running_words.specs.Moving.{Moves, any_page}
 use Rattle.running_words.specs.MovingLaws.{keeps_bare, moves_of_reaches}
-use Rattle.labelled_disk.specs.Label.{names, page_label}
 use Rattle.labelled_disk.specs.Runs.{zero_bytes}
 use Rattle.swapper_kernel.proofs.PlacedLemmas.{parts}
 use Rattle.labelled_disk.specs.declared.label.Wanted.{Wanted}
 use Rattle.pilot_engine.specs.Opening.{IsBare}
-use Rattle.pilot_engine.specs.Reasons.{HasNoTables, IsBegun}
+use Rattle.pilot_engine.specs.Reasons.{IsBegun}
 use Rattle.pilot_engine.proofs.StartStands.{bare_stands}
 
 -- ---- The start.
@@ -61,23 +62,35 @@ use Rattle.pilot_engine.proofs.StartStands.{bare_stands}
 pub begun_read : {d : List Sector} {named : Triples} {ws : List DiskWrite} {a b : DiskState} → OnlyReads a b → IsBegun d named ws a → IsBegun d named ws b
 begun_read reads b = record { contents = reads.contents ∙ b.contents; writes = reads.writes ∙ b.writes; map = b.map }
 
--- what an outset tells of the space tables is put beside
-abbrev with_tables : Outset → Option (List ℕ) → Outset
-with_tables o tables = record o { tables = tables }
+-- what is so meanwhile is put beside: from where on no identifier is given out, and what is told of the space tables
+abbrev meanwhile : Outset → ℕ → Option (List ℕ) → Outset
+meanwhile o next tables = record o { next = next; tables = tables }
 
--- no data sector's label names a page of the space tables: none of these is told
-no_page_tabled : (layout : Layout) (named : Triples) (d : List Sector) → HasNoTables layout d → AreTabled layout named d []
-no_page_tabled layout named d none = record {
-  count = 0;
-  most = omega arith;
-  long = refl;
-  page = λ k below. absurd (omega (arith, below));
-  none = λ k from below. none k below;
-}
+-- what stands behind the same writes is the same
+one_end : (xs ys zs : List DiskWrite) → xs ++ ys ≡ xs ++ zs → ys ≡ zs
+one_end [] ys zs same = same
+one_end (x ∷ xs) ys zs same = one_end xs ys zs (ap (λ (l : List DiskWrite). drop 1 l) same)
 
-begun_with : (tables : Option (List ℕ)) (layout : Layout) (d : List Sector) (named : Triples) (ws : List DiskWrite) (disk : DiskState) (slots : Slots) (kept : CachedRuns) → IsLayout layout → disk.sectors ≡ layout.sectors → AreSectors d
-    → length d ≡ layout.sectors → IsBare slots → runs_of layout.sectors kept ≡ [] → IsBegun d named ws disk → IfSome tables (AreTabled layout named d) → KeepsTo (with_tables (outset d named ws) tables) layout (runs_of layout.sectors kept) disk slots named
-begun_with tables layout d named ws disk slots kept is size sectors long bare none begun tabled = record {
+-- where no write is told behind these, none of them has a root
+no_root : (ws : List DiskWrite) {now : Option (List DiskWrite)} → now ≡ Some ws → (root : Root) → HasMade ws now (HasRoot root) → ⊥
+no_root ws told root made =
+    let none : made.more ≡ [] = one_end ws made.more [] (same_Some (ws ++ made.more) (ws ++ []) (sym made.told ∙ told ∙ ap (λ (l : List DiskWrite). Some l) (sym (append-nil ws)))) in
+    let at = made.so.1.1.0 in
+    none-some (write.Whole 0 made.so.0 made.so.1.0) (sym (ap (λ (l : List DiskWrite). slice_get l made.turn) none) ∙ at)
+
+-- and no page was given a sector
+none_given : (o : Outset) (disk : DiskState) → disk.writes ≡ Some o.writes → (home : Home) → WasGiven o disk home → ⊥
+none_given o disk told home (kind, made) =
+    let none : made.more ≡ [] = one_end o.writes made.more [] (same_Some (o.writes ++ made.more) (o.writes ++ []) (sym made.told ∙ told ∙ ap (λ (l : List DiskWrite). Some l) (sym (append-nil o.writes)))) in
+    none-some (write.Whole home.sector (page_label home.id kind home.page) zero_bytes) (sym (ap (λ (l : List DiskWrite). slice_get l made.turn) none) ∙ made.so)
+
+-- where no bytes of the space tables are told, none of their pages is
+no_page_tabled : (layout : Layout) (named : Triples) (d : List Sector) → AreTabled layout named d []
+no_page_tabled layout named d = record { count = 0; most = omega arith; long = refl; page = λ k below. absurd (omega (arith, below)) }
+
+begun_with : (next : ℕ) (tables : Option (List ℕ)) (layout : Layout) (d : List Sector) (named : Triples) (ws : List DiskWrite) (disk : DiskState) (slots : Slots) (kept : CachedRuns) → IsLayout layout → disk.sectors ≡ layout.sectors → AreSectors d
+    → length d ≡ layout.sectors → IsBare slots → runs_of layout.sectors kept ≡ [] → IsBegun d named ws disk → IfSome tables (AreTabled layout named d) → KeepsTo (meanwhile (outset d named ws) next tables) layout (runs_of layout.sectors kept) disk slots named
+begun_with next tables layout d named ws disk slots kept is size sectors long bare none begun tabled = record {
   since = ([], begun.writes ∙ ap (λ (l : List DiskWrite). Some l) (sym (append-nil ws)));
   memory = d;
   stands = bare_stands disk slots d bare begun.contents;
@@ -87,15 +100,18 @@ begun_with tables layout d named ws disk slots kept is size sectors long bare no
   kept = λ k r at. absurd (none-some r (sym (ap (λ (l : List Run). slice_get l k) none) ∙ at));
   frames = λ home held. absurd (bare held.slot held.frame held.has);
   unframed = λ page there. absurd (bare there.slot there.frame there.has);
+  over = λ home held three below. absurd (bare held.slot held.frame held.has);
   marks = is_used (map_bytes AllocationMap layout d);
   bits = record { bytes = map_bytes AllocationMap layout d; shows = shown; are = λ sector. refl };
   free = λ sector from below clear. record { outset = inl (sym (shown_laws.bits layout d (map_bytes AllocationMap layout d) sector shown (in_bits sector below)) ∙ clear); since = ([], begun.writes ∙ ap (λ (l : List DiskWrite). Some l) (sym (append-nil ws)), λ turn w at takes. absurd (none-some w at)) };
   rest = λ home from may. let_or_named (named home.id home.page home.sector) home refl;
   used = λ sector from below is_used. record { outset = inl (sym (shown_laws.bits layout d (map_bytes AllocationMap layout d) sector shown (in_bits sector below)) ∙ is_used); since = ([], begun.writes ∙ ap (λ (l : List DiskWrite). Some l) (sym (append-nil ws)), λ turn w at up. absurd (none-some w at)) };
+  roots = λ root made. absurd (no_root ws begun.writes root made);
+  taken = λ home given. absurd (none_given (meanwhile (outset d named ws) next tables) disk begun.writes home given);
   tabled = tabled;
 }
   where
-    let_or_named : (is_named : Bool) (home : Home) → named home.id home.page home.sector ≡ is_named → (named home.id home.page home.sector ≡ true) ⊎ IsLet (with_tables (outset d named ws) tables) disk home
+    let_or_named : (is_named : Bool) (home : Home) → named home.id home.page home.sector ≡ is_named → (named home.id home.page home.sector ≡ true) ⊎ IsLet (meanwhile (outset d named ws) next tables) disk home
     let_or_named true home is_so = inl is_so
     let_or_named false home is_so = inr (record {
       outset = λ was. absurd (true≢false (sym was ∙ is_so));
@@ -108,27 +124,21 @@ begun_with tables layout d named ws disk slots kept is size sectors long bare no
     in_bits : (k : ℕ) → k < layout.sectors → k < 4096 * layout.vam
     in_bits k below = let v : layout.vam ≡ vam layout.sectors = ap (λ (l : Layout). l.vam) is.1 in omega (arith, below, v)
 
--- without frames and runs, a disk keeps to what it tells
-pub begun_keeps : (layout : Layout) (d : List Sector) (named : Triples) (ws : List DiskWrite) (disk : DiskState) (slots : Slots) (kept : CachedRuns) → IsLayout layout → disk.sectors ≡ layout.sectors → AreSectors d
-    → length d ≡ layout.sectors → IsBare slots → runs_of layout.sectors kept ≡ [] → IsBegun d named ws disk → KeepsTo (outset d named ws) layout (runs_of layout.sectors kept) disk slots named
-begun_keeps layout d named ws disk slots kept is size sectors long bare none begun = begun_with None layout d named ws disk slots kept is size sectors long bare none begun tt
+-- without frames and runs, a disk keeps to what it tells, whatever identifiers are given out
+pub begun_keeps : (next : ℕ) (layout : Layout) (d : List Sector) (named : Triples) (ws : List DiskWrite) (disk : DiskState) (slots : Slots) (kept : CachedRuns) → IsLayout layout → disk.sectors ≡ layout.sectors → AreSectors d
+    → length d ≡ layout.sectors → IsBare slots → runs_of layout.sectors kept ≡ [] → IsBegun d named ws disk → KeepsTo (giving (outset d named ws) next) layout (runs_of layout.sectors kept) disk slots named
+begun_keeps next layout d named ws disk slots kept is size sectors long bare none begun = begun_with next None layout d named ws disk slots kept is size sectors long bare none begun tt
 
--- and where no data sector's label names a page of the space tables, none of these is told
-pub begun_untabled : (layout : Layout) (d : List Sector) (named : Triples) (ws : List DiskWrite) (disk : DiskState) (slots : Slots) (kept : CachedRuns) → IsLayout layout → disk.sectors ≡ layout.sectors → AreSectors d
-    → length d ≡ layout.sectors → IsBare slots → runs_of layout.sectors kept ≡ [] → IsBegun d named ws disk → HasNoTables layout d → KeepsTo (telling (outset d named ws) []) layout (runs_of layout.sectors kept) disk slots named
-begun_untabled layout d named ws disk slots kept is size sectors long bare none begun untabled =
-    begun_with (Some []) layout d named ws disk slots kept is size sectors long bare none begun (no_page_tabled layout named d untabled)
+-- and no page of the space tables is told
+pub begun_untabled : (next : ℕ) (layout : Layout) (d : List Sector) (named : Triples) (ws : List DiskWrite) (disk : DiskState) (slots : Slots) (kept : CachedRuns) → IsLayout layout → disk.sectors ≡ layout.sectors → AreSectors d
+    → length d ≡ layout.sectors → IsBare slots → runs_of layout.sectors kept ≡ [] → IsBegun d named ws disk → KeepsTo (telling (giving (outset d named ws) next) []) layout (runs_of layout.sectors kept) disk slots named
+begun_untabled next layout d named ws disk slots kept is size sectors long bare none begun = begun_with next (Some []) layout d named ws disk slots kept is size sectors long bare none begun (no_page_tabled layout named d)
 
 -- ---- The root is written, and the allocation map is looked at.
 
--- what stands behind the same writes is the same
-one_end : (xs ys zs : List DiskWrite) → xs ++ ys ≡ xs ++ zs → ys ≡ zs
-one_end [] ys zs same = same
-one_end (x ∷ xs) ys zs same = one_end xs ys zs (ap (λ (l : List DiskWrite). drop 1 l) same)
-
 -- What was written since is the root alone.
-only_root : (o : Outset) (w : DiskWrite) {disk : DiskState} → disk.writes ≡ Some (o.writes ++ (w ∷ [])) → (v : DiskWrite) → WasMade o disk v → v ≡ w
-only_root o w {disk = disk} told v made = first made.turn (one_end o.writes made.more (w ∷ []) (same_Some (o.writes ++ made.more) (o.writes ++ (w ∷ [])) (sym made.told ∙ told))) made.is
+only_root : (ws : List DiskWrite) (w : DiskWrite) {now : Option (List DiskWrite)} → now ≡ Some (ws ++ (w ∷ [])) → (v : DiskWrite) → HasMade ws now (IsAt v) → v ≡ w
+only_root ws w told v made = first made.turn (one_end ws made.more (w ∷ []) (same_Some (ws ++ made.more) (ws ++ (w ∷ [])) (sym made.told ∙ told))) made.so
   where
     first : (turn : ℕ) {more : List DiskWrite} → more ≡ w ∷ [] → slice_get more turn ≡ Some v → v ≡ w
     first zero same is = sym (same_Some w v (sym (ap (λ (l : List DiskWrite). slice_get l 0) same) ∙ is))
@@ -153,11 +163,15 @@ sector_written (write.Whole sector label bytes) = sector
 sector_written (write.LabelOnly sector label) = sector
 sector_written (write.Page sector wanted bytes) = sector
 
+-- where what is told of the space tables alone is put beside
+abbrev with_tables : Outset → Option (List ℕ) → Outset
+with_tables o tables = record o { tables = tables }
+
 -- A session begins with the root's write: what keeps to what stood before it keeps to what stood behind it.
-rooted : (tables : Option (List ℕ)) (layout : Layout) (d : List Sector) (named : Triples) (ws : List DiskWrite) (root : Root) (disk : DiskState) (slots : Slots) (kept : List Run) → IsLayout layout → IsBare slots → disk.writes ≡ Some (ws ++ (root_write root ∷ []))
-    → KeepsTo (with_tables (outset d named ws) tables) layout kept disk slots named → KeepsTo (with_tables (outset d named (ws ++ (root_write root ∷ []))) tables) layout kept disk slots named
+rooted : (next : ℕ) (tables : Option (List ℕ)) (layout : Layout) (d : List Sector) (named : Triples) (ws : List DiskWrite) (root : Root) (disk : DiskState) (slots : Slots) (kept : List Run) → IsLayout layout → IsBare slots → disk.writes ≡ Some (ws ++ (root_write root ∷ []))
+    → KeepsTo (meanwhile (outset d named ws) next tables) layout kept disk slots named → KeepsTo (with_tables (outset d named (ws ++ (root_write root ∷ []))) tables) layout kept disk slots named
 unfolding sector_written zero_bytes
-rooted tables layout d named ws root disk slots kept is bare told k = record {
+rooted next tables layout d named ws root disk slots kept is bare told k = record {
   since = ([], told ∙ ap (λ (l : List DiskWrite). Some l) (sym (append-nil (ws ++ (root_write root ∷ [])))));
   memory = k.memory;
   stands = k.stands;
@@ -167,12 +181,13 @@ rooted tables layout d named ws root disk slots kept is bare told k = record {
   kept = k.kept;
   frames = λ home held. absurd (bare held.slot held.frame held.has);
   unframed = k.unframed;
+  over = k.over;
   marks = k.marks;
   bits = k.bits;
   free = λ sector from below clear. record {
     outset = elim (k.free sector from below clear).outset [
       | inl was ↦ inl was
-      | inr up ↦ absurd (no_data sector from (ap sector_written (only_root (with_tables (outset d named ws) tables) (root_write root) told (write.LabelOnly sector free_label) up)))
+      | inr up ↦ absurd (no_data sector from (ap sector_written (only_root ws (root_write root) told (write.LabelOnly sector free_label) up)))
     ];
     since = ([], told ∙ ap (λ (l : List DiskWrite). Some l) (sym (append-nil (ws ++ (root_write root ∷ [])))), λ turn w at takes. absurd (none-some w at));
   };
@@ -180,13 +195,22 @@ rooted tables layout d named ws root disk slots kept is bare told k = record {
   used = λ sector from below is_used. record {
     outset = elim (k.used sector from below is_used).outset [
       | inl was ↦ inl was
-      | inr (id, page, (kind, made)) ↦ absurd (no_data sector from (ap sector_written (only_root (with_tables (outset d named ws) tables) (root_write root) told (write.Whole sector (page_label id kind page) zero_bytes) made)))
+      | inr taken ↦ absurd (no_data sector from (taken_root sector taken))
     ];
     since = ([], told ∙ ap (λ (l : List DiskWrite). Some l) (sym (append-nil (ws ++ (root_write root ∷ [])))), λ turn w at up. absurd (none-some w at));
   };
+  roots = λ later made. absurd (no_root (ws ++ (root_write root ∷ [])) told later made);
+  taken = λ home given. absurd (none_given (with_tables (outset d named (ws ++ (root_write root ∷ []))) tables) disk told home given);
   tabled = k.tabled;
 }
   where
+    -- a write that gives the sector to a page is in it
+    taken_root : (sector : ℕ) → HasMade ws disk.writes (IsOne (Takes sector)) → sector ≡ 0
+    taken_root sector made =
+        let w : DiskWrite = made.so.0 in
+        let is : w ≡ root_write root = only_root ws (root_write root) told w (record { more = made.more; told = made.told; turn = made.turn; so = made.so.2 }) in
+        ap sector_written (sym made.so.1.2.1 ∙ is)
+
     no_data : (sector : ℕ) → layout.first ≤ sector → sector ≡ 0 → ⊥
     no_data sector from same = let first : layout.first ≡ 1 + layout.vam + layout.vfm = (parts layout is).0 in omega (arith, from, same, first)
 
@@ -221,11 +245,8 @@ moves_of_tables v w h = record {
 
 module _ (v w : View) where
   -- no page comes
-  pub written_reaches : Swaps v.disk v.slots w.disk w.slots → ((i : ℕ) (f : Frame) → Has w.slots i f → (g : Frame) × Has v.slots i g × (g.home ≡ f.home) × (g.bytes ≡ f.bytes)) → w.layout ≡ v.layout → w.runs ≡ v.runs → Reaches v w
-  written_reaches swaps frames layout runs = reaches_brought v v w (reaches_itself v) no_home (λ home none. absurd none) swaps (brings_same no_home frames) layout runs
-
-  pub written_halt : (halt : Halt) → Halts no_home v.disk v.slots w.disk halt → ReachHalts no_break v w halt
-  written_halt halt is = brought_halt v v w (reaches_itself v) no_home (λ home none. absurd none) halt is
+  pub written_reaches : IsLayout v.layout → Swaps v.disk v.slots w.disk w.slots → ((i : ℕ) (f : Frame) → Has w.slots i f → (g : Frame) × Has v.slots i g × (g.home ≡ f.home) × (g.bytes ≡ f.bytes)) → w.layout ≡ v.layout → w.runs ≡ v.runs → Reaches v w
+  written_reaches is swaps frames layout runs = reaches_brought v v w is (reaches_itself v) no_home (λ home none. absurd none) swaps (brings_same no_home frames) layout runs
 
 -- ---- What is kept without the space tables.
 
@@ -234,14 +255,14 @@ abbrev pub ViewKeepsBare : Outset → View → Triples → Type 0
 ViewKeepsBare o v named = KeepsTo o v.layout (kept_by v) v.disk v.slots named
 
 -- at a start, of the outset behind the root's write
-pub rooted_at : (d : List Sector) (named : Triples) (ws : List DiskWrite) (root : Root) (v : View) → IsLayout v.layout → IsBare v.slots → v.disk.writes ≡ Some (ws ++ (root_write root ∷ []))
-    → ViewKeepsBare (outset d named ws) v named → ViewKeepsBare (outset d named (ws ++ (root_write root ∷ []))) v named
-rooted_at d named ws root v is bare told k = rooted None v.layout d named ws root v.disk v.slots (kept_by v) is bare told k
+pub rooted_at : (d : List Sector) (named : Triples) (ws : List DiskWrite) (root : Root) (next : ℕ) (v : View) → IsLayout v.layout → IsBare v.slots → v.disk.writes ≡ Some (ws ++ (root_write root ∷ []))
+    → ViewKeepsBare (giving (outset d named ws) next) v named → ViewKeepsBare (outset d named (ws ++ (root_write root ∷ []))) v named
+rooted_at d named ws root next v is bare told k = rooted next None v.layout d named ws root v.disk v.slots (kept_by v) is bare told k
 
 -- so it is where no page of the space tables is told
-pub rooted_untabled : (d : List Sector) (named : Triples) (ws : List DiskWrite) (root : Root) (v : View) → IsLayout v.layout → IsBare v.slots → v.disk.writes ≡ Some (ws ++ (root_write root ∷ []))
-    → ViewKeepsBare (telling (outset d named ws) []) v named → ViewKeepsBare (telling (outset d named (ws ++ (root_write root ∷ []))) []) v named
-rooted_untabled d named ws root v is bare told k = rooted (Some []) v.layout d named ws root v.disk v.slots (kept_by v) is bare told k
+pub rooted_untabled : (d : List Sector) (named : Triples) (ws : List DiskWrite) (root : Root) (next : ℕ) (v : View) → IsLayout v.layout → IsBare v.slots → v.disk.writes ≡ Some (ws ++ (root_write root ∷ []))
+    → ViewKeepsBare (telling (giving (outset d named ws) next) []) v named → ViewKeepsBare (telling (outset d named (ws ++ (root_write root ∷ []))) []) v named
+rooted_untabled d named ws root next v is bare told k = rooted next (Some []) v.layout d named ws root v.disk v.slots (kept_by v) is bare told k
 
 -- it does so where frames were written out
 pub keeps_written : (o : Outset) (v w : View) (named : Triples) → IsLayout v.layout → o.tables ≡ None → ViewKeepsBare o v named → Reaches v w → ViewKeepsBare o w named
@@ -261,3 +282,13 @@ keeps_counted o v w named keeps beside still runs =
 pub counted_reasons : (o : Outset) (v w : View) (named : Triples) → ViewKeepsBare o v named → Beside AllocationMap v.disk v.slots v.layout w.disk w.slots w.layout
     → (halt : Halt) → Halts (IsMapHome AllocationMap v.layout) v.disk v.slots w.disk halt → ShowsReason o v.layout w.disk halt
 counted_reasons o v w named keeps beside halt is = label_reasons keeps beside.goes.makes (IsMapHome AllocationMap v.layout) (λ home own. inl (AllocationMap, own)) halt is
+
+-- no frame has a page of the space tables then
+pub counted_unframed : {layout later : Layout} {a b : DiskState} {s t : Slots} → IsBare s → Beside AllocationMap a s layout b t later → IsUnframed t 3
+counted_unframed bare beside page there = elim (beside.brings.homes there.frame.home (record { slot = there.slot; frame = there.frame; has = there.has; at = refl })) [
+  | inl was ↦ bare was.slot was.frame was.has
+  | inr (other, below, at) ↦
+      let map : there.frame.home.id ≡ 1 = ap (λ (h : Home). h.id) at in
+      let own = there.same_id in
+      absurd (omega (arith, map, own))
+]

@@ -1,5 +1,5 @@
 -- What a call leaves of the outset, and why it stops, where other calls are made in it.
-use Rattle.std.proofs.Common.{◌≡◌, ℕ, [], Result, Ok, Err, sym, subst}
+use Rattle.std.proofs.Common.{◌≡◌, ℕ, ◌≤◌, [], Result, Ok, Err, sym, subst, arith}
 use Rattle.std.specs.Prelude.{IfErr, OnOk}
 use Rattle.labelled_disk.specs.declared.evidence.Halt.{Halt}
 use Rattle.labelled_disk.specs.declared.evidence.Halt.TheVariants as halt
@@ -8,12 +8,15 @@ use Rattle.labelled_disk.specs.State.{DiskState}
 use Rattle.file_map.specs.FileMap.{Triples}
 use Rattle.swapper_kernel.specs.Goes.{Makes, Pages}
 use Rattle.swapper_kernel.specs.Homes.{IsLayout}
-use Rattle.file_manager.specs.Reasons.{Outset, ShowsReason}
-use Rattle.fault_core.specs.Reach.{Reaches, ReachHalts}
+use Rattle.volume_root.specs.declared.root.Root.{Root}
+use Rattle.file_manager.specs.Creating.{next_id}
+use Rattle.file_manager.specs.Reasons.{IsAhead, Outset, ShowsReason, giving}
+use Rattle.file_manager.specs.RetoldLaws.{giving_more, giving_shows}
+use Rattle.fault_core.specs.Reach.{Reaches, ReachHalts, TouchHalts}
 use Rattle.fault_core.specs.View.{View}
 use Rattle.running_words.specs.Moving.{Moves, ViewKeepsTo}
 use Rattle.running_words.specs.MovingLaws.{moves_of_reaches, keeps_moved}
-use Rattle.space_calls.specs.ReasonLaws.{HasReasonAfter, after_it, moves_of_reshapes, reach_before}
+use Rattle.space_calls.specs.ReasonLaws.{HasReasonAfter, after_it, moves_of_reshapes, reach_before, touch_before}
 use Rattle.space_calls.specs.Unmapping.{Reshapes}
 
 -- what is seen keeps to the outset, whatever the file map names
@@ -53,6 +56,10 @@ moving_reasons P reasons v w (Err e) is moves halts o k = shows_after P reasons 
 pub reaching_reasons : {X : Type 0} (breaks : View → ℕ → Type 0) (v w : View) (r : Result X Halt) → IsLayout v.layout → Moves v w → IfErr r (ReachHalts (breaks v) v w) → (o : Outset) → ViewKeepsOn o v → IfErr r (ShowsReason o v.layout w.disk)
 reaching_reasons breaks v w r is moves halts = moving_reasons (λ v w e. ReachHalts (breaks v) v w e) (after_it (λ v w e. ReachHalts (breaks v) v w e) (reach_before breaks)) v w r is moves halts
 
+-- or the pages of clients that it looked for were not there
+pub touching_reasons : {X : Type 0} (breaks : View → ℕ → Type 0) (v w : View) (r : Result X Halt) → IsLayout v.layout → Moves v w → IfErr r (TouchHalts (breaks v) v w) → (o : Outset) → ViewKeepsOn o v → IfErr r (ShowsReason o v.layout w.disk)
+touching_reasons breaks v w r is moves halts = moving_reasons (λ v w e. TouchHalts (breaks v) v w e) (after_it (λ v w e. TouchHalts (breaks v) v w e) (touch_before breaks)) v w r is moves halts
+
 -- ---- After an earlier call.
 
 -- a reason is one with the layout of the state before
@@ -66,3 +73,23 @@ reasons_since r o disk same shows = subst (λ (l : Layout). IfErr r (ShowsReason
 -- a fault of the disk needs none
 pub fault_shows : (o : Outset) (layout : Layout) (disk : DiskState) (e : Halt) → e ≡ halt.Disk → ShowsReason o layout disk e
 fault_shows o layout disk e is = subst (λ (x : Halt). ShowsReason o layout disk x) (sym is) tt
+
+-- ---- Identifiers that are given out.
+
+-- what is seen keeps to the outset where none is given out from a later one on
+pub given_on : (o : Outset) (v : View) (next : ℕ) → o.next ≤ next → ViewKeepsOn o v → ViewKeepsOn (giving o next) v
+given_on o v next more k = (k.0, (giving_more next more k.1.0, k.1.1))
+
+-- so it does behind the last call, which gave none out
+pub ahead_on : {X : Type 0} (r : Result X Halt) (o : Outset) (w : View) (old new : Root) → IsAhead o old → next_id old ≤ next_id new → OnOk r (ViewKeepsOn o w) → OnOk r (ViewKeepsOn (giving o (next_id new)) w)
+ahead_on (Ok x) o w old new up onward k = let from = up.next in given_on o w (next_id new) (omega (arith, from, onward)) k
+ahead_on (Err e) o w old new up onward k = tt
+
+-- one on spaces, which leaves the root
+pub moving_ahead : {X : Type 0} (v w : View) (r : Result X Halt) → IsLayout v.layout → Moves v w → (o : Outset) (root : Root) → ViewKeepsOn o v → IsAhead o root → OnOk r (ViewKeepsOn (giving o (next_id root)) w)
+moving_ahead v w r is moves o root k up = ahead_on r o w root root up (omega arith) (moving_keeps v w r is moves o k)
+
+-- a reason in that outset is one in this
+pub given_reasons : {X : Type 0} (r : Result X Halt) (o : Outset) (next : ℕ) (layout : Layout) (disk : DiskState) → IfErr r (ShowsReason (giving o next) layout disk) → IfErr r (ShowsReason o layout disk)
+given_reasons (Ok x) o next layout disk shows = tt
+given_reasons (Err e) o next layout disk shows = giving_shows o next layout disk e shows

@@ -1,7 +1,5 @@
 -- What is seen of the space tables behind calls on files, and what identifier the volume gives out next.
-use Rattle.std.proofs.Common.{◌≡◌, ℕ, ◌≤◌, List, Result, Ok, Err, sym, subst, arith}
-use Rattle.std.specs.Prelude.{IfErr, MatchResult, OnOk}
-use Rattle.labelled_disk.specs.declared.disk.Disk.{Ghosts}
+use Rattle.std.proofs.Common.{◌≡◌, ℕ, ◌≤◌, List, sym, subst, arith}
 use Rattle.labelled_disk.specs.declared.evidence.Halt.{Halt}
 use Rattle.labelled_disk.specs.declared.layout.Layout.{Layout}
 use Rattle.labelled_disk.specs.State.{DiskState}
@@ -11,15 +9,15 @@ use Rattle.file_map.specs.FileMap.{Triples}
 use Rattle.swapper_kernel.specs.Homes.{IsLayout}
 use Rattle.volume_root.specs.declared.root.Root.{Root}
 use Rattle.file_manager.specs.Creating.{counted, next_id}
-use Rattle.file_manager.specs.Reasons.{KeepsTo, NamesTables, Outset, ShowsReason, telling}
+use Rattle.file_manager.specs.Reasons.{KeepsTo, NamesTables, Outset, ShowsReason, WasBelow, telling}
 use Rattle.file_manager.specs.ToldLaws.{keeps_telling, tables_of}
-use Rattle.fault_core.specs.declared.core_over.CoreOver.{CoreOver}
-use Rattle.fault_core.specs.Lack.{Sees}
-use Rattle.fault_core.specs.Spares.{SparesTables}
+use Rattle.fault_core.specs.Lack.{LacksPage, Sees}
 use Rattle.fault_core.specs.View.{View, kept_by}
-use Rattle.space_calls.specs.Sees.{SeesOn, StillSees}
-use Rattle.running_words.specs.Spared.{SparesForm}
-use Rattle.running_words.specs.SparedLaws.{form_kept, sees_kept, spares_form}
+use Rattle.space_calls.specs.FilesLaws.{on_wider}
+use Rattle.space_calls.specs.Sees.{AreOn}
+use Rattle.running_words.specs.SparedLaws.{form_kept, sees_kept}
+use Rattle.pilot_engine.specs.Reasons.{IsSpared}
+use Rattle.pilot_engine.proofs.HomeLemmas.{FilesStay, below_later, file_pages}
 use Rattle.pilot_engine.proofs.ReasonSteps.{ViewKeepsOn}
 
 -- ---- Calls on files.
@@ -28,17 +26,21 @@ use Rattle.pilot_engine.proofs.ReasonSteps.{ViewKeepsOn}
 abbrev pub AreSeen : View → List Interval → ℕ → Type 0
 AreSeen v kept count = (ss : List Space) × Sees v kept count ss
 
+-- each page of a file that a window shows is below the end of what the file is or was besides
+abbrev pub AreHome : Outset → View → List Interval → ℕ → Type 0
+AreHome o v kept count = (ss : List Space) × (Sees v kept count ss × AreOn (WasBelow o v.disk) ss)
+
 -- what is seen keeps to the outset with these bytes of the tables, the file map naming these triples
 abbrev pub KeepsWith : Outset → List ℕ → View → Triples → Type 0
 KeepsWith o b v named = KeepsTo (telling o b) v.layout (kept_by v) v.disk v.slots named
 
 module _ (o : Outset) (v : View) (is : IsLayout v.layout) (k : ViewKeepsOn o v) where
   -- a call that keeps to the outset, whatever bytes it tells, leaves them so
-  pub seen_still : (w : View) → ((b : List ℕ) → KeepsWith o b v k.0 → KeepsWith o b w k.0) → {kept : List Interval} {count : ℕ} → AreSeen v kept count → AreSeen w kept count
-  seen_still w call {kept = kept} {count = count} seen = (seen.0, sees_kept o v k.0 is k.1 w k.0 call kept count seen.0 seen.1)
+  pub seen_still : (w : View) → ((b : List ℕ) → KeepsWith o b v k.0 → KeepsWith o b w k.0) → FilesStay o v.disk w.disk → {kept : List Interval} {count : ℕ} → AreHome o v kept count → AreHome o w kept count
+  seen_still w call stay {kept = kept} {count = count} (ss, (sees, on)) = (ss, (sees_kept o v k.0 is k.1 w k.0 call kept count ss sees, on_wider (WasBelow o v.disk) (WasBelow o w.disk) (below_later o v.disk w.disk stay) ss on))
 
   -- the same spaces are seen, where the file map may name others behind the call
-  pub same_from : (w : View) → ((b : List ℕ) → KeepsWith o b v k.0 → (later : Triples) × KeepsWith o b w later × (NamesTables k.0 → NamesTables later))
+  same_from : (w : View) → ((b : List ℕ) → KeepsWith o b v k.0 → (later : Triples) × KeepsWith o b w later × (NamesTables k.0 → NamesTables later))
       → {kept : List Interval} {count : ℕ} (ss : List Space) → Sees v kept count ss → Sees w kept count ss
   same_from w call ss sees =
       let from = call sees.bytes (keeps_telling is v.runs sees.bytes sees.told k.1.0) in
@@ -46,24 +48,13 @@ module _ (o : Outset) (v : View) (is : IsLayout v.layout) (k : ViewKeepsOn o v) 
 
   -- so they are told still
   pub seen_from : (w : View) → ((b : List ℕ) → KeepsWith o b v k.0 → (later : Triples) × KeepsWith o b w later × (NamesTables k.0 → NamesTables later))
-      → {kept : List Interval} {count : ℕ} → AreSeen v kept count → AreSeen w kept count
-  seen_from w call seen = (seen.0, same_from w call seen.0 seen.1)
+      → FilesStay o v.disk w.disk → {kept : List Interval} {count : ℕ} → AreHome o v kept count → AreHome o w kept count
+  seen_from w call stay (ss, (sees, on)) = (ss, (same_from w call ss sees, on_wider (WasBelow o v.disk) (WasBelow o w.disk) (below_later o v.disk w.disk stay) ss on))
 
   -- where a call stops with a reason, whatever bytes are told, no page of theirs breaks its form
-  pub seen_spared : (layout : Layout) (disk : DiskState) (e : Halt) → ((b : List ℕ) → KeepsWith o b v k.0 → ShowsReason (telling o b) layout disk e) → {kept : List Interval} {count : ℕ} → AreSeen v kept count → SparesForm e
-  seen_spared layout disk e call seen = form_kept o v k.0 is k.1 layout disk e seen.1 call
-
--- ---- The last call, on spaces.
-
--- it says by itself what is seen, and what it spares
-pub seen_or_spared : {X : Type 0} (P : Type 0) (r : Result X Halt) → OnOk r P → IfErr r SparesTables → MatchResult r (λ _. P) SparesForm
-seen_or_spared P (Ok x) seen right = seen
-seen_or_spared P (Err e) seen right = spares_form e right
-
--- or whatever spaces are seen before it, they are seen behind it
-pub some_or_spared : {D A : Type 0} {G : Ghosts D} {X : Type 0} (old new : CoreOver D A G) (r : Result X Halt) → MatchResult r (λ _. StillSees old new) (λ e. SeesOn old → SparesForm e) → SeesOn old → MatchResult r (λ _. SeesOn new) SparesForm
-some_or_spared old new (Ok x) sees seen = (seen.0, sees seen.0 seen.1)
-some_or_spared old new (Err e) spares seen = spares seen
+  pub seen_spared : (layout : Layout) (disk : DiskState) (e : Halt) → ((b : List ℕ) → KeepsWith o b v k.0 → ShowsReason (telling o b) layout disk e) → LacksPage (file_pages o disk) e
+      → {kept : List Interval} {count : ℕ} → AreSeen v kept count → IsSpared o disk e
+  seen_spared layout disk e call lacks seen = (form_kept o v k.0 is k.1 layout disk e seen.1 call, lacks)
 
 -- ---- The next identifier.
 

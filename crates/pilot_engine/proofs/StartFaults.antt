@@ -24,7 +24,7 @@ use Rattle.pilot_engine.specs.declared.fault.StartFault.{StartFault}
 use Rattle.pilot_engine.specs.declared.fault.StartFault.TheVariants.{Root as NoRoot, NoMemory, Halt as Halted}
 use Rattle.pilot_engine.specs.Beginning.{HasStartCause}
 use Rattle.pilot_engine.specs.Opening.{IsBare, IsEarly, IsOutside, IsRightRefusal, IsSoAtStart, LeavesOpenAtStart}
-use Rattle.pilot_engine.specs.Reasons.{ShowsReasonAtStart, SparesFormAtStart}
+use Rattle.pilot_engine.specs.Reasons.{ShowsReasonAtStart, SparesFilesAtStart}
 
 -- empty slots have no frame
 pub bare_slots : (n : ℕ) (slots : Slots) → slots ≡ replicate n None → IsBare slots
@@ -124,11 +124,11 @@ early_reason o layout disk (NoRoot why) early = tt
 early_reason o layout disk NoMemory early = tt
 early_reason o layout disk (Halted why) early = absurd early
 
--- no page of the space tables is told as broken
-pub early_form : (f : StartFault) → IsEarly f → SparesFormAtStart f
-early_form (NoRoot why) early = tt
-early_form NoMemory early = tt
-early_form (Halted why) early = absurd early
+-- no page of the space tables is told as broken, nor one of a file as missing
+pub early_spares : (f : StartFault) → IsEarly f → SparesFilesAtStart f
+early_spares (NoRoot why) early = tt
+early_spares NoMemory early = tt
+early_spares (Halted why) early = absurd early
 
 -- nor is there a halt
 pub early_cause : (old new : DiskState) (f : StartFault) → IsEarly f → HasStartCause old new f

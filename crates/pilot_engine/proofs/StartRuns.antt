@@ -22,7 +22,8 @@ use Rattle.fault_core.specs.Lack.{Sees}
 use Rattle.fault_core.specs.Reach.{BringsOwn}
 use Rattle.fault_core.specs.Told.{Known}
 use Rattle.fault_core.specs.View.{View, TablesAre, view_of}
-use Rattle.space_calls.specs.Sees.{SeesOn}
+use Rattle.space_calls.specs.Sees.{SeesFiles}
+use Rattle.swapper_kernel.specs.Goes.{no_page}
 use Rattle.running_words.specs.Running.{IsRunning, Runs}
 use Rattle.running_words.specs.RunningLaws.{IsWhole}
 use Rattle.running_words.specs.Session.{AreInForm, IsSession}
@@ -43,7 +44,7 @@ module _ (v : View) (volume : Volume) (d : List Sector) (whole : IsWhole v) (s :
   pub tables_before : TablesAre v bytes
   tables_before =
       let k = known_before in
-      record { memory = s.stands.memory; stands = k.stands; triples = s.stands.is.named; map = k.map; kept = k.runs; size = k.size; count = k.count; page = k.page }
+      record { memory = s.stands.memory; stands = k.stands; triples = s.stands.is.named; map = k.map; kept = k.runs; size = k.size; count = k.count; page = k.page; held = k.held }
 
   module _ (w : View) (b : BesideTables v.disk v.slots v.layout v.runs w.disk w.slots w.layout w.runs) (came : BringsOwn v.slots w.slots) where
     has : HasFrames w.slots (root ∷ [])
@@ -61,10 +62,13 @@ runs_over {D} {A} {G} c filer volume m same none one runs =
     subst (λ (n : ℕ). IsRunning (view_of c.filer) (kept c) n volume m) (sym one)
     (subst (λ (ks : List Interval). IsRunning (view_of c.filer) ks 1 volume m) (sym none) (subst (λ (f : FilerOver D A G). IsRunning (view_of f) [] 1 volume m) (sym same) runs))
 
--- what is seen of the tables by the filer, the core sees
-pub sees_over : {D A : Type 0} {G : Ghosts D} (c : CoreOver D A G) (filer : FilerOver D A G) → c.filer ≡ filer → kept c ≡ [] → c.intervals ≡ 1 → SeesRoot (view_of filer) → SeesOn c
+-- what is seen of the tables by the filer, the core sees: no window is there
+pub sees_over : {D A : Type 0} {G : Ghosts D} (c : CoreOver D A G) (filer : FilerOver D A G) → c.filer ≡ filer → kept c ≡ [] → c.intervals ≡ 1 → SeesRoot (view_of filer) → SeesFiles no_page c
 sees_over {D} {A} {G} c filer same none one sees = (
   root ∷ [],
-  subst (λ (n : ℕ). Sees (view_of c.filer) (kept c) n (root ∷ [])) (sym one)
-      (subst (λ (ks : List Interval). Sees (view_of c.filer) ks 1 (root ∷ [])) (sym none) (subst (λ (f : FilerOver D A G). Sees (view_of f) [] 1 (root ∷ [])) (sym same) sees)),
+  (
+    subst (λ (n : ℕ). Sees (view_of c.filer) (kept c) n (root ∷ [])) (sym one)
+        (subst (λ (ks : List Interval). Sees (view_of c.filer) ks 1 (root ∷ [])) (sym none) (subst (λ (f : FilerOver D A G). Sees (view_of f) [] 1 (root ∷ [])) (sym same) sees)),
+    (tt, tt),
+  ),
 )

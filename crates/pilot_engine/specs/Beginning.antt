@@ -1,5 +1,5 @@
 -- Why no session starts on a volume that was closed: step by step, from right after its root was read.
-use Rattle.std.specs.Prelude.{◌≡◌, ◌⊎◌, List, [], ◌∷◌, Some}
+use Rattle.std.specs.Prelude.{◌≡◌, ◌⊎◌, ◌<◌, List, [], ◌∷◌, Some}
 use Rattle.labelled_disk.specs.declared.evidence.Halt.{Halt}
 use Rattle.labelled_disk.specs.declared.evidence.Halt.TheVariants as halt
 use Rattle.labelled_disk.specs.Calls.{ReadsAtMost, Rose}
@@ -38,7 +38,7 @@ CountHalts v w e = Halts (IsMapHome AllocationMap v.layout) v.disk v.slots w.dis
 
 -- the pages of the space tables are made, and what the file map had of them goes first
 abbrev pub MakeTablesHalts : View → View → Halt → Type 0
-MakeTablesHalts v w e = CreateHalts v.layout 3 v.disk v.slots w.disk w.slots e
+MakeTablesHalts v w e = CreateHalts v.layout 3 (λ page. page < 96) v.disk v.slots w.disk w.slots e
 
 -- they were made
 abbrev pub TablesMade : View → View → Type 0

@@ -8,6 +8,7 @@ use Rattle.swapper_kernel.specs.Halts.{Halts}
 use Rattle.swapper_kernel.specs.Homes.{no_home}
 use Rattle.filer_kernel.specs.Causes.{MapHalts}
 use Rattle.file_manager.specs.Causes.{LeaderHalts}
+use Rattle.file_manager.specs.Taking.{every_page}
 use Rattle.file_manager.specs.Grounds.{AreTables, CreateHalts, CutFileHalts, DeleteHalts, ResizeHalts}
 use Rattle.running_words.specs.Session.{WroteIn}
 use Rattle.fault_core.specs.Kill.{BreaksWithin}
@@ -21,9 +22,9 @@ use Rattle.space_calls.specs.Halts.{After, ChangeHalts, OnFileHalts, PathHalts, 
 
 -- ---- What is done to a file.
 
--- it is made
-abbrev pub NewFileHalts : ℕ → View → View → Halt → Type 0
-NewFileHalts id v w e = CreateHalts v.layout id v.disk v.slots w.disk w.slots e
+-- it is made, with the pages that are wanted
+abbrev pub NewFileHalts : ℕ → (ℕ → Type 0) → View → View → Halt → Type 0
+NewFileHalts id wanted v w e = CreateHalts v.layout id wanted v.disk v.slots w.disk w.slots e
 
 -- it is removed
 abbrev pub RemoveHalts : ℕ → View → View → Halt → Type 0
@@ -55,7 +56,7 @@ Made v w = WroteIn volume_page v.disk v.slots w.disk w.slots × (w.layout ≡ v.
 
 -- the path of a space is looked up, the file is made, and then the tables change
 abbrev pub MapNewHalts : ℕ → ℕ → View → View → Halt → Type 0
-MapNewHalts id count v w e = PathHalts v w e ⊎ After Reaches (λ u x e. NewFileHalts id u x e ⊎ After Made (ChangeHalts count) u x e) v w e
+MapNewHalts id count v w e = PathHalts v w e ⊎ After Reaches (λ u x e. NewFileHalts id every_page u x e ⊎ After Made (ChangeHalts count) u x e) v w e
 
 -- the window of a space is taken away, and then the file that it showed is removed, if it came with it
 abbrev pub UnmapHalts : ℕ → ℕ → View → View → Halt → Type 0

@@ -10,3 +10,4 @@ pub mod Advised
 pub mod Beginning
 pub mod NewMoments
 pub mod Reasons
+pub mod EndLaws

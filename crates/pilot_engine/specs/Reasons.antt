@@ -1,19 +1,24 @@
 -- Why a session that does not start tells damage, from what the disk had before.
-use Rattle.std.specs.Prelude.{◌≡◌, ◌<◌, ◌≤◌, ℕ, false, List, [], ◌∷◌, ◌++◌, Some, slice_get}
+use Rattle.std.specs.Prelude.{◌≡◌, List, [], ◌∷◌, ◌++◌, Some}
+use Rattle.labelled_disk.specs.declared.disk.Disk.{Ghosts}
 use Rattle.labelled_disk.specs.declared.disk.DiskWrite.{DiskWrite}
+use Rattle.labelled_disk.specs.declared.evidence.Halt.{Halt}
 use Rattle.labelled_disk.specs.declared.layout.Layout.{Layout}
-use Rattle.labelled_disk.specs.Label.{names}
 use Rattle.labelled_disk.specs.Sectors.{Sector}
 use Rattle.labelled_disk.specs.State.{DiskState}
 use Rattle.file_map.specs.FileMap.{Triples}
 use Rattle.file_map.specs.InSectors.{MapNames}
 use Rattle.volume_root.specs.declared.root.Root.{Root}
 use Rattle.volume_root.specs.RootPage.{root_write}
-use Rattle.file_manager.specs.Reasons.{Outset, ShowsReason, outset}
+use Rattle.file_manager.specs.Reasons.{IsOfFile, Outset, ShowsReason, WasBelow, outset}
 use Rattle.flat_machine.specs.Space.{root}
-use Rattle.fault_core.specs.Lack.{Sees}
+use Rattle.fault_core.specs.declared.core_over.CoreOver.{CoreOver}
+use Rattle.fault_core.specs.Lack.{LacksPage, Sees}
+use Rattle.fault_core.specs.Spares.{SparesTables}
 use Rattle.fault_core.specs.View.{View}
+use Rattle.swapper_kernel.specs.Goes.{no_page}
 use Rattle.running_words.specs.Spared.{SparesForm}
+use Rattle.space_calls.specs.Sees.{SeesFiles}
 use Rattle.pilot_engine.specs.declared.fault.StartFault.{StartFault}
 use Rattle.pilot_engine.specs.declared.fault.StartFault.TheVariants.{Root as NoRoot, NoMemory, Halt as Halted}
 
@@ -34,16 +39,31 @@ ShowsReasonAtStart o layout disk (NoRoot why) = Unit {0}
 ShowsReasonAtStart o layout disk NoMemory = Unit {0}
 ShowsReasonAtStart o layout disk (Halted why) = ShowsReason o layout disk why
 
--- no data sector's label names a page of the space tables
-abbrev pub HasNoTables : Layout → List Sector → Type 0
-HasNoTables layout d = (page : ℕ) → page < 96 → (sector : ℕ) (s : Sector) → layout.first ≤ sector → slice_get d sector ≡ Some s → names s.0 (record { id = 3; page = page }) ≡ false
+-- the halt is neither that a page of the space tables breaks its form, nor that a page of a file is missing
+abbrev pub SparesFiles : Halt → Type 0
+SparesFiles halt = SparesForm halt × LacksPage no_page halt
 
--- where a halt is why no session started, it is not that a page of the space tables breaks its form
-abbrev pub SparesFormAtStart : StartFault → Type 0
-SparesFormAtStart (NoRoot why) = Unit {0}
-SparesFormAtStart NoMemory = Unit {0}
-SparesFormAtStart (Halted why) = SparesForm why
+-- so it is where a halt is why no session started
+abbrev pub SparesFilesAtStart : StartFault → Type 0
+SparesFilesAtStart (NoRoot why) = Unit {0}
+SparesFilesAtStart NoMemory = Unit {0}
+SparesFilesAtStart (Halted why) = SparesFiles why
 
 -- the space tables are told, and in form: they have the root alone
 abbrev pub SeesRoot : View → Type 0
 SeesRoot v = Sees v [] 1 (root ∷ [])
+
+-- The halt is not that a page of the space tables breaks its form; and where it is that a page of a file is missing, it is one of what
+-- the file is or was.
+abbrev pub IsSpared : Outset → DiskState → Halt → Type 0
+IsSpared o disk halt = SparesForm halt × LacksPage (IsOfFile o disk) halt
+
+-- The halt of an end tells no page of the space tables, as broken or as missing; and where it is that a page of a file is missing, it is
+-- one of what the file is or was.
+abbrev pub SparesEnd : Outset → DiskState → Halt → Type 0
+SparesEnd o disk halt = SparesTables halt × LacksPage (IsOfFile o disk) halt
+
+module _ {D A : Type 0} {G : Ghosts D} where
+  -- the space tables are told, and in form: each page of a file that a window shows is below the end of what the file is or was
+  abbrev pub SeesHome : Outset → CoreOver D A G → Type 0
+  SeesHome o core = SeesFiles (WasBelow o (G.state core.filer.swapper.under)) core

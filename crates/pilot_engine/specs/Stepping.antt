@@ -1,16 +1,22 @@
 -- Kinds of calls.
-use Rattle.std.specs.Prelude.{ℕ, ◌/◌, Bool, true, false, not, List, length, Option, Some, None}
+use Rattle.std.specs.Prelude.{◌≡◌, ℕ, ◌/◌, Bool, true, false, not, List, length, Option, Some, None}
 use Rattle.labelled_disk.specs.declared.evidence.Halt.{Halt}
 use Rattle.frame_pool.specs.Frames.{Slots}
 use Rattle.flat_machine.specs.declared.call.Call.{Call}
 use Rattle.flat_machine.specs.declared.call.Call.TheVariants as call
+use Rattle.flat_machine.specs.declared.space.Space.{Space}
+use Rattle.space_tables.specs.declared.shown.Shown.{Shown}
+use Rattle.swapper_kernel.specs.Goes.{Pages, no_page}
 use Rattle.swap_units.specs.declared.interval.Interval.{Interval}
 use Rattle.fault_core.specs.Access.{BreaksFor, last_page}
-use Rattle.fault_core.specs.Reach.{ReachHalts}
+use Rattle.fault_core.specs.Reach.{ReachHalts, TouchHalts}
+use Rattle.fault_core.specs.Lack.{shown_units}
 use Rattle.fault_core.specs.Unit.{IsReady}
 use Rattle.fault_core.specs.View.{View}
 use Rattle.space_calls.specs.Halts.{ChangeHalts, MakeSpaceHalts, MapFileHalts, NamedHalts, OnNamedHalts, PlaceHalts, ProtectHalts, RemoveSpaceHalts}
-use Rattle.space_calls.specs.Ranges.{BreaksRange}
+use Rattle.space_calls.specs.Ranges.{BreaksRange, space_units}
+use Rattle.space_calls.specs.Unmapping.{ShowsIn}
+use Rattle.file_manager.specs.Grounds.{IsNewPage}
 use Rattle.pilot_engine.specs.Halting.{MapNewHalts, MarkHalts, NewFileHalts, NextHalts, RemoveHalts, SizeHalts, UnmapHalts}
 
 -- a call on spaces
@@ -55,7 +61,7 @@ IsResident other kept slots = ⊥
 -- why a call stops the session: one from the first state to the second, with so many intervals at its start, where a new file
 -- would get this identifier. A call that ends the session is no step.
 abbrev pub StepHalts : ℕ → Call → ℕ → View → View → Halt → Type 0
-StepHalts new (call.Create pages kind) count v w e = NewFileHalts new v w e
+StepHalts new (call.Create pages kind) count v w e = NewFileHalts new (IsNewPage pages) v w e
 StepHalts new (call.Delete id) count v w e = OnNamedHalts id count (RemoveHalts id) v w e
 StepHalts new (call.Attributes id) count v w e = NamedHalts id count v w e
 StepHalts new (call.SetSize id pages) count v w e = OnNamedHalts id count (SizeHalts id pages) v w e
@@ -71,10 +77,23 @@ StepHalts new (call.Map space id page writable) count v w e = MapFileHalts space
 StepHalts new (call.MapAnonymous space) count v w e = MapNewHalts new count v w e
 StepHalts new (call.Unmap space) count v w e = UnmapHalts space count v w e
 StepHalts new (call.Protect space writable) count v w e = ProtectHalts space writable count v w e
-StepHalts new (call.Load address bytes) count v w e = ReachHalts (BreaksFor v count address bytes) v w e
-StepHalts new (call.Store address bytes) count v w e = ReachHalts (BreaksFor v count address (length bytes)) v w e
-StepHalts new (call.Activate space) count v w e = ReachHalts (BreaksRange v count space) v w e
+StepHalts new (call.Load address bytes) count v w e = TouchHalts (BreaksFor v count address bytes) v w e
+StepHalts new (call.Store address bytes) count v w e = TouchHalts (BreaksFor v count address (length bytes)) v w e
+StepHalts new (call.Activate space) count v w e = TouchHalts (BreaksRange v count space) v w e
 StepHalts new (call.Deactivate space) count v w e = ReachHalts (BreaksRange v count space) v w e
 StepHalts new (call.Kill space) count v w e = ReachHalts (BreaksRange v count space) v w e
 StepHalts new (call.ForceOut space) count v w e = ReachHalts (BreaksRange v count space) v w e
 StepHalts new other count v w e = ⊥
+
+-- which pages a call may tell as missing, by the spaces at its start, but for those of the space tables: those that windows show of the
+-- swap units that it touches; those of the file that it frees or marks, or that the window had which it takes away, an anonymous one
+abbrev pub lacking : Call → List Space → Pages
+lacking (call.Load address count) spaces = shown_units spaces address count
+lacking (call.Store address bytes) spaces = shown_units spaces address (length bytes)
+lacking (call.Activate space) spaces = space_units spaces space
+lacking (call.Unmap space) spaces = λ id page. (shown : Shown) × ShowsIn spaces space shown × (shown.anonymous ≡ true) × (id ≡ shown.id)
+lacking (call.Delete file) spaces = λ id page. id ≡ file
+lacking (call.SetSize file pages) spaces = λ id page. id ≡ file
+lacking (call.MakePermanent file) spaces = λ id page. id ≡ file
+lacking (call.MakeImmutable file) spaces = λ id page. id ≡ file
+lacking other spaces = no_page

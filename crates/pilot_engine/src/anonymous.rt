@@ -1,5 +1,5 @@
 //! Windows that show a file which no call names: it comes with its window, and goes with it.
-ghost use Rattle.std.specs.Prelude.{◌≡◌, true, IfOk, IfErr, OnOk, Err, MatchResult, ◌≤◌};
+ghost use Rattle.std.specs.Prelude.{◌≡◌, true, IfOk, IfErr, OnOk, Err, MatchResult, ◌≤◌, List};
 ghost use Rattle.labelled_disk.specs.Calls.{Rose};
 ghost use Rattle.labelled_disk.specs.declared.evidence.Halt.TheVariants as halt;
 ghost use Rattle.filer_kernel.specs.Evidence.{ShowsSo};
@@ -10,12 +10,14 @@ ghost use Rattle.running_words.specs.Bound.{CostsOther};
 ghost use Rattle.running_words.specs.Running.{Carried, Runs};
 ghost use Rattle.running_words.specs.Session.{IsOpen, Wrote};
 ghost use Rattle.running_words.specs.Stages.{Passes};
-ghost use Rattle.fault_core.specs.Core.{state};
+ghost use Rattle.fault_core.specs.Core.{kept, state};
 ghost use Rattle.pilot_engine.specs.Halting.{MapNewHalts, UnmapHalts};
-ghost use Rattle.file_manager.specs.Creating.{IsOnward, next_id};
-ghost use Rattle.file_manager.specs.Reasons.{KeepsOn, Outset, ShowsReason};
-ghost use Rattle.space_calls.specs.Sees.{SeesOn};
-ghost use Rattle.running_words.specs.Spared.{SparesForm};
+ghost use Rattle.file_manager.specs.Creating.{next_id};
+ghost use Rattle.file_manager.specs.Reasons.{KeepsOn, Outset, ShowsReason, IsAhead, giving};
+ghost use Rattle.pilot_engine.specs.Reasons.{SeesHome, IsSpared};
+ghost use Rattle.fault_core.specs.Lack.{LacksPage, Sees};
+ghost use Rattle.flat_machine.specs.declared.space.Space.{Space};
+ghost use Rattle.pilot_engine.specs.Stepping.{lacking};
 
 use crate::SessionOver;
 use flat_machine::Reply;
@@ -36,9 +38,10 @@ impl<D: Disk, A: Allocator> SessionOver<D, A> {
         ensures synced { IfOk result (λ answer. answer ≡ reply.Done → (D.state self.new.core.filer.swapper.under).synced ≡ true) }
         ensures counted { result ≡ Err halt.Disk → Rose (D.state self.old.core.filer.swapper.under).faults (D.state self.new.core.filer.swapper.under).faults }
         ensures cause { IfErr result (UnmapHalts space self.old.core.intervals (state self.old.core) (state self.new.core)) }
+        ensures missing { (ss : List Space) → Sees (state self.old.core) (kept self.old.core) self.old.core.intervals ss → IfErr result (LacksPage (lacking (call.Unmap space) ss)) }
         ensures keeps_to { (o : Outset) → KeepsOn o self.old.core.filer → OnOk result (KeepsOn o self.new.core.filer) }
         ensures reasons { (o : Outset) → KeepsOn o self.old.core.filer → IfErr result (ShowsReason o self.old.core.filer.swapper.layout (D.state self.new.core.filer.swapper.under)) }
-        ensures sees { (o : Outset) → KeepsOn o self.old.core.filer → SeesOn self.old.core → MatchResult result (λ _. SeesOn self.new.core) SparesForm }
+        ensures sees { (o : Outset) → KeepsOn o self.old.core.filer → SeesHome o self.old.core → MatchResult result (λ _. SeesHome o self.new.core) (IsSpared o (D.state self.new.core.filer.swapper.under)) }
         ensures so { IfErr result (ShowsSo (D.state self.new.core.filer.swapper.under)) }
         ensures wrote { Wrote (D.state self.old.core.filer.swapper.under) self.old.core.filer.swapper.pool (D.state self.new.core.filer.swapper.under) self.new.core.filer.swapper.pool }
         ensures open_still { IsOpen self.new.core.filer.swapper.layout self.new.volume }
@@ -75,9 +78,9 @@ impl<D: Disk, A: Allocator> SessionOver<D, A> {
         ensures passes { (m : Machine) → Runs self.old.core self.old.volume m → Passes m (call.MapAnonymous space) (D.state self.old.core.filer.swapper.under) (D.state self.new.core.filer.swapper.under) }
         ensures counted { result ≡ Err halt.Disk → Rose (D.state self.old.core.filer.swapper.under).faults (D.state self.new.core.filer.swapper.under).faults }
         ensures cause { IfErr result (MapNewHalts (next_id self.old.volume.root) self.old.core.intervals (state self.old.core) (state self.new.core)) }
-        ensures keeps_to { (o : Outset) → KeepsOn o self.old.core.filer → IsOnward o.root self.old.volume.root → OnOk result (KeepsOn o self.new.core.filer) }
-        ensures reasons { (o : Outset) → KeepsOn o self.old.core.filer → IsOnward o.root self.old.volume.root → IfErr result (ShowsReason o self.old.core.filer.swapper.layout (D.state self.new.core.filer.swapper.under)) }
-        ensures sees { (o : Outset) → KeepsOn o self.old.core.filer → IsOnward o.root self.old.volume.root → SeesOn self.old.core → MatchResult result (λ _. SeesOn self.new.core) SparesForm }
+        ensures keeps_to { (o : Outset) → KeepsOn o self.old.core.filer → IsAhead o self.old.volume.root → OnOk result (KeepsOn (giving o (next_id self.new.volume.root)) self.new.core.filer) }
+        ensures reasons { (o : Outset) → KeepsOn o self.old.core.filer → IsAhead o self.old.volume.root → IfErr result (ShowsReason o self.old.core.filer.swapper.layout (D.state self.new.core.filer.swapper.under)) }
+        ensures sees { (o : Outset) → KeepsOn o self.old.core.filer → IsAhead o self.old.volume.root → SeesHome o self.old.core → MatchResult result (λ _. SeesHome o self.new.core) (IsSpared o (D.state self.new.core.filer.swapper.under)) }
         ensures so { IfErr result (ShowsSo (D.state self.new.core.filer.swapper.under)) }
         ensures wrote { Wrote (D.state self.old.core.filer.swapper.under) self.old.core.filer.swapper.pool (D.state self.new.core.filer.swapper.under) self.new.core.filer.swapper.pool }
         ensures open_still { IsOpen self.new.core.filer.swapper.layout self.new.volume }

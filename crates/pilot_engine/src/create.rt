@@ -1,5 +1,5 @@
 //! Files that are made.
-ghost use Rattle.std.specs.Prelude.{◌≡◌, ℕ, ◌+◌, ◌*◌, ◌≤◌, IfOk, IfErr, OnOk, Err, MatchResult};
+ghost use Rattle.std.specs.Prelude.{◌≡◌, ℕ, ◌+◌, ◌*◌, ◌<◌, ◌≤◌, IfOk, IfErr, OnOk, Err, MatchResult};
 ghost use Rattle.labelled_disk.specs.Calls.{Rose};
 ghost use Rattle.labelled_disk.specs.declared.evidence.Halt.TheVariants as halt;
 ghost use Rattle.filer_kernel.specs.Evidence.{ShowsSo};
@@ -12,11 +12,12 @@ ghost use Rattle.fault_core.specs.Core.{kept, state};
 ghost use Rattle.running_words.specs.Session.{IsOpen, IsSession, Carries, Wrote};
 ghost use Rattle.running_words.specs.Stages.{Passes};
 ghost use Rattle.pilot_engine.specs.Seen.{CostsInside};
+ghost use Rattle.file_manager.specs.Grounds.{IsNewPage};
 ghost use Rattle.pilot_engine.specs.Halting.{NewFileHalts};
-ghost use Rattle.file_manager.specs.Creating.{IsOnward, next_id};
-ghost use Rattle.file_manager.specs.Reasons.{KeepsOn, Outset, ShowsReason};
+ghost use Rattle.file_manager.specs.Creating.{next_id};
+ghost use Rattle.file_manager.specs.Reasons.{KeepsOn, Outset, ShowsReason, IsAhead, WasBelow, giving};
 ghost use Rattle.space_calls.specs.Sees.{SeesOn, StillSees};
-ghost use Rattle.running_words.specs.Spared.{SparesForm};
+ghost use Rattle.pilot_engine.specs.Reasons.{IsSpared};
 
 use crate::SessionOver;
 use flat_machine::{Refusal, Reply};
@@ -35,11 +36,12 @@ impl<D: Disk, A: Allocator> SessionOver<D, A> {
         ensures passes { (spaces_of : TablesMeaning) (m : Machine) → IsSession spaces_of (D.state self.old.core.filer.swapper.under) self.old.core.filer.swapper.pool self.old.core.filer.swapper.layout self.old.core.filer.runs self.old.volume m
             → Passes m (call.Create pages kind) (D.state self.old.core.filer.swapper.under) (D.state self.new.core.filer.swapper.under) }
         ensures counted { result ≡ Err halt.Disk → Rose (D.state self.old.core.filer.swapper.under).faults (D.state self.new.core.filer.swapper.under).faults }
-        ensures cause { IfErr result (NewFileHalts (next_id self.old.volume.root) (state self.old.core) (state self.new.core)) }
-        ensures keeps_to { (o : Outset) → KeepsOn o self.old.core.filer → IsOnward o.root self.old.volume.root → OnOk result (KeepsOn o self.new.core.filer) }
-        ensures reasons { (o : Outset) → KeepsOn o self.old.core.filer → IsOnward o.root self.old.volume.root → IfErr result (ShowsReason o self.old.core.filer.swapper.layout (D.state self.new.core.filer.swapper.under)) }
-        ensures sees { (o : Outset) → KeepsOn o self.old.core.filer → IsOnward o.root self.old.volume.root → MatchResult result (λ _. StillSees self.old.core self.new.core) (λ e. SeesOn self.old.core → SparesForm e) }
+        ensures cause { IfErr result (NewFileHalts (next_id self.old.volume.root) (IsNewPage pages) (state self.old.core) (state self.new.core)) }
+        ensures keeps_to { (o : Outset) → KeepsOn o self.old.core.filer → IsAhead o self.old.volume.root → OnOk result (KeepsOn (giving o (next_id self.new.volume.root)) self.new.core.filer) }
+        ensures reasons { (o : Outset) → KeepsOn o self.old.core.filer → IsAhead o self.old.volume.root → IfErr result (ShowsReason o self.old.core.filer.swapper.layout (D.state self.new.core.filer.swapper.under)) }
+        ensures sees { (o : Outset) → KeepsOn o self.old.core.filer → IsAhead o self.old.volume.root → MatchResult result (λ _. StillSees self.old.core self.new.core) (λ e. SeesOn self.old.core → IsSpared o (D.state self.new.core.filer.swapper.under) e) }
         ensures next { IfOk result (λ answer. (id : ℕ) → answer ≡ reply.File id → id ≡ next_id self.old.volume.root) }
+        ensures home { (o : Outset) → KeepsOn o self.old.core.filer → IfOk result (λ answer. (id : ℕ) → answer ≡ reply.File id → (page : ℕ) → page < pages → WasBelow o (D.state self.new.core.filer.swapper.under) id page) }
         ensures so { IfErr result (ShowsSo (D.state self.new.core.filer.swapper.under)) }
         ensures wrote { Wrote (D.state self.old.core.filer.swapper.under) self.old.core.filer.swapper.pool (D.state self.new.core.filer.swapper.under) self.new.core.filer.swapper.pool }
         ensures open_still { IsOpen self.new.core.filer.swapper.layout self.new.volume }

@@ -21,8 +21,7 @@ ghost use Rattle.fault_core.specs.Reach.{ReachHalts};
 ghost use Rattle.space_calls.specs.Halts.{After};
 ghost use Rattle.pilot_engine.specs.Halting.{ClearHalts, EndHalts, FreeTablesHalts, Made, WriteHalts};
 ghost use Rattle.file_manager.specs.Reasons.{KeepsBare, KeepsOn, Outset, ShowsReason};
-ghost use Rattle.space_calls.specs.Sees.{SeesOn};
-ghost use Rattle.running_words.specs.Spared.{SparesForm};
+ghost use Rattle.pilot_engine.specs.Reasons.{SeesHome, SparesEnd};
 
 use crate::SessionOver;
 use crate::frames::look_at_frames;
@@ -72,7 +71,7 @@ impl<D: Disk, A: Allocator> SessionOver<D, A> {
         ensures cause { IfErr result (ReachHalts (BreaksWithin (state self.old.core) self.old.core.intervals 0 root_pages) (state self.old.core) (state self.new.core)) }
         ensures keeps_to { (o : Outset) → KeepsOn o self.old.core.filer → OnOk result (KeepsOn o self.new.core.filer) }
         ensures reasons { (o : Outset) → KeepsOn o self.old.core.filer → IfErr result (ShowsReason o self.old.core.filer.swapper.layout (D.state self.new.core.filer.swapper.under)) }
-        ensures sees { (o : Outset) → KeepsOn o self.old.core.filer → SeesOn self.old.core → MatchResult result (λ _. SeesOn self.new.core) SparesForm }
+        ensures sees { (o : Outset) → KeepsOn o self.old.core.filer → SeesHome o self.old.core → MatchResult result (λ _. SeesHome o self.new.core) (SparesEnd o (D.state self.new.core.filer.swapper.under)) }
         ensures so { IfErr result (ShowsSo (D.state self.new.core.filer.swapper.under)) }
         ensures wrote { Wrote (D.state self.old.core.filer.swapper.under) self.old.core.filer.swapper.pool (D.state self.new.core.filer.swapper.under) self.new.core.filer.swapper.pool }
         ensures layout { self.new.core.filer.swapper.layout ≡ self.old.core.filer.swapper.layout }
@@ -98,7 +97,7 @@ impl<D: Disk, A: Allocator> SessionOver<D, A> {
         ensures cause { IfErr result (ReachHalts (BreaksWithin (state self.old.core) self.old.core.intervals 0 root_pages) (state self.old.core) (state self.new.core)) }
         ensures keeps_to { (o : Outset) → KeepsOn o self.old.core.filer → OnOk result (KeepsOn o self.new.core.filer) }
         ensures reasons { (o : Outset) → KeepsOn o self.old.core.filer → IfErr result (ShowsReason o self.old.core.filer.swapper.layout (D.state self.new.core.filer.swapper.under)) }
-        ensures sees { (o : Outset) → KeepsOn o self.old.core.filer → SeesOn self.old.core → MatchResult result (λ _. SeesOn self.new.core) SparesForm }
+        ensures sees { (o : Outset) → KeepsOn o self.old.core.filer → SeesHome o self.old.core → MatchResult result (λ _. SeesHome o self.new.core) (SparesEnd o (D.state self.new.core.filer.swapper.under)) }
         ensures so { IfErr result (ShowsSo (D.state self.new.core.filer.swapper.under)) }
         ensures wrote { Wrote (D.state self.old.core.filer.swapper.under) self.old.core.filer.swapper.pool (D.state self.new.core.filer.swapper.under) self.new.core.filer.swapper.pool }
         ensures layout { self.new.core.filer.swapper.layout ≡ self.old.core.filer.swapper.layout }
@@ -127,7 +126,7 @@ impl<D: Disk, A: Allocator> SessionOver<D, A> {
         ensures cause { IfErr result (After Made (λ u x e. ClearHalts u x e ⊎ FreeTablesHalts u x e) (state self.old.core) (state self.new.core)) }
         ensures keeps_to { (o : Outset) → KeepsOn o self.old.core.filer → OnOk result (KeepsBare o self.new.core.filer) }
         ensures reasons { (o : Outset) → KeepsOn o self.old.core.filer → IfErr result (ShowsReason o self.old.core.filer.swapper.layout (D.state self.new.core.filer.swapper.under)) }
-        ensures sees { (o : Outset) → KeepsOn o self.old.core.filer → SeesOn self.old.core → IfErr result SparesForm }
+        ensures sees { (o : Outset) → KeepsOn o self.old.core.filer → SeesHome o self.old.core → IfErr result (SparesEnd o (D.state self.new.core.filer.swapper.under)) }
         ensures so { IfErr result (ShowsSo (D.state self.new.core.filer.swapper.under)) }
         ensures wrote { Wrote (D.state self.old.core.filer.swapper.under) self.old.core.filer.swapper.pool (D.state self.new.core.filer.swapper.under) self.new.core.filer.swapper.pool }
         ensures open_still { IsOpen self.new.core.filer.swapper.layout self.new.volume }
@@ -154,7 +153,7 @@ impl<D: Disk, A: Allocator> SessionOver<D, A> {
         ensures cause { IfErr result (WriteHalts (state self.old.core) (state self.new.core)) }
         ensures keeps_to { (o : Outset) → KeepsBare o self.old.core.filer → OnOk result (KeepsBare o self.new.core.filer) }
         ensures reasons { (o : Outset) → KeepsBare o self.old.core.filer → IfErr result (ShowsReason o self.old.core.filer.swapper.layout (D.state self.new.core.filer.swapper.under)) }
-        ensures right { IfErr result SparesForm }
+        ensures right { (o : Outset) → IfErr result (SparesEnd o (D.state self.new.core.filer.swapper.under)) }
         ensures so { IfErr result (ShowsSo (D.state self.new.core.filer.swapper.under)) }
         ensures swaps { Swaps (D.state self.old.core.filer.swapper.under) self.old.core.filer.swapper.pool (D.state self.new.core.filer.swapper.under) self.new.core.filer.swapper.pool }
         ensures layout { self.new.core.filer.swapper.layout ≡ self.old.core.filer.swapper.layout }
@@ -179,7 +178,7 @@ impl<D: Disk, A: Allocator> SessionOver<D, A> {
         ensures cause { IfErr result (After Made WriteHalts (state self.old.core) (state self.new.core)) }
         ensures keeps_to { (o : Outset) → KeepsBare o self.old.core.filer → OnOk result (KeepsBare o self.new.core.filer) }
         ensures reasons { (o : Outset) → KeepsBare o self.old.core.filer → IfErr result (ShowsReason o self.old.core.filer.swapper.layout (D.state self.new.core.filer.swapper.under)) }
-        ensures right { IfErr result SparesForm }
+        ensures right { (o : Outset) → IfErr result (SparesEnd o (D.state self.new.core.filer.swapper.under)) }
         ensures so { IfErr result (ShowsSo (D.state self.new.core.filer.swapper.under)) }
         ensures swaps { Swaps (D.state self.old.core.filer.swapper.under) self.old.core.filer.swapper.pool (D.state self.new.core.filer.swapper.under) self.new.core.filer.swapper.pool }
         ensures layout { self.new.core.filer.swapper.layout ≡ self.old.core.filer.swapper.layout }
@@ -230,7 +229,7 @@ impl<D: Disk, A: Allocator> SessionOver<D, A> {
         ensures counted { result ≡ Err halt.Disk → Rose (D.state self.old.core.filer.swapper.under).faults (D.state self.new.core.filer.swapper.under).faults }
         ensures cause { IfErr result (EndHalts self.old.core.intervals (state self.old.core) (state self.new.core)) }
         ensures reasons { (o : Outset) → KeepsOn o self.old.core.filer → IfErr result (ShowsReason o self.old.core.filer.swapper.layout (D.state self.new.core.filer.swapper.under)) }
-        ensures sees { (o : Outset) → KeepsOn o self.old.core.filer → SeesOn self.old.core → IfErr result SparesForm }
+        ensures sees { (o : Outset) → KeepsOn o self.old.core.filer → SeesHome o self.old.core → IfErr result (SparesEnd o (D.state self.new.core.filer.swapper.under)) }
         ensures so { IfErr result (ShowsSo (D.state self.new.core.filer.swapper.under)) }
         ensures left_open { IsUnset (D.state self.old.core.filer.swapper.under) → IfErr result (LeavesOpen (D.state self.new.core.filer.swapper.under)) }
         ensures wrote { WroteAny (D.state self.old.core.filer.swapper.under) self.old.core.filer.swapper.pool (D.state self.new.core.filer.swapper.under) self.new.core.filer.swapper.pool }
@@ -288,7 +287,7 @@ impl<D: Disk, A: Allocator> SessionOver<D, A> {
         ensures counted { result.0 ≡ Err halt.Disk → Rose (D.state self.core.filer.swapper.under).faults (D.state result.1).faults }
         ensures cause { IfErr result.0 (EndHalts self.core.intervals (state self.core) (record (state self.core) { disk = D.state result.1 })) }
         ensures reasons { (o : Outset) → KeepsOn o self.core.filer → IfErr result.0 (ShowsReason o self.core.filer.swapper.layout (D.state result.1)) }
-        ensures sees { (o : Outset) → KeepsOn o self.core.filer → SeesOn self.core → IfErr result.0 SparesForm }
+        ensures sees { (o : Outset) → KeepsOn o self.core.filer → SeesHome o self.core → IfErr result.0 (SparesEnd o (D.state result.1)) }
         ensures so { IfErr result.0 (ShowsSo (D.state result.1)) }
         ensures left_open { IsUnset (D.state self.core.filer.swapper.under) → IfErr result.0 (LeavesOpen (D.state result.1)) }
         ensures wrote { WroteOn self.core.filer.swapper.pool (D.state self.core.filer.swapper.under) (D.state result.1) }

@@ -18,9 +18,8 @@ ghost use Rattle.pilot_engine.specs.Seen.{CostsInside, IsSeenBy};
 ghost use Rattle.space_calls.specs.Halts.{OnFileHalts, OnNamedHalts};
 ghost use Rattle.pilot_engine.specs.Halting.{SizeHalts};
 ghost use Rattle.file_manager.specs.Reasons.{KeepsOn, Outset, ShowsReason};
-ghost use Rattle.space_calls.specs.Sees.{SeesOn};
-ghost use Rattle.running_words.specs.Spared.{SparesForm};
 ghost use Rattle.file_manager.specs.Creating.{next_id};
+ghost use Rattle.pilot_engine.specs.Reasons.{SeesHome, IsSpared};
 
 use crate::SessionOver;
 use crate::sight::Sight;
@@ -72,7 +71,7 @@ impl<D: Disk, A: Allocator> SessionOver<D, A> {
         ensures cause { IfErr result (OnFileHalts id (SizeHalts id pages) (state self.old.core) (state self.new.core)) }
         ensures keeps_to { (o : Outset) → KeepsOn o self.old.core.filer → OnOk result (KeepsOn o self.new.core.filer) }
         ensures reasons { (o : Outset) → KeepsOn o self.old.core.filer → IfErr result (ShowsReason o self.old.core.filer.swapper.layout (D.state self.new.core.filer.swapper.under)) }
-        ensures sees { (o : Outset) → KeepsOn o self.old.core.filer → SeesOn self.old.core → MatchResult result (λ _. SeesOn self.new.core) SparesForm }
+        ensures sees { (o : Outset) → KeepsOn o self.old.core.filer → SeesHome o self.old.core → MatchResult result (λ _. SeesHome o self.new.core) (IsSpared o (D.state self.new.core.filer.swapper.under)) }
         ensures so { IfErr result (ShowsSo (D.state self.new.core.filer.swapper.under)) }
         ensures wrote { Wrote (D.state self.old.core.filer.swapper.under) self.old.core.filer.swapper.pool (D.state self.new.core.filer.swapper.under) self.new.core.filer.swapper.pool }
         ensures open_still { IsOpen self.new.core.filer.swapper.layout self.new.volume }
@@ -122,7 +121,7 @@ impl<D: Disk, A: Allocator> SessionOver<D, A> {
         ensures cause { IfErr result (OnNamedHalts id self.old.core.intervals (SizeHalts id pages) (state self.old.core) (state self.new.core)) }
         ensures keeps_to { (o : Outset) → KeepsOn o self.old.core.filer → OnOk result (KeepsOn o self.new.core.filer) }
         ensures reasons { (o : Outset) → KeepsOn o self.old.core.filer → IfErr result (ShowsReason o self.old.core.filer.swapper.layout (D.state self.new.core.filer.swapper.under)) }
-        ensures sees { (o : Outset) → KeepsOn o self.old.core.filer → SeesOn self.old.core → MatchResult result (λ _. SeesOn self.new.core) SparesForm }
+        ensures sees { (o : Outset) → KeepsOn o self.old.core.filer → SeesHome o self.old.core → MatchResult result (λ _. SeesHome o self.new.core) (IsSpared o (D.state self.new.core.filer.swapper.under)) }
         ensures so { IfErr result (ShowsSo (D.state self.new.core.filer.swapper.under)) }
         ensures wrote { Wrote (D.state self.old.core.filer.swapper.under) self.old.core.filer.swapper.pool (D.state self.new.core.filer.swapper.under) self.new.core.filer.swapper.pool }
         ensures open_still { IsOpen self.new.core.filer.swapper.layout self.new.volume }

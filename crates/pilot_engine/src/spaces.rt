@@ -1,5 +1,5 @@
 //! One call of a client on spaces.
-ghost use Rattle.std.specs.Prelude.{◌≡◌, ◌+◌, ◌≤◌, true, IfOk, IfErr, IsOk, OnOk, Err, None, MatchResult};
+ghost use Rattle.std.specs.Prelude.{◌≡◌, ◌+◌, ◌≤◌, true, IfOk, IfErr, IsOk, OnOk, Err, None, MatchResult, List};
 ghost use Rattle.labelled_disk.specs.Calls.{Rose};
 ghost use Rattle.labelled_disk.specs.declared.evidence.Halt.TheVariants as halt;
 ghost use Rattle.filer_kernel.specs.Evidence.{ShowsSo};
@@ -13,11 +13,12 @@ ghost use Rattle.running_words.specs.Session.{IsOpen, WroteIn};
 ghost use Rattle.running_words.specs.Stages.{Passes, may_dirty};
 ghost use Rattle.fault_core.specs.Core.{kept, state};
 ghost use Rattle.pilot_engine.specs.Advised.{IsAdvised};
-ghost use Rattle.pilot_engine.specs.Stepping.{IsResident, StepHalts, is_on_spaces, waits};
-ghost use Rattle.file_manager.specs.Creating.{IsOnward, next_id};
-ghost use Rattle.file_manager.specs.Reasons.{KeepsOn, Outset, ShowsReason};
-ghost use Rattle.space_calls.specs.Sees.{SeesOn};
-ghost use Rattle.running_words.specs.Spared.{SparesForm};
+ghost use Rattle.pilot_engine.specs.Stepping.{IsResident, StepHalts, is_on_spaces, waits, lacking};
+ghost use Rattle.file_manager.specs.Creating.{next_id};
+ghost use Rattle.file_manager.specs.Reasons.{KeepsOn, Outset, ShowsReason, IsAhead, giving};
+ghost use Rattle.pilot_engine.specs.Reasons.{SeesHome, IsSpared};
+ghost use Rattle.fault_core.specs.Lack.{LacksPage, Sees};
+ghost use Rattle.flat_machine.specs.declared.space.Space.{Space};
 
 use crate::SessionOver;
 use flat_machine::{Call, Reply};
@@ -47,9 +48,10 @@ impl<D: Disk, A: Allocator> SessionOver<D, A> {
             → OnOk result (IsAdvised m.spaces call.now (kept self.new.core) self.new.core.filer.swapper.pool) }
         ensures counted { result ≡ Err halt.Disk → Rose (D.state self.old.core.filer.swapper.under).faults (D.state self.new.core.filer.swapper.under).faults }
         ensures cause { IfErr result (StepHalts (next_id self.old.volume.root) call.now self.old.core.intervals (state self.old.core) (state self.new.core)) }
-        ensures keeps_to { (o : Outset) → KeepsOn o self.old.core.filer → IsOnward o.root self.old.volume.root → OnOk result (KeepsOn o self.new.core.filer) }
-        ensures reasons { (o : Outset) → KeepsOn o self.old.core.filer → IsOnward o.root self.old.volume.root → IfErr result (ShowsReason o self.old.core.filer.swapper.layout (D.state self.new.core.filer.swapper.under)) }
-        ensures sees { (o : Outset) → KeepsOn o self.old.core.filer → IsOnward o.root self.old.volume.root → SeesOn self.old.core → MatchResult result (λ _. SeesOn self.new.core) SparesForm }
+        ensures missing { (ss : List Space) → Sees (state self.old.core) (kept self.old.core) self.old.core.intervals ss → IfErr result (LacksPage (lacking call.now ss)) }
+        ensures keeps_to { (o : Outset) → KeepsOn o self.old.core.filer → IsAhead o self.old.volume.root → OnOk result (KeepsOn (giving o (next_id self.new.volume.root)) self.new.core.filer) }
+        ensures reasons { (o : Outset) → KeepsOn o self.old.core.filer → IsAhead o self.old.volume.root → IfErr result (ShowsReason o self.old.core.filer.swapper.layout (D.state self.new.core.filer.swapper.under)) }
+        ensures sees { (o : Outset) → KeepsOn o self.old.core.filer → IsAhead o self.old.volume.root → SeesHome o self.old.core → MatchResult result (λ _. SeesHome o self.new.core) (IsSpared o (D.state self.new.core.filer.swapper.under)) }
         ensures so { IfErr result (ShowsSo (D.state self.new.core.filer.swapper.under)) }
         ensures wrote { WroteIn (may_dirty call.now) (D.state self.old.core.filer.swapper.under) self.old.core.filer.swapper.pool (D.state self.new.core.filer.swapper.under) self.new.core.filer.swapper.pool }
         ensures open_still { IsOpen self.new.core.filer.swapper.layout self.new.volume }

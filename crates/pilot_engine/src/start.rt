@@ -12,7 +12,7 @@ ghost use Rattle.filer_kernel.specs.Evidence.{ShowsSo};
 ghost use Rattle.fault_core.specs.View.{TablesAre, view_of};
 ghost use Rattle.filer_kernel.specs.Cached.{runs_of};
 ghost use Rattle.flat_machine.specs.Start.{start};
-ghost use Rattle.swapper_kernel.specs.Goes.{Makes};
+ghost use Rattle.swapper_kernel.specs.Goes.{Makes, no_page};
 ghost use Rattle.session_words.specs.Volume.{volume_page};
 ghost use Rattle.volume_root.specs.Flag.{IsRefused};
 ghost use Rattle.volume_root.specs.RootPage.{IsValidRoot, root_in, root_write};
@@ -24,9 +24,8 @@ ghost use Rattle.running_words.specs.Running.{IsRunning, Runs};
 ghost use Rattle.running_words.specs.Session.{IsOpen, IsSession};
 ghost use Rattle.pilot_engine.specs.Beginning.{HasStartCause, StartHalts, TablesHalts};
 ghost use Rattle.file_manager.specs.Reasons.{KeepsOn, Outset, ShowsReason, outset};
-ghost use Rattle.pilot_engine.specs.Reasons.{FromStart, HasNoTables, IsBegun, SeesRoot, ShowsReasonAtStart, SparesFormAtStart};
-ghost use Rattle.space_calls.specs.Sees.{SeesOn};
-ghost use Rattle.running_words.specs.Spared.{SparesForm};
+ghost use Rattle.pilot_engine.specs.Reasons.{FromStart, IsBegun, SeesRoot, ShowsReasonAtStart, SparesFiles, SparesFilesAtStart};
+ghost use Rattle.space_calls.specs.Sees.{SeesFiles};
 ghost use Rattle.file_manager.specs.Creating.{IsOnward};
 
 use crate::frames::look_at_frames;
@@ -73,7 +72,7 @@ fn write_tables<D: Disk, A: Allocator>(filer: &mut FilerOver<D, A>) -> Result<()
     ensures cause { IfErr result (TablesHalts (view_of filer.old) (view_of filer.new)) }
     ensures keeps_to { (o : Outset) → KeepsOn o filer.old → OnOk result (KeepsOn o filer.new) }
     ensures reasons { (o : Outset) → KeepsOn o filer.old → IfErr result (ShowsReason o filer.old.swapper.layout (D.state filer.new.swapper.under)) }
-    ensures sees { (b : List ℕ) → TablesAre (view_of filer.old) b → MatchResult result (λ _. SeesRoot (view_of filer.new)) SparesForm }
+    ensures sees { (b : List ℕ) → TablesAre (view_of filer.old) b → MatchResult result (λ _. SeesRoot (view_of filer.new)) SparesFiles }
     ensures so { IfErr result (ShowsSo (D.state filer.new.swapper.under)) }
     ensures layout { filer.new.swapper.layout ≡ filer.old.swapper.layout }
     ensures cost { (D.state filer.new.swapper.under).transfers ≤ (D.state filer.old.swapper.under).transfers + 14392 }
@@ -109,8 +108,8 @@ pub(crate) fn begin<D: Disk, A: Allocator>(
         → IfOk result (λ volume. KeepsOn (outset d named (ws ++ (root_write (in_use root) ∷ []))) filer.new) }
     ensures reasons { (d : List Sector) (named : Triples) (ws : List DiskWrite) → IsBegun d named ws (D.state filer.old.swapper.under)
         → IfErr result (ShowsReason (outset d named (ws ++ (root_write (in_use root) ∷ []))) filer.old.swapper.layout (D.state filer.new.swapper.under)) }
-    ensures sees { (d : List Sector) (named : Triples) (ws : List DiskWrite) → IsBegun d named ws (D.state filer.old.swapper.under) → HasNoTables filer.old.swapper.layout d
-        → MatchResult result (λ volume. SeesRoot (view_of filer.new)) SparesForm }
+    ensures sees { (d : List Sector) (named : Triples) (ws : List DiskWrite) → IsBegun d named ws (D.state filer.old.swapper.under)
+        → MatchResult result (λ volume. SeesRoot (view_of filer.new)) SparesFiles }
     ensures onward { IfOk result (λ volume. IsOnward root volume.root) }
     ensures so { IfErr result (ShowsSo (D.state filer.new.swapper.under)) }
     ensures left_open { MatchResult result (λ volume. IsUnset (D.state filer.new.swapper.under)) (LeavesOpen (D.state filer.new.swapper.under)) }
@@ -209,8 +208,8 @@ impl<D: Disk, A: Allocator> SessionOver<D, A> {
             → IfOk result (λ s. FromStart d named ws (λ o. KeepsOn o s.core.filer)) }
         ensures reasons { (d : List Sector) (named : Triples) (ws : List DiskWrite) → IsBegun d named ws (D.state disk)
             → IfErr result (λ e. FromStart d named ws (λ o. ShowsReasonAtStart o (layout_of (length d)) (D.state e.1) e.0)) }
-        ensures sees { (d : List Sector) (named : Triples) (ws : List DiskWrite) → IsBegun d named ws (D.state disk) → HasNoTables (layout_of (length d)) d
-            → MatchResult result (λ s. SeesOn s.core) (λ e. SparesFormAtStart e.0) }
+        ensures sees { (d : List Sector) (named : Triples) (ws : List DiskWrite) → IsBegun d named ws (D.state disk)
+            → MatchResult result (λ s. SeesFiles no_page s.core) (λ e. SparesFilesAtStart e.0) }
         ensures onward { (d : List Sector) → (D.state disk).contents ≡ Some d → IfOk result (λ s. IsOnward (root_in (root_page d)) s.volume.root) }
         ensures so { IfErr result (λ e. IsSoAtStart (D.state e.1) e.0) }
 

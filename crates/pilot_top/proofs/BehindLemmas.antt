@@ -1,6 +1,5 @@
 -- What holds of the state behind a reference holds of the state.
-use Rattle.std.proofs.Common.{◌≡◌, inl, inr, ℕ, ◌≤◌, List, [], ◌∷◌, ◌++◌, length, Option, sym, ap, ◌∙◌, subst, drop}
-use Rattle.labelled_disk.specs.declared.disk.DiskWrite.{DiskWrite}
+use Rattle.std.proofs.Common.{◌≡◌, inl, inr, ℕ, ◌≤◌, List, [], ◌∷◌, ◌++◌, length, Option, sym, ap, subst, drop}
 use Rattle.labelled_disk.specs.declared.evidence.Evidence.{Evidence}
 use Rattle.labelled_disk.specs.declared.evidence.Evidence.TheVariants.{Mismatch, Malformed, Missing}
 use Rattle.labelled_disk.specs.declared.layout.Layout.{Layout}
@@ -13,10 +12,8 @@ use Rattle.flat_machine.specs.Machine.{Machine}
 use Rattle.trace_io.specs.Reading.{reading}
 use Rattle.volume_root.specs.RootPage.{root_write}
 use Rattle.pilot_engine.specs.Closing.{HasShut}
-use Rattle.frame_pool.specs.declared.home.Home.{Home}
-use Rattle.swapper_kernel.specs.Homes.{home_at}
 use Rattle.filer_kernel.specs.Evidence.{IsSo}
-use Rattle.file_manager.specs.Reasons.{HasReason, IsAtHome, IsLet, MayBeFree, Outset, WasMade, outset, IsUsed}
+use Rattle.file_manager.specs.Reasons.{HasReason, Outset, outset}
 use Rattle.pilot_top.specs.Headline.{IsLeftOpen, Run, TellsDamage}
 use Rattle.pilot_top.specs.Moments.{Lawfully, Moments}
 use Rattle.pilot_top.specs.Outset.{FromOutset}
@@ -29,43 +26,11 @@ use Rattle.pilot_top.specs.declared.status.Status.TheVariants as status
 pub none_rose_behind : {D : Type 0} (state : D → DiskState) (before : ℕ) (x y : D) → (Rose before (state x).faults → ⊥) → x ≡ y → Rose before (state y).faults → ⊥
 none_rose_behind state before x y none same = subst (λ z. Rose before (state z).faults → ⊥) same none
 
--- a write that one disk tells is told by another that tells the same writes
-made_there : (o : Outset) (a b : DiskState) (w : DiskWrite) → a.writes ≡ b.writes → WasMade o a w → WasMade o b w
-made_there o a b w same made = record { more = made.more; told = sym same ∙ made.told; turn = made.turn; is = made.is }
-
--- so a page is at home there, a sector may be free, a home is let, and evidence has its reason
-home_there : (o : Outset) (a b : DiskState) (home : Home) → a.writes ≡ b.writes → IsAtHome o a home → IsAtHome o b home
-home_there o a b home same (inl named) = inl named
-home_there o a b home same (inr given) = inr (given.0, made_there o a b _ same given.1)
-
-free_there : (o : Outset) (a b : DiskState) (sector : ℕ) → a.writes ≡ b.writes → MayBeFree o a sector → MayBeFree o b sector
-free_there o a b sector same h = record {
-  outset = elim h.outset [ inl free ↦ inl free | inr given ↦ inr (made_there o a b _ same given) ];
-  since = (h.since.0, sym same ∙ h.since.1, h.since.2);
-}
-
-used_there : (o : Outset) (a b : DiskState) (sector : ℕ) → a.writes ≡ b.writes → IsUsed o a sector → IsUsed o b sector
-used_there o a b sector same h = record {
-  outset = elim h.outset [ inl used ↦ inl used | inr taken ↦ inr (taken.0, taken.1, (taken.2.0, made_there o a b _ same taken.2.1)) ];
-  since = (h.since.0, sym same ∙ h.since.1, h.since.2);
-}
-
-let_there : (o : Outset) (a b : DiskState) (home : Home) → a.writes ≡ b.writes → IsLet o a home → IsLet o b home
-let_there o a b home same h = record {
-  outset = λ is. let was = h.outset is in (was.0, was.1, made_there o a b was.0 same was.2);
-  since = (h.since.0, sym same ∙ h.since.1, h.since.2);
-}
-
-reason_there : (o : Outset) (l : Layout) (a b : DiskState) (e : Evidence) → a.writes ≡ b.writes → HasReason o l a e → HasReason o l b e
-reason_there o l a b (Mismatch sector wanted found) same (inl map) = inl map
-reason_there o l a b (Mismatch sector wanted found) same (inr (inl home)) = inr (inl (home_there o a b (home_at sector wanted) same home))
-reason_there o l a b (Mismatch sector wanted found) same (inr (inr free)) = inr (inr (free.0, free_there o a b sector same free.1))
-reason_there o l a b (Malformed window page) same (inl (second, first, full)) =
-    inl (second, first, record { homes = full.homes; counted = full.counted; each = λ k home at. home_there o a b home same (full.each k home at); apart = full.apart })
-reason_there o l a b (Malformed window page) same (inr third) = inr third
-reason_there o l a b (Missing id page) same (inl (tables, first, up)) =
-    inl (tables, first, λ sector from below. used_there o a b sector same (up sector from below))
-reason_there o l a b (Missing id page) same (inr (may, gone)) = inr (may, λ sector from. let_there o a b _ same (gone sector from))
+-- a reason asks only which writes were made
+reason_lent : (o : Outset) (l : Layout) (n : ℕ) (disk : DiskState) (e : Evidence) → HasReason o l (lent_state n disk) e → HasReason o l disk e
+reason_lent o l n disk (Mismatch sector wanted found) is = is
+reason_lent o l n disk (Malformed window page) is = is
+reason_lent o l n disk (Missing id page) is = is
 
 module _ {D : Type 0} (state : D → DiskState) (x y : D) (same : x ≡ y) where
   pub rose_behind : (before : ℕ) → Rose before (state y).faults → Rose before (state x).faults
@@ -138,9 +103,9 @@ module _ {D : Type 0} (state : D → DiskState) (x y : D) (same : x ≡ y) where
   module _ (first : DiskState) (m n : ℕ) where
     -- evidence that has its reason behind the references has it here
     pub from_behind : (e : Evidence) → FromOutset (lent_state m first) (lent_state n (state y)) e → FromOutset first (state x) e
-    from_behind e from d named ws begun =
+    from_behind e from = subst (λ (z : D). FromOutset first (state z) e) (sym same) (λ d named ws begun.
         let there = from d named ws (record { contents = begun.contents; writes = begun.writes; map = begun.map }) in
-        ((there.0.0, reason_there (outset d named (ws ++ (root_write there.0.0 ∷ []))) (layout_of (length d)) (lent_state n (state y)) (state x) e (ap (λ z. (state z).writes) (sym same)) there.0.1), there.1)
+        (there.0, (reason_lent (outset d named (ws ++ (root_write there.0 ∷ []))) (layout_of (length d)) n (state y) e there.1.0, there.1.1)))
 
     pub reads_behind : OnlyReads (lent_state m first) (lent_state n (state y)) → OnlyReads first (state x)
     reads_behind reads = rw same (record {

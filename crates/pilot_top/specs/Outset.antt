@@ -1,5 +1,5 @@
 -- Why a run tells that a volume is damaged: from what stood when it began, and what it gave and gave up.
-use Rattle.std.specs.Prelude.{◌≤◌, List, length}
+use Rattle.std.specs.Prelude.{List, length}
 use Rattle.labelled_disk.specs.declared.disk.Disk.{Ghosts}
 use Rattle.labelled_disk.specs.declared.disk.DiskWrite.{DiskWrite}
 use Rattle.labelled_disk.specs.declared.evidence.Evidence.{Evidence}
@@ -8,28 +8,24 @@ use Rattle.labelled_disk.specs.Layout.{layout_of}
 use Rattle.labelled_disk.specs.Sectors.{Sector}
 use Rattle.labelled_disk.specs.State.{DiskState}
 use Rattle.file_map.specs.FileMap.{Triples}
-use Rattle.file_manager.specs.Creating.{IsOnward}
-use Rattle.file_manager.specs.Reasons.{HasReason, KeepsOn, Outset}
-use Rattle.space_calls.specs.Sees.{SeesOn}
-use Rattle.running_words.specs.Spared.{SparesForm}
+use Rattle.file_manager.specs.Reasons.{HasReason, IsAhead, KeepsOn, Outset}
 use Rattle.pilot_engine.specs.declared.session.SessionOver.{SessionOver}
-use Rattle.pilot_engine.specs.Reasons.{FromStart, HasNoTables, IsBegun}
+use Rattle.pilot_engine.specs.Reasons.{FromStart, IsBegun, IsSpared, SeesHome}
 
 -- Where the disk told at the start its sectors and the writes that were made, and its file map was in form, a label that is told has
 -- its reason in the layout, in what both maps said then, or in what the run gave and gave up, behind its first write, which is a
 -- root's. Of the file map page 0 alone is told as broken, where more pages are or were at home than it may have records. A page of a
--- file is told as missing that nothing of all this makes be at home; of the space tables page 0 alone, where each data sector that
--- had been free was given to a page. And where no data sector's label named a page of the space tables at the start, none of these is
--- told as broken.
+-- file is told as missing that nothing of all this makes be at home, though it is one of what the file is or was; of the space tables
+-- page 0 alone, where each data sector is used. No page of the space tables is told as broken.
 abbrev pub FromOutset : DiskState → DiskState → Evidence → Type 0
 FromOutset before after evidence =
     (d : List Sector) (named : Triples) (ws : List DiskWrite) → IsBegun d named ws before
-    → FromStart d named ws (λ o. HasReason o (layout_of (length d)) after evidence) × (HasNoTables (layout_of (length d)) d → SparesForm (Damaged evidence))
+    → FromStart d named ws (λ o. HasReason o (layout_of (length d)) after evidence × IsSpared o after (Damaged evidence))
 
 module _ {D A : Type 0} {G : Ghosts D} where
-  -- of a session: whichever outset its filer kept to, the volume's root being a later one than the outset's, the evidence has its
-  -- reason in that; and where the session saw the space tables, none of their pages is told as broken
+  -- of a session: whichever outset its filer kept to, the volume's root being ahead of it, the evidence has its reason in that; and where
+  -- the session saw the space tables, and the pages that its windows show were there, it is none that this rules out
   abbrev pub FromEachOutset : SessionOver D A G → DiskState → Evidence → Type 0
   FromEachOutset session after evidence =
-      (o : Outset) → KeepsOn o session.core.filer → IsOnward o.root session.volume.root
-      → HasReason o session.core.filer.swapper.layout after evidence × (SeesOn session.core → SparesForm (Damaged evidence))
+      (o : Outset) → KeepsOn o session.core.filer → IsAhead o session.volume.root
+      → HasReason o session.core.filer.swapper.layout after evidence × (SeesHome o session.core → IsSpared o after (Damaged evidence))

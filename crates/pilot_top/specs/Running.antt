@@ -42,7 +42,8 @@ pub record Ran (s : Status) (before after : World) : Type 0 where
   pub transfers : (d : List Sector) (b : List ℕ) → Holds before d → Sound d → Gives before b → after.disk.transfers ≤ before.disk.transfers + run_bound before.disk.sectors (reading b)
   -- Over any contents each write is lawful at its moment, and the volume stays open between the first and the last. What is told
   -- of a damaged volume is so; and where the file map was in form at the start, a label was wanted there, or a page told as missing,
-  -- for a reason: the layout, what both maps said then, or what the run gave and gave up.
+  -- for a reason: the layout, what both maps said then, or what the run gave and gave up. No page of the space tables is told as broken
+  -- then, and a page of a file as missing only where it is the leader, which is or was at home, or is at most as high as such a page of that file.
   pub lawful : Lawfully before.disk after.disk
   pub damage : (t : List ℕ) → Took before t → s ≡ status.Damaged → (told : TellsDamage t after.took (SinkFailed before after) after.disk) × FromOutset before.disk after.disk told.evidence
   -- A sound volume is not refused, and shows no damage, whatever source and sink tell.

@@ -3,17 +3,16 @@ ghost use Rattle.std.specs.Prelude.{◌≡◌, ◌⊎◌, ◌≤◌, [], ◌∷�
 ghost use Rattle.labelled_disk.specs.declared.evidence.Halt.TheVariants as halt;
 ghost use Rattle.labelled_disk.specs.Calls.{Rose};
 ghost use Rattle.filer_kernel.specs.Evidence.{ShowsSo};
-ghost use Rattle.file_manager.specs.Creating.{IsOnward};
-ghost use Rattle.file_manager.specs.Reasons.{KeepsOn, Outset, ShowsReason};
+ghost use Rattle.file_manager.specs.Creating.{IsOnward, next_id};
+ghost use Rattle.file_manager.specs.Reasons.{KeepsOn, Outset, ShowsReason, IsAhead, giving};
 ghost use Rattle.flat_machine.specs.Machine.{Machine};
-ghost use Rattle.space_calls.specs.Sees.{SeesOn};
 ghost use Rattle.running_words.specs.Session.{IsOpen, WroteIn};
-ghost use Rattle.running_words.specs.Spared.{SparesForm};
 ghost use Rattle.running_words.specs.Stages.{client_or_own};
 ghost use Rattle.running_words.specs.Running.{Runs};
 ghost use Rattle.pilot_top.specs.Headline.{CostsLine};
 ghost use Rattle.pilot_top.specs.Moments.{Moments};
 ghost use Rattle.pilot_top.specs.Turn.{EndsAt, IsGoing, IsIdle, Turns};
+ghost use Rattle.pilot_engine.specs.Reasons.{IsSpared, SeesHome};
 
 use flat_machine::{Call, Refusal, Reply};
 use labelled_disk::{Disk, Halt};
@@ -76,15 +75,15 @@ pub(crate) fn take_turn<D: Disk, A: Allocator, S: Source>(
     ensures sound { (m : Machine) (why : Halt) → Runs session.old.core session.old.volume m
         → result ≡ Turn.Halts why → why ≡ halt.Disk }
     ensures counted { result ≡ Turn.Halts halt.Disk → Rose (D.state session.old.core.filer.swapper.under).faults (D.state session.new.core.filer.swapper.under).faults }
-    ensures keeps_to { (o : Outset) → KeepsOn o session.old.core.filer → IsOnward o.root session.old.volume.root
-        → IsGoing result → KeepsOn o session.new.core.filer }
-    ensures reasons { (o : Outset) → KeepsOn o session.old.core.filer → IsOnward o.root session.old.volume.root
+    ensures keeps_to { (o : Outset) → KeepsOn o session.old.core.filer → IsAhead o session.old.volume.root
+        → IsGoing result → KeepsOn (giving o (next_id session.new.volume.root)) session.new.core.filer }
+    ensures reasons { (o : Outset) → KeepsOn o session.old.core.filer → IsAhead o session.old.volume.root
         → (why : Halt) → result ≡ Turn.Halts why
         → ShowsReason o session.old.core.filer.swapper.layout (D.state session.new.core.filer.swapper.under) why }
-    ensures sees { (o : Outset) → KeepsOn o session.old.core.filer → IsOnward o.root session.old.volume.root
-        → SeesOn session.old.core → IsGoing result → SeesOn session.new.core }
-    ensures right { (o : Outset) → KeepsOn o session.old.core.filer → IsOnward o.root session.old.volume.root
-        → SeesOn session.old.core → (why : Halt) → result ≡ Turn.Halts why → SparesForm why }
+    ensures sees { (o : Outset) → KeepsOn o session.old.core.filer → IsAhead o session.old.volume.root
+        → SeesHome o session.old.core → IsGoing result → SeesHome o session.new.core }
+    ensures right { (o : Outset) → KeepsOn o session.old.core.filer → IsAhead o session.old.volume.root
+        → SeesHome o session.old.core → (why : Halt) → result ≡ Turn.Halts why → IsSpared o (D.state session.new.core.filer.swapper.under) why }
     ensures onward { IsOnward session.old.volume.root session.new.volume.root }
     ensures so { (why : Halt) → result ≡ Turn.Halts why → ShowsSo (D.state session.new.core.filer.swapper.under) why }
     ensures wrote { WroteIn client_or_own (D.state session.old.core.filer.swapper.under) session.old.core.filer.swapper.pool (D.state session.new.core.filer.swapper.under) session.new.core.filer.swapper.pool }

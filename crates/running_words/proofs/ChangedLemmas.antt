@@ -5,7 +5,7 @@ use Rattle.std.proofs.lemmas.Bool.{and_parts, eq-eqb, eqb-true, leb-true, true�
 use Rattle.std.proofs.lemmas.Option.{none-some, same_Some}
 use Rattle.labelled_disk.specs.declared.label.Label.{Label}
 use Rattle.labelled_disk.specs.declared.layout.Layout.{Layout}
-use Rattle.labelled_disk.specs.Label.{is_file, names}
+use Rattle.labelled_disk.specs.Label.{is_file}
 use Rattle.labelled_disk.specs.Layout.{first_data}
 use Rattle.labelled_disk.specs.Sectors.{Sector, AreSectors}
 use Rattle.flat_mem.specs.Memory.{part}
@@ -26,8 +26,10 @@ use Rattle.swapper_kernel.specs.Stands.{labels_of}
 use Rattle.swapper_kernel.proofs.KindLemmas.{data_kind, kind_is_data}
 use Rattle.filer_kernel.specs.declared.cached.CachedRuns.{CachedRuns}
 use Rattle.filer_kernel.specs.Cached.{runs_of}
-use Rattle.filer_kernel.specs.PlaceLaws.{data_first}
+use Rattle.filer_kernel.specs.NamedLaws.{maps_named_once}
+use Rattle.filer_kernel.specs.PlaceLaws.{data_first, map_kept, one_sector}
 use Rattle.filer_kernel.specs.Tables.{BesideTables, IsTablePage, TablesTell, in_tables}
+use Rattle.filer_kernel.specs.Triples.{MapIs}
 use Rattle.space_tables.specs.Stored.{TellSpaces}
 use Rattle.session_words.specs.FrameLaws.{HasFrames, is_shown}
 use Rattle.session_words.specs.Parts.{DirtyAreLoose, HasTables, TablesMeaning}
@@ -65,9 +67,9 @@ tables_differ layout x y is size differs = record { labels = differs.labels; pag
         absurd (true≢false (sym (ap tables_alone kind) ∙ fails))
 
 -- the pages of the space tables in a memory are the pieces of their bytes
-tables_cut : (spaces : List Space) (layout : Layout) (y : List Sector) (named : Triples) (bytes : List ℕ) → IsLayout layout → length y ≡ layout.sectors → IsTabled layout y
+tables_cut : (spaces : List Space) (layout : Layout) (y : List Sector) (named : Triples) (bytes : List ℕ) → IsLayout layout → length y ≡ layout.sectors → MapIs layout named y → IsTabled layout named y
     → ((k : ℕ) → k < 96 → IsTablePage layout named y k (part bytes (512 * k) 512)) → HasTables (exactly (cut 96 bytes) spaces) y spaces
-tables_cut spaces layout y named bytes is size tabled pages = record {
+tables_cut spaces layout y named bytes is size map tabled pages = record {
   pages = cut 96 bytes;
   told = own_pages (cut 96 bytes) spaces;
   count = cut_length 96 bytes;
@@ -76,7 +78,7 @@ tables_cut spaces layout y named bytes is size tabled pages = record {
       let from : layout.first ≤ k = data_from k s kind in
       let own = tabled k s from kind.here three in
       let p = pages s.0.page own.0 in
-      let place : k ≡ p.sector = p.alone k s from kind.here own.1 in
+      let place : k ≡ p.sector = one_sector layout named y map 3 s.0.page k p.sector own.1 p.found in
       let same : s ≡ (p.label, part bytes (512 * s.0.page) 512) = same_Some {A = Sector} s (p.label, part bytes (512 * s.0.page) 512) (sym kind.here ∙ ap (slice_get y) place ∙ p.keeps) in
       cut_at 96 bytes s.0.page own.0 ∙ ap (λ (t : Sector). Some t.1) (sym same);
 }
@@ -86,12 +88,12 @@ tables_cut spaces layout y named bytes is size tabled pages = record {
         let above : first_data (length y) ≤ k = kind_is_data (length y) k s.0 the_tables (λ e. true≢false (ap tables_alone e)) (λ e. true≢false (ap tables_alone e)) (λ e. true≢false (ap tables_alone e)) kind.is in
         subst (λ (i : ℕ). i ≤ k) (sym (data_first layout is ∙ ap first_data (sym size))) above
 
--- the labels are the same, and so is this
-tabled_still : (layout : Layout) (x y : List Sector) → labels_of y ≡ labels_of x → IsTabled layout x → IsTabled layout y
-tabled_still layout x y labels tabled k s from here three =
+-- the labels are the same, and what the map names, and so is this
+tabled_still : (layout : Layout) (x y : List Sector) (named also : Triples) → labels_of y ≡ labels_of x → ((id page sector : ℕ) → also id page sector ≡ named id page sector) → IsTabled layout named x → IsTabled layout also y
+tabled_still layout x y named also labels once tabled k s from here three =
     let was = other_sector x y labels k s here in
     let own = tabled k was.0 from was.1 (ap (λ (l : Label). l.id) was.2 ∙ three) in
-    subst (λ (l : Label). (l.page < 96) × (names l (record { id = 3; page = l.page }) ≡ true)) was.2 own
+    subst (λ (l : Label). (l.page < 96) × (also 3 l.page k ≡ true)) was.2 (own.0, once 3 was.0.0.page k ∙ own.1)
 
 -- the tables' pages, in the one memory that stands
 moved_pages : (d : DiskState) (s : Slots) (l : Layout) (k : CachedRuns) (b : List ℕ) (t : TablesTell d s l k b) (x : Layout) (n : List Sector) → n ≡ t.memory → l ≡ x → (j : ℕ) → j < 96 → IsTablePage x t.triples n j (part b (512 * j) 512)
@@ -113,7 +115,9 @@ module _ (before_of : TablesMeaning) (v w : View) (now : ℕ) (volume : Volume) 
       let bytes : List ℕ = tells.hold.bytes in
       let long : length y ≡ v.layout.sectors = same_length x y mid.2.labels ∙ k.long in
       let same : y ≡ t.memory = one_memory w.disk w.slots y t.memory mid.1 t.stands in
-      let tables = tables_cut spaces v.layout y t.triples bytes whole.layout long (tabled_still v.layout x y mid.2.labels k.tabled) (moved_pages w.disk w.slots w.layout w.runs bytes t v.layout y same b.layout) in
+      let map : MapIs v.layout t.triples y = subst (λ (z : List Sector). MapIs v.layout t.triples z) (sym same) (subst (λ (l : Layout). MapIs l t.triples t.memory) b.layout t.map) in
+      let once = maps_named_once v.layout y y s.stands.is.named t.triples whole.layout (t.size ∙ ap (λ (l : Layout). l.sectors) b.layout) mid.1 mid.1 (map_kept v.layout s.stands.is.named x y whole.layout mid.2 k.map) map in
+      let tables = tables_cut spaces v.layout y t.triples bytes whole.layout long map (tabled_still v.layout x y s.stands.is.named t.triples mid.2.labels once k.tabled) (moved_pages w.disk w.slots w.layout w.runs bytes t v.layout y same b.layout) in
       let sectors : AreSectors y = memory_in_form w.disk w.slots y mid.1 (form mid.1.sectors mid.1.told) frames in
       record {
         pages = cut 96 bytes;

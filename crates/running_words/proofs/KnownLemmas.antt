@@ -1,19 +1,23 @@
 -- What a core knows of the memory, by the machine that it stands for.
-use Rattle.std.proofs.Common.{◌≡◌, inr, ℕ, ◌*◌, ◌<◌, ◌≤◌, Bool, true, false, ◌||◌, List, length, Option, Some, None, refl, sym, ◌∙◌, ap, subst, arith}
-use Rattle.std.specs.Prelude.{slice_get, option_map, IsSomeAnd, nat_lt, ◌==◌, if◌then◌else◌}
+use Rattle.std.proofs.Common.{◌≡◌, ◌⊎◌, inl, inr, ℕ, ◌+◌, ◌-◌, ◌*◌, ◌<◌, ◌≤◌, Bool, true, false, ◌||◌, List, length, Option, Some, None, refl, sym, ◌∙◌, ap, subst, arith}
+use Rattle.std.specs.Prelude.{slice_get, option_map, IsSomeAnd, IsTrue, nat_lt, ◌==◌, if◌then◌else◌}
 use Rattle.std.specs.Option.{option_map_or}
 use Rattle.std.specs.List.{concat}
-use Rattle.std.proofs.lemmas.Bool.{ne_eqb, eq-eqb, ltb-true}
+use Rattle.std.proofs.lemmas.Bool.{cases_eq, cases_lt, ne_eqb, eq-eqb, ltb-true}
 use Rattle.std.proofs.lemmas.Bool.Decides.{nat_tests}
 use Rattle.std.proofs.lemmas.List.{length-map}
 use Rattle.std.proofs.lemmas.Option.{same_Some, slice_get_within}
 use Rattle.labelled_disk.specs.declared.label.Label.{Label}
+use Rattle.labelled_disk.specs.declared.label.Wanted.{Wanted}
 use Rattle.labelled_disk.specs.declared.layout.Layout.{Layout}
 use Rattle.labelled_disk.specs.File.{File, file_at, size}
 use Rattle.labelled_disk.specs.Label.{is_file, names, leader_page}
-use Rattle.labelled_disk.specs.Layout.{first_data}
+use Rattle.labelled_disk.specs.Layout.{first_data, vam, vfm}
 use Rattle.labelled_disk.specs.Sectors.{Sector}
+use Rattle.labelled_disk.specs.State.{DiskState}
 use Rattle.flat_mem.specs.Memory.{part}
+use Rattle.frame_pool.specs.declared.home.Home.{Home}
+use Rattle.frame_pool.specs.Frames.{Slots}
 use Rattle.file_map.specs.declared.run.Run.{Run}
 use Rattle.file_map.specs.FileMap.{Triples}
 use Rattle.file_map.specs.InSectors.{MapNames, map_bytes}
@@ -24,15 +28,15 @@ use Rattle.flat_machine.specs.Machine.{Machine}
 use Rattle.flat_machine.proofs.MoreLaws.{shown_is_there}
 use Rattle.swap_units.specs.declared.interval.Interval.{Interval}
 use Rattle.swapper_kernel.specs.DiffersLaws.{label_here, names_id, names_page, sector_of_label}
-use Rattle.swapper_kernel.specs.Homes.{IsLayout}
+use Rattle.swapper_kernel.specs.Homes.{IsLayout, wanted_at}
 use Rattle.swapper_kernel.specs.Kinds.{HasKind, the_tables, a_file, unused}
-use Rattle.swapper_kernel.specs.Stands.{labels_of}
+use Rattle.swapper_kernel.specs.Stands.{IsHome, Stands, labels_of}
 use Rattle.swapper_kernel.proofs.KindLemmas.{data_kind}
 use Rattle.filer_kernel.specs.PlaceLaws.{data_first}
-use Rattle.filer_kernel.specs.Tables.{IsTablePage}
+use Rattle.filer_kernel.specs.Tables.{AreOverTables, IsTablePage}
 use Rattle.filer_kernel.specs.Triples.{MapIs, AreOf}
 use Rattle.session_words.specs.Found.{AreShapes}
-use Rattle.session_words.specs.Parts.{Shape, HasLabel, HasTables, TablesMeaning, is_marked, is_owned, shape_of, shapes_of}
+use Rattle.session_words.specs.Parts.{Shape, HasLabel, IsOwned, HasTables, TablesMeaning, is_marked, is_owned, shape_of, shapes_of}
 use Rattle.session_words.specs.StandsFor.{IsForBy}
 use Rattle.session_words.proofs.FoundLemmas.{above_reserved, owned_by}
 use Rattle.session_words.proofs.SettledLemmas.{machine_shapes}
@@ -55,6 +59,20 @@ file_in : (o : Option File) (P : File → Type 0) → IsSomeAnd o P → (f : Fil
 file_in (Some f) P is = (f, refl, is)
 file_in None P is = absurd is
 
+-- what stands before the data sectors
+before_first : (n first k : ℕ) → first ≡ first_data n → (first ≤ k) ⊎ (k ≡ 0) ⊎ ((j : ℕ) × (j < vam n) × (k ≡ 1 + j)) ⊎ ((j : ℕ) × (j < vfm n) × (k ≡ 1 + vam n + j))
+unfolding first_data
+before_first n first k is = elim (cases_lt k first) [
+  | inr from ↦ inl from
+  | inl before ↦ elim (cases_eq k 0) [
+    | inl root ↦ inr (inl root)
+    | inr behind ↦ elim (cases_lt k (1 + vam n)) [
+      | inl low ↦ inr (inr (inl (k - 1, omega (arith, low, behind), omega (arith, behind))))
+      | inr high ↦ inr (inr (inr (k - 1 - vam n, omega (arith, high, before, is), omega (arith, high))))
+    ]
+  ]
+]
+
 -- one of the pages of the space tables, in its sector
 record TablePage (layout : Layout) (named : Triples) (x : List Sector) (k : ℕ) : Type 0 where
   pub place : ℕ
@@ -63,7 +81,6 @@ record TablePage (layout : Layout) (named : Triples) (x : List Sector) (k : ℕ)
   pub number : s.0.page ≡ k
   pub found : named 3 k place ≡ true
   pub named_so : names s.0 (record { id = 3; page = k }) ≡ true
-  pub alone : (other : ℕ) (t : Sector) → layout.first ≤ other → slice_get x other ≡ Some t → names t.0 (record { id = 3; page = k }) ≡ true → other ≡ place
 
 module _ (spaces_of : TablesMeaning) (layout : Layout) (x : List Sector) (named : Triples) (m : Machine) (is : IsLayout layout) (long : length x ≡ layout.sectors) (f : IsForBy spaces_of (is_marked x) named x m) where
   pub map_known : MapNames x named → MapIs layout named x
@@ -76,6 +93,14 @@ module _ (spaces_of : TablesMeaning) (layout : Layout) (x : List Sector) (named 
 
   first_is : layout.first ≡ first_data (length (labels_of x))
   first_is = data_first layout is ∙ ap first_data (sym long ∙ sym label_count)
+
+  -- a sector that is no data sector is that of the root, or of a map
+  before_data : (k : ℕ) → (layout.first ≤ k) ⊎ (k ≡ 0) ⊎ ((j : ℕ) × (j < vam (length (labels_of x))) × (k ≡ 1 + j)) ⊎ ((j : ℕ) × (j < vfm (length (labels_of x))) × (k ≡ 1 + vam (length (labels_of x)) + j))
+  before_data k = before_first (length (labels_of x)) layout.first k first_is
+
+  -- the label that stands at a place is the sector's
+  label_is : (k : ℕ) (s : Sector) → slice_get x k ≡ Some s → {place : ℕ} → k ≡ place → (w : Wanted) → IsSomeAnd (slice_get (labels_of x) place) (λ l. IsTrue (names l w)) → names s.0 w ≡ true
+  label_is k s here at w is = subst (λ (o : Option Label). IsSomeAnd o (λ l. IsTrue (names l w))) (ap (slice_get (labels_of x)) (sym at) ∙ label_here x k s here) is
 
   data_label : (k : ℕ) (s : Sector) → layout.first ≤ k → slice_get x k ≡ Some s → HasLabel (labels_of x) k s.0
   data_label k s from here = record { is_data = subst (λ (n : ℕ). n ≤ k) first_is from; here = label_here x k s here }
@@ -100,12 +125,42 @@ module _ (spaces_of : TablesMeaning) (layout : Layout) (x : List Sector) (named 
   owned_page : (page : ℕ) → page < 96 → is_owned (shapes_of m.files) 3 page ≡ true
   owned_page page below = let a : nat_lt page 96 ≡ true = grind (arith, nat_tests, below) in rw a refl
 
-  pub tabled : IsTabled layout x
+  -- a data sector with the identifier of the space tables has the label of one of their pages
+  own_label : (k : ℕ) (s : Sector) → layout.first ≤ k → slice_get x k ≡ Some s → s.0.id ≡ 3 → IsOwned (is_owned (shapes_of m.files)) s.0
+  own_label k s from here three = f.labels.pages.only k s.0 (data_label k s from here) (ne_eqb s.0.id 0 (omega (arith, three)))
+
+  -- and is where the file map has that page
+  own_place : (k : ℕ) (s : Sector) → layout.first ≤ k → slice_get x k ≡ Some s → s.0.id ≡ 3 → named 3 s.0.page k ≡ true
+  own_place k s from here three = f.triples.all 3 s.0.page k (record { label = s.0; there = data_label k s from here; taken = ne_eqb s.0.id 0 (omega (arith, three)); same_id = three; same_page = refl })
+
+  pub tabled : IsTabled layout named x
   tabled k s from here three =
-      let owned = f.labels.pages.only k s.0 (data_label k s from here) (ne_eqb s.0.id 0 (omega (arith, three))) in (
-        low_page s.0.page (ap (λ (i : ℕ). is_owned (shapes_of m.files) i s.0.page) (sym three) ∙ owned.is),
-        ap (λ (i : ℕ). names s.0 (record { id = i; page = s.0.page })) (sym three) ∙ owned.named,
-      )
+      (low_page s.0.page (ap (λ (i : ℕ). is_owned (shapes_of m.files) i s.0.page) (sym three) ∙ (own_label k s from here three).is), own_place k s from here three)
+
+  -- no other sector has such a label
+  three_on_data : (k : ℕ) (s : Sector) → slice_get x k ≡ Some s → s.0.id ≡ 3 → layout.first ≤ k
+  three_on_data k s here three = elim (before_data k) [
+    | inl from ↦ from
+    | inr (inl root) ↦
+        let four : s.0.id ≡ 4 = names_id s.0 (record { id = 4; page = 0 }) (subst (λ (o : Option Sector). IsSomeAnd o (λ t. IsTrue (names t.0 (record { id = 4; page = 0 })))) (ap (slice_get x) (sym root) ∙ here) f.root.valid.label) in
+        absurd (omega (arith, three, four))
+    | inr (inr (inl (j, below, at))) ↦
+        let one : s.0.id ≡ 1 = names_id s.0 (record { id = 1; page = j }) (label_is k s here at (record { id = 1; page = j }) (f.map_labels.allocation j below)) in
+        absurd (omega (arith, three, one))
+    | inr (inr (inr (j, below, at))) ↦
+        let two : s.0.id ≡ 2 = names_id s.0 (record { id = 2; page = j }) (label_is k s here at (record { id = 2; page = j }) (f.map_labels.file_map j below)) in
+        absurd (omega (arith, three, two))
+  ]
+
+  -- so frames of their pages are where the file map has them
+  pub frames_over : (disk : DiskState) (slots : Slots) → Stands disk slots x → AreOverTables slots named
+  frames_over disk slots stands home held three below =
+      let at : IsHome x held.frame = stands.merged.frames held.slot held.frame held.has in
+      let s : Sector = (at.label, held.frame.bytes) in
+      let here : slice_get x home.sector ≡ Some s = ap (λ (h : Home). slice_get x h.sector) (sym held.at) ∙ at.keeps in
+      let own : names at.label (wanted_at home) ≡ true = ap (λ (h : Home). names at.label (wanted_at h)) (sym held.at) ∙ at.named in
+      let id : at.label.id ≡ 3 = names_id at.label (wanted_at home) own ∙ three in
+      ap (λ (page : ℕ). named 3 page home.sector) (sym (names_page at.label (wanted_at home) own)) ∙ own_place home.sector s (three_on_data home.sector s here id) here id
 
   table_page : (k : ℕ) → k < 96 → TablePage layout named x k
   table_page k below =
@@ -116,7 +171,7 @@ module _ (spaces_of : TablesMeaning) (layout : Layout) (x : List Sector) (named 
       let number : s.0.page ≡ k = ap (λ (l : Label). l.page) t.2 ∙ p.same_page in
       let from : first_data (length x) ≤ p.place = subst (λ (n : ℕ). first_data n ≤ p.place) label_count p.there.is_data in
       let here : layout.first ≤ p.place = subst (λ (n : ℕ). n ≤ p.place) (sym first_is) p.there.is_data in
-      let named_own = (tabled p.place s here t.1 three).1 in
+      let named_own : names s.0 (record { id = 3; page = s.0.page }) ≡ true = ap (λ (i : ℕ). names s.0 (record { id = i; page = s.0.page })) (sym three) ∙ (own_label p.place s here t.1 three).named in
       record {
         place = p.place;
         s = s;
@@ -124,15 +179,7 @@ module _ (spaces_of : TablesMeaning) (layout : Layout) (x : List Sector) (named 
         number = number;
         found = f.triples.all 3 k p.place (record { label = p.label; there = p.there; taken = p.taken; same_id = p.same_id; same_page = p.same_page });
         named_so = ap (λ (i : ℕ). names s.0 (record { id = 3; page = i })) (sym number) ∙ named_own;
-        alone = λ other u above there so. twice p.place s here t.1 three number other u above there so;
       }
-    where
-      twice : (i : ℕ) (s : Sector) → layout.first ≤ i → slice_get x i ≡ Some s → s.0.id ≡ 3 → s.0.page ≡ k → (j : ℕ) (u : Sector) → layout.first ≤ j → slice_get x j ≡ Some u
-          → names u.0 (record { id = 3; page = k }) ≡ true → j ≡ i
-      twice i s from here three number j u above there so =
-          let id : u.0.id ≡ 3 = names_id u.0 (record { id = 3; page = k }) so in
-          let page : u.0.page ≡ k = names_page u.0 (record { id = 3; page = k }) so in
-          f.labels.pages.once j i u.0 s.0 (data_label j u above there) (data_label i s from here) (ne_eqb u.0.id 0 (omega (arith, id))) (id ∙ sym three) (page ∙ sym number)
 
   module _ (pages : List (List ℕ)) (tables : HasTables spaces_of x m.spaces) (same : tables.pages ≡ pages) where
     there : (k : ℕ) → k < 96 → (t : TablePage layout named x k) → slice_get pages k ≡ Some t.s.1
@@ -161,7 +208,6 @@ module _ (spaces_of : TablesMeaning) (layout : Layout) (x : List Sector) (named 
           found = t.found;
           keeps = t.kind.here ∙ (λ i. Some (t.s.0, sym bytes i));
           named_so = t.named_so;
-          alone = t.alone;
         }
 
   -- a page of a file has its sector
@@ -205,6 +251,7 @@ session_known spaces_of v volume m whole s pages same =
       tabled = tabled spaces_of v.layout x named m whole.layout k.long f;
       count = joined_count spaces_of v.layout x named m whole.layout k.long f pages f.tables same;
       page = page_known spaces_of v.layout x named m whole.layout k.long f pages f.tables same;
+      held = frames_over spaces_of v.layout x named m whole.layout k.long f v.disk v.slots s.stands.stands;
     }
 
 pub known : (v : View) (kept : List Interval) (count : ℕ) (volume : Volume) (m : Machine) → IsWhole v → (r : IsRunning v kept count volume m)

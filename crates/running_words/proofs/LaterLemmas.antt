@@ -22,7 +22,7 @@ use Rattle.session_words.proofs.LooseLemmas.{swap_stands}
 use Rattle.session_words.proofs.ShownLemmas.{shown_laws}
 use Rattle.file_manager.specs.declared.volume.Volume.{Volume}
 use Rattle.file_manager.proofs.BookLemmas.{true_by_map}
-use Rattle.file_manager.specs.MapOnce.{named_once}
+use Rattle.filer_kernel.specs.MapOnce.{named_once}
 use Rattle.fault_core.specs.Reach.{Reaches}
 use Rattle.fault_core.specs.Told.{IsIntervalOf, Known, Told}
 use Rattle.fault_core.specs.View.{View}

@@ -26,7 +26,7 @@ use Rattle.swapper_kernel.specs.DiffersLaws.{differs_then}
 use Rattle.swapper_kernel.specs.Goes.{Goes, Makes, Pages, no_page}
 use Rattle.swapper_kernel.specs.GoesLaws.{goes_then, goes_wider}
 use Rattle.swapper_kernel.specs.HaltLaws.{brings_then, brings_wider}
-use Rattle.swapper_kernel.specs.Homes.{Brings, IsLayout, home_at}
+use Rattle.swapper_kernel.specs.Homes.{Brings, IsHeld, IsLayout, home_at}
 use Rattle.swapper_kernel.specs.Maps.{IsMapHome, pages_of, start_of}
 use Rattle.swapper_kernel.specs.Stands.{Stands}
 use Rattle.swapper_kernel.specs.Window.{IsPage, Shows}
@@ -38,9 +38,11 @@ use Rattle.filer_kernel.specs.Triples.{MapIs}
 use Rattle.file_manager.specs.Grounds.{IsMapsHome, IsUnframed}
 use Rattle.file_manager.specs.LaterLaws.{shows_later, shows_before}
 use Rattle.file_manager.specs.ShownLaws.{run_home_named, in_form}
-use Rattle.file_manager.specs.KeepLaws.{keeps_after}
+use Rattle.file_manager.specs.KeepLaws.{keeps_after, over_after}
+use Rattle.file_manager.specs.WriteLaws.{no_roots}
 use Rattle.file_manager.specs.Reasons.{Outset, AreTabled, IsAtHome, KeepsTo, HasReason, ShowsReason}
-use Rattle.fault_core.specs.Reach.{IsReached, Reaches, ReachEvidence, ReachHalts}
+use Rattle.fault_core.specs.Reach.{IsReached, Reaches, FindEvidence, ReachHalts, TouchHalts}
+use Rattle.fault_core.specs.ReachLaws.{touch_of_reach}
 use Rattle.fault_core.specs.Touch.{on_data, Touches}
 use Rattle.fault_core.specs.View.{View, kept_by}
 use Rattle.fault_core.proofs.BeforeLemmas.{map_still, touches_of}
@@ -157,15 +159,18 @@ module _ (o : Outset) (v : View) (named : Triples) (is : IsLayout v.layout) (kee
   ]
 
   module _ (w : View) (h : Moves v w) where
+    -- each frame was held before, or is of a map's page, or is where the map has its page
+    held_named : (home : Home) → IsHeld w.slots home → IsHeld v.slots home ⊎ (IsMapsHome v.layout home ⊎ (named home.id home.page home.sector ≡ true))
+    held_named home held = elim (h.brings.homes home held) [ inl was ↦ inl was | inr came ↦ inr (reached_named home came) ]
+
     keeps_there : o.tables ≡ None → KeepsTo o v.layout (kept_by w) w.disk w.slots named
     keeps_there untold =
         let now = h.goes.memory keeps.memory keeps.stands in
         keeps_after keeps h.goes.makes now.0 now.1 named (map_still v.layout is named keeps.memory now.0 now.2 keeps.map) (λ home one. inl one)
         (kept_by w) (h.runs_are keeps.memory named keeps.stands keeps.map keeps.kept)
-        (λ home held. elim (h.brings.homes home held) [ inl was ↦ inl was | inr came ↦ inr (reached_named home came) ])
-        (unframed_moved w.slots h.brings) keeps.marks (marks_still v.layout is keeps.marks keeps.memory now.0 now.2 keeps.bits) (λ sector from below free. inl (free, λ k write at takes. none-some write at))
+        held_named (unframed_moved w.slots h.brings) (over_after {x = v.layout} named named keeps.over held_named (λ page sector is. is)) keeps.marks (marks_still v.layout is keeps.marks keeps.memory now.0 now.2 keeps.bits) (λ sector from below free. inl (free, λ k write at takes. none-some write at))
         (λ home from may one. inl one) (λ home from may. inr (λ k write at gives. none-some write at)) (λ sector from below used. inl (used, λ k write at up. none-some write at))
-        (λ told. subst (λ (t : Option (List ℕ)). IfSome t (AreTabled v.layout named now.0)) (sym untold) tt)
+        (no_roots o.next) (λ home turn write at gives. absurd (none-some write at)) (λ told. subst (λ (t : Option (List ℕ)). IfSome t (AreTabled v.layout named now.0)) (sym untold) tt)
 
 module _ (o : Outset) (v : View) (named : Triples) (is : IsLayout v.layout) (keeps : ViewKeepsTo o v named) where
   -- a page that the file map does not name is missing with reason
@@ -184,7 +189,7 @@ module _ (o : Outset) (v : View) (named : Triples) (is : IsLayout v.layout) (kee
 
   -- what stops a search for pages has a reason before it
   module _ (breaks : ℕ → Type 0) (w : View) where
-    evidence_shows : (e : Evidence) → ReachEvidence breaks v e → HasReason o v.layout v.disk e
+    evidence_shows : (e : Evidence) → FindEvidence breaks MayBeMissing v e → HasReason o v.layout v.disk e
     evidence_shows (Mismatch sector wanted found) cause = elim cause.reason [
       | inl (inl held) ↦ elim (keeps.0.frames (home_at sector wanted) held) [ inl own ↦ inl own | inr at ↦ inr (inl at) ]
       | inl (inr own) ↦ inl (FileMap, own)
@@ -196,7 +201,7 @@ module _ (o : Outset) (v : View) (named : Triples) (is : IsLayout v.layout) (kee
     ]
     evidence_shows (Missing id page) cause = unnamed_missing id page cause.0 cause.1
 
-    halt_shows : (e : Halt) → ReachHalts breaks v w e → ShowsReason o v.layout v.disk e
+    halt_shows : (e : Halt) → TouchHalts breaks v w e → ShowsReason o v.layout v.disk e
     halt_shows Disk cause = tt
     halt_shows (Damaged evidence) cause = evidence_shows evidence cause
 
@@ -213,10 +218,18 @@ pub moved_before : (o : Outset) (v w : View) (named : Triples) → ViewKeepsTo o
 moved_before o v w named keeps h halt shows = shows_before o h.goes.makes keeps.0.since v.layout halt shows
 
 -- what stops a search for pages has a reason, already before it
+pub touch_shows : (o : Outset) (v w : View) (named : Triples) (breaks : ℕ → Type 0) → IsLayout v.layout → ViewKeepsTo o v named → (halt : Halt) → TouchHalts breaks v w halt → ShowsReason o v.layout v.disk halt
+touch_shows o v w named breaks is keeps halt halts = halt_shows o v named is keeps breaks w halt halts
+
+-- and what stops one for pages of the space tables alone
 pub reach_shows : (o : Outset) (v w : View) (named : Triples) (breaks : ℕ → Type 0) → IsLayout v.layout → ViewKeepsTo o v named → (halt : Halt) → ReachHalts breaks v w halt → ShowsReason o v.layout v.disk halt
-reach_shows o v w named breaks is keeps halt halts = halt_shows o v named is keeps breaks w halt halts
+reach_shows o v w named breaks is keeps halt halts = touch_shows o v w named breaks is keeps halt (touch_of_reach breaks v w halt halts)
 
 -- and after it
+pub touch_reasons : (o : Outset) (v w : View) (named : Triples) (breaks : ℕ → Type 0) {pages : Pages} → IsLayout v.layout → ViewKeepsTo o v named → Makes pages [] v.disk v.slots w.disk w.slots
+    → (halt : Halt) → TouchHalts breaks v w halt → ShowsReason o v.layout w.disk halt
+touch_reasons o v w named breaks is keeps makes halt halts = shows_later o makes keeps.0.since v.layout halt (touch_shows o v w named breaks is keeps halt halts)
+
 pub reach_reasons : (o : Outset) (v w : View) (named : Triples) (breaks : ℕ → Type 0) {pages : Pages} → IsLayout v.layout → ViewKeepsTo o v named → Makes pages [] v.disk v.slots w.disk w.slots
     → (halt : Halt) → ReachHalts breaks v w halt → ShowsReason o v.layout w.disk halt
 reach_reasons o v w named breaks is keeps makes halt halts = shows_later o makes keeps.0.since v.layout halt (reach_shows o v w named breaks is keeps halt halts)

@@ -5,8 +5,7 @@ use Rattle.labelled_disk.specs.declared.evidence.Halt.{Halt}
 use Rattle.space_tables.specs.Form.{Breaks, BreaksHierarchy, BreaksLookUp, BreaksSlot}
 use Rattle.space_tables.specs.declared.shown.Shown.{Shown}
 use Rattle.space_tables.specs.Shows.{IsShownAt}
-use Rattle.session_words.specs.Volume.{volume_page}
-use Rattle.swapper_kernel.specs.GoesLaws.{makes_nothing, makes_then, goes_wider}
+use Rattle.swapper_kernel.specs.GoesLaws.{goes_wider}
 use Rattle.swapper_kernel.specs.Differs.{Differs}
 use Rattle.swapper_kernel.specs.DiffersLaws.{differs_itself}
 use Rattle.swapper_kernel.specs.Goes.{Same}
@@ -15,7 +14,7 @@ use Rattle.swapper_kernel.specs.Homes.{IsLayout}
 use Rattle.swapper_kernel.specs.Stands.{Stands}
 use Rattle.filer_kernel.specs.Cached.{runs_of}
 use Rattle.filer_kernel.specs.Tables.{in_tables, table_pages}
-use Rattle.filer_kernel.specs.TableOnce.{tables_stay}
+use Rattle.filer_kernel.specs.TableOnce.{map_over, tables_stay}
 use Rattle.filer_kernel.specs.Triples.{AreOf, IsOneOf}
 use Rattle.file_manager.specs.Looking.{Looks}
 use Rattle.fault_core.specs.Reach.{IsReached, Reaches, ReachHalts}
@@ -36,7 +35,7 @@ look_reaches v w looks layout = record {
   given = λ r one. looks.given r (subst (λ (l : Layout). IsOneOf r (runs_of l.sectors w.runs)) layout one);
   runs_are = λ m named stands map are. subst (λ (l : Layout). AreOf named (runs_of l.sectors w.runs)) (sym layout) (looks.runs_are m named stands map are);
   told = λ b tells.
-      tables_stay layout looks.goes.makes.went.sectors (λ m named stands map. let now = looks.goes.memory m stands in subst (Stands w.disk w.slots) now.2 now.1) (λ m named stands map are. looks.runs_are m named stands map are) b tells;
+      tables_stay layout looks.goes.makes.went.sectors (λ m named stands map. let now = looks.goes.memory m stands in subst (Stands w.disk w.slots) now.2 now.1) (λ m named stands map are. looks.runs_are m named stands map are) b tells (map_over v.layout tells.triples looks.brings);
 }
 
 -- ---- The tables, asked after pages were brought in.

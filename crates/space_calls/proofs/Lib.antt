@@ -26,3 +26,5 @@ pub mod AwayLemmas
 pub mod FileLemmas
 pub mod TakeLemmas
 pub mod SeesLemmas
+pub mod OnLemmas
+pub mod SizeLemmas

@@ -18,11 +18,14 @@ use Rattle.space_tables.specs.Shows.{IsRunAt}
 use Rattle.swapper_kernel.specs.HaltLaws.{brings_itself, rose_wider}
 use Rattle.swapper_kernel.specs.Homes.{IsLayout}
 use Rattle.fault_core.specs.Kill.{BreaksWithin}
-use Rattle.fault_core.specs.Reach.{BringsOwn, Reaches, ReachHalts}
+use Rattle.filer_kernel.specs.Evidence.{MayBeMissing}
+use Rattle.fault_core.specs.Lack.{LacksPage, range_units}
+use Rattle.fault_core.specs.Reach.{BringsOwn, Reaches, ReachHalts, TouchHalts}
 use Rattle.fault_core.specs.View.{View}
-use Rattle.fault_core.proofs.ReachLemmas.{halts_before, reaches_itself}
+use Rattle.fault_core.proofs.ReachLemmas.{finds_before, halts_before, reaches_itself}
+use Rattle.fault_core.proofs.LackLemmas.{lacks_wider}
 use Rattle.table_calls.specs.Answers.{IfGiven, TablesBreak, TablesSay, Tells}
-use Rattle.space_calls.specs.Ranges.{BreaksInSpace, BreaksRange}
+use Rattle.space_calls.specs.Ranges.{BreaksInSpace, BreaksRange, space_units}
 
 -- the run is that of the space of this handle
 abbrev pub IsSpaceRun : List Space → ℕ → (ℕ × ℕ) → Type 0
@@ -59,6 +62,11 @@ module _ (ss : List Space) (space : ℕ) where
       let same : found.0 ≡ s = same_Some found.0 s (sym found.1 ∙ there) in
       let pages : run ≡ (s.first, s.pages) = found.2 ∙ (λ i. ((same i).first, (same i).pages)) in
       subst (λ (q : ℕ × ℕ). P q.0 (q.0 + q.1)) pages is
+
+  -- what is missing of the swap units of the run is so of those of the space
+  pub run_lacks : (run : ℕ × ℕ) → IsSpaceRun ss space run → (e : Halt) → LacksPage (range_units ss run.0 (run.0 + run.1)) e → LacksPage (space_units ss space) e
+  run_lacks run (s, at, pages) e h =
+      lacks_wider (range_units ss run.0 (run.0 + run.1)) (space_units ss space) (λ id page one. (s, (at, subst (λ (q : ℕ × ℕ). range_units ss q.0 (q.0 + q.1) id page) pages one))) e h
 
 -- advice changes nothing
 pub deactivate_stays : (m : Machine) (space : ℕ) → m ≡ next m (call.Deactivate space)
@@ -103,6 +111,11 @@ module _ (v w : View) (is : IsLayout v.layout) (space : ℕ) where
     pub within_halt : (run : ℕ × ℕ) → TablesSay v (λ b. IsRunAt b space) run → (e : Halt) → ReachHalts (BreaksWithin w now run.0 (run.0 + run.1)) w z e → ReachHalts (BreaksRange v count space) v z e
     within_halt run read e halts =
         halts_before v w is reaches (BreaksWithin w now run.0 (run.0 + run.1)) (BreaksRange v count space) (λ page within. inr (in_space run read page within)) z z (omega arith) e halts
+
+    -- or a page of a client's file is missing
+    pub within_touch : (run : ℕ × ℕ) → TablesSay v (λ b. IsRunAt b space) run → (e : Halt) → TouchHalts (BreaksWithin w now run.0 (run.0 + run.1)) w z e → TouchHalts (BreaksRange v count space) v z e
+    within_touch run read e halts =
+        finds_before v w is reaches MayBeMissing (BreaksWithin w now run.0 (run.0 + run.1)) (BreaksRange v count space) (λ page within. inr (in_space run read page within)) z z (omega arith) e halts
 
 -- a fault was counted
 pub fault_halt : (breaks : ℕ → Type 0) (v w z : View) (e : Halt) → v.disk.faults ≤ w.disk.faults → e ≡ Disk → Rose w.disk.faults z.disk.faults → ReachHalts breaks v z e

@@ -1,6 +1,6 @@
 -- Calls on spaces where nothing is known but that the tables are told and in form.
 use Rattle.std.proofs.Common.{◌≡◌, inl, inr, ℕ, ◌≤◌, ◌<◌, Bool, true, false, List, Option, Some, None, Result, Ok, Err, refl, sym, ◌∙◌, subst, arith}
-use Rattle.std.specs.Prelude.{IfOk, IfSome, OnOk, nat_lt}
+use Rattle.std.specs.Prelude.{IfOk, IfSome, nat_lt}
 use Rattle.std.proofs.lemmas.Bool.Decides.{nat_tests}
 use Rattle.std.proofs.lemmas.Option.{same_Some}
 use Rattle.labelled_disk.specs.declared.evidence.Evidence.TheVariants.{Mismatch, Malformed, Missing}
@@ -87,11 +87,6 @@ module _ {v : View} {cached : List Interval} {count : ℕ} {ss : List Space} (s 
   windows_seen = subst WindowsFit s.tables.spaces s.tables.right.windows
 
 -- ---- Answers.
-
--- what is so anyway is so where there is no error
-pub on_ok : {A : Type 0} (r : Result A Halt) (X : Type 0) → X → OnOk r X
-on_ok (Ok answer) X x = x
-on_ok (Err e) X x = tt
 
 -- a fault of the disk names no page
 pub fault_spares : (e : Halt) → e ≡ Disk → SparesTables e

@@ -37,6 +37,7 @@ module _ (v : View) (disk : DiskState) (went : Went v.disk disk) (same : TellsSa
     size = went.sectors ∙ t.size;
     count = t.count;
     page = t.page;
+    held = t.held;
   }
 
   pub settled_reaches : Reaches v (record v { disk = disk })
@@ -63,6 +64,7 @@ module _ (v : View) (disk : DiskState) (went : Went v.disk disk) (same : TellsSa
       tabled = t.known.tabled;
       count = t.known.count;
       page = t.known.page;
+      held = t.known.held;
     };
     tables = t.tables;
     cached = t.cached;

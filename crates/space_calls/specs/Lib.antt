@@ -5,3 +5,4 @@ pub mod Ranges
 pub mod Halts
 pub mod ReasonLaws
 pub mod Sees
+pub mod FilesLaws

@@ -1,5 +1,5 @@
 -- What stops a call on spaces, or a look at a file, has a reason, where disk and frames keep to the outset.
-use Rattle.std.proofs.Common.{◌⊎◌, inl, inr, ℕ, true, false, List, Option, sym, subst, arith}
+use Rattle.std.proofs.Common.{◌⊎◌, inl, inr, ℕ, true, false, Option, sym, subst, arith}
 use Rattle.std.proofs.lemmas.Bool.Decides.{nat_tests}
 use Rattle.std.specs.Prelude.{Bool, []}
 use Rattle.labelled_disk.specs.declared.evidence.Evidence.{Evidence}
@@ -22,11 +22,11 @@ use Rattle.file_manager.specs.Finding.{IsNoLeader}
 use Rattle.file_manager.specs.LaterLaws.{shows_later}
 use Rattle.file_manager.specs.ShownLaws.{run_home_named, in_form}
 use Rattle.file_manager.specs.Reasons.{Outset, IsAtHome, HasReason, ShowsReason}
-use Rattle.fault_core.specs.Reach.{Reaches, ReachHalts}
+use Rattle.fault_core.specs.Reach.{Reaches, ReachHalts, TouchHalts}
 use Rattle.fault_core.specs.Touch.{on_data}
 use Rattle.fault_core.specs.View.{View, kept_by}
 use Rattle.running_words.specs.Moving.{any_page, Moves, ViewKeepsTo}
-use Rattle.running_words.specs.MovingLaws.{moves_of_reaches, keeps_moved, moved_before, reach_shows}
+use Rattle.running_words.specs.MovingLaws.{moves_of_reaches, keeps_moved, moved_before, reach_shows, touch_shows}
 use Rattle.space_tables.specs.Form.{first_in_slot, Breaks, BreaksAt, BreaksFor, BreaksHierarchy, BreaksSlot, MakesTooMany}
 use Rattle.table_calls.specs.Answers.{TablesBreak}
 use Rattle.space_calls.specs.Halts.{After, MakeSpaceHalts, RemoveSpaceHalts, PlaceHalts, ChangeHalts, SlotHalts, PathHalts, TakeWindowHalts, BreaksSight, SightHalts, LookHalts, NamedHalts, OnFileHalts, OnNamedHalts, MapFileHalts, WritableHalts, ShownHalts, ProtectHalts}
@@ -98,6 +98,10 @@ then_before P reasons = after_before Reaches P moves_of_reaches reasons
 pub reach_before : (breaks : View → ℕ → Type 0) → HasReasonBefore (λ v w e. ReachHalts (breaks v) v w e)
 reach_before breaks o v w named is keeps halt halts = reach_shows o v w named (breaks v) is keeps halt halts
 
+-- where pages of clients' files are looked for as well
+pub touch_before : (breaks : View → ℕ → Type 0) → HasReasonBefore (λ v w e. TouchHalts (breaks v) v w e)
+touch_before breaks o v w named is keeps halt halts = touch_shows o v w named (breaks v) is keeps halt halts
+
 module _ (o : Outset) (v : View) (named : Triples) (is : IsLayout v.layout) (keeps : ViewKeepsTo o v named) (id : ℕ) where
   searched : (e : Evidence) → MapEvidence v.layout v.disk v.slots e → HasReason o v.layout v.disk e
   searched (Mismatch sector wanted found) cause = elim cause.reason [
@@ -157,6 +161,9 @@ protect_before space true count = either_before (SlotHalts space) (ShownHalts sp
 protect_before space false count = take_before space count
 
 -- ---- Each of them after it.
+
+pub touch_reasons : (breaks : View → ℕ → Type 0) → HasReasonAfter (λ v w e. TouchHalts (breaks v) v w e)
+touch_reasons breaks = after_it (λ v w e. TouchHalts (breaks v) v w e) (touch_before breaks)
 
 pub make_space_reasons : (parent pages : ℕ) (first : Option ℕ) (count : ℕ) → HasReasonAfter (MakeSpaceHalts parent pages first count)
 make_space_reasons parent pages first count =

@@ -48,6 +48,10 @@ abbrev pub IsGivenUp : {A : Type 0} → Type 0 → Result A Refusal → Type 0
 IsGivenUp P (Ok answer) = P
 IsGivenUp P (Err word) = Unit {0}
 
+-- the space shows this
+abbrev pub ShowsIn : List Space → ℕ → Shown → Type 0
+ShowsIn spaces handle shown = (s : Space) × (space_at spaces handle ≡ Some s) × (s.window ≡ Some (window_of shown))
+
 -- the space shows this, from its first page on, and has so many pages
 abbrev pub IsWindowIn : List Space → ℕ → Shown × ℕ × ℕ → Type 0
 IsWindowIn spaces handle found = (s : Space) × (space_at spaces handle ≡ Some s) × (s.window ≡ Some (window_of found.0)) × (found.1 ≡ s.first) × (found.2 ≡ s.pages)

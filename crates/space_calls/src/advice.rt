@@ -1,5 +1,5 @@
 //! Pages of a space that are brought in before they are asked for.
-ghost use Rattle.std.specs.Prelude.{◌≡◌, ◌+◌, ◌/◌, ℕ, length, Some, Err, IfOk, IfErr, OnOk};
+ghost use Rattle.std.specs.Prelude.{◌≡◌, ◌+◌, ◌/◌, ℕ, length, Some, Err, IfOk, IfErr, OnOk, List};
 ghost use Rattle.labelled_disk.specs.declared.evidence.Halt.TheVariants as halt;
 ghost use Rattle.labelled_disk.specs.Calls.{Rose};
 ghost use Rattle.flat_machine.specs.declared.call.Call.TheVariants as call;
@@ -10,16 +10,17 @@ ghost use Rattle.session_words.specs.Volume.{volume_page};
 ghost use Rattle.file_manager.specs.declared.volume.Volume.{Volume};
 ghost use Rattle.fault_core.specs.Activate.{AreBrought, IsActive};
 ghost use Rattle.fault_core.specs.Core.{kept, state};
-ghost use Rattle.fault_core.specs.Reach.{ReachHalts};
+ghost use Rattle.fault_core.specs.Reach.{TouchHalts};
 ghost use Rattle.running_words.specs.Bound.{CostsOther};
 ghost use Rattle.running_words.specs.Running.{Carried, Runs};
 ghost use Rattle.running_words.specs.Session.{WroteIn};
 ghost use Rattle.running_words.specs.Stages.{Passes};
 ghost use Rattle.filer_kernel.specs.Evidence.{ShowsSo};
-ghost use Rattle.space_calls.specs.Ranges.{BreaksRange};
+ghost use Rattle.space_calls.specs.Ranges.{BreaksRange, space_units};
 ghost use Rattle.running_words.specs.Moving.{Moves};
 ghost use Rattle.fault_core.specs.Spares.{SparesTables};
-ghost use Rattle.space_calls.specs.Sees.{SeesOn};
+ghost use Rattle.space_calls.specs.Sees.{SeesOn, StillOn};
+ghost use Rattle.fault_core.specs.Lack.{LacksPage, Sees};
 
 use fault_core::CoreOver;
 use flat_machine::Reply;
@@ -34,10 +35,11 @@ pub fn activate<D: Disk, A: Allocator>(core: &mut CoreOver<D, A>, space: u32) ->
     ensures sound { (volume : Volume) (m : Machine) → Runs core.old volume m → IfErr result (λ e. e ≡ halt.Disk) }
     ensures passes { (volume : Volume) (m : Machine) → Runs core.old volume m → Passes m (call.Activate space) (D.state core.old.filer.swapper.under) (D.state core.new.filer.swapper.under) }
     ensures counted { result ≡ Err halt.Disk → Rose (D.state core.old.filer.swapper.under).faults (D.state core.new.filer.swapper.under).faults }
-    ensures cause { IfErr result (ReachHalts (BreaksRange (state core.old) core.old.intervals space) (state core.old) (state core.new)) }
+    ensures cause { IfErr result (TouchHalts (BreaksRange (state core.old) core.old.intervals space) (state core.old) (state core.new)) }
+    ensures missing { (ss : List Space) → Sees (state core.old) (kept core.old) core.old.intervals ss → IfErr result (LacksPage (space_units ss space)) }
     ensures so { IfErr result (ShowsSo (D.state core.new.filer.swapper.under)) }
     ensures wrote { WroteIn (volume_page) (D.state core.old.filer.swapper.under) core.old.filer.swapper.pool (D.state core.new.filer.swapper.under) core.new.filer.swapper.pool }
-    ensures sees { SeesOn core.old → OnOk result (SeesOn core.new) }
+    ensures sees { OnOk result (StillOn core.old core.new) }
     ensures right { SeesOn core.old → IfErr result SparesTables }
     ensures moves { Moves (state core.old) (state core.new) }
     ensures layout { core.new.filer.swapper.layout ≡ core.old.filer.swapper.layout }

@@ -1,5 +1,5 @@
 //! Windows that spaces get.
-ghost use Rattle.std.specs.Prelude.{◌≡◌, ◌≤◌, ◌+◌, ℕ, true, length, List, Some, None, Ok, Err, IfOk, IfErr, OnOk};
+ghost use Rattle.std.specs.Prelude.{◌≡◌, ◌⊎◌, ◌≤◌, ◌+◌, ℕ, true, length, List, Some, None, Ok, Err, IfOk, IfErr};
 ghost use Rattle.labelled_disk.specs.declared.evidence.Halt.TheVariants as halt;
 ghost use Rattle.labelled_disk.specs.Calls.{Rose};
 ghost use Rattle.flat_machine.specs.declared.call.Call.TheVariants as call;
@@ -21,15 +21,20 @@ ghost use Rattle.space_tables.specs.Shows.{window_of};
 ghost use Rattle.swapper_kernel.specs.Goes.{Makes};
 ghost use Rattle.flat_machine.specs.declared.call.Reply.TheVariants as answer;
 ghost use Rattle.table_calls.specs.Answers.{Tells, IfGiven};
-ghost use Rattle.space_calls.specs.Mapping.{IsInReach, MayShow};
+ghost use Rattle.space_calls.specs.Mapping.{IsInReach, MayShow, IsLastFrom, ReachesOver};
 ghost use Rattle.filer_kernel.specs.Evidence.{ShowsSo};
 ghost use Rattle.fault_core.specs.Core.{state, kept};
 ghost use Rattle.fault_core.specs.Reach.{Reaches};
 ghost use Rattle.space_calls.specs.Halts.{ChangeHalts, MapFileHalts};
 ghost use Rattle.running_words.specs.Moving.{Moves};
 ghost use Rattle.fault_core.specs.Spares.{SparesTables};
-ghost use Rattle.space_calls.specs.Sees.{SeesOn, StillSees};
+ghost use Rattle.space_calls.specs.Sees.{SeesOn, StillSees, SeesFiles, IsShown, StillOnOr};
 ghost use Rattle.fault_core.specs.Lack.{Sees};
+ghost use Rattle.labelled_disk.specs.Sectors.{Sector};
+ghost use Rattle.file_map.specs.FileMap.{Triples};
+ghost use Rattle.swapper_kernel.specs.Stands.{Stands};
+ghost use Rattle.filer_kernel.specs.Triples.{AreOf, MapIs};
+ghost use Rattle.fault_core.specs.View.{kept_by};
 
 use crate::framing::frame_count;
 use crate::naming::named_file;
@@ -56,7 +61,8 @@ pub fn give_window<D: Disk, A: Allocator>(
     ensures cause { IfErr result (ChangeHalts core.old.intervals (state core.old) (state core.new)) }
     ensures so { IfErr result (ShowsSo (D.state core.new.filer.swapper.under)) }
     ensures makes { Makes volume_page [] (D.state core.old.filer.swapper.under) core.old.filer.swapper.pool (D.state core.new.filer.swapper.under) core.new.filer.swapper.pool }
-    ensures sees { (ss : List Space) (x : Space) → Sees (state core.old) (kept core.old) core.old.intervals ss → MayHaveWindow ss x → x.handle ≡ space → WindowFits x.pages (window_of shown) → OnOk result (SeesOn core.new) }
+    ensures sees { (ss : List Space) (x : Space) → Sees (state core.old) (kept core.old) core.old.intervals ss → MayHaveWindow ss x → x.handle ≡ space → WindowFits x.pages (window_of shown)
+        → IfOk result (λ reply. (reply ≡ answer.Done) × SeesFiles (λ file last. IsShown ss file last ⊎ ((file ≡ shown.id) × IsLastFrom ss space shown.page last)) core.new) }
     ensures right { SeesOn core.old → IfErr result SparesTables }
     ensures moves { Moves (state core.old) (state core.new) }
     ensures layout { core.new.filer.swapper.layout ≡ core.old.filer.swapper.layout }
@@ -98,6 +104,8 @@ fn may_map<D: Disk, A: Allocator>(
     ensures still { StillSees core.old core.new }
     ensures seen { (ss : List Space) → Sees (state core.old) (kept core.old) core.old.intervals ss → IfOk result (IfGiven (λ _. MayShow ss space id page writable)) }
     ensures right { SeesOn core.old → IfErr result SparesTables }
+    ensures found { (ss : List Space) (m : List Sector) (named : Triples) → Sees (state core.old) (kept core.old) core.old.intervals ss → Stands (D.state core.old.filer.swapper.under) core.old.filer.swapper.pool m → MapIs core.old.filer.swapper.layout named m → AreOf named (kept_by (state core.old))
+        → IfOk result (IfGiven (λ _. ReachesOver ss space id page named)) }
     ensures reaches { Reaches (state core.old) (state core.new) }
     ensures makes { Makes volume_page [] (D.state core.old.filer.swapper.under) core.old.filer.swapper.pool (D.state core.new.filer.swapper.under) core.new.filer.swapper.pool }
     ensures layout { core.new.filer.swapper.layout ≡ core.old.filer.swapper.layout }
@@ -147,7 +155,9 @@ pub fn map<D: Disk, A: Allocator>(
     ensures cause { IfErr result (MapFileHalts space id core.old.intervals (state core.old) (state core.new)) }
     ensures so { IfErr result (ShowsSo (D.state core.new.filer.swapper.under)) }
     ensures wrote { WroteIn (volume_page) (D.state core.old.filer.swapper.under) core.old.filer.swapper.pool (D.state core.new.filer.swapper.under) core.new.filer.swapper.pool }
-    ensures sees { SeesOn core.old → OnOk result (SeesOn core.new) }
+    ensures sees { IfOk result (λ reply. StillOnOr (λ ss file last. (reply ≡ answer.Done) × (file ≡ id) × IsLastFrom ss space page last) core.old core.new) }
+    ensures found { (ss : List Space) (m : List Sector) (named : Triples) → Sees (state core.old) (kept core.old) core.old.intervals ss → Stands (D.state core.old.filer.swapper.under) core.old.filer.swapper.pool m → MapIs core.old.filer.swapper.layout named m → AreOf named (kept_by (state core.old))
+        → IfOk result (λ reply. reply ≡ answer.Done → ReachesOver ss space id page named) }
     ensures right { SeesOn core.old → IfErr result SparesTables }
     ensures moves { Moves (state core.old) (state core.new) }
     ensures layout { core.new.filer.swapper.layout ≡ core.old.filer.swapper.layout }

@@ -1,5 +1,5 @@
 //! Files that calls may name.
-ghost use Rattle.std.specs.Prelude.{◌≡◌, ◌≤◌, ◌+◌, ℕ, true, length, List, Some, None, Ok, Err, IfOk, IfErr, OnOk, IfSome};
+ghost use Rattle.std.specs.Prelude.{◌≡◌, ◌≤◌, ◌+◌, ℕ, true, length, List, Some, None, Ok, Err, IfOk, IfErr, IfSome};
 ghost use Rattle.labelled_disk.specs.declared.evidence.Halt.TheVariants as halt;
 ghost use Rattle.labelled_disk.specs.Calls.{Rose};
 ghost use Rattle.flat_machine.specs.declared.call.Call.TheVariants as call;
@@ -23,6 +23,11 @@ ghost use Rattle.fault_core.specs.Reach.{Reaches};
 ghost use Rattle.space_calls.specs.Halts.{NamedHalts, SightHalts};
 ghost use Rattle.fault_core.specs.Spares.{SparesTables};
 ghost use Rattle.space_calls.specs.Sees.{SeesOn, StillSees};
+ghost use Rattle.labelled_disk.specs.Sectors.{Sector};
+ghost use Rattle.file_map.specs.FileMap.{Triples, IsSize};
+ghost use Rattle.swapper_kernel.specs.Stands.{Stands};
+ghost use Rattle.filer_kernel.specs.Triples.{AreOf, MapIs};
+ghost use Rattle.fault_core.specs.View.{kept_by};
 
 use crate::bare::shows_nothing;
 use fault_core::CoreOver;
@@ -45,7 +50,6 @@ pub fn window_on<D: Disk, A: Allocator>(
     ensures counted { result ≡ Err halt.Disk → Rose (D.state core.old.filer.swapper.under).faults (D.state core.new.filer.swapper.under).faults }
     ensures cause { IfErr result (SightHalts core.old.intervals (state core.old) (state core.new)) }
     ensures so { IfErr result (ShowsSo (D.state core.new.filer.swapper.under)) }
-    ensures sees { SeesOn core.old → OnOk result (SeesOn core.new) }
     ensures still { StillSees core.old core.new }
     ensures right { SeesOn core.old → IfErr result SparesTables }
     ensures reaches { Reaches (state core.old) (state core.new) }
@@ -98,9 +102,10 @@ pub fn named_file<D: Disk, A: Allocator>(
     ensures counted { result ≡ Err halt.Disk → Rose (D.state core.old.filer.swapper.under).faults (D.state core.new.filer.swapper.under).faults }
     ensures cause { IfErr result (NamedHalts id core.old.intervals (state core.old) (state core.new)) }
     ensures so { IfErr result (ShowsSo (D.state core.new.filer.swapper.under)) }
-    ensures sees { SeesOn core.old → OnOk result (SeesOn core.new) }
     ensures still { StillSees core.old core.new }
     ensures client { IfOk result (λ o. IfSome o (λ _. 16 ≤ id)) }
+    ensures size { (m : List Sector) (named : Triples) → Stands (D.state core.old.filer.swapper.under) core.old.filer.swapper.pool m → MapIs core.old.filer.swapper.layout named m → AreOf named (kept_by (state core.old))
+        → IfOk result (λ o. IfSome o (λ found. IsSize named id found.pages)) }
     ensures right { SeesOn core.old → IfErr result SparesTables }
     ensures reaches { Reaches (state core.old) (state core.new) }
     ensures makes { Makes volume_page [] (D.state core.old.filer.swapper.under) core.old.filer.swapper.pool (D.state core.new.filer.swapper.under) core.new.filer.swapper.pool }

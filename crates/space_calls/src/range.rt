@@ -29,7 +29,7 @@ ghost use Rattle.table_calls.specs.Answers.{Asked, IfGiven, TablesBreak, TablesS
 ghost use Rattle.filer_kernel.specs.Evidence.{ShowsSo};
 ghost use Rattle.running_words.specs.Moving.{Moves};
 ghost use Rattle.fault_core.specs.Spares.{SparesTables};
-ghost use Rattle.space_calls.specs.Sees.{SeesOn, StillSees};
+ghost use Rattle.space_calls.specs.Sees.{SeesOn, StillSees, StillOn};
 
 use crate::framing::frame_count;
 use crate::settle::settle;
@@ -72,7 +72,7 @@ pub fn deactivate<D: Disk, A: Allocator>(
     ensures passes { (volume : Volume) (m : Machine) → Runs core.old volume m → Passes m (call.Deactivate space) (D.state core.old.filer.swapper.under) (D.state core.new.filer.swapper.under) }
     ensures counted { result ≡ Err halt.Disk → Rose (D.state core.old.filer.swapper.under).faults (D.state core.new.filer.swapper.under).faults }
     ensures wrote { WroteIn (volume_page) (D.state core.old.filer.swapper.under) core.old.filer.swapper.pool (D.state core.new.filer.swapper.under) core.new.filer.swapper.pool }
-    ensures sees { SeesOn core.old → OnOk result (SeesOn core.new) }
+    ensures sees { OnOk result (StillOn core.old core.new) }
     ensures right { SeesOn core.old → IfErr result SparesTables }
     ensures moves { Moves (state core.old) (state core.new) }
     ensures layout { core.new.filer.swapper.layout ≡ core.old.filer.swapper.layout }
@@ -102,7 +102,7 @@ pub fn kill<D: Disk, A: Allocator>(core: &mut CoreOver<D, A>, space: u32) -> Res
     ensures passes { (volume : Volume) (m : Machine) → Runs core.old volume m → Passes m (call.Kill space) (D.state core.old.filer.swapper.under) (D.state core.new.filer.swapper.under) }
     ensures counted { result ≡ Err halt.Disk → Rose (D.state core.old.filer.swapper.under).faults (D.state core.new.filer.swapper.under).faults }
     ensures wrote { WroteIn (volume_page) (D.state core.old.filer.swapper.under) core.old.filer.swapper.pool (D.state core.new.filer.swapper.under) core.new.filer.swapper.pool }
-    ensures sees { SeesOn core.old → OnOk result (SeesOn core.new) }
+    ensures sees { OnOk result (StillOn core.old core.new) }
     ensures right { SeesOn core.old → IfErr result SparesTables }
     ensures moves { Moves (state core.old) (state core.new) }
     ensures layout { core.new.filer.swapper.layout ≡ core.old.filer.swapper.layout }
@@ -137,7 +137,7 @@ pub fn force_out<D: Disk, A: Allocator>(
     ensures passes { (volume : Volume) (m : Machine) → Runs core.old volume m → Passes m (call.ForceOut space) (D.state core.old.filer.swapper.under) (D.state core.new.filer.swapper.under) }
     ensures counted { result ≡ Err halt.Disk → Rose (D.state core.old.filer.swapper.under).faults (D.state core.new.filer.swapper.under).faults }
     ensures wrote { WroteIn (volume_page) (D.state core.old.filer.swapper.under) core.old.filer.swapper.pool (D.state core.new.filer.swapper.under) core.new.filer.swapper.pool }
-    ensures sees { SeesOn core.old → OnOk result (SeesOn core.new) }
+    ensures sees { OnOk result (StillOn core.old core.new) }
     ensures right { SeesOn core.old → IfErr result SparesTables }
     ensures moves { Moves (state core.old) (state core.new) }
     ensures layout { core.new.filer.swapper.layout ≡ core.old.filer.swapper.layout }

@@ -1,5 +1,5 @@
 //! Bytes that are loaded and stored.
-ghost use Rattle.std.specs.Prelude.{◌≡◌, ◌≤◌, ◌+◌, ◌/◌, length, None, Err, IfOk, IfErr, IsOk, OnOk};
+ghost use Rattle.std.specs.Prelude.{◌≡◌, ◌≤◌, ◌+◌, ◌/◌, length, None, Err, IfOk, IfErr, IsOk, OnOk, List};
 ghost use Rattle.labelled_disk.specs.declared.evidence.Halt.TheVariants as halt;
 ghost use Rattle.labelled_disk.specs.Calls.{Rose};
 ghost use Rattle.flat_machine.specs.declared.call.Call.TheVariants as call;
@@ -12,13 +12,15 @@ ghost use Rattle.running_words.specs.Session.{WroteIn};
 ghost use Rattle.running_words.specs.Stages.{Passes};
 ghost use Rattle.fault_core.specs.Access.{BreaksFor, last_page};
 ghost use Rattle.fault_core.specs.Core.{kept, state};
-ghost use Rattle.fault_core.specs.Reach.{ReachHalts};
+ghost use Rattle.fault_core.specs.Reach.{TouchHalts};
 ghost use Rattle.fault_core.specs.Unit.{IsReady};
 ghost use Rattle.running_words.specs.Stages.{client_or_own};
 ghost use Rattle.filer_kernel.specs.Evidence.{ShowsSo};
 ghost use Rattle.running_words.specs.Moving.{Moves};
 ghost use Rattle.fault_core.specs.Spares.{SparesTables};
-ghost use Rattle.space_calls.specs.Sees.{SeesOn};
+ghost use Rattle.space_calls.specs.Sees.{SeesOn, StillOn};
+ghost use Rattle.fault_core.specs.Lack.{LacksPage, Sees, shown_units};
+ghost use Rattle.flat_machine.specs.declared.space.Space.{Space};
 
 use fault_core::{Access, CoreOver};
 use flat_machine::{Piece, Refusal, Reply};
@@ -39,13 +41,14 @@ pub fn load<D: Disk, A: Allocator>(
     ensures passes { (volume : Volume) (m : Machine) → Runs core.old volume m → Passes m (call.Load address count) (D.state core.old.filer.swapper.under) (D.state core.new.filer.swapper.under) }
     ensures counted { result ≡ Err halt.Disk → Rose (D.state core.old.filer.swapper.under).faults (D.state core.new.filer.swapper.under).faults }
     ensures wrote { WroteIn (volume_page) (D.state core.old.filer.swapper.under) core.old.filer.swapper.pool (D.state core.new.filer.swapper.under) core.new.filer.swapper.pool }
-    ensures sees { SeesOn core.old → OnOk result (SeesOn core.new) }
+    ensures sees { OnOk result (StillOn core.old core.new) }
     ensures right { SeesOn core.old → IfErr result SparesTables }
     ensures moves { Moves (state core.old) (state core.new) }
     ensures layout { core.new.filer.swapper.layout ≡ core.old.filer.swapper.layout }
     ensures cost { (D.state core.new.filer.swapper.under).transfers ≤ (D.state core.old.filer.swapper.under).transfers + 1680 }
     ensures ready { (volume : Volume) (m : Machine) → Runs core.old volume m → refusal m (call.Load address count) ≡ None → OnOk result (IsReady (kept core.new) core.new.filer.swapper.pool (last_page address count)) }
-    ensures cause { IfErr result (ReachHalts (BreaksFor (state core.old) core.old.intervals address count) (state core.old) (state core.new)) }
+    ensures cause { IfErr result (TouchHalts (BreaksFor (state core.old) core.old.intervals address count) (state core.old) (state core.new)) }
+    ensures missing { (ss : List Space) → Sees (state core.old) (kept core.old) core.old.intervals ss → IfErr result (LacksPage (shown_units ss address count)) }
     ensures so { IfErr result (ShowsSo (D.state core.new.filer.swapper.under)) }
     ensures idle { (volume : Volume) (m : Machine) → Runs core.old volume m → IsReady (kept core.old) core.old.filer.swapper.pool (address / 512) → IsReady (kept core.old) core.old.filer.swapper.pool (last_page address count)
         → IsOk result × (core.new.filer ≡ core.old.filer) × (kept core.new ≡ kept core.old) }
@@ -74,13 +77,14 @@ pub fn store<D: Disk, A: Allocator>(
     ensures passes { (volume : Volume) (m : Machine) → Runs core.old volume m → Passes m (call.Store address bytes.now) (D.state core.old.filer.swapper.under) (D.state core.new.filer.swapper.under) }
     ensures counted { result ≡ Err halt.Disk → Rose (D.state core.old.filer.swapper.under).faults (D.state core.new.filer.swapper.under).faults }
     ensures wrote { WroteIn (client_or_own) (D.state core.old.filer.swapper.under) core.old.filer.swapper.pool (D.state core.new.filer.swapper.under) core.new.filer.swapper.pool }
-    ensures sees { SeesOn core.old → OnOk result (SeesOn core.new) }
+    ensures sees { OnOk result (StillOn core.old core.new) }
     ensures right { SeesOn core.old → IfErr result SparesTables }
     ensures moves { Moves (state core.old) (state core.new) }
     ensures layout { core.new.filer.swapper.layout ≡ core.old.filer.swapper.layout }
     ensures cost { (D.state core.new.filer.swapper.under).transfers ≤ (D.state core.old.filer.swapper.under).transfers + 1680 }
     ensures ready { (volume : Volume) (m : Machine) → Runs core.old volume m → refusal m (call.Store address bytes.now) ≡ None → OnOk result (IsReady (kept core.new) core.new.filer.swapper.pool (last_page address (length bytes.now))) }
-    ensures cause { IfErr result (ReachHalts (BreaksFor (state core.old) core.old.intervals address (length bytes.now)) (state core.old) (state core.new)) }
+    ensures cause { IfErr result (TouchHalts (BreaksFor (state core.old) core.old.intervals address (length bytes.now)) (state core.old) (state core.new)) }
+    ensures missing { (ss : List Space) → Sees (state core.old) (kept core.old) core.old.intervals ss → IfErr result (LacksPage (shown_units ss address (length bytes.now))) }
     ensures so { IfErr result (ShowsSo (D.state core.new.filer.swapper.under)) }
     ensures idle { (volume : Volume) (m : Machine) → Runs core.old volume m → IsReady (kept core.old) core.old.filer.swapper.pool (address / 512) → IsReady (kept core.old) core.old.filer.swapper.pool (last_page address (length bytes.now))
         → IsOk result × (D.state core.new.filer.swapper.under ≡ D.state core.old.filer.swapper.under) × (kept core.new ≡ kept core.old) }

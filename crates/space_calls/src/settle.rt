@@ -18,7 +18,6 @@ use std::alloc::Allocator;
 /// Waits until all that was written is on the medium.
 pub fn settle<D: Disk, A: Allocator>(core: &mut CoreOver<D, A>) -> Result<(), Halt>
     ensures synced { OnOk result ((D.state core.new.filer.swapper.under).synced ≡ true) }
-    ensures sees { SeesOn core.old → OnOk result (SeesOn core.new) }
     ensures still { StillSees core.old core.new }
     ensures right { SeesOn core.old → IfErr result SparesTables }
     ensures reaches { Reaches (state core.old) (state core.new) }

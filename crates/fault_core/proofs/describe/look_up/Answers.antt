@@ -2,13 +2,12 @@ use Rattle.std.proofs.Common.{subst, refl, inr}
 use Rattle.space_tables.specs.Answer.{IfMem, IfMalformed, FromMemory}
 use Rattle.space_tables.specs.Form.{BreaksLookUp}
 use Rattle.filer_kernel.specs.Tables.{IsTableAccounted}
-use Rattle.fault_core.specs.View.{view_of, TablesAre, kept_by}
+use Rattle.fault_core.specs.View.{view_of, TablesAre}
 use Rattle.fault_core.proofs.ReachLemmas.{tables_of}
 use Rattle.fault_core.proofs.RoomLemmas.{room_itself, steps_room}
 use Rattle.fault_core.proofs.ToldLemmas.{spaces_in}
 use Rattle.fault_core.proofs.TurnLemmas.{reaches_tables, own_tables, tables_halt}
 use Rattle.fault_core.proofs.YieldLemmas.{yield_itself, tables_yield}
-use Rattle.fault_core.proofs.LackLemmas.{found_lacks}
 use Rattle.fault_core.proofs.describe.look_up.Goals as goal
 
 pub returns-in-Ok-clause-reaches : goal.returns-in-Ok-clause-reaches
@@ -85,13 +84,3 @@ returns-in-Err-Malformed-clause-room g c = steps_room c.ask.ensures.kept.steps
 
 pub returns-in-Err-Mem-clause-room : goal.returns-in-Err-Mem-clause-room
 returns-in-Err-Mem-clause-room g c = steps_room c.ask.ensures.kept.steps
-
--- ---- No page of a client's file is looked for.
-
-pub returns-in-Err-Mem-clause-lacks : goal.returns-in-Err-Mem-clause-lacks
-returns-in-Err-Mem-clause-lacks g c =
-    let filer = c.args.filer.now in
-    let v = view_of filer in
-    let w = view_of c.ask.new.filer in
-    let fault = subst (IfMem (IsTableAccounted (g.D.Disk.state filer.swapper.under) filer.swapper.pool filer.swapper.layout filer.runs (g.D.Disk.state c.ask.new.filer.swapper.under))) c.in-Err-Mem.field-0-is c.in-Err-Mem.ensures.cause in
-    found_lacks v.layout v.disk v.slots (kept_by v) w.disk c.in-Err-Mem.halt fault.cause

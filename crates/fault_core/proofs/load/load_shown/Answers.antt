@@ -3,11 +3,12 @@ use Rattle.swap_units.specs.declared.interval.Interval.{Interval}
 use Rattle.swap_units.specs.Unit.{Holds}
 use Rattle.swapper_kernel.specs.HaltLaws.{brings_then}
 use Rattle.filer_kernel.proofs.Outcomes.{err_wider, on_ok_wider}
-use Rattle.fault_core.specs.Reach.{ReachHalts, no_break}
+use Rattle.filer_kernel.specs.Evidence.{MayBeMissing}
+use Rattle.fault_core.specs.Reach.{TouchHalts, no_break}
 use Rattle.fault_core.specs.Unit.{IsWhole}
 use Rattle.fault_core.specs.View.{view_of}
 use Rattle.fault_core.proofs.PieceLemmas.{one_page, last_is_next, loads_first, loads_next, one_loaded, two_loaded}
-use Rattle.fault_core.proofs.ReachLemmas.{known_after, halts_before, reaches_then}
+use Rattle.fault_core.proofs.ReachLemmas.{known_after, finds_before, reaches_then}
 use Rattle.fault_core.proofs.ShowLemmas.{came_first, came_last}
 use Rattle.fault_core.specs.Lack.{LacksPage, both_units, unit_pages}
 use Rattle.fault_core.proofs.LackLemmas.{lacks_wider}
@@ -69,8 +70,8 @@ returns-clause-cause g c =
     let v = view_of c.args.filer.now in
     let w = view_of c.load_in-2.new.filer in
     let x = view_of c.load_in-3.new.filer in
-    err_wider c.load_in-3.result (ReachHalts no_break w x) (ReachHalts no_break v x)
-    (halts_before v w c.args.filer.now.swapper.accepted c.load_in-2.ensures.reaches no_break no_break (λ page none. none) x x (omega arith)) c.load_in-3.ensures.cause
+    err_wider c.load_in-3.result (TouchHalts no_break w x) (TouchHalts no_break v x)
+    (finds_before v w c.args.filer.now.swapper.accepted c.load_in-2.ensures.reaches MayBeMissing no_break no_break (λ page none. none) x x (omega arith)) c.load_in-3.ensures.cause
 
 pub returns-clause-sound : goal.returns-clause-sound
 returns-clause-sound g c = λ m named b known first last.

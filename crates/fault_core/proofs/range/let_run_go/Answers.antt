@@ -11,7 +11,7 @@ pub returns-clause-reaches : goal.returns-clause-reaches
 returns-clause-reaches g c =
     let now = c.let_go.new.swapper in
     let x : View = record { disk = g.D.Disk.state now.under; slots = now.pool; layout = now.layout; runs = c.args.filer.now.runs } in
-    rest_reaches (view_of c.args.filer.now) x (rw c.swapper_over.ensures.value at c.let_go.ensures.swaps) (rw c.swapper_over.ensures.value at c.let_go.ensures.run).frames (rw c.swapper_over.ensures.value at c.let_go.ensures.layout) refl
+    rest_reaches (view_of c.args.filer.now) x c.args.filer.now.swapper.accepted (rw c.swapper_over.ensures.value at c.let_go.ensures.swaps) (rw c.swapper_over.ensures.value at c.let_go.ensures.run).frames (rw c.swapper_over.ensures.value at c.let_go.ensures.layout) refl
 
 pub returns-clause-came : goal.returns-clause-came
 returns-clause-came g c = brings_same _ (rw c.swapper_over.ensures.value at c.let_go.ensures.run).frames

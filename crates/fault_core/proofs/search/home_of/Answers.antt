@@ -5,9 +5,10 @@ use Rattle.file_map.specs.declared.run.Run.{Run}
 use Rattle.file_map.specs.Run.{holds, IsRun}
 use Rattle.file_map.specs.FileMap.{IsFound}
 use Rattle.filer_kernel.specs.Causes.{IsGiven}
+use Rattle.fault_core.specs.Reach.{no_break}
+use Rattle.fault_core.specs.ReachLaws.{reach_lacks, touch_of_reach}
 use Rattle.fault_core.specs.View.{view_of, kept_by}
 use Rattle.fault_core.proofs.FindLemmas.{home_found}
-use Rattle.fault_core.proofs.LackLemmas.{none_lacks}
 use Rattle.swapper_kernel.specs.Goes.{this_page}
 use Rattle.fault_core.proofs.search.home_of.Goals as goal
 
@@ -32,6 +33,9 @@ pub returns-in-Ok-None-clause-sound : goal.returns-in-Ok-None-clause-sound
 returns-in-Ok-None-clause-sound g c = λ m named b sector known found.
     absurd (true≢false (sym found ∙ subst (IsFound named c.args.id c.args.page) c.in-Ok-None.field-0-is (c.in-Ok-None.ensures.found m named b known) sector))
 
+pub returns-in-Err-clause-cause : goal.returns-in-Err-clause-cause
+returns-in-Err-clause-cause g c = touch_of_reach no_break (view_of c.args.filer.now) (view_of c.run_of.new.filer) c.in-Err.halt c.in-Err.ensures.cause
+
 pub returns-in-Err-clause-sound : goal.returns-in-Err-clause-sound
 returns-in-Err-clause-sound g c = λ m named b sector known found. c.in-Err.ensures.sound m named b known
 
@@ -39,4 +43,4 @@ pub returns-in-Ok-None-clause-lacks : goal.returns-in-Ok-None-clause-lacks
 returns-in-Ok-None-clause-lacks g c = inr (refl, refl)
 
 pub returns-in-Err-clause-lacks : goal.returns-in-Err-clause-lacks
-returns-in-Err-clause-lacks g c = none_lacks (this_page c.args.id c.args.page) c.in-Err.halt c.in-Err.ensures.lacks
+returns-in-Err-clause-lacks g c = reach_lacks no_break (view_of c.args.filer.now) (view_of c.run_of.new.filer) (this_page c.args.id c.args.page) c.in-Err.halt c.in-Err.ensures.cause

@@ -5,9 +5,6 @@ use Rattle.fault_core.specs.Reach.{ReachHalts, no_break}
 use Rattle.fault_core.specs.Told.{Known}
 use Rattle.fault_core.proofs.RoomLemmas.{steps_room}
 use Rattle.fault_core.proofs.TurnLemmas.{reaches_map, own_map, map_halt}
-use Rattle.fault_core.specs.Lack.{LacksPage}
-use Rattle.fault_core.proofs.LackLemmas.{map_lacks}
-use Rattle.swapper_kernel.specs.Goes.{no_page}
 use Rattle.fault_core.proofs.search.run_of.Goals as goal
 
 pub returns-clause-nowhere : goal.returns-clause-nowhere
@@ -40,9 +37,3 @@ returns-clause-came g c = rw (← c.count_frames.ensures.same) (own_map (view_of
 
 pub returns-clause-room : goal.returns-clause-room
 returns-clause-room g c = rw (← c.count_frames.ensures.same) (steps_room c.find.ensures.beside.steps)
-
-pub returns-clause-lacks : goal.returns-clause-lacks
-returns-clause-lacks g c =
-    let v = view_of c.count_frames.new.filer in
-    let w = view_of c.find.new.self in
-    err_wider c.find.result (MapHalts v.layout v.disk v.slots w.disk) (LacksPage no_page) (map_lacks v.layout v.disk v.slots w.disk) c.find.ensures.cause

@@ -9,7 +9,8 @@ use Rattle.swapper_kernel.specs.HaltLaws.{brings_then}
 use Rattle.session_words.specs.CellLaws.{StoresAt}
 use Rattle.filer_kernel.proofs.Outcomes.{err_wider, on_ok_wider}
 use Rattle.fault_core.specs.Moves.{Leaves, of_reference}
-use Rattle.fault_core.specs.Reach.{ReachHalts, no_break}
+use Rattle.filer_kernel.specs.Evidence.{MayBeMissing}
+use Rattle.fault_core.specs.Reach.{TouchHalts, no_break}
 use Rattle.fault_core.specs.Told.{Known}
 use Rattle.fault_core.specs.Unit.{AreShownStored, IsWhole, file_page}
 use Rattle.fault_core.specs.View.{view_of}
@@ -94,8 +95,8 @@ returns-clause-cause g c =
     let v = view_of c.args.filer.now in
     let w = view_of c.store_in-2.new.filer in
     let x = view_of c.store_in-3.new.filer in
-    err_wider c.store_in-3.result (ReachHalts no_break w x) (ReachHalts no_break v x)
-    (halt_before v w c.args.filer.now.swapper.accepted {pages = this_page c.args.first.now.id (file_page c.args.first.now (c.args.address / 512))} c.store_in-2.ensures.touches no_break no_break (λ page none. none) x x (omega arith)) c.store_in-3.ensures.cause
+    err_wider c.store_in-3.result (TouchHalts no_break w x) (TouchHalts no_break v x)
+    (halt_before v w c.args.filer.now.swapper.accepted {pages = this_page c.args.first.now.id (file_page c.args.first.now (c.args.address / 512))} c.store_in-2.ensures.touches no_break no_break (λ page none. none) MayBeMissing x x (omega arith)) c.store_in-3.ensures.cause
 
 pub returns-clause-sound : goal.returns-clause-sound
 returns-clause-sound g c = λ m named b known first last.

@@ -6,7 +6,8 @@ use Rattle.swapper_kernel.specs.Homes.{IsAmong}
 use Rattle.filer_kernel.proofs.Outcomes.{err_wider, on_ok_wider}
 use Rattle.fault_core.specs.Homes.{homes_in}
 use Rattle.fault_core.specs.View.{view_of}
-use Rattle.fault_core.specs.Reach.{ReachHalts, no_break}
+use Rattle.fault_core.specs.Reach.{TouchHalts, no_break}
+use Rattle.fault_core.specs.ReachLaws.{touch_of_reach}
 use Rattle.fault_core.proofs.ReachLemmas.{known_after}
 use Rattle.fault_core.proofs.RoomLemmas.{room_then, steps_room}
 use Rattle.fault_core.proofs.RunLemmas.{homes_row, homes_resident, run_came, homes_are_named, have_sectors, homes_placed}
@@ -35,7 +36,8 @@ returns-clause-cause g c =
     let v = view_of c.args.filer.now in
     let w = view_of c.homes_of.new.filer in
     let x = view_of c.bring.new.filer in
-    err_wider c.bring.result (Halts (IsAmong (homes_in c.in-Ok.homes)) w.disk w.slots x.disk) (ReachHalts no_break v x) (brought_halt v w x c.homes_of.ensures.reaches (IsAmong (homes_in c.in-Ok.homes)) c.in-Ok.ensures.found) c.bring.ensures.cause
+    err_wider c.bring.result (Halts (IsAmong (homes_in c.in-Ok.homes)) w.disk w.slots x.disk) (TouchHalts no_break v x)
+    (λ e is. touch_of_reach no_break v x e (brought_halt v w x c.args.filer.now.swapper.accepted c.homes_of.ensures.reaches (IsAmong (homes_in c.in-Ok.homes)) c.in-Ok.ensures.found e is)) c.bring.ensures.cause
 
 pub returns-clause-sound : goal.returns-clause-sound
 returns-clause-sound g c = λ m named b known stored.
@@ -45,7 +47,7 @@ returns-clause-sound g c = λ m named b known stored.
 
 pub returns-clause-reaches : goal.returns-clause-reaches
 returns-clause-reaches g c =
-    reaches_brought (view_of c.args.filer.now) (view_of c.homes_of.new.filer) (view_of c.bring.new.filer) c.homes_of.ensures.reaches (IsAmong (homes_in c.in-Ok.homes)) c.in-Ok.ensures.found
+    reaches_brought (view_of c.args.filer.now) (view_of c.homes_of.new.filer) (view_of c.bring.new.filer) c.args.filer.now.swapper.accepted c.homes_of.ensures.reaches (IsAmong (homes_in c.in-Ok.homes)) c.in-Ok.ensures.found
     c.bring.ensures.swaps c.bring.ensures.brings c.bring.ensures.layout c.bring.ensures.runs
 
 pub returns-clause-came : goal.returns-clause-came

@@ -1,6 +1,10 @@
-use Rattle.std.proofs.Common.{inr, subst, rules}
+use Rattle.std.proofs.Common.{◌≡◌, inr, true, Option, subst, rules}
+use Rattle.std.specs.Prelude.{IfSome}
+use Rattle.labelled_disk.specs.Label.{leader_page}
+use Rattle.file_map.specs.FileMap.{IsSize}
 use Rattle.swapper_kernel.specs.Stands.{labels_of}
 use Rattle.filer_kernel.specs.Cached.{runs_of}
+use Rattle.file_manager.specs.declared.finding.FoundFile.{FoundFile}
 use Rattle.file_manager.specs.Finding.{IsFoundFile}
 use Rattle.file_manager.proofs.CountedLemmas.{rose_of, of_answer}
 use Rattle.file_manager.proofs.LookLemmas.{looks_nothing, looks_searched}
@@ -20,6 +24,16 @@ returns-in-Err-clause-counted g c = rw (← c.frames_of.ensures.same) (of_answer
 
 pub returns-in-Ok-None-clause-none : goal.returns-in-Ok-None-clause-none
 returns-in-Ok-None-clause-none g c none = rw (← c.frames_of.ensures.same) (inr (c.in-Ok-None.ensures.missing (search rules)))
+
+-- a file that is found has a leader that the map names
+pub returns-in-Ok-Some-clause-leader : goal.returns-in-Ok-Some-clause-leader
+returns-in-Ok-Some-clause-leader g c = rw (← c.frames_of.ensures.same)
+    (λ m named stands map are. (_, subst (λ (found : Option FoundFile). IfSome found (λ file. named c.args.id leader_page file.sector ≡ true)) c.in-Ok-Some.field-0-is (c.in-Ok-Some.ensures.names m named stands map are)))
+
+-- and the size that it names
+pub returns-in-Ok-Some-clause-size : goal.returns-in-Ok-Some-clause-size
+returns-in-Ok-Some-clause-size g c = rw (← c.frames_of.ensures.same)
+    (λ m named stands map. subst (λ (found : Option FoundFile). IfSome found (λ file. IsSize named c.args.id file.pages)) c.in-Ok-Some.field-0-is (c.in-Ok-Some.ensures.size m named stands map))
 
 -- ---- What the look leaves.
 

@@ -1,4 +1,4 @@
-use Rattle.std.proofs.Common.{◌≡◌, ◌∙◌, subst, arith, sym, rules, ◌≤◌}
+use Rattle.std.proofs.Common.{◌≡◌, ◌∙◌, subst, arith, sym, rules, inl, ◌<◌, ◌≤◌}
 use Rattle.std.specs.Prelude.{List, slice_set}
 use Rattle.labelled_disk.specs.Sectors.{Sector, AreSectors}
 use Rattle.swapper_kernel.specs.FormLaws.{memory_in_form}
@@ -20,12 +20,15 @@ use Rattle.filer_kernel.specs.EvidenceLaws.{fits, so_of_cut}
 use Rattle.file_manager.proofs.SoLemmas.{fault_shows}
 use Rattle.file_manager.proofs.CreateStops.{create_of_cut, create_of_make, root_behind}
 use Rattle.labelled_disk.specs.declared.evidence.Halt.{Halt}
-use Rattle.file_manager.specs.Grounds.{CreateHalts}
+use Rattle.file_manager.specs.Grounds.{CreateHalts, IsNewPage}
 use Rattle.file_manager.specs.Taking.{every_page}
 use Rattle.file_manager.proofs.RootCalls.{created_root, created_some_root}
 use Rattle.file_map.specs.FileMap.{without_from}
 use Rattle.file_manager.proofs.KeepSteps.{keeps_at}
 use Rattle.file_manager.proofs.ReasonCauses.{cut_reasons}
+use Rattle.file_manager.specs.Reasons.{giving}
+use Rattle.file_manager.specs.RetoldLaws.{giving_more, giving_shows}
+use Rattle.file_manager.specs.KeepLaws.{client_untabled}
 use Rattle.file_manager.specs.TabledLaws.{client_leaves}
 use Rattle.file_manager.proofs.RootKeeps.{none_left, root_lets, whole_cut}
 use Rattle.file_manager.proofs.KeepCut.{tables_left}
@@ -150,7 +153,7 @@ returns-in-Err-cut-clause-so g c = so_of_cut (fits c.write_over.new.filer.swappe
 
 pub returns-in-Err-clause-cause : goal.returns-in-Err-clause-cause
 returns-in-Err-clause-cause g c =
-    subst (λ (e : Halt). CreateHalts c.args.filer.now.swapper.layout (next_id c.args.volume.now.root) (g.D.Disk.state c.args.filer.now.swapper.under) c.args.filer.now.swapper.pool (g.D.Disk.state c.write_over.new.filer.swapper.under) c.write_over.new.filer.swapper.pool e) (sym c.in-Err.ensures.fault) c.in-Err.ensures.counted
+    subst (λ (e : Halt). CreateHalts c.args.filer.now.swapper.layout (next_id c.args.volume.now.root) (IsNewPage c.args.pages) (g.D.Disk.state c.args.filer.now.swapper.under) c.args.filer.now.swapper.pool (g.D.Disk.state c.write_over.new.filer.swapper.under) c.write_over.new.filer.swapper.pool e) (sym c.in-Err.ensures.fault) c.in-Err.ensures.counted
 
 pub returns-in-Err-cut-clause-cause : goal.returns-in-Err-cut-clause-cause
 returns-in-Err-cut-clause-cause g c =
@@ -159,7 +162,7 @@ returns-in-Err-cut-clause-cause g c =
     let id : c.next_id-id.result ≡ next_id root = c.next_id-id.ensures.next in
     let begun = rw (c.in-Ok.ensures.frames, c.in-Ok.ensures.layout, id) at c.in-Err-cut.ensures.begun in
     let why = rw (c.in-Ok.ensures.frames, c.in-Ok.ensures.layout) at c.in-Err-cut.ensures.cause in
-    create_of_cut layout c.args.filer.now.swapper.accepted (next_id root) c.in-Ok.ensures.made.makes (root_behind (counted root) c.in-Ok.ensures.made) (g.D.Disk.state c.cut.new.self.swapper.under) c.cut.new.self.swapper.pool c.in-Err-cut.halt begun why
+    create_of_cut layout c.args.filer.now.swapper.accepted (next_id root) c.in-Ok.ensures.made.makes (root_behind (counted root) c.in-Ok.ensures.made) (IsNewPage c.args.pages) (g.D.Disk.state c.cut.new.self.swapper.under) c.cut.new.self.swapper.pool c.in-Err-cut.halt begun why
 
 pub returns-in-Err-make_file-clause-cause : goal.returns-in-Err-make_file-clause-cause
 returns-in-Err-make_file-clause-cause g c =
@@ -169,7 +172,7 @@ returns-in-Err-make_file-clause-cause g c =
     let lay : c.cut.new.self.swapper.layout ≡ layout = c.in-Ok-cut.ensures.beside.layout ∙ c.in-Ok.ensures.layout in
     let beside = rw (c.in-Ok.ensures.frames, c.in-Ok.ensures.layout) at c.in-Ok-cut.ensures.beside in
     let cut = rw (c.in-Ok.ensures.frames, c.in-Ok.ensures.layout, id) at c.in-Ok-cut.ensures.cut in
-    create_of_make layout c.args.filer.now.swapper.accepted (next_id root) c.in-Ok.ensures.made.makes (root_behind (counted root) c.in-Ok.ensures.made) beside cut every_page (g.D.Disk.state c.make_file.new.filer.swapper.under) c.make_file.new.filer.swapper.pool c.in-Err-make_file.halt
+    create_of_make layout c.args.filer.now.swapper.accepted (next_id root) c.in-Ok.ensures.made.makes (root_behind (counted root) c.in-Ok.ensures.made) (IsNewPage c.args.pages) beside cut every_page (g.D.Disk.state c.make_file.new.filer.swapper.under) c.make_file.new.filer.swapper.pool c.in-Err-make_file.halt
     (rw (c.frames_of.ensures.same, lay, id) at c.in-Err-make_file.ensures.cause)
 
 pub returns-in-Err-clause-root : goal.returns-in-Err-clause-root
@@ -185,30 +188,44 @@ pub returns-clause-root : goal.returns-clause-root
 returns-clause-root g c = created_root c.args.volume.now.root c.next_id-id.ensures.serial c.requires.valid.serial c.requires.counter c.args.filer.now.swapper.layout c.args.filer.now.swapper.accepted (λ d told. g.met.D.Disk.whole c.args.filer.now.swapper.under d told ∙ c.requires.size) c.args.kind c.args.pages (returns-clause-makes g c)
 
 pub returns-in-Err-clause-reasons : goal.returns-in-Err-clause-reasons
-returns-in-Err-clause-reasons g c = λ o named h since. c.in-Err.ensures.reasons o named h
+returns-in-Err-clause-reasons g c = λ o named h ahead. c.in-Err.ensures.reasons o named h
 
 pub returns-in-Err-cut-clause-reasons : goal.returns-in-Err-cut-clause-reasons
-returns-in-Err-cut-clause-reasons g c = λ o named h since.
-    let rooted = c.in-Ok.ensures.keeps_to o named h in
+returns-in-Err-cut-clause-reasons g c = λ o named h ahead.
+    let new = next_id (counted c.args.volume.now.root) in
+    let next = ahead.next in
+    let rooted = c.in-Ok.ensures.keeps_to (giving o new) named (giving_more new (omega (arith, next)) h) (omega arith) in
     rw c.in-Ok.ensures.layout at
-    (cut_reasons rooted c.cut.ensures.beside.goes.makes c.in-Err-cut.halt c.in-Err-cut.ensures.cause (c.in-Err-cut.ensures.right rooted.memory named rooted.stands rooted.map))
+    (giving_shows o new c.write_over.new.filer.swapper.layout (g.D.Disk.state c.cut.new.self.swapper.under) c.in-Err-cut.halt
+    (cut_reasons rooted c.cut.ensures.beside.goes.makes c.in-Err-cut.halt c.in-Err-cut.ensures.cause (c.in-Err-cut.ensures.right rooted.memory named rooted.stands rooted.map)))
 
 pub returns-in-Err-make_file-clause-reasons : goal.returns-in-Err-make_file-clause-reasons
-returns-in-Err-make_file-clause-reasons g c = λ o named h since.
-    let rooted = c.in-Ok.ensures.keeps_to o named h in
+returns-in-Err-make_file-clause-reasons g c = λ o named h ahead.
+    let root = c.args.volume.now.root in
+    let new = next_id (counted c.args.volume.now.root) in
+    let next = ahead.next in
+    let rooted = c.in-Ok.ensures.keeps_to (giving o new) named (giving_more new (omega (arith, next)) h) (omega arith) in
     let lay : c.cut.new.self.swapper.layout ≡ c.args.filer.now.swapper.layout = c.in-Ok-cut.ensures.beside.layout ∙ c.in-Ok.ensures.layout in
     let id = c.next_id-id.result in
+    let given_out : id < new = let of = c.next_id-id.ensures.next in omega (arith, of) in
     let client : 16 ≤ id = let of = c.next_id-id.ensures.next in let serial = c.requires.valid.serial in omega (arith, of, serial) in
     let cut = keeps_at c.cut.new.self.runs c.in-Ok-cut.ensures.beside.layout (whole_cut rooted c.in-Ok-cut.ensures.beside id (c.in-Ok-cut.ensures.runs c.write_over.new.filer.swapper.layout.sectors)
-    (λ home from may same was. root_lets c.args.volume.now.root c.args.filer.now.swapper.accepted h since c.requires.counter c.in-Ok.ensures.made.makes home (rw c.in-Ok.ensures.layout at from) (same ∙ c.next_id-id.ensures.next)) c.write_over.new.filer.swapper.accepted (client_leaves o id client) c.in-Ok-cut.ensures.cut) in
-    (rw (c.frames_of.ensures.same, lay) at c.in-Err-make_file.ensures.reasons) o (without_from named id 0) (rw lay at cut) (none_left named id)
+    (λ home from may same was. root_lets root c.args.filer.now.swapper.accepted (counted_valid c.args.filer.now.swapper.layout.sectors root c.requires.valid) c.next_id-id.ensures.serial c.requires.counter h ahead c.in-Ok.ensures.made.makes home (rw c.in-Ok.ensures.layout at from) may (same ∙ c.next_id-id.ensures.next))
+    c.write_over.new.filer.swapper.accepted (client_leaves (giving o new) id client) (client_untabled id client) c.in-Ok-cut.ensures.cut) in
+    giving_shows o new c.args.filer.now.swapper.layout (g.D.Disk.state c.make_file.new.filer.swapper.under) c.in-Err-make_file.halt
+    ((rw (c.frames_of.ensures.same, lay) at c.in-Err-make_file.ensures.reasons) (giving o new) (without_from named id 0) (rw lay at cut) (λ many. inl given_out) (none_left named id))
 
 pub returns-clause-keeps_to : goal.returns-clause-keeps_to
-returns-clause-keeps_to g c = λ o named h since.
-    let rooted = c.in-Ok.ensures.keeps_to o named h in
+returns-clause-keeps_to g c = λ o named h ahead.
+    let root = c.args.volume.now.root in
+    let new = next_id (counted c.args.volume.now.root) in
+    let next = ahead.next in
+    let rooted = c.in-Ok.ensures.keeps_to (giving o new) named (giving_more new (omega (arith, next)) h) (omega arith) in
     let id = c.next_id-id.result in
+    let given_out : id < new = let of = c.next_id-id.ensures.next in omega (arith, of) in
     let client : 16 ≤ id = let of = c.next_id-id.ensures.next in let serial = c.requires.valid.serial in omega (arith, of, serial) in
     let cut = keeps_at c.cut.new.self.runs c.in-Ok-cut.ensures.beside.layout (whole_cut rooted c.in-Ok-cut.ensures.beside id (c.in-Ok-cut.ensures.runs c.write_over.new.filer.swapper.layout.sectors)
-    (λ home from may same was. root_lets c.args.volume.now.root c.args.filer.now.swapper.accepted h since c.requires.counter c.in-Ok.ensures.made.makes home (rw c.in-Ok.ensures.layout at from) (same ∙ c.next_id-id.ensures.next)) c.write_over.new.filer.swapper.accepted (client_leaves o id client) c.in-Ok-cut.ensures.cut) in
-    let later = (rw c.frames_of.ensures.same at c.in-Ok-make_file.ensures.keeps_to) o (without_from named id 0) cut (none_left named id) in
+    (λ home from may same was. root_lets root c.args.filer.now.swapper.accepted (counted_valid c.args.filer.now.swapper.layout.sectors root c.requires.valid) c.next_id-id.ensures.serial c.requires.counter h ahead c.in-Ok.ensures.made.makes home (rw c.in-Ok.ensures.layout at from) may (same ∙ c.next_id-id.ensures.next))
+    c.write_over.new.filer.swapper.accepted (client_leaves (giving o new) id client) (client_untabled id client) c.in-Ok-cut.ensures.cut) in
+    let later = (rw c.frames_of.ensures.same at c.in-Ok-make_file.ensures.keeps_to) (giving o new) (without_from named id 0) cut (λ many. inl given_out) (none_left named id) in
     (later.0, later.1, λ all. later.2 (tables_left named id 0 client all))

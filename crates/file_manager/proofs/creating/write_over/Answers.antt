@@ -1,6 +1,7 @@
 use Rattle.std.proofs.Common.{◌⊎◌, ◌∙◌, rules}
 use Rattle.labelled_disk.specs.Calls.{Moves, TellsSame, TellsWrite}
 use Rattle.volume_root.specs.RootPage.{root_write}
+use Rattle.volume_root.proofs.WrittenLemmas.{root_read}
 use Rattle.file_manager.proofs.RootForm.{root_goes, root_may}
 use Rattle.file_manager.proofs.RootKeeps.{root_keeps}
 use Rattle.file_manager.proofs.creating.write_over.Goals as goal
@@ -24,4 +25,5 @@ returns-in-Err-clause-stopped g c =
     (λ d told. g.met.D.Disk.whole c.args.filer.now.swapper.under d told ∙ c.requires.size) moves either
 
 pub returns-in-Ok-clause-keeps_to : goal.returns-in-Ok-clause-keeps_to
-returns-in-Ok-clause-keeps_to g c = λ o named h. root_keeps c.args.root c.args.filer.now.swapper.accepted h (returns-in-Ok-clause-made g c)
+returns-in-Ok-clause-keeps_to g c = λ o named h below.
+    root_keeps c.args.root c.args.filer.now.swapper.accepted (root_read c.args.filer.now.swapper.layout.sectors c.args.root c.requires.valid c.requires.serial c.requires.counter) h below (returns-in-Ok-clause-made g c)

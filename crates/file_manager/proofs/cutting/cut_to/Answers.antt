@@ -20,6 +20,7 @@ use Rattle.filer_kernel.specs.Cached.{runs_of}
 use Rattle.file_manager.specs.Grounds.{IsUnframed}
 use Rattle.file_manager.proofs.KeepSteps.{keeps_at}
 use Rattle.file_manager.proofs.CutReasons.{added_reasons, has_leader}
+use Rattle.file_manager.specs.KeepLaws.{client_untabled}
 use Rattle.file_manager.specs.TabledLaws.{client_leaves}
 use Rattle.file_manager.proofs.KeepCut.{keeps_led, less_named, tables_left, tables_more}
 use Rattle.file_manager.proofs.ReasonCauses.{cut_reasons}
@@ -127,4 +128,4 @@ returns-in-Err-add-clause-reasons g c = λ o named k led.
 pub returns-clause-keeps_to : goal.returns-clause-keeps_to
 returns-clause-keeps_to g c = λ o named k led let_go.
     let layout = c.args.filer.now.swapper.layout in
-    (_, keeps_at c.frames_of.new.filer.runs (returns-clause-beside g c).layout (keeps_led k (returns-clause-beside g c) c.args.id c.args.from (returns-clause-runs g c layout.sectors) c.args.filer.now.swapper.accepted (client_leaves o c.args.id c.requires.of_file) c.args.leader led let_go (returns-clause-cut g c)), λ all. tables_more (without_from named c.args.id c.args.from) (leader_run c.args.id c.args.leader) (tables_left named c.args.id c.args.from c.requires.of_file all))
+    (_, keeps_at c.frames_of.new.filer.runs (returns-clause-beside g c).layout (keeps_led k (returns-clause-beside g c) c.args.id c.args.from (returns-clause-runs g c layout.sectors) c.args.filer.now.swapper.accepted (client_leaves o c.args.id c.requires.of_file) (client_untabled c.args.id c.requires.of_file) c.args.leader led let_go (returns-clause-cut g c)), λ all. tables_more (without_from named c.args.id c.args.from) (leader_run c.args.id c.args.leader) (tables_left named c.args.id c.args.from c.requires.of_file all))

@@ -18,6 +18,7 @@ use Rattle.file_manager.proofs.OwnSteps.{map_own, freed_own, some_own, own_after
 use Rattle.file_manager.proofs.RootCalls.{freed_some_root, deleted_root}
 use Rattle.labelled_disk.specs.declared.layout.Layout.{Layout}
 use Rattle.file_manager.proofs.KeepSteps.{keeps_at, keeps_asked}
+use Rattle.file_manager.specs.KeepLaws.{client_untabled}
 use Rattle.file_manager.specs.TabledLaws.{client_leaves}
 use Rattle.file_manager.proofs.KeepCut.{keeps_cut, all_pages, tables_left}
 use Rattle.file_manager.proofs.ReasonCauses.{cut_reasons}
@@ -310,7 +311,7 @@ returns-clause-keeps_to g c = λ o named k.
     rw c.frames_of-volume.ensures.same (
       _,
       keeps_at c.cut.new.self.runs c.cut.ensures.beside.layout (keeps_cut now c.cut.ensures.beside c.args.id 0 (c.cut.ensures.runs c.free_all.new.filer.swapper.layout.sectors)
-          c.free_all.new.filer.swapper.accepted (client_leaves o c.args.id c.requires.client)
+          c.free_all.new.filer.swapper.accepted (client_leaves o c.args.id c.requires.client) (client_untabled c.args.id c.requires.client)
           (λ page sector may from is. c.in-Ok-free_all.ensures.let_go o named asked page sector (all_pages sized k.map page sector is) is) c.in-Ok-cut.ensures.cut),
       tables_left named c.args.id 0 c.requires.client,
     )

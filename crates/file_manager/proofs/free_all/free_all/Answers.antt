@@ -99,6 +99,6 @@ returns-in-Ok-free_up-clause-let_go g c = λ o named h page sector own is.
     elim own [
       | inl leads ↦
           let some = c.in-Ok.ensures.some in
-          let_later o made.makes now.since _ (frees_give_not made.sectors _) (led page sector (let n = some.0 in (omega (arith, leads), omega (arith, leads, n))) is)
+          let_later o made.makes _ (frees_give_not made.sectors _) (led page sector (let n = some.0 in (omega (arith, leads), omega (arith, leads, n))) is)
       | inr below ↦ c.in-Ok-free_up.ensures.let_go o named now (client_leaves o c.args.id c.requires.of_file) page sector (omega arith, below) is
     ]

@@ -174,13 +174,13 @@ pub returns-in-Err-clause-cause : goal.returns-in-Err-clause-cause
 returns-in-Err-clause-cause g c =
     let layout = c.args.filer.now.swapper.layout in
     let pages = λ (p : ℕ). (c.args.page ≤ p) × (p < c.args.page + c.args.most) in
-    take_halts layout c.args.id pages (g.D.Disk.state c.args.filer.now.swapper.under) (g.D.Disk.state c.take_run.new.filer.swapper.under) c.args.filer.now.swapper.pool c.take_run.new.filer.swapper.pool c.in-Err.halt c.in-Err.ensures.cause
+    take_halts layout c.args.id pages pages c.args.page (let some = c.requires.some in (omega arith, omega (arith, some))) (g.D.Disk.state c.args.filer.now.swapper.under) (g.D.Disk.state c.take_run.new.filer.swapper.under) c.args.filer.now.swapper.pool c.take_run.new.filer.swapper.pool c.in-Err.halt c.in-Err.ensures.cause
 
 pub returns-in-Err-label_run-clause-cause : goal.returns-in-Err-label_run-clause-cause
 returns-in-Err-label_run-clause-cause g c =
     let form = c.in-Ok.ensures.form in
     let pages = λ (p : ℕ). (c.args.page ≤ p) × (p < c.args.page + c.args.most) in
-    label_halts c.in-Ok.ensures.kept c.in-Ok.taken.0 c.in-Ok.taken.1 form.above form.inside (λ m marks stands bits. (c.in-Ok.ensures.lowest m marks stands bits).free) c.args.id pages (g.D.Disk.state c.label_run.new.filer.swapper.under) c.label_run.new.filer.swapper.pool
+    label_halts c.in-Ok.ensures.kept c.in-Ok.taken.0 c.in-Ok.taken.1 form.above form.inside (λ m marks stands bits. (c.in-Ok.ensures.lowest m marks stands bits).free) c.args.id pages pages (g.D.Disk.state c.label_run.new.filer.swapper.under) c.label_run.new.filer.swapper.pool
     c.in-Err-label_run.halt c.in-Err-label_run.ensures.cause
 
 pub returns-in-Err-add-clause-cause : goal.returns-in-Err-add-clause-cause
@@ -197,7 +197,7 @@ returns-in-Err-add-clause-cause g c =
     let made = c.in-Ok-label_run.ensures.made in
     let were = c.in-Ok-label_run.ensures.were in
     let beside = rw (frames, lay) at c.add.ensures.beside in
-    added_halts run c.args.kind pages form.some (λ p own. let from = own.0 in let below = own.1 in (from, omega (arith, below, fewer))) (maps_come kept) (makes_then (map_makes kept) (labels_there refl made.makes))
+    added_halts run c.args.kind pages pages form.some (λ p own. let from = own.0 in let below = own.1 in (from, omega (arith, below, fewer))) (maps_come kept) (makes_then (map_makes kept) (labels_there refl made.makes))
     (added_makes run c.args.kind kept refl made beside) (labelled_so is run c.args.kind c.args.most form kept c.in-Ok.ensures.taken made were) (bytes_told is run c.args.kind c.args.most form kept c.in-Ok.ensures.taken made were) beside
     c.in-Err-add.halt (rw (frames, lay) at c.in-Err-add.ensures.cause) (rw (frames, lay) at c.in-Err-add.ensures.right)
 
@@ -263,7 +263,7 @@ returns-in-Err-add-clause-reasons g c = λ o named h nothing.
     c.in-Err-add.halt (rw (frames, lay) at c.in-Err-add.ensures.cause) (rw (frames, lay) at c.in-Err-add.ensures.right)
 
 pub returns-clause-keeps_to : goal.returns-clause-keeps_to
-returns-clause-keeps_to g c = λ o named h untold nothing.
+returns-clause-keeps_to g c = λ o named h may untold nothing.
     let layout = c.args.filer.now.swapper.layout in
     let is = c.args.filer.now.swapper.accepted in
     let run = row_run c.args.id c.args.page c.in-Ok.taken.0 c.in-Ok.taken.1 in
@@ -275,7 +275,7 @@ returns-clause-keeps_to g c = λ o named h untold nothing.
     let beside = rw (frames, lay) at c.in-Ok-add.ensures.beside in
     let added = rw (frames, lay) at c.in-Ok-add.ensures.added in
     rw c.frames_of.ensures.same (keeps_as (c.in-Ok-add.ensures.beside.layout ∙ lay) (c.in-Ok-add.ensures.runs ∙ c.in-Ok-label_run.ensures.runs ∙ c.in-Ok.ensures.runs)
-    (run_keeps h is run c.args.kind c.args.most form kept c.in-Ok.ensures.taken made c.in-Ok-label_run.ensures.were beside (added_makes run c.args.kind kept refl made beside) (few_none run named c.args.most form.few nothing) untold added))
+    (run_keeps h is run c.args.kind c.args.most form kept c.in-Ok.ensures.taken made c.in-Ok-label_run.ensures.were beside (added_makes run c.args.kind kept refl made beside) (few_none run named c.args.most form.few nothing) may untold added))
 
 pub returns-clause-tables : goal.returns-clause-tables
 returns-clause-tables g c = λ o named b tables fits long h nothing.

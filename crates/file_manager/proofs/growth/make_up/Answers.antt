@@ -59,10 +59,10 @@ returns-clause-takes g c =
     rw all at c.loop-page.invariant.takes
 
 pub returns-clause-keeps_to : goal.returns-clause-keeps_to
-returns-clause-keeps_to g c = λ o named h none. let now = c.loop-page.invariant.keeps o named h (file_untold o c.args.id c.requires.of_file) none in (now.0, now.1, tables_still named now.0 now.3)
+returns-clause-keeps_to g c = λ o named h may none. let now = c.loop-page.invariant.keeps o named h may (file_untold o c.args.id c.requires.of_file) none in (now.0, now.1, tables_still named now.0 now.3)
 
 pub returns-in-Err-clause-reasons : goal.returns-in-Err-clause-reasons
-returns-in-Err-clause-reasons g c = λ o named h none.
+returns-in-Err-clause-reasons g c = λ o named h may none.
     let below : c.loop-page.page < c.args.end = search rules in
-    let now = c.loop-page.invariant.keeps o named h (file_untold o c.args.id c.requires.of_file) none in
+    let now = c.loop-page.invariant.keeps o named h may (file_untold o c.args.id c.requires.of_file) none in
     rw c.loop-page.invariant.same_layout at (c.in-Err.ensures.reasons o now.0 now.1 (λ p sector own. let last = own.1 in now.2 p sector (own.0, omega (arith, last, below))))

@@ -7,7 +7,7 @@ use Rattle.file_manager.proofs.CreateBroken.{leader_broken, pages_broken}
 use Rattle.file_manager.proofs.LeaderLemmas.{one_sector, unowned_file, led_by, file_made, file_sound, creates_all, stopped_leader, stopped_pages}
 use Rattle.file_manager.proofs.Faults.{counted_then}
 use Rattle.file_manager.proofs.MakeStops.{leaves_apart, make_halts_before, make_halts_wider}
-use Rattle.file_manager.specs.Grounds.{LabelsRun}
+use Rattle.file_manager.specs.Grounds.{IsNewPage, LabelsRun}
 use Rattle.filer_kernel.specs.PlaceLaws.{data_first}
 use Rattle.swapper_kernel.specs.Goes.{Makes}
 use Rattle.session_words.specs.Volume.{volume_page}
@@ -87,32 +87,32 @@ returns-in-Err-make_up-clause-cause g c =
     let leader = λ (p : ℕ). (4294967295 ≤ p) × (p < 4294967295 + run.pages) in
     let pages = λ (p : ℕ). (0 ≤ p) × (p < c.args.pages) in
     let leaves = leaves_apart layout c.args.id leader pages every_page old pool (λ p own. tt) (λ p own. tt) (λ p own other. let before = own.1 in let from = other.0 in omega (arith, below, before, from)) in
-    make_halts_before leader pages every_page c.in-Ok.ensures.makes c.in-Ok.ensures.takes leaves (inr one)
+    make_halts_before leader pages every_page c.in-Ok.ensures.makes c.in-Ok.ensures.takes leaves pages (IsNewPage c.args.pages) (λ p own. inr own.1) (λ p own other. let before = own.1 in let from = other.0 in omega (arith, below, before, from)) (inr one)
     (g.D.Disk.state c.make_up.new.filer.swapper.under) c.make_up.new.filer.swapper.pool c.in-Err-make_up.halt (rw c.in-Ok.ensures.layout at c.in-Err-make_up.ensures.cause)
 
 pub returns-in-Err-clause-cause : goal.returns-in-Err-clause-cause
 returns-in-Err-clause-cause g c =
     let leader = λ (p : ℕ). (4294967295 ≤ p) × (p < 4294967295 + 1) in
-    make_halts_wider c.args.filer.now.swapper.layout c.args.id leader every_page (λ p own. tt) (g.D.Disk.state c.args.filer.now.swapper.under) (g.D.Disk.state c.make_run.new.filer.swapper.under) c.args.filer.now.swapper.pool c.make_run.new.filer.swapper.pool c.in-Err.halt c.in-Err.ensures.cause
+    make_halts_wider c.args.filer.now.swapper.layout c.args.id leader every_page leader (IsNewPage c.args.pages) (λ p own. tt) (λ p own. let from = own.0 in let last = own.1 in inl (omega (arith, from, last))) (g.D.Disk.state c.args.filer.now.swapper.under) (g.D.Disk.state c.make_run.new.filer.swapper.under) c.args.filer.now.swapper.pool c.make_run.new.filer.swapper.pool c.in-Err.halt c.in-Err.ensures.cause
 
 pub returns-in-Err-clause-reasons : goal.returns-in-Err-clause-reasons
-returns-in-Err-clause-reasons g c = λ o named h none. c.in-Err.ensures.reasons o named h (λ p sector own. none p sector tt)
+returns-in-Err-clause-reasons g c = λ o named h may none. c.in-Err.ensures.reasons o named h (λ p sector own. none p sector tt)
 
 pub returns-in-Err-make_up-clause-reasons : goal.returns-in-Err-make_up-clause-reasons
-returns-in-Err-make_up-clause-reasons g c = λ o named h none.
+returns-in-Err-make_up-clause-reasons g c = λ o named h may none.
     let run = c.in-Ok._run in
     let form = c.in-Ok.ensures.form in
     let below = c.requires.numbers in
-    let now = c.in-Ok.ensures.keeps_to o named h (file_untold o c.args.id c.requires.of_file) (λ p sector own. none p sector tt) in
-    rw c.in-Ok.ensures.layout at (c.in-Err-make_up.ensures.reasons o (with_run named run) now
+    let now = c.in-Ok.ensures.keeps_to o named h may (file_untold o c.args.id c.requires.of_file) (λ p sector own. none p sector tt) in
+    rw c.in-Ok.ensures.layout at (c.in-Err-make_up.ensures.reasons o (with_run named run) now may
     (none_with_run run named c.args.id 4294967295 (λ p. (0 ≤ p) × (p < c.args.pages)) form.same_id form.same_first (λ p own other. let last = own.1 in let from = other.0 in omega (arith, last, from, below)) (λ p sector own. none p sector tt)))
 
 pub returns-clause-keeps_to : goal.returns-clause-keeps_to
-returns-clause-keeps_to g c = λ o named h none.
+returns-clause-keeps_to g c = λ o named h may none.
     let run = c.in-Ok._run in
     let form = c.in-Ok.ensures.form in
     let below = c.requires.numbers in
-    let now = c.in-Ok.ensures.keeps_to o named h (file_untold o c.args.id c.requires.of_file) (λ p sector own. none p sector tt) in
-    let later = c.in-Ok-make_up.ensures.keeps_to o (with_run named run) now
+    let now = c.in-Ok.ensures.keeps_to o named h may (file_untold o c.args.id c.requires.of_file) (λ p sector own. none p sector tt) in
+    let later = c.in-Ok-make_up.ensures.keeps_to o (with_run named run) now may
     (none_with_run run named c.args.id 4294967295 (λ p. (0 ≤ p) × (p < c.args.pages)) form.same_id form.same_first (λ p own other. let last = own.1 in let from = other.0 in omega (arith, last, from, below)) (λ p sector own. none p sector tt)) in
     (later.0, later.1, λ all. later.2 (tables_more named run all))

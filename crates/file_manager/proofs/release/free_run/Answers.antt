@@ -1,6 +1,7 @@
 use Rattle.std.proofs.Common.{◌≡◌, ◌<◌, ◌≤◌, ◌+◌, sym, ◌∙◌, ap, subst, arith, rules}
 use Rattle.labelled_disk.specs.declared.layout.Layout.{Layout}
 use Rattle.swapper_kernel.specs.declared.manager.Manager.TheVariants.{AllocationMap, FileMap}
+use Rattle.swapper_kernel.specs.Maps.{IsMapHome}
 use Rattle.filer_kernel.specs.declared.cached.CachedRuns.{CachedRuns}
 use Rattle.filer_kernel.specs.Cached.{runs_of}
 use Rattle.filer_kernel.specs.Triples.{AreOf}
@@ -18,6 +19,7 @@ use Rattle.label_calls.specs.OwnLaws.{relabels_own, wrote_own, own_then, quiet_o
 use Rattle.file_manager.proofs.OwnSteps.{map_own, own_after, same_id}
 use Rattle.file_manager.specs.KeepLaws.{keeps_as}
 use Rattle.file_manager.proofs.FreedReasons.{labels_reason, let_of_run, marks_reason, marks_keep, marks_let}
+use Rattle.file_manager.proofs.LackLemmas.{labels_lack_none, marks_lack_none}
 use Rattle.file_manager.proofs.release.free_run.Given as given
 use Rattle.file_manager.proofs.release.free_run.Goals as goal
 use Rattle.file_manager.proofs.release.free_run.Goals.{After-forget_run}
@@ -234,9 +236,25 @@ returns-clause-let_go g c = λ o named h spares.
     let beside = rw (frames, lay) at c.in-Ok-give.ensures.kept in
     let all = c.in-Ok.ensures.named h.memory named h.stands h.map h.kept in
     let first = form.same_first in
-    let_of_run named run c.args.id (λ p. (c.args.page ≤ p) × (p < c.args.page + run.pages)) form.same_id (λ p own. let from = own.0 in let below = own.1 in (omega (arith, from, first), omega (arith, below, first)))
+    let_of_run o (g.D.Disk.state c.give.new.self.swapper.under) named run c.args.id (λ p. (c.args.page ≤ p) × (p < c.args.page + run.pages)) form.same_id (λ p own. let from = own.0 in let below = own.1 in (omega (arith, from, first), omega (arith, below, first)))
     (marks_let (f.keeps_to o named h spares) c.args.filer.now.swapper.accepted run form.form (run_sectors run) (λ j k at. let r = row_has run.sector run.pages j k at in (j, r.0, r.1)) (λ i below. (i, row_at run.sector run.pages i below))
     c.in-Ok-free_labels.ensures.freed c.in-Ok-free_labels.ensures.were f.gone (λ same. spares (sym c.in-Ok.ensures.form.same_id ∙ same)) beside all)
 
 pub returns-in-Err-clause-reasons : goal.returns-in-Err-clause-reasons
 returns-in-Err-clause-reasons g c = λ o named h spares may. c.in-Err.ensures.reasons o named h may
+
+-- ---- None of its pages is told as missing, where the first one is named.
+
+pub returns-in-Err-clause-right : goal.returns-in-Err-clause-right
+returns-in-Err-clause-right g c = λ o named sector h is. c.in-Err.ensures.right o named sector h is
+
+pub returns-in-Err-free_labels-clause-right : goal.returns-in-Err-free_labels-clause-right
+returns-in-Err-free_labels-clause-right g c = λ o named sector h is.
+    let run = c.in-Ok.run' in
+    let old = g.D.Disk.state c.forget_run.new.filer.swapper.under in
+    labels_lack_none run.sector run.pages (λ k. record { id = run.id; page = run.first + k }) old old (g.D.Disk.state c.free_labels.new.filer.swapper.under) c.in-Err-free_labels.halt c.in-Err-free_labels.ensures.cause
+
+pub returns-in-Err-give-clause-right : goal.returns-in-Err-give-clause-right
+returns-in-Err-give-clause-right g c = λ o named sector h is.
+    let old = c.free_labels.new.filer.swapper in
+    marks_lack_none (IsMapHome AllocationMap old.layout) (g.D.Disk.state old.under) old.pool (g.D.Disk.state c.give.new.self.swapper.under) c.in-Err-give.halt c.in-Err-give.ensures.cause

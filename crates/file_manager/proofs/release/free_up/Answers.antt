@@ -88,3 +88,9 @@ returns-clause-let_go g c = λ o named h spares page sector own is.
 
 pub returns-clause-keeps_to : goal.returns-clause-keeps_to
 returns-clause-keeps_to g c = c.loop-page.invariant.keeps_to
+
+pub returns-in-Err-clause-right : goal.returns-in-Err-clause-right
+returns-in-Err-clause-right g c = λ o named h spares there.
+    let below : c.loop-page.page < c.args.end = search rules in
+    let at = there c.loop-page.page below in
+    c.in-Err.ensures.right o named at.0 (c.loop-page.invariant.keeps_to o named h spares) at.1

@@ -14,6 +14,7 @@ use Rattle.filer_kernel.specs.Causes.{IsGiven}
 use Rattle.file_manager.specs.Grounds.{IsUnframed}
 use Rattle.file_manager.specs.ReasonLaws.{map_reasons, lack_reason}
 use Rattle.file_manager.proofs.FreedReasons.{found_keeps}
+use Rattle.file_manager.proofs.LackLemmas.{search_lacks_none}
 use Rattle.file_manager.proofs.release.part_of.Goals as goal
 
 pub returns-in-Ok-Some-clause-named : goal.returns-in-Ok-Some-clause-named
@@ -83,3 +84,13 @@ returns-in-Err-clause-reasons g c = λ o named h may. map_reasons h c.find.ensur
 
 pub returns-in-Ok-None-clause-reasons : goal.returns-in-Ok-None-clause-reasons
 returns-in-Ok-None-clause-reasons g c = λ o named h may. lack_reason h c.find.ensures.beside.goes.makes c.args.id c.args.page may (λ m named stands map. c.find.ensures.nowhere m named stands map (search rules))
+
+pub returns-in-Err-clause-right : goal.returns-in-Err-clause-right
+returns-in-Err-clause-right g c = λ o named sector h is.
+    let filer = c.args.filer.now in
+    search_lacks_none filer.swapper.layout (g.D.Disk.state filer.swapper.under) filer.swapper.pool (g.D.Disk.state c.find.new.self.swapper.under) c.in-Err.halt c.in-Err.ensures.cause
+
+pub returns-in-Ok-None-clause-right : goal.returns-in-Ok-None-clause-right
+returns-in-Ok-None-clause-right g c = λ o named sector h is.
+    let nowhere = c.find.ensures.nowhere h.memory named h.stands h.map (search rules) in
+    absurd (true≢false (sym is ∙ nowhere sector))

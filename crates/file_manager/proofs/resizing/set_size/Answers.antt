@@ -5,6 +5,7 @@ use Rattle.labelled_disk.specs.Sectors.{Sector}
 use Rattle.file_map.specs.FileMap.{Triples, IsSize, most_records}
 use Rattle.swapper_kernel.specs.Stands.{Stands, labels_of}
 use Rattle.session_words.specs.Parts.{Shape}
+use Rattle.file_manager.specs.Causes.{NamesNone}
 use Rattle.file_manager.specs.Finding.{IsFoundFile, shape_of_leader}
 use Rattle.file_manager.proofs.CountedLemmas.{of_answer, rose_after}
 use Rattle.file_manager.proofs.Faults.{counted, counted_then, no_fault}
@@ -22,6 +23,7 @@ use Rattle.file_manager.specs.declared.finding.FoundFile.{FoundFile}
 use Rattle.file_manager.proofs.RootCalls.{quiet_root, file_no_root, resized_root, resized_some_root}
 use Rattle.labelled_disk.specs.declared.layout.Layout.{Layout}
 use Rattle.labelled_disk.specs.Label.{leader_page}
+use Rattle.file_manager.specs.KeepLaws.{named_takes}
 use Rattle.file_manager.specs.Reasons.{ShowsReason}
 use Rattle.file_manager.specs.ReasonLaws.{missing_reason}
 use Rattle.file_manager.proofs.KeepCut.{none_above}
@@ -325,8 +327,12 @@ returns-in-Err-grow-clause-cause g c =
       own = λ m named stands map none page sector not. absurd not;
       next = λ m named later stands map none adds. above_size layout kept c.args.id c.args.pages old new pool c.grow.new.filer.swapper.pool c.in-Ok-Some.file.pages named later c.requires.numbers (sized m named stands map) adds;
     } in
+    let fresh : (p : ℕ) → more p → (p < c.args.pages) × NamesNone layout old pool c.args.id p = λ p own. (
+      own.1,
+      λ m named stands map sector. none_above named c.args.id c.in-Ok-Some.file.pages c.args.pages (let few = c.requires.numbers in omega (arith, few)) (sized m named stands map) p sector own,
+    ) in
     resize_of_make layout kept c.args.id c.args.pages old new pool c.grow.new.filer.swapper.pool c.in-Err-grow.halt
-    (make_halts_before no_page_of more no_page_of c.find_file.ensures.makes c.in-Ok-Some.ensures.takes leaves (inl (λ none. c.find_file.ensures.same_bytes)) (g.D.Disk.state c.grow.new.filer.swapper.under) c.grow.new.filer.swapper.pool c.in-Err-grow.halt (rw c.find_file.ensures.layout at c.in-Err-grow.ensures.cause))
+    (make_halts_before no_page_of more no_page_of c.find_file.ensures.makes c.in-Ok-Some.ensures.takes leaves more (λ p. (p < c.args.pages) × NamesNone layout old pool c.args.id p) fresh (λ p own not. not) (inl (λ none. c.find_file.ensures.same_bytes)) (g.D.Disk.state c.grow.new.filer.swapper.under) c.grow.new.filer.swapper.pool c.in-Err-grow.halt (rw c.find_file.ensures.layout at c.in-Err-grow.ensures.cause))
 
 pub returns-in-Err-shrink-clause-cause : goal.returns-in-Err-shrink-clause-cause
 returns-in-Err-shrink-clause-cause g c =
@@ -387,13 +393,15 @@ pub returns-in-Ok-clause-keeps_to : goal.returns-in-Ok-clause-keeps_to
 returns-in-Ok-clause-keeps_to g c = λ o named k.
     let sized = subst (λ (o : Option FoundFile). IfSome o (λ file. IsSize named c.args.id file.pages)) c.in-Ok-Some.field-0-is (c.in-Ok-Some.ensures.size k.memory named k.stands k.map) in
     let none = none_above named c.args.id c.in-Ok-Some.file.pages c.args.pages (let few = c.requires.numbers in omega (arith, few)) sized in
-    c.in-Ok.ensures.keeps_to o named (c.in-Ok-Some.ensures.keeps_to o named k) none
+    let led = subst (λ (o : Option FoundFile). IfSome o (λ file. named c.args.id leader_page file.sector ≡ true)) c.in-Ok-Some.field-0-is (c.in-Ok-Some.ensures.names k.memory named k.stands k.map k.kept) in
+    c.in-Ok.ensures.keeps_to o named (c.in-Ok-Some.ensures.keeps_to o named k) (named_takes k c.args.id leader_page c.in-Ok-Some.file.sector led) none
 
 pub returns-in-Err-grow-clause-reasons : goal.returns-in-Err-grow-clause-reasons
 returns-in-Err-grow-clause-reasons g c = λ o named k.
     let sized = subst (λ (o : Option FoundFile). IfSome o (λ file. IsSize named c.args.id file.pages)) c.in-Ok-Some.field-0-is (c.in-Ok-Some.ensures.size k.memory named k.stands k.map) in
     let none = none_above named c.args.id c.in-Ok-Some.file.pages c.args.pages (let few = c.requires.numbers in omega (arith, few)) sized in
-    subst (λ (l : Layout). ShowsReason o l (g.D.Disk.state c.grow.new.filer.swapper.under) c.in-Err-grow.halt) c.find_file.ensures.layout (c.in-Err-grow.ensures.reasons o named (c.in-Ok-Some.ensures.keeps_to o named k) none)
+    let led = subst (λ (o : Option FoundFile). IfSome o (λ file. named c.args.id leader_page file.sector ≡ true)) c.in-Ok-Some.field-0-is (c.in-Ok-Some.ensures.names k.memory named k.stands k.map k.kept) in
+    subst (λ (l : Layout). ShowsReason o l (g.D.Disk.state c.grow.new.filer.swapper.under) c.in-Err-grow.halt) c.find_file.ensures.layout (c.in-Err-grow.ensures.reasons o named (c.in-Ok-Some.ensures.keeps_to o named k) (named_takes k c.args.id leader_page c.in-Ok-Some.file.sector led) none)
 
 pub returns-in-Ok-shrink-clause-keeps_to : goal.returns-in-Ok-shrink-clause-keeps_to
 returns-in-Ok-shrink-clause-keeps_to g c = λ o named k.

@@ -246,6 +246,6 @@ returns-clause-let_go g c = λ o named h.
     let beside = rw (frames, lay) at c.in-Ok-give.ensures.kept in
     let all = c.in-Ok.ensures.named h.memory named h.stands h.map h.kept in
     let reaches = form.reaches in
-    let_of_run named run c.args.id (λ p. (c.args.end - run.pages ≤ p) × (p < c.args.end)) form.same_id (λ p own. let from = own.0 in let below = own.1 in (omega (arith, from, reaches), omega (arith, below, reaches)))
+    let_of_run o (g.D.Disk.state c.give.new.self.swapper.under) named run c.args.id (λ p. (c.args.end - run.pages ≤ p) × (p < c.args.end)) form.same_id (λ p own. let from = own.0 in let below = own.1 in (omega (arith, from, reaches), omega (arith, below, reaches)))
     (marks_let (f.keeps_to o named h (client_leaves o c.args.id c.requires.of_file)) c.args.filer.now.swapper.accepted run form.form (run_down run) (down_has run) (down_all run)
     c.in-Ok-free_labels_down.ensures.freed c.in-Ok-free_labels_down.ensures.were f.gone (λ same. client_leaves o c.args.id c.requires.of_file (sym c.in-Ok.ensures.form.same_id ∙ same)) beside all)

@@ -5,7 +5,7 @@ use Rattle.file_manager.proofs.FreedRun.{all_stop}
 use Rattle.file_manager.proofs.TablesFreed.{bare, tables_all, tables_may, tables_some, tables_ended, forgot_freed, forgot_some, freed_cut}
 use Rattle.file_manager.proofs.Faults.{counted, counted_then}
 use Rattle.filer_kernel.specs.EvidenceLaws.{fits, so_of_cut}
-use Rattle.file_manager.proofs.Forgotten.{keeps_forgotten, forgotten_keeps}
+use Rattle.file_manager.proofs.Forgotten.{keeps_forgotten, forgotten_keeps, forgotten_untabled}
 use Rattle.file_manager.proofs.Keeping.{keeps_then, free_halts_before}
 use Rattle.file_manager.proofs.CutCauses.{cut_of_free, cut_halts_behind}
 use Rattle.filer_kernel.specs.Cached.{runs_of}
@@ -16,10 +16,12 @@ use Rattle.file_manager.proofs.RootCalls.{freed_some_root, freed_root}
 use Rattle.labelled_disk.specs.declared.layout.Layout.{Layout}
 use Rattle.filer_kernel.specs.declared.cached.CachedRuns.{CachedRuns}
 use Rattle.file_manager.proofs.KeepSteps.{keeps_at}
+use Rattle.file_manager.specs.KeepLaws.{untabled_still}
 use Rattle.file_manager.specs.TabledLaws.{untold_leaves}
 use Rattle.file_manager.proofs.KeepCut.{keeps_cut}
 use Rattle.file_manager.proofs.ReasonCauses.{cut_reasons}
 use Rattle.file_manager.specs.Reasons.{KeepsTo, ShowsReason}
+use Rattle.file_manager.proofs.LackLemmas.{cut_lacks_none}
 use Rattle.file_manager.proofs.tables.free_tables.Goals as goal
 
 pub returns-in-Err-clause-sound : goal.returns-in-Err-clause-sound
@@ -170,7 +172,22 @@ returns-clause-keeps_to g c = λ o named k untold.
       _,
       (
         keeps_at c.cut.new.self.runs c.cut.ensures.beside.layout (keeps_cut now c.cut.ensures.beside 3 0 (c.cut.ensures.runs c.free_up.new.filer.swapper.layout.sectors)
-            c.free_up.new.filer.swapper.accepted (untold_leaves o 3 untold) (λ page sector may from is. absurd (omega (arith, may))) c.in-Ok-cut.ensures.cut),
+            c.free_up.new.filer.swapper.accepted (untold_leaves o 3 untold) (λ tables. untabled_still c.in-Ok.ensures.keeps.brings (forgotten_untabled f.gone)) (λ page sector may from is. absurd (omega (arith, may))) c.in-Ok-cut.ensures.cut),
         untold,
       ),
     )
+
+-- ---- None of their pages is told as missing.
+
+pub returns-in-Err-clause-right : goal.returns-in-Err-clause-right
+returns-in-Err-clause-right g c = λ o named k untold tables.
+    let f = c.forget_tables.ensures in
+    let forgot = keeps_at c.forget_tables.new.filer.runs f.layout (subst (λ (r : CachedRuns). KeepsTo o c.args.filer.now.swapper.layout (runs_of c.args.filer.now.swapper.layout.sectors r) (g.D.Disk.state c.forget_tables.new.filer.swapper.under) c.forget_tables.new.filer.swapper.pool named) (sym f.runs)
+    (forgotten_keeps [] c.args.filer.now.swapper.accepted c.args.filer.now.swapper.placed f.gone f.left f.goes (ap g.D.Disk.state f.under) untold k)) in
+    c.in-Err.ensures.right o named forgot (untold_leaves o 3 untold) tables
+
+pub returns-in-Err-cut-clause-right : goal.returns-in-Err-cut-clause-right
+returns-in-Err-cut-clause-right g c = λ o named k untold tables.
+    let old = c.free_up.new.filer.swapper in
+    let new = c.cut.new.self.swapper in
+    cut_lacks_none old.layout (g.D.Disk.state old.under) old.pool (g.D.Disk.state new.under) new.pool c.in-Err-cut.halt c.in-Err-cut.ensures.cause

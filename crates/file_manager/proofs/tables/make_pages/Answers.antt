@@ -62,13 +62,13 @@ returns-clause-root g c = grown_root {id = 3} (λ same. omega (arith, same)) (re
 pub returns-clause-keeps_to : goal.returns-clause-keeps_to
 returns-clause-keeps_to g c = λ o named h untold none.
     let all : 96 ≤ c.loop-page.page = search rules in
-    let now = c.loop-page.invariant.up.keeps o named h (λ same. untold) (λ p sector own. none p sector own.1) in
+    let now = c.loop-page.invariant.up.keeps o named h (λ client. absurd (omega (arith, client))) (λ same. untold) (λ p sector own. none p sector own.1) in
     (now.0, (now.1, (λ page below. now.4 page (omega arith) (omega (arith, below, all)), untold)))
 
 pub returns-in-Err-clause-reasons : goal.returns-in-Err-clause-reasons
 returns-in-Err-clause-reasons g c = λ o named h untold none.
     let below : c.loop-page.page < 96 = search rules in
-    let now = c.loop-page.invariant.up.keeps o named h (λ same. untold) (λ p sector own. none p sector own.1) in
+    let now = c.loop-page.invariant.up.keeps o named h (λ client. absurd (omega (arith, client))) (λ same. untold) (λ p sector own. none p sector own.1) in
     rw c.loop-page.invariant.up.same_layout at (c.in-Err.ensures.reasons o now.0 now.1 (λ p sector own. let last = own.1 in now.2 p sector (own.0, omega (arith, last, below))))
 
 pub returns-clause-tables : goal.returns-clause-tables

@@ -17,6 +17,7 @@ use Rattle.file_manager.proofs.Faults.{counted, counted_then}
 use Rattle.file_manager.proofs.KeepSteps.{keeps_at}
 use Rattle.file_manager.proofs.ReasonCauses.{cut_reasons}
 use Rattle.file_manager.proofs.RootCalls.{grew_root, grown_root}
+use Rattle.file_manager.specs.KeepLaws.{unframed_untabled}
 use Rattle.file_manager.specs.TabledLaws.{untold_leaves}
 use Rattle.file_manager.proofs.RootKeeps.{none_left, whole_cut}
 use Rattle.file_manager.proofs.RunStages.{map_is, maps_named}
@@ -56,11 +57,11 @@ pub returns-in-Err-clause-cause : goal.returns-in-Err-clause-cause
 returns-in-Err-clause-cause g c =
     let old = g.D.Disk.state c.args.filer.now.swapper.under in
     let pool = c.args.filer.now.swapper.pool in
-    create_of_cut c.args.filer.now.swapper.layout c.args.filer.now.swapper.accepted 3 (makes_nothing no_page old pool) nothing_behind (g.D.Disk.state c.cut.new.self.swapper.under) c.cut.new.self.swapper.pool c.in-Err.halt
+    create_of_cut c.args.filer.now.swapper.layout c.args.filer.now.swapper.accepted 3 (makes_nothing no_page old pool) nothing_behind (λ p. p < 96) (g.D.Disk.state c.cut.new.self.swapper.under) c.cut.new.self.swapper.pool c.in-Err.halt
     c.in-Err.ensures.begun c.in-Err.ensures.cause
 
 pub returns-in-Err-clause-reasons : goal.returns-in-Err-clause-reasons
-returns-in-Err-clause-reasons g c = λ o named h untold.
+returns-in-Err-clause-reasons g c = λ o named h bare untold.
     cut_reasons h c.cut.ensures.beside.goes.makes c.in-Err.halt c.in-Err.ensures.cause (c.in-Err.ensures.right h.memory named h.stands h.map)
 
 pub returns-in-Err-clause-so : goal.returns-in-Err-clause-so
@@ -87,13 +88,13 @@ returns-in-Err-make_pages-clause-cause g c =
     let layout = c.args.filer.now.swapper.layout in
     let old = g.D.Disk.state c.args.filer.now.swapper.under in
     let pool = c.args.filer.now.swapper.pool in
-    create_of_make layout c.args.filer.now.swapper.accepted 3 (makes_nothing no_page old pool) nothing_behind c.in-Ok.ensures.beside c.in-Ok.ensures.cut (λ p. p < 96)
+    create_of_make layout c.args.filer.now.swapper.accepted 3 (makes_nothing no_page old pool) nothing_behind (λ p. p < 96) c.in-Ok.ensures.beside c.in-Ok.ensures.cut (λ p. p < 96)
     (g.D.Disk.state c.make_pages.new.filer.swapper.under) c.make_pages.new.filer.swapper.pool c.in-Err-make_pages.halt
     (rw (c.frames_of.ensures.same, c.in-Ok.ensures.beside.layout) at c.in-Err-make_pages.ensures.cause)
 
 pub returns-in-Err-make_pages-clause-reasons : goal.returns-in-Err-make_pages-clause-reasons
-returns-in-Err-make_pages-clause-reasons g c = λ o named h untold.
-    let cut = keeps_at c.cut.new.self.runs c.in-Ok.ensures.beside.layout (whole_cut h c.in-Ok.ensures.beside 3 (c.in-Ok.ensures.runs c.args.filer.now.swapper.layout.sectors) (λ home from may same was. absurd (omega (arith, may, same))) c.args.filer.now.swapper.accepted (untold_leaves o 3 untold) c.in-Ok.ensures.cut) in
+returns-in-Err-make_pages-clause-reasons g c = λ o named h bare untold.
+    let cut = keeps_at c.cut.new.self.runs c.in-Ok.ensures.beside.layout (whole_cut h c.in-Ok.ensures.beside 3 (c.in-Ok.ensures.runs c.args.filer.now.swapper.layout.sectors) (λ home from may same was. absurd (omega (arith, may, same))) c.args.filer.now.swapper.accepted (untold_leaves o 3 untold) (λ tables. unframed_untabled bare) c.in-Ok.ensures.cut) in
     (rw (c.frames_of.ensures.same, c.in-Ok.ensures.beside.layout) at c.in-Err-make_pages.ensures.reasons) o (without_from named 3 0) (rw c.in-Ok.ensures.beside.layout at cut) untold (λ page sector own. none_left named 3 page sector tt)
 
 pub returns-in-Err-make_pages-clause-counted : goal.returns-in-Err-make_pages-clause-counted
@@ -118,14 +119,14 @@ pub returns-clause-makes : goal.returns-clause-makes
 returns-clause-makes g c = tables_made_behind c.in-Ok.ensures.beside (rw c.frames_of.ensures.same at c.in-Ok-make_pages.ensures.makes)
 
 pub returns-clause-keeps_to : goal.returns-clause-keeps_to
-returns-clause-keeps_to g c = λ o named h untold.
-    let cut = keeps_at c.cut.new.self.runs c.in-Ok.ensures.beside.layout (whole_cut h c.in-Ok.ensures.beside 3 (c.in-Ok.ensures.runs c.args.filer.now.swapper.layout.sectors) (λ home from may same was. absurd (omega (arith, may, same))) c.args.filer.now.swapper.accepted (untold_leaves o 3 untold) c.in-Ok.ensures.cut) in
+returns-clause-keeps_to g c = λ o named h bare untold.
+    let cut = keeps_at c.cut.new.self.runs c.in-Ok.ensures.beside.layout (whole_cut h c.in-Ok.ensures.beside 3 (c.in-Ok.ensures.runs c.args.filer.now.swapper.layout.sectors) (λ home from may same was. absurd (omega (arith, may, same))) c.args.filer.now.swapper.accepted (untold_leaves o 3 untold) (λ tables. unframed_untabled bare) c.in-Ok.ensures.cut) in
     (rw c.frames_of.ensures.same at c.in-Ok-make_pages.ensures.keeps_to) o (without_from named 3 0) cut untold (λ page sector own. none_left named 3 page sector tt)
 
 pub returns-clause-root : goal.returns-clause-root
 returns-clause-root g c = grown_root {id = 3} (λ same. omega (arith, same)) (returns-clause-makes g c)
 
 pub returns-clause-tables : goal.returns-clause-tables
-returns-clause-tables g c = λ o named h.
-    let cut = keeps_at c.cut.new.self.runs c.in-Ok.ensures.beside.layout (whole_cut h c.in-Ok.ensures.beside 3 (c.in-Ok.ensures.runs c.args.filer.now.swapper.layout.sectors) (λ home from may same was. absurd (omega (arith, may, same))) c.args.filer.now.swapper.accepted (λ same. refl) c.in-Ok.ensures.cut) in
+returns-clause-tables g c = λ o named h bare.
+    let cut = keeps_at c.cut.new.self.runs c.in-Ok.ensures.beside.layout (whole_cut h c.in-Ok.ensures.beside 3 (c.in-Ok.ensures.runs c.args.filer.now.swapper.layout.sectors) (λ home from may same was. absurd (omega (arith, may, same))) c.args.filer.now.swapper.accepted (λ same. refl) (λ tables. unframed_untabled bare) c.in-Ok.ensures.cut) in
     (rw c.frames_of.ensures.same at c.in-Ok-make_pages.ensures.tables) o (without_from named 3 0) cut (λ page sector own. none_left named 3 page sector tt)

@@ -1,4 +1,4 @@
-use Rattle.std.proofs.Common.{◌≡◌, ◌-◌, min, [], ◌∷◌, refl, ◌∙◌, ap, subst, inl, inr, rules, ◌++◌, sym, arith}
+use Rattle.std.proofs.Common.{◌≡◌, ◌<◌, ◌≤◌, ◌-◌, min, [], ◌∷◌, refl, ◌∙◌, subst, inl, inr, rules, ◌++◌, sym, arith}
 use Rattle.volume_root.specs.declared.root.Root.{Root}
 use Rattle.labelled_disk.specs.FilesOn.{files_on}
 use Rattle.flat_machine.specs.Space.{root}
@@ -20,11 +20,14 @@ use Rattle.fault_core.specs.View.{TablesAre, view_of}
 use Rattle.pilot_engine.proofs.BeginLemmas.{rooted}
 use Rattle.labelled_disk.specs.declared.layout.Layout.{Layout}
 use Rattle.swapper_kernel.specs.Maps.{IsMapHome}
-use Rattle.file_manager.specs.Creating.{IsOnward}
-use Rattle.file_manager.specs.Reasons.{ShowsReason, outset, telling}
+use Rattle.swapper_kernel.specs.Goes.{no_page}
+use Rattle.file_manager.specs.Creating.{IsOnward, next_id}
+use Rattle.file_manager.specs.Reasons.{ShowsReason, giving, outset, telling}
 use Rattle.file_manager.specs.ToldLaws.{tables_of}
+use Rattle.fault_core.proofs.LackLemmas.{brought_lacks}
 use Rattle.pilot_engine.proofs.FormLemmas.{create_form, label_form}
-use Rattle.pilot_engine.proofs.OutsetLemmas.{begun_keeps, begun_untabled, counted_reasons, keeps_counted, rooted_at, rooted_untabled, rooted_writes}
+use Rattle.pilot_engine.proofs.LackLemmas.{new_lacks}
+use Rattle.pilot_engine.proofs.OutsetLemmas.{begun_keeps, begun_untabled, counted_reasons, counted_unframed, keeps_counted, rooted_at, rooted_untabled, rooted_writes}
 use Rattle.pilot_engine.proofs.start.begin.Goals as goal
 
 pub used_of-requires-clause-first : goal.used_of-requires-clause-first
@@ -206,14 +209,15 @@ returns-in-Err-clause-reasons g c = λ d named ws begun. rw c.in-Err.ensures.fau
 pub returns-in-Err-free_count-clause-reasons : goal.returns-in-Err-free_count-clause-reasons
 returns-in-Err-free_count-clause-reasons g c = λ d named ws begun.
     let filer = c.args.filer.now in
-    let first_outset = outset d named ws in
     let root = in_use c.args.root in
+    let next = next_id c.in_use-root.result in
+    let least : next ≤ next = omega arith in
     let o = outset d named (ws ++ (root_write root ∷ [])) in
-    let first = begun_keeps filer.swapper.layout d named ws (g.D.Disk.state filer.swapper.under) filer.swapper.pool filer.runs filer.swapper.accepted c.requires.size (g.met.D.Disk.in_form filer.swapper.under d begun.contents)
+    let first = begun_keeps next filer.swapper.layout d named ws (g.D.Disk.state filer.swapper.under) filer.swapper.pool filer.runs filer.swapper.accepted c.requires.size (g.met.D.Disk.in_form filer.swapper.under d begun.contents)
     (g.met.D.Disk.whole filer.swapper.under d begun.contents ∙ c.requires.size) c.requires.bare (c.requires.no_runs filer.swapper.layout.sectors) begun in
     let written = rooted_writes ws (root_write root) (rw c.in_use-root.ensures.root at c.in-Ok.ensures.made).makes c.requires.bare begun.writes in
     let bare = subst IsBare (sym c.in-Ok.ensures.frames) c.requires.bare in
-    let rooted_keeps = rooted_at d named ws root (view_of c.write_over.new.filer) c.write_over.new.filer.swapper.accepted bare written (c.in-Ok.ensures.keeps_to first_outset named first) in
+    let rooted_keeps = rooted_at d named ws root next (view_of c.write_over.new.filer) c.write_over.new.filer.swapper.accepted bare written (c.in-Ok.ensures.keeps_to (giving (outset d named ws) next) named first least) in
     let v = view_of c.write_over.new.filer in
     let w = view_of c.free_count.new.self in
     subst (λ (l : Layout). ShowsReason o l w.disk c.in-Err-free_count.halt) c.in-Ok.ensures.layout (counted_reasons o v w named rooted_keeps c.in-Err-free_count.ensures.kept c.in-Err-free_count.halt c.in-Err-free_count.ensures.cause)
@@ -221,89 +225,110 @@ returns-in-Err-free_count-clause-reasons g c = λ d named ws begun.
 pub returns-in-Err-make_tables-clause-reasons : goal.returns-in-Err-make_tables-clause-reasons
 returns-in-Err-make_tables-clause-reasons g c = λ d named ws begun.
     let filer = c.args.filer.now in
-    let first_outset = outset d named ws in
     let root = in_use c.args.root in
+    let next = next_id c.in_use-root.result in
+    let least : next ≤ next = omega arith in
     let o = outset d named (ws ++ (root_write root ∷ [])) in
-    let first = begun_keeps filer.swapper.layout d named ws (g.D.Disk.state filer.swapper.under) filer.swapper.pool filer.runs filer.swapper.accepted c.requires.size (g.met.D.Disk.in_form filer.swapper.under d begun.contents)
+    let first = begun_keeps next filer.swapper.layout d named ws (g.D.Disk.state filer.swapper.under) filer.swapper.pool filer.runs filer.swapper.accepted c.requires.size (g.met.D.Disk.in_form filer.swapper.under d begun.contents)
     (g.met.D.Disk.whole filer.swapper.under d begun.contents ∙ c.requires.size) c.requires.bare (c.requires.no_runs filer.swapper.layout.sectors) begun in
     let written = rooted_writes ws (root_write root) (rw c.in_use-root.ensures.root at c.in-Ok.ensures.made).makes c.requires.bare begun.writes in
     let bare = subst IsBare (sym c.in-Ok.ensures.frames) c.requires.bare in
-    let rooted_keeps = rooted_at d named ws root (view_of c.write_over.new.filer) c.write_over.new.filer.swapper.accepted bare written (c.in-Ok.ensures.keeps_to first_outset named first) in
+    let rooted_keeps = rooted_at d named ws root next (view_of c.write_over.new.filer) c.write_over.new.filer.swapper.accepted bare written (c.in-Ok.ensures.keeps_to (giving (outset d named ws) next) named first least) in
     let counted = keeps_counted o (view_of c.write_over.new.filer) (view_of c.free_count.new.self) named rooted_keeps c.in-Ok-free_count.ensures.kept c.in-Ok-free_count.ensures.same c.in-Ok-free_count.ensures.runs in
     subst (λ (l : Layout). ShowsReason o l (g.D.Disk.state c.make_tables.new.filer.swapper.under) c.in-Err-make_tables.halt) (c.in-Ok-free_count.ensures.kept.layout ∙ c.in-Ok.ensures.layout)
-    (c.in-Err-make_tables.ensures.reasons o named counted refl)
+    (c.in-Err-make_tables.ensures.reasons o named counted (counted_unframed bare c.in-Ok-free_count.ensures.kept) refl)
 
 pub returns-in-Err-write_tables-clause-reasons : goal.returns-in-Err-write_tables-clause-reasons
 returns-in-Err-write_tables-clause-reasons g c = λ d named ws begun.
     let filer = c.args.filer.now in
-    let first_outset = outset d named ws in
     let root = in_use c.args.root in
+    let next = next_id c.in_use-root.result in
+    let least : next ≤ next = omega arith in
     let o = outset d named (ws ++ (root_write root ∷ [])) in
-    let first = begun_keeps filer.swapper.layout d named ws (g.D.Disk.state filer.swapper.under) filer.swapper.pool filer.runs filer.swapper.accepted c.requires.size (g.met.D.Disk.in_form filer.swapper.under d begun.contents)
+    let first = begun_keeps next filer.swapper.layout d named ws (g.D.Disk.state filer.swapper.under) filer.swapper.pool filer.runs filer.swapper.accepted c.requires.size (g.met.D.Disk.in_form filer.swapper.under d begun.contents)
     (g.met.D.Disk.whole filer.swapper.under d begun.contents ∙ c.requires.size) c.requires.bare (c.requires.no_runs filer.swapper.layout.sectors) begun in
     let written = rooted_writes ws (root_write root) (rw c.in_use-root.ensures.root at c.in-Ok.ensures.made).makes c.requires.bare begun.writes in
     let bare = subst IsBare (sym c.in-Ok.ensures.frames) c.requires.bare in
-    let rooted_keeps = rooted_at d named ws root (view_of c.write_over.new.filer) c.write_over.new.filer.swapper.accepted bare written (c.in-Ok.ensures.keeps_to first_outset named first) in
+    let rooted_keeps = rooted_at d named ws root next (view_of c.write_over.new.filer) c.write_over.new.filer.swapper.accepted bare written (c.in-Ok.ensures.keeps_to (giving (outset d named ws) next) named first least) in
     let counted = keeps_counted o (view_of c.write_over.new.filer) (view_of c.free_count.new.self) named rooted_keeps c.in-Ok-free_count.ensures.kept c.in-Ok-free_count.ensures.same c.in-Ok-free_count.ensures.runs in
-    let made = c.in-Ok-make_tables.ensures.keeps_to o named counted refl in
+    let none = counted_unframed bare c.in-Ok-free_count.ensures.kept in
+    let made = c.in-Ok-make_tables.ensures.keeps_to o named counted none refl in
     subst (λ (l : Layout). ShowsReason o l (g.D.Disk.state c.write_tables.new.filer.swapper.under) c.in-Err-write_tables.halt) (c.in-Ok-make_tables.ensures.layout ∙ c.in-Ok-free_count.ensures.kept.layout ∙ c.in-Ok.ensures.layout)
     (c.in-Err-write_tables.ensures.reasons o made)
 
 pub returns-clause-keeps_to : goal.returns-clause-keeps_to
 returns-clause-keeps_to g c = λ d named ws begun.
     let filer = c.args.filer.now in
-    let first_outset = outset d named ws in
     let root = in_use c.args.root in
+    let next = next_id c.in_use-root.result in
+    let least : next ≤ next = omega arith in
     let o = outset d named (ws ++ (root_write root ∷ [])) in
-    let first = begun_keeps filer.swapper.layout d named ws (g.D.Disk.state filer.swapper.under) filer.swapper.pool filer.runs filer.swapper.accepted c.requires.size (g.met.D.Disk.in_form filer.swapper.under d begun.contents)
+    let first = begun_keeps next filer.swapper.layout d named ws (g.D.Disk.state filer.swapper.under) filer.swapper.pool filer.runs filer.swapper.accepted c.requires.size (g.met.D.Disk.in_form filer.swapper.under d begun.contents)
     (g.met.D.Disk.whole filer.swapper.under d begun.contents ∙ c.requires.size) c.requires.bare (c.requires.no_runs filer.swapper.layout.sectors) begun in
     let written = rooted_writes ws (root_write root) (rw c.in_use-root.ensures.root at c.in-Ok.ensures.made).makes c.requires.bare begun.writes in
     let bare = subst IsBare (sym c.in-Ok.ensures.frames) c.requires.bare in
-    let rooted_keeps = rooted_at d named ws root (view_of c.write_over.new.filer) c.write_over.new.filer.swapper.accepted bare written (c.in-Ok.ensures.keeps_to first_outset named first) in
+    let rooted_keeps = rooted_at d named ws root next (view_of c.write_over.new.filer) c.write_over.new.filer.swapper.accepted bare written (c.in-Ok.ensures.keeps_to (giving (outset d named ws) next) named first least) in
     let counted = keeps_counted o (view_of c.write_over.new.filer) (view_of c.free_count.new.self) named rooted_keeps c.in-Ok-free_count.ensures.kept c.in-Ok-free_count.ensures.same c.in-Ok-free_count.ensures.runs in
-    let made = c.in-Ok-make_tables.ensures.keeps_to o named counted refl in
+    let none = counted_unframed bare c.in-Ok-free_count.ensures.kept in
+    let made = c.in-Ok-make_tables.ensures.keeps_to o named counted none refl in
     c.in-Ok-write_tables.ensures.keeps_to o made
 
 -- ---- What is seen of the space tables.
 
 pub returns-in-Err-clause-sees : goal.returns-in-Err-clause-sees
-returns-in-Err-clause-sees g c = λ d named ws begun untabled. rw c.in-Err.ensures.fault tt
+returns-in-Err-clause-sees g c = λ d named ws begun. rw c.in-Err.ensures.fault (tt, tt)
 
 pub returns-in-Err-free_count-clause-sees : goal.returns-in-Err-free_count-clause-sees
-returns-in-Err-free_count-clause-sees g c = λ d named ws begun untabled.
-    label_form (IsMapHome AllocationMap c.write_over.new.filer.swapper.layout) (g.D.Disk.state c.write_over.new.filer.swapper.under) c.write_over.new.filer.swapper.pool (g.D.Disk.state c.free_count.new.self.swapper.under) c.in-Err-free_count.halt c.in-Err-free_count.ensures.cause
+returns-in-Err-free_count-clause-sees g c = λ d named ws begun.
+    let homes = IsMapHome AllocationMap c.write_over.new.filer.swapper.layout in
+    let before = g.D.Disk.state c.write_over.new.filer.swapper.under in
+    let slots = c.write_over.new.filer.swapper.pool in
+    let after = g.D.Disk.state c.free_count.new.self.swapper.under in (
+      label_form homes before slots after c.in-Err-free_count.halt c.in-Err-free_count.ensures.cause,
+      brought_lacks homes before slots after no_page c.in-Err-free_count.halt c.in-Err-free_count.ensures.cause,
+    )
 
 pub returns-in-Err-make_tables-clause-sees : goal.returns-in-Err-make_tables-clause-sees
-returns-in-Err-make_tables-clause-sees g c = λ d named ws begun untabled.
-    create_form c.free_count.new.self.swapper.layout 3 (g.D.Disk.state c.free_count.new.self.swapper.under) c.free_count.new.self.swapper.pool (g.D.Disk.state c.make_tables.new.filer.swapper.under) c.make_tables.new.filer.swapper.pool c.in-Err-make_tables.halt c.in-Err-make_tables.ensures.cause
+returns-in-Err-make_tables-clause-sees g c = λ d named ws begun.
+    let v = view_of c.free_count.new.self in
+    let w = view_of c.make_tables.new.filer in (
+      create_form v.layout 3 (λ page. page < 96) v.disk v.slots w.disk w.slots c.in-Err-make_tables.halt c.in-Err-make_tables.ensures.cause,
+      new_lacks no_page 3 (λ page. page < 96) v w c.in-Err-make_tables.halt c.in-Err-make_tables.ensures.cause,
+    )
 
 pub returns-in-Err-write_tables-clause-sees : goal.returns-in-Err-write_tables-clause-sees
-returns-in-Err-write_tables-clause-sees g c = λ d named ws begun untabled.
+returns-in-Err-write_tables-clause-sees g c = λ d named ws begun.
     let filer = c.args.filer.now in
     let root = in_use c.args.root in
+    let next = next_id c.in_use-root.result in
+    let least : next ≤ next = omega arith in
     let o = telling (outset d named (ws ++ (root_write root ∷ []))) [] in
-    let first = begun_untabled filer.swapper.layout d named ws (g.D.Disk.state filer.swapper.under) filer.swapper.pool filer.runs filer.swapper.accepted c.requires.size (g.met.D.Disk.in_form filer.swapper.under d begun.contents)
-    (g.met.D.Disk.whole filer.swapper.under d begun.contents ∙ c.requires.size) c.requires.bare (c.requires.no_runs filer.swapper.layout.sectors) begun untabled in
+    let first = begun_untabled next filer.swapper.layout d named ws (g.D.Disk.state filer.swapper.under) filer.swapper.pool filer.runs filer.swapper.accepted c.requires.size (g.met.D.Disk.in_form filer.swapper.under d begun.contents)
+    (g.met.D.Disk.whole filer.swapper.under d begun.contents ∙ c.requires.size) c.requires.bare (c.requires.no_runs filer.swapper.layout.sectors) begun in
     let written = rooted_writes ws (root_write root) (rw c.in_use-root.ensures.root at c.in-Ok.ensures.made).makes c.requires.bare begun.writes in
     let bare = subst IsBare (sym c.in-Ok.ensures.frames) c.requires.bare in
-    let rooted_keeps = rooted_untabled d named ws root (view_of c.write_over.new.filer) c.write_over.new.filer.swapper.accepted bare written (c.in-Ok.ensures.keeps_to (telling (outset d named ws) []) named first) in
+    let rooted_keeps = rooted_untabled d named ws root next (view_of c.write_over.new.filer) c.write_over.new.filer.swapper.accepted bare written (c.in-Ok.ensures.keeps_to (telling (giving (outset d named ws) next) []) named first least) in
     let counted = keeps_counted o (view_of c.write_over.new.filer) (view_of c.free_count.new.self) named rooted_keeps c.in-Ok-free_count.ensures.kept c.in-Ok-free_count.ensures.same c.in-Ok-free_count.ensures.runs in
-    let made = c.in-Ok-make_tables.ensures.tables (outset d named (ws ++ (root_write root ∷ []))) named counted in
+    let none = counted_unframed bare c.in-Ok-free_count.ensures.kept in
+    let made = c.in-Ok-make_tables.ensures.tables (outset d named (ws ++ (root_write root ∷ []))) named counted none in
     let told : TablesAre (view_of c.make_tables.new.filer) made.1.0 = tables_of (outset d named (ws ++ (root_write root ∷ []))) made.1.0 made.1.1.1.0 made.1.1.0 in
     c.in-Err-write_tables.ensures.sees made.1.0 told
 
 pub returns-clause-sees : goal.returns-clause-sees
-returns-clause-sees g c = λ d named ws begun untabled.
+returns-clause-sees g c = λ d named ws begun.
     let filer = c.args.filer.now in
     let root = in_use c.args.root in
+    let next = next_id c.in_use-root.result in
+    let least : next ≤ next = omega arith in
     let o = telling (outset d named (ws ++ (root_write root ∷ []))) [] in
-    let first = begun_untabled filer.swapper.layout d named ws (g.D.Disk.state filer.swapper.under) filer.swapper.pool filer.runs filer.swapper.accepted c.requires.size (g.met.D.Disk.in_form filer.swapper.under d begun.contents)
-    (g.met.D.Disk.whole filer.swapper.under d begun.contents ∙ c.requires.size) c.requires.bare (c.requires.no_runs filer.swapper.layout.sectors) begun untabled in
+    let first = begun_untabled next filer.swapper.layout d named ws (g.D.Disk.state filer.swapper.under) filer.swapper.pool filer.runs filer.swapper.accepted c.requires.size (g.met.D.Disk.in_form filer.swapper.under d begun.contents)
+    (g.met.D.Disk.whole filer.swapper.under d begun.contents ∙ c.requires.size) c.requires.bare (c.requires.no_runs filer.swapper.layout.sectors) begun in
     let written = rooted_writes ws (root_write root) (rw c.in_use-root.ensures.root at c.in-Ok.ensures.made).makes c.requires.bare begun.writes in
     let bare = subst IsBare (sym c.in-Ok.ensures.frames) c.requires.bare in
-    let rooted_keeps = rooted_untabled d named ws root (view_of c.write_over.new.filer) c.write_over.new.filer.swapper.accepted bare written (c.in-Ok.ensures.keeps_to (telling (outset d named ws) []) named first) in
+    let rooted_keeps = rooted_untabled d named ws root next (view_of c.write_over.new.filer) c.write_over.new.filer.swapper.accepted bare written (c.in-Ok.ensures.keeps_to (telling (giving (outset d named ws) next) []) named first least) in
     let counted = keeps_counted o (view_of c.write_over.new.filer) (view_of c.free_count.new.self) named rooted_keeps c.in-Ok-free_count.ensures.kept c.in-Ok-free_count.ensures.same c.in-Ok-free_count.ensures.runs in
-    let made = c.in-Ok-make_tables.ensures.tables (outset d named (ws ++ (root_write root ∷ []))) named counted in
+    let none = counted_unframed bare c.in-Ok-free_count.ensures.kept in
+    let made = c.in-Ok-make_tables.ensures.tables (outset d named (ws ++ (root_write root ∷ []))) named counted none in
     let told : TablesAre (view_of c.make_tables.new.filer) made.1.0 = tables_of (outset d named (ws ++ (root_write root ∷ []))) made.1.0 made.1.1.1.0 made.1.1.0 in
     c.in-Ok-write_tables.ensures.sees made.1.0 told
 

@@ -1,3 +1,6 @@
+use Rattle.swapper_kernel.specs.Goes.{no_page}
+use Rattle.fault_core.specs.Reach.{no_break}
+use Rattle.fault_core.specs.ReachLaws.{reach_lacks}
 use Rattle.fault_core.specs.View.{view_of}
 use Rattle.running_words.specs.RunningLaws.{IsWhole}
 use Rattle.pilot_engine.proofs.AloneLemmas.{own_makes}
@@ -50,4 +53,4 @@ pub returns-clause-sees : goal.returns-clause-sees
 returns-clause-sees g c = λ b told. rw c.look_at_frames.ensures.same (c.in-Ok.ensures.sees b told)
 
 pub returns-in-Err-clause-sees : goal.returns-in-Err-clause-sees
-returns-in-Err-clause-sees g c = λ b told. spares_form c.in-Err.halt (c.in-Err.ensures.right b told)
+returns-in-Err-clause-sees g c = λ b told. (spares_form c.in-Err.halt (c.in-Err.ensures.right b told), reach_lacks no_break (view_of c.args.filer.now) (view_of c.begin.new.filer) no_page c.in-Err.halt c.in-Err.ensures.cause)

@@ -3,7 +3,8 @@ use Rattle.labelled_disk.specs.declared.evidence.Halt.TheVariants as halt
 use Rattle.pilot_engine.specs.Closing.{HasShut}
 use Rattle.filer_kernel.specs.Evidence.{ShowsSo}
 use Rattle.file_manager.specs.Reasons.{ShowsReason}
-use Rattle.running_words.specs.Spared.{SparesForm}
+use Rattle.pilot_engine.specs.EndLaws.{spared_at_end}
+use Rattle.pilot_engine.specs.Reasons.{SparesEnd}
 use Rattle.pilot_engine.specs.Opening.{LeavesOpen}
 use Rattle.pilot_top.specs.Outset.{FromEachOutset}
 use Rattle.pilot_top.proofs.CloseLemmas.{not_damaged, damage_reasoned, damage_told, left_damaged}
@@ -29,9 +30,9 @@ returns-in-Err-clause-so g c damaged =
     let filer = session.core.filer in
     let disk = g.D.Disk.state c.finish-closed.result.1 in
     damage_reasoned c.in-Err.halt c.stop.result _ _ _ disk (FromEachOutset session disk) (subst (λ r. IfErr r (ShowsSo disk)) c.in-Err.is c.finish-closed.ensures.so)
-    (λ e. reason_halted session session refl (goes_nowhere session) disk e c.in-Err.halt (λ o keeps next. (
+    (λ e. reason_halted session session refl (goes_nowhere session) disk e c.in-Err.halt (λ o keeps ahead. (
       subst (λ r. IfErr r (ShowsReason o filer.swapper.layout disk)) c.in-Err.is (c.finish-closed.ensures.reasons o keeps),
-      λ seen. subst (λ r. IfErr r SparesForm) c.in-Err.is (c.finish-closed.ensures.sees o keeps seen),
+      λ seen. spared_at_end o disk c.in-Err.halt (subst (λ r. IfErr r (SparesEnd o disk)) c.in-Err.is (c.finish-closed.ensures.sees o keeps seen)),
     )))
     c.stop.ensures.status damaged c.stop.ensures.line
 

@@ -27,7 +27,7 @@ use Rattle.pilot_top.proofs.FrontLemmas.{End-has}
 use Rattle.pilot_top.proofs.LawfulRuns.{called_openly, ended_last, openly_last, openly_none, openly_then}
 use Rattle.pilot_top.proofs.OpenLemmas.{early_halt}
 use Rattle.pilot_top.proofs.PlaceLemmas.{stop_told}
-use Rattle.pilot_top.proofs.ReasonLemmas.{goes_nowhere, goes_then, reason_before, reason_halted}
+use Rattle.pilot_top.proofs.ReasonLemmas.{damage_same, goes_nowhere, goes_then, reason_before, reason_halted}
 use Rattle.pilot_top.proofs.RepliedLemmas.{Replied-end, Replied-halted, Replied-long, Replied-read_fault, Replied-write_fault}
 use Rattle.pilot_top.proofs.StagedLemmas.{from_rest, stands_told}
 use Rattle.pilot_top.proofs.StatusLemmas.{halt_disk, halt_ends, trace_ends}
@@ -101,8 +101,8 @@ turns-preserved g c =
       size = went.sectors ∙ i.size ∙ ap (λ l. l.sectors) (sym c.take_turn.ensures.layout);
       layout = c.take_turn.ensures.layout ∙ i.layout;
       goes = goes_then c.args.session c.turns.session c.take_turn.new.session i.goes (record {
-        keeps = λ o keeps next. c.in-Replies.ensures.keeps_to o keeps next tt;
-        sees = λ o keeps next seen. c.in-Replies.ensures.sees o keeps next seen tt;
+        keeps = λ o keeps ahead. c.in-Replies.ensures.keeps_to o keeps ahead tt;
+        sees = λ o keeps ahead seen. c.in-Replies.ensures.sees o keeps ahead seen tt;
         onward = c.take_turn.ensures.onward;
       });
       opened = c.take_turn.ensures.open_still;
@@ -232,7 +232,7 @@ returns-in-Halts g c =
     let lawful = openly_last (openly_then i.turned.lawful (called_openly c.take_turn.ensures.wrote)) in
     let went = went_then i.same_disk c.take_turn.ensures.wrote.makes.went in
     let disk = disk_of g c.take_turn.new.session in
-    let reason = λ (e : Evidence). reason_halted c.args.session c.turns.session i.layout i.goes disk e c.in-Halts.halt (λ o keeps next. (c.in-Halts.ensures.reasons o keeps next c.in-Halts.halt refl, λ seen. c.in-Halts.ensures.right o keeps next seen c.in-Halts.halt refl)) in
+    let reason = λ (e : Evidence). reason_halted c.args.session c.turns.session i.layout i.goes disk e c.in-Halts.halt (λ o keeps ahead. (c.in-Halts.ensures.reasons o keeps ahead c.in-Halts.halt refl, λ seen. c.in-Halts.ensures.right o keeps ahead seen c.in-Halts.halt refl)) in
     record {
       answering = λ m b t stands source sink.
           let turned = Turned-told i.turned source sink in
@@ -265,7 +265,7 @@ returns-in-Halts g c =
           let so : IsSo disk why.0 = subst (λ (h : Halt). ShowsSo disk h) why.1 (c.in-Halts.ensures.so c.in-Halts.halt refl) in
           let line = Puts-later _ _ _ _ _ (rose_later _ _ _ i.sink) (subst (λ (h : Halt). PutsLast g c.turns.sink c.stop.new.sink (cause_of h)) why.1 c.stop.ensures.line) in
           let told = damage_told _ _ _ _ t c.turns.lines _ _ _ why.0 disk so (unset_then (i.left_open left) c.take_turn.ensures.wrote) (Going-sink _ _ _ _ _ _ _ t i.turned.going sink) line in
-          rw c.into_disk-in-Halts.ensures (told, reason why.0 why.1);
+          damage_same c.args.session c.into_disk-in-Halts.result c.take_turn.new.session.core.filer.swapper.under c.into_disk-in-Halts.ensures (told, reason why.0 why.1);
       lawful = rw c.into_disk-in-Halts.ensures lawful;
       same_disk = rw c.into_disk-in-Halts.ensures went;
       disk_cause = λ is.
@@ -291,8 +291,8 @@ returns-in-Ends g c =
     let other = trace_ends c.end_trace.result.0 e.ends in
     let layout = c.take_turn.ensures.layout ∙ i.layout in
     let goes = goes_then c.args.session c.turns.session c.take_turn.new.session i.goes (record {
-      keeps = λ o keeps next. c.in-Ends.ensures.keeps_to o keeps next tt;
-      sees = λ o keeps next seen. c.in-Ends.ensures.sees o keeps next seen tt;
+      keeps = λ o keeps ahead. c.in-Ends.ensures.keeps_to o keeps ahead tt;
+      sees = λ o keeps ahead seen. c.in-Ends.ensures.sees o keeps ahead seen tt;
       onward = c.take_turn.ensures.onward;
     }) in
     let reason = λ (e : Evidence). reason_before c.args.session c.take_turn.new.session layout goes disk e in

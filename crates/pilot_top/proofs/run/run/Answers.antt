@@ -48,7 +48,7 @@ returns-in-Ok-clause-untaken g c b source is some = c.answer_lines.ensures.untak
 pub returns-in-Ok-clause-left_open : goal.returns-in-Ok-clause-left_open
 returns-in-Ok-clause-left_open g c is = c.answer_lines.ensures.left_open c.in-Ok.ensures.left_open is
 
--- the session kept to what stood at the start, and saw the space tables where no label named a page of theirs
+-- the session kept to what stood at the start, and saw the space tables
 started : (g : given.Over) (c : goal.After-answer_lines g) (e : Evidence) → FromEachOutset c.in-Ok.session (g.D.Disk.state c.answer_lines.result.1) e → FromOutset (g.D.Disk.state c.args.disk) (g.D.Disk.state c.answer_lines.result.1) e
 started g c e =
     let session = c.in-Ok.session in

@@ -1,11 +1,13 @@
 use Rattle.std.proofs.Common.{◌≡◌, [], ◌∷◌, false, Some, None, refl, sym, ◌∙◌, subst, arith}
 use Rattle.labelled_disk.specs.declared.evidence.Halt.{Halt}
 use Rattle.filer_kernel.specs.Evidence.{ShowsSo}
+use Rattle.file_manager.specs.Creating.{next_id}
 use Rattle.file_manager.specs.Reasons.{ShowsReason}
+use Rattle.file_manager.specs.RetoldLaws.{on_giving}
 use Rattle.trace_io.specs.Form.{GivesForm}
 use Rattle.trace_io.specs.Reading.{is_last}
 use Rattle.running_words.specs.Running.{Runs}
-use Rattle.running_words.specs.Spared.{SparesForm}
+use Rattle.pilot_engine.specs.Reasons.{IsSpared}
 use Rattle.pilot_top.proofs.CostLemmas.{bad_costs, call_costs}
 use Rattle.pilot_top.proofs.StagedLemmas.{from_rest, from_step}
 use Rattle.pilot_top.proofs.TurnLemmas.{goes_on, call_not_end, bad_not_end, same_halt, answers_call, call_wrote, nothing_wrote, answers_bad}
@@ -91,50 +93,51 @@ returns-in-Bad-clause-turns g c =
 pub returns-in-Err-clause-so : goal.returns-in-Err-clause-so
 returns-in-Err-clause-so g c halt same = subst (λ (h : Halt). ShowsSo (g.D.Disk.state c.step.new.self.core.filer.swapper.under) h) (same_halt c.in-Err.halt halt same) c.in-Err.ensures.so
 
--- The outsets to which the session keeps, and what it sees of the space tables.
+-- The outsets to which the session keeps, and what it sees of the space tables, and of files.
 
 pub returns-in-Ok-clause-keeps_to : goal.returns-in-Ok-clause-keeps_to
-returns-in-Ok-clause-keeps_to g c o keeps next going = c.in-Ok.ensures.keeps_to o keeps next
+returns-in-Ok-clause-keeps_to g c o keeps ahead going = c.in-Ok.ensures.keeps_to o keeps ahead
 
 pub returns-in-Some-clause-keeps_to : goal.returns-in-Some-clause-keeps_to
-returns-in-Some-clause-keeps_to g c o keeps next going = keeps
+returns-in-Some-clause-keeps_to g c o keeps ahead going = on_giving o c.args.session.now.core.filer (next_id c.args.session.now.volume.root) keeps ahead.next
 
 pub returns-in-Bad-clause-keeps_to : goal.returns-in-Bad-clause-keeps_to
-returns-in-Bad-clause-keeps_to g c o keeps next going = keeps
+returns-in-Bad-clause-keeps_to g c o keeps ahead going = on_giving o c.args.session.now.core.filer (next_id c.args.session.now.volume.root) keeps ahead.next
 
 pub returns-in-End-clause-keeps_to : goal.returns-in-End-clause-keeps_to
-returns-in-End-clause-keeps_to g c o keeps next going = keeps
+returns-in-End-clause-keeps_to g c o keeps ahead going = on_giving o c.args.session.now.core.filer (next_id c.args.session.now.volume.root) keeps ahead.next
 
 pub returns-in-ReadFault-clause-keeps_to : goal.returns-in-ReadFault-clause-keeps_to
-returns-in-ReadFault-clause-keeps_to g c o keeps next going = keeps
+returns-in-ReadFault-clause-keeps_to g c o keeps ahead going = on_giving o c.args.session.now.core.filer (next_id c.args.session.now.volume.root) keeps ahead.next
 
 pub returns-in-Long-clause-keeps_to : goal.returns-in-Long-clause-keeps_to
-returns-in-Long-clause-keeps_to g c o keeps next going = keeps
+returns-in-Long-clause-keeps_to g c o keeps ahead going = on_giving o c.args.session.now.core.filer (next_id c.args.session.now.volume.root) keeps ahead.next
 
 pub returns-in-Err-clause-reasons : goal.returns-in-Err-clause-reasons
-returns-in-Err-clause-reasons g c o keeps next halt same =
-    subst (λ (h : Halt). ShowsReason o c.args.session.now.core.filer.swapper.layout (g.D.Disk.state c.step.new.self.core.filer.swapper.under) h) (same_halt c.in-Err.halt halt same) (c.in-Err.ensures.reasons o keeps next)
+returns-in-Err-clause-reasons g c o keeps ahead halt same =
+    subst (λ (h : Halt). ShowsReason o c.args.session.now.core.filer.swapper.layout (g.D.Disk.state c.step.new.self.core.filer.swapper.under) h) (same_halt c.in-Err.halt halt same) (c.in-Err.ensures.reasons o keeps ahead)
 
 pub returns-in-Ok-clause-sees : goal.returns-in-Ok-clause-sees
-returns-in-Ok-clause-sees g c o keeps next seen going = c.in-Ok.ensures.sees o keeps next seen
+returns-in-Ok-clause-sees g c o keeps ahead seen going = c.in-Ok.ensures.sees o keeps ahead seen
 
 pub returns-in-Some-clause-sees : goal.returns-in-Some-clause-sees
-returns-in-Some-clause-sees g c o keeps next seen going = seen
+returns-in-Some-clause-sees g c o keeps ahead seen going = seen
 
 pub returns-in-Bad-clause-sees : goal.returns-in-Bad-clause-sees
-returns-in-Bad-clause-sees g c o keeps next seen going = seen
+returns-in-Bad-clause-sees g c o keeps ahead seen going = seen
 
 pub returns-in-End-clause-sees : goal.returns-in-End-clause-sees
-returns-in-End-clause-sees g c o keeps next seen going = seen
+returns-in-End-clause-sees g c o keeps ahead seen going = seen
 
 pub returns-in-ReadFault-clause-sees : goal.returns-in-ReadFault-clause-sees
-returns-in-ReadFault-clause-sees g c o keeps next seen going = seen
+returns-in-ReadFault-clause-sees g c o keeps ahead seen going = seen
 
 pub returns-in-Long-clause-sees : goal.returns-in-Long-clause-sees
-returns-in-Long-clause-sees g c o keeps next seen going = seen
+returns-in-Long-clause-sees g c o keeps ahead seen going = seen
 
 pub returns-in-Err-clause-right : goal.returns-in-Err-clause-right
-returns-in-Err-clause-right g c o keeps next seen halt same = subst SparesForm (same_halt c.in-Err.halt halt same) (c.in-Err.ensures.sees o keeps next seen)
+returns-in-Err-clause-right g c o keeps ahead seen halt same =
+    subst (λ (h : Halt). IsSpared o (g.D.Disk.state c.step.new.self.core.filer.swapper.under) h) (same_halt c.in-Err.halt halt same) (c.in-Err.ensures.sees o keeps ahead seen)
 
 pub returns-in-Ok-clause-onward : goal.returns-in-Ok-clause-onward
 returns-in-Ok-clause-onward g c = (c.step.ensures.onward, c.step.ensures.serial)

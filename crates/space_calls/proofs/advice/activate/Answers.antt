@@ -11,12 +11,15 @@ use Rattle.space_calls.proofs.CameLemmas.{came_then, knows, still_runs, still_te
 use Rattle.space_calls.proofs.CarryLemmas.{allowed_done, allowed_refused}
 use Rattle.space_calls.proofs.RunLemmas.{reached_makes}
 use Rattle.filer_kernel.specs.EvidenceLaws.{fits}
-use Rattle.fault_core.proofs.EvidenceLemmas.{shows_so}
+use Rattle.fault_core.proofs.EvidenceLemmas.{shows_so, touch_so}
 use Rattle.space_tables.specs.Shows.{IsRunAt}
 use Rattle.table_calls.specs.Answers.{TablesSay}
-use Rattle.space_calls.proofs.RangeLemmas.{asked_halt, given_so, within_halt}
+use Rattle.fault_core.specs.ReachLaws.{reach_lacks, touch_of_reach}
+use Rattle.space_calls.specs.Ranges.{BreaksRange, space_units}
+use Rattle.space_calls.proofs.RangeLemmas.{asked_halt, found_run, given_so, run_lacks, within_touch}
 use Rattle.running_words.specs.MovingLaws.{moves_of_reaches}
 use Rattle.space_calls.proofs.MovesLemmas.{moves_twice}
+use Rattle.space_calls.specs.FilesLaws.{shown_here}
 use Rattle.space_calls.proofs.advice.activate.Goals as goal
 
 -- ---- It is refused.
@@ -129,18 +132,32 @@ returns-in-Err-activate-clause-wrote g c =
 -- ---- Why it failed.
 
 pub returns-in-Err-clause-cause : goal.returns-in-Err-clause-cause
-returns-in-Err-clause-cause g c = asked_halt (state c.args.core.now) (state c.bounds.new.core) c.args.core.now.filer.swapper.accepted c.args.space c.args.core.now.intervals c.in-Err.halt c.in-Err.ensures.cause
+returns-in-Err-clause-cause g c =
+    let old = c.args.core.now in
+    let breaks = asked_halt (state old) (state c.bounds.new.core) old.filer.swapper.accepted c.args.space old.intervals c.in-Err.halt c.in-Err.ensures.cause in
+    touch_of_reach (BreaksRange (state old) old.intervals c.args.space) (state old) (state c.bounds.new.core) c.in-Err.halt breaks
 
 pub returns-in-Err-activate-clause-cause : goal.returns-in-Err-activate-clause-cause
 returns-in-Err-activate-clause-cause g c =
     let asked = c.bounds.ensures.asked in
-    within_halt (state c.args.core.now) (state c.bounds.new.core) c.args.core.now.filer.swapper.accepted c.args.space asked.reaches c.args.core.now.intervals c.bounds.new.core.intervals asked.intervals (state c.activate.new.self) c.in-Ok-Ok.run' (given_so (TablesSay (state c.args.core.now) (λ b. IsRunAt b c.args.space)) c.in-Ok-Ok.run' c.in-Ok-Ok.field-0 c.in-Ok-Ok.field-0-is c.in-Ok-Ok.ensures.read) c.in-Err-activate.halt c.in-Err-activate.ensures.cause
+    within_touch (state c.args.core.now) (state c.bounds.new.core) c.args.core.now.filer.swapper.accepted c.args.space asked.reaches c.args.core.now.intervals c.bounds.new.core.intervals asked.intervals (state c.activate.new.self) c.in-Ok-Ok.run' (given_so (TablesSay (state c.args.core.now) (λ b. IsRunAt b c.args.space)) c.in-Ok-Ok.run' c.in-Ok-Ok.field-0 c.in-Ok-Ok.field-0-is c.in-Ok-Ok.ensures.read) c.in-Err-activate.halt c.in-Err-activate.ensures.cause
+
+pub returns-in-Err-clause-missing : goal.returns-in-Err-clause-missing
+returns-in-Err-clause-missing g c = λ ss s.
+    let old = c.args.core.now in
+    let breaks = asked_halt (state old) (state c.bounds.new.core) old.filer.swapper.accepted c.args.space old.intervals c.in-Err.halt c.in-Err.ensures.cause in
+    reach_lacks (BreaksRange (state old) old.intervals c.args.space) (state old) (state c.bounds.new.core) (space_units ss c.args.space) c.in-Err.halt breaks
+
+pub returns-in-Err-activate-clause-missing : goal.returns-in-Err-activate-clause-missing
+returns-in-Err-activate-clause-missing g c = λ ss s.
+    let found = found_run ss c.args.space c.in-Ok-Ok.run' c.in-Ok-Ok.field-0 c.in-Ok-Ok.field-0-is (c.in-Ok-Ok.ensures.seen ss s) in
+    run_lacks ss c.args.space c.in-Ok-Ok.run' found.1 c.in-Err-activate.halt (c.in-Err-activate.ensures.missing ss (c.bounds.ensures.sees ss s))
 
 pub returns-in-Err-clause-so : goal.returns-in-Err-clause-so
 returns-in-Err-clause-so g c = shows_so _ (state c.args.core.now) (state c.bounds.new.core) (fits c.args.core.now.filer.swapper c.requires.size) c.bounds.ensures.asked.reaches.goes.makes c.in-Err.halt c.in-Err.ensures.cause
 
 pub returns-in-Err-activate-clause-so : goal.returns-in-Err-activate-clause-so
-returns-in-Err-activate-clause-so g c = shows_so _ (state c.bounds.new.core) (state c.activate.new.self) (fits c.bounds.new.core.filer.swapper (search rules)) c.activate.ensures.reaches.goes.makes c.in-Err-activate.halt c.in-Err-activate.ensures.cause
+returns-in-Err-activate-clause-so g c = touch_so _ (state c.bounds.new.core) (state c.activate.new.self) (fits c.bounds.new.core.filer.swapper (search rules)) c.activate.ensures.reaches.goes.makes c.in-Err-activate.halt c.in-Err-activate.ensures.cause
 
 -- ---- No label was written.
 
@@ -159,13 +176,13 @@ returns-in-Err-activate-clause-moves g c = moves_twice (state c.args.core.now) (
 -- ---- The tables are told.
 
 pub returns-in-Ok-Err-clause-sees : goal.returns-in-Ok-Err-clause-sees
-returns-in-Ok-Err-clause-sees g c = λ s. (s.0, c.bounds.ensures.sees s.0 s.1)
+returns-in-Ok-Err-clause-sees g c = λ ss s. (ss, (c.bounds.ensures.sees ss s, shown_here ss))
 
 pub returns-in-Err-clause-right : goal.returns-in-Err-clause-right
 returns-in-Err-clause-right g c = λ s. c.in-Err.ensures.right s.0 s.1
 
 pub returns-in-Ok-clause-sees : goal.returns-in-Ok-clause-sees
-returns-in-Ok-clause-sees g c = λ s. (s.0, c.activate.ensures.sees s.0 (c.bounds.ensures.sees s.0 s.1))
+returns-in-Ok-clause-sees g c = λ ss s. (ss, (c.activate.ensures.sees ss (c.bounds.ensures.sees ss s), shown_here ss))
 
 pub returns-in-Err-activate-clause-right : goal.returns-in-Err-activate-clause-right
 returns-in-Err-activate-clause-right g c = λ s. c.in-Err-activate.ensures.right s.0 (c.bounds.ensures.sees s.0 s.1)

@@ -1,3 +1,7 @@
+use Rattle.std.proofs.Common.{◌≡◌, ◌⊎◌, ℕ, Some, refl, subst}
+use Rattle.flat_machine.specs.Space.{space_at}
+use Rattle.swapper_kernel.specs.Goes.{Pages}
+use Rattle.space_calls.specs.Mapping.{IsLastFrom}
 use Rattle.space_calls.proofs.RunLemmas.{knows}
 use Rattle.space_calls.proofs.TableAnswers.{not_refused}
 use Rattle.space_calls.proofs.WindowLemmas.{window_given}
@@ -5,8 +9,9 @@ use Rattle.fault_core.specs.Core.{state}
 use Rattle.filer_kernel.specs.EvidenceLaws.{fits}
 use Rattle.fault_core.proofs.EvidenceLemmas.{shows_so}
 use Rattle.space_calls.proofs.MovesLemmas.{moves_tables}
-use Rattle.space_calls.specs.Sees.{SeesOn}
-use Rattle.space_calls.proofs.SeesLemmas.{set_so}
+use Rattle.space_calls.specs.Sees.{IsShown, SeesFiles}
+use Rattle.space_calls.proofs.OnLemmas.{window_given_on}
+use Rattle.space_calls.proofs.SeesLemmas.{are_seen, set_so}
 use Rattle.space_calls.proofs.mapping.give_window.Goals as goal
 
 pub returns-in-Err-clause-sound : goal.returns-in-Err-clause-sound
@@ -45,10 +50,13 @@ returns-in-Err-answer-clause-moves g c = rw c.frame_count-frames.ensures.same (m
 -- ---- The tables are told.
 
 pub returns-in-Ok-answer-clause-sees : goal.returns-in-Ok-answer-clause-sees
-returns-in-Ok-answer-clause-sees g c = λ ss x s may named fits. rw c.frame_count-frames.ensures.same (set_so _ (SeesOn c.set_window.new.core) (λ h. (_, h)) c.in-Ok.answer (c.in-Ok.ensures.sees ss x s may named fits))
+returns-in-Ok-answer-clause-sees g c = λ ss x s may named fits.
+    let pages : Pages = λ file last. IsShown ss file last ⊎ ((file ≡ c.args.shown.id) × IsLastFrom ss c.args.space c.args.shown.page last) in
+    let on = window_given_on ss (are_seen s) c.args.space c.args.shown x (subst (λ (n : ℕ). space_at ss n ≡ Some x) named may.there) in
+    (refl, rw c.frame_count-frames.ensures.same (set_so _ (SeesFiles pages c.set_window.new.core) (λ h. (_, (h, on))) c.in-Ok.answer (c.in-Ok.ensures.sees ss x s may named fits)))
 
 pub returns-in-Err-answer-clause-sees : goal.returns-in-Err-answer-clause-sees
-returns-in-Err-answer-clause-sees g c = λ ss x s may named fits. rw c.frame_count-frames.ensures.same (set_so _ (SeesOn c.set_window.new.core) (λ h. (_, h)) c.in-Ok.answer (c.in-Ok.ensures.sees ss x s may named fits))
+returns-in-Err-answer-clause-sees g c = λ ss x s may named fits. absurd (not_refused _ c.in-Ok.answer c.in-Err-answer.word c.in-Err-answer.is (c.in-Ok.ensures.sees ss x s may named fits))
 
 pub returns-in-Err-clause-right : goal.returns-in-Err-clause-right
 returns-in-Err-clause-right g c = λ s. c.in-Err.ensures.right s.0 s.1

@@ -1,4 +1,6 @@
+use Rattle.std.proofs.Common.{◌≡◌}
 use Rattle.flat_machine.specs.declared.call.Call.TheVariants as call
+use Rattle.flat_machine.specs.declared.call.Reply.TheVariants as reply
 use Rattle.swapper_kernel.specs.GoesLaws.{makes_then}
 use Rattle.filer_kernel.proofs.Outcomes.{err_wider, ok_wider}
 use Rattle.space_calls.proofs.CarryLemmas.{refused_carried}
@@ -10,8 +12,11 @@ use Rattle.space_calls.specs.Halts.{ChangeHalts, MapFileHalts}
 use Rattle.space_calls.proofs.HaltLemmas.{given_map}
 use Rattle.running_words.specs.MovingLaws.{moves_of_reaches}
 use Rattle.space_calls.proofs.MovesLemmas.{moves_behind}
-use Rattle.space_calls.specs.Mapping.{MayShow}
+use Rattle.space_calls.specs.Mapping.{IsLastFrom, MayShow, ReachesOver}
 use Rattle.space_calls.proofs.RangeLemmas.{given_so}
+use Rattle.space_calls.specs.FilesLaws.{shown_or}
+use Rattle.space_calls.proofs.OnLemmas.{given_still_on}
+use Rattle.space_calls.proofs.SizeLemmas.{where_done}
 use Rattle.space_calls.proofs.mapping.map.Goals as goal
 
 pub returns-in-Ok-Err-clause-carried : goal.returns-in-Ok-Err-clause-carried
@@ -70,12 +75,19 @@ returns-clause-moves g c = moves_behind (state c.args.core.now) (state c.may_map
 -- ---- The tables are told.
 
 pub returns-in-Ok-Err-clause-sees : goal.returns-in-Ok-Err-clause-sees
-returns-in-Ok-Err-clause-sees g c = λ s. (s.0, c.may_map.ensures.still s.0 s.1)
+returns-in-Ok-Err-clause-sees g c = λ ss s. (ss, (c.may_map.ensures.still ss s, shown_or (λ file last. (reply.Refused c.in-Ok-Err.word ≡ reply.Done) × (file ≡ c.args.id) × IsLastFrom ss c.args.space c.args.page last) ss))
 
 pub returns-clause-sees : goal.returns-clause-sees
-returns-clause-sees g c = λ s.
-    let may = given_so (λ u. MayShow s.0 c.args.space c.args.id c.args.page c.args.writable) c.in-Ok-Ok.field-0-0 c.in-Ok-Ok.field-0 c.in-Ok-Ok.field-0-is (c.in-Ok-Ok.ensures.seen s.0 s.1) in
-    c.give_window.ensures.sees s.0 may.0 (c.may_map.ensures.still s.0 s.1) may.1 may.2 may.3
+returns-clause-sees g c = given_still_on c.args.core.now c.give_window.new.core c.args.space c.args.id c.args.page c.give_window.result (λ ss s.
+    let may = given_so (λ u. MayShow ss c.args.space c.args.id c.args.page c.args.writable) c.in-Ok-Ok.field-0-0 c.in-Ok-Ok.field-0 c.in-Ok-Ok.field-0-is (c.in-Ok-Ok.ensures.seen ss s) in
+    c.give_window.ensures.sees ss may.0 (c.may_map.ensures.still ss s) may.1 may.2 may.3)
 
 pub returns-clause-right : goal.returns-clause-right
 returns-clause-right g c = λ s. c.give_window.ensures.right (s.0, c.may_map.ensures.still s.0 s.1)
+
+-- ---- What the space shows is below the file's end.
+
+pub returns-clause-found : goal.returns-clause-found
+returns-clause-found g c = λ ss m named s stands map are.
+    where_done c.give_window.result (ReachesOver ss c.args.space c.args.id c.args.page named)
+    (given_so (λ u. ReachesOver ss c.args.space c.args.id c.args.page named) c.in-Ok-Ok.field-0-0 c.in-Ok-Ok.field-0 c.in-Ok-Ok.field-0-is (c.in-Ok-Ok.ensures.found ss m named s stands map are))

@@ -14,6 +14,8 @@ use Rattle.fault_core.proofs.ReachLemmas.{reaches_then}
 use Rattle.space_calls.proofs.HaltLemmas.{given_map, named_map, path_change}
 use Rattle.std.specs.Prelude.{IfSome}
 use Rattle.space_calls.proofs.SeesLemmas.{are_seen, free_may, handle_so}
+use Rattle.file_map.specs.FileMap.{IsSize}
+use Rattle.space_calls.proofs.SizeLemmas.{found_later, reaches_over}
 use Rattle.space_calls.proofs.mapping.may_map.Goals as goal
 use Rattle.space_calls.proofs.mapping.may_map.Goals.{else-writable-via-then-writable+else-found, else-writable-via-else-writable}
 
@@ -391,3 +393,22 @@ returns-clause-seen g c = λ ss s.
       handle_so ss c.args.space (are_seen s) x free.1.1,
       record { above_reserved = client; small = c.ranges.id.fits; pages_fit = omega (arith, fits, count, small) },
     )
+
+-- ---- What the space would show is below the file's end.
+
+pub returns-clause-found : goal.returns-clause-found
+returns-clause-found g c = λ ss m named s stands map are.
+    let old = c.args.core.now in
+    let u = c.bounds.new.core in
+    let free = map_told ss c.args.space c.in-Ok-Ok-can_map.field-0 c.in-Ok-Ok-can_map.run' c.in-Ok-Ok-can_map.field-0-is (c.in-Ok-Ok-can_map.ensures.seen ss (c.named_file.ensures.still ss (c.bounds.ensures.sees ss s))) in
+    let x : Space = free.1.0 in
+    let long : c.in-Ok-Ok-can_map.run'.1 ≡ x.pages = ap (λ (run : ℕ × ℕ). run.1) free.1.2 in
+    let first = c.from.ensures in
+    let more = c.from-2.ensures in
+    let whole = c.from-3.ensures in
+    let count = c.page_count.ensures.same in
+    let inside = c.if-from.false in
+    let fits : c.args.page + x.pages ≤ c.in-Ok-Some.found.pages = omega (arith, inside, first, more, whole, count, long) in
+    let of_size = found_later (state old) (state u) old.filer.swapper.accepted c.bounds.ensures.asked.reaches named (IsSize named c.args.id c.in-Ok-Some.found.pages) in
+    let size = of_size (λ n now map_now kept. subst (λ (o : Option Attributes). IfSome o (λ a. IsSize named c.args.id a.pages)) c.in-Ok-Some.field-0-is (c.in-Ok-Some.ensures.size n named now map_now kept)) m stands map are in
+    reaches_over ss (are_seen s) c.args.space c.args.id c.args.page c.in-Ok-Some.found.pages named x free.1.1 fits size

@@ -1,3 +1,4 @@
+use Rattle.std.specs.Prelude.{IfOk, IfSome}
 use Rattle.std.proofs.Common.{inl, inr, refl}
 use Rattle.session_words.specs.Parts.{shapes_of}
 use Rattle.swapper_kernel.specs.GoesLaws.{makes_then}
@@ -9,7 +10,9 @@ use Rattle.filer_kernel.proofs.Outcomes.{err_wider}
 use Rattle.fault_core.proofs.ReachLemmas.{reaches_then}
 use Rattle.space_calls.proofs.HaltLemmas.{look_reaches}
 use Rattle.fault_core.specs.Spares.{SparesTables}
-use Rattle.space_calls.proofs.SeesLemmas.{client_so, look_spares, on_ok, reached_sees}
+use Rattle.space_calls.proofs.SeesLemmas.{client_so, look_spares, reached_sees}
+use Rattle.file_map.specs.FileMap.{IsSize}
+use Rattle.space_calls.proofs.SizeLemmas.{found_later}
 use Rattle.space_calls.proofs.naming.named_file.Goals as goal
 
 pub returns-in-Ok-false-clause-answer : goal.returns-in-Ok-false-clause-answer
@@ -53,17 +56,11 @@ returns-clause-reaches g c =
 
 -- ---- The tables are told.
 
-pub returns-in-Ok-false-clause-sees : goal.returns-in-Ok-false-clause-sees
-returns-in-Ok-false-clause-sees g c = λ s. (s.0, c.may_be_named.ensures.still s.0 s.1)
-
 pub returns-clause-still : goal.returns-clause-still
 returns-clause-still g c = λ ss s.
     let u = c.may_be_named.new.core in
     let w = state (record u { filer = c.attributes_of.new.filer }) in
     reached_sees (look_reaches (state u) w c.attributes_of.ensures.looks c.attributes_of.ensures.layout) refl refl (c.may_be_named.ensures.still ss s)
-
-pub returns-clause-sees : goal.returns-clause-sees
-returns-clause-sees g c = λ s. on_ok c.attributes_of.result _ (s.0, returns-clause-still g c s.0 s.1)
 
 pub returns-clause-client : goal.returns-clause-client
 returns-clause-client g c = client_so c.args.id c.attributes_of.result (λ low. (c.attributes_of.ensures.reserved low).0)
@@ -73,3 +70,12 @@ returns-clause-right g c = λ s.
     let u = c.may_be_named.new.core in
     let w = state (record u { filer = c.attributes_of.new.filer }) in
     err_wider c.attributes_of.result (LookHalts c.args.id (state u) w) SparesTables (look_spares (state u) w c.args.id) c.attributes_of.ensures.cause
+
+-- ---- Its size is the file map's.
+
+pub returns-clause-size : goal.returns-clause-size
+returns-clause-size g c = λ m named.
+    let old = c.args.core.now in
+    let u = c.may_be_named.new.core in
+    found_later (state old) (state u) old.filer.swapper.accepted c.may_be_named.ensures.reaches named (IfOk c.attributes_of.result (λ o. IfSome o (λ a. IsSize named c.args.id a.pages)))
+    (λ n stands map are. c.attributes_of.ensures.size n named stands map) m

@@ -9,7 +9,6 @@ use Rattle.fault_core.proofs.ReachLemmas.{reaches_itself, reaches_then}
 use Rattle.space_calls.specs.Halts.{PathHalts, SightHalts}
 use Rattle.filer_kernel.proofs.Outcomes.{err_wider}
 use Rattle.space_calls.proofs.HaltLemmas.{first_sight, search_sight}
-use Rattle.space_calls.proofs.SeesLemmas.{on_ok}
 use Rattle.space_calls.proofs.naming.window_on.Goals as goal
 
 pub returns-in-Ok-true-clause-answer : goal.returns-in-Ok-true-clause-answer
@@ -58,12 +57,6 @@ pub returns-clause-reaches : goal.returns-clause-reaches
 returns-clause-reaches g c = reaches_then (state c.args.core.now) (state c.shows_nothing.new.core) c.args.core.now.filer.swapper.accepted c.shows_nothing.ensures.reaches (state c.shows_file.new.core) c.shows_file.ensures.asked.reaches
 
 -- ---- The tables are told.
-
-pub returns-in-Ok-true-clause-sees : goal.returns-in-Ok-true-clause-sees
-returns-in-Ok-true-clause-sees g c = λ s. (s.0, c.shows_nothing.ensures.still s.0 s.1)
-
-pub returns-clause-sees : goal.returns-clause-sees
-returns-clause-sees g c = λ s. on_ok c.shows_file.result _ (s.0, c.shows_file.ensures.sees s.0 (c.shows_nothing.ensures.still s.0 s.1))
 
 pub returns-clause-still : goal.returns-clause-still
 returns-clause-still g c = λ ss s. c.shows_file.ensures.sees ss (c.shows_nothing.ensures.still ss s)

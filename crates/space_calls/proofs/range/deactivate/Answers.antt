@@ -18,6 +18,7 @@ use Rattle.filer_kernel.specs.EvidenceLaws.{fits}
 use Rattle.fault_core.proofs.EvidenceLemmas.{shows_so}
 use Rattle.running_words.specs.MovingLaws.{moves_of_reaches}
 use Rattle.space_calls.proofs.MovesLemmas.{moves_twice}
+use Rattle.space_calls.specs.FilesLaws.{shown_here}
 use Rattle.space_calls.proofs.range.deactivate.Goals as goal
 
 -- ---- There is no such space.
@@ -145,10 +146,10 @@ returns-clause-moves g c = moves_twice (state c.args.core.now) (state c.range_of
 -- ---- The tables are told.
 
 pub returns-in-Ok-Err-clause-sees : goal.returns-in-Ok-Err-clause-sees
-returns-in-Ok-Err-clause-sees g c = λ s. (s.0, c.range_of.ensures.still s.0 s.1)
+returns-in-Ok-Err-clause-sees g c = λ ss s. (ss, (c.range_of.ensures.still ss s, shown_here ss))
 
 pub returns-in-Err-let_go-clause-right : goal.returns-in-Err-let_go-clause-right
 returns-in-Err-let_go-clause-right g c = λ s. c.in-Err-let_go.ensures.right s.0 (c.range_of.ensures.still s.0 s.1)
 
 pub returns-clause-sees : goal.returns-clause-sees
-returns-clause-sees g c = λ s. (s.0, c.let_go.ensures.sees s.0 (c.range_of.ensures.still s.0 s.1))
+returns-clause-sees g c = λ ss s. (ss, (c.let_go.ensures.sees ss (c.range_of.ensures.still ss s), shown_here ss))

@@ -23,6 +23,7 @@ use Rattle.fault_core.proofs.EvidenceLemmas.{shows_so}
 use Rattle.fault_core.proofs.YieldLemmas.{yield_same, yield_then}
 use Rattle.running_words.specs.MovingLaws.{moves_of_reaches}
 use Rattle.space_calls.proofs.MovesLemmas.{moves_twice, moves_before}
+use Rattle.space_calls.specs.FilesLaws.{shown_here}
 use Rattle.space_calls.proofs.range.force_out.Goals as goal
 
 -- ---- There is no such space.
@@ -198,13 +199,13 @@ returns-in-Ok-settle-clause-moves g c = moves_before (state c.args.core.now) (st
 -- ---- The tables are told.
 
 pub returns-in-Ok-Err-clause-sees : goal.returns-in-Ok-Err-clause-sees
-returns-in-Ok-Err-clause-sees g c = λ s. (s.0, c.range_of.ensures.still s.0 s.1)
+returns-in-Ok-Err-clause-sees g c = λ ss s. (ss, (c.range_of.ensures.still ss s, shown_here ss))
 
 pub returns-in-Err-force-clause-right : goal.returns-in-Err-force-clause-right
 returns-in-Err-force-clause-right g c = λ s. c.in-Err-force.ensures.right s.0 (c.range_of.ensures.still s.0 s.1)
 
 pub returns-in-Ok-settle-clause-sees : goal.returns-in-Ok-settle-clause-sees
-returns-in-Ok-settle-clause-sees g c = λ s. (s.0, c.settle.ensures.still s.0 (c.force.ensures.sees s.0 (c.range_of.ensures.still s.0 s.1)))
+returns-in-Ok-settle-clause-sees g c = λ ss s. (ss, (c.settle.ensures.still ss (c.force.ensures.sees ss (c.range_of.ensures.still ss s)), shown_here ss))
 
 pub returns-in-Err-settle-clause-right : goal.returns-in-Err-settle-clause-right
 returns-in-Err-settle-clause-right g c = λ s. c.in-Err-settle.ensures.right (s.0, c.force.ensures.sees s.0 (c.range_of.ensures.still s.0 s.1))

@@ -22,6 +22,7 @@ use Rattle.swap_units.specs.declared.interval.Interval.{Interval}
 use Rattle.running_words.specs.MovingLaws.{moves_of_reaches, moves_of_touches}
 use Rattle.space_calls.proofs.MovesLemmas.{moves_behind}
 use Rattle.swapper_kernel.specs.Goes.{no_page}
+use Rattle.space_calls.specs.FilesLaws.{shown_here}
 use Rattle.space_calls.proofs.range.kill.Goals as goal
 
 -- ---- There is no such space.
@@ -187,10 +188,10 @@ returns-clause-moves g c = moves_behind (state c.args.core.now) (state c.range_o
 -- ---- The tables are told.
 
 pub returns-in-Ok-Err-clause-sees : goal.returns-in-Ok-Err-clause-sees
-returns-in-Ok-Err-clause-sees g c = λ s. (s.0, c.range_of.ensures.still s.0 s.1)
+returns-in-Ok-Err-clause-sees g c = λ ss s. (ss, (c.range_of.ensures.still ss s, shown_here ss))
 
 pub returns-in-Err-kill-clause-right : goal.returns-in-Err-kill-clause-right
 returns-in-Err-kill-clause-right g c = λ s. c.in-Err-kill.ensures.right s.0 (c.range_of.ensures.still s.0 s.1)
 
 pub returns-clause-sees : goal.returns-clause-sees
-returns-clause-sees g c = λ s. (s.0, c.kill.ensures.sees s.0 (c.range_of.ensures.still s.0 s.1))
+returns-clause-sees g c = λ ss s. (ss, (c.kill.ensures.sees ss (c.range_of.ensures.still ss s), shown_here ss))

@@ -5,15 +5,17 @@ use Rattle.flat_machine.specs.Allows.{Allows}
 use Rattle.fault_core.specs.declared.reference.Access.TheVariants as access
 use Rattle.fault_core.specs.Access.{BreaksFor, last_page}
 use Rattle.fault_core.specs.Core.{kept, state}
-use Rattle.fault_core.specs.Reach.{ReachHalts}
+use Rattle.fault_core.specs.Lack.{LacksPage, shown_units}
+use Rattle.fault_core.specs.Reach.{TouchHalts}
 use Rattle.fault_core.specs.Unit.{IsReady}
 use Rattle.running_words.proofs.RunningLemmas.{running_laws}
 use Rattle.space_calls.proofs.RunLemmas.{reached_makes}
 use Rattle.space_calls.proofs.CameLemmas.{Came, knows, still_tells, whole_of, wrote_so}
 use Rattle.space_calls.proofs.LoadLemmas.{load_carried, load_not_refused}
 use Rattle.filer_kernel.specs.EvidenceLaws.{fits}
-use Rattle.fault_core.proofs.EvidenceLemmas.{shows_so}
+use Rattle.fault_core.proofs.EvidenceLemmas.{touch_so}
 use Rattle.running_words.specs.MovingLaws.{moves_of_reaches}
+use Rattle.space_calls.specs.FilesLaws.{shown_here}
 use Rattle.space_calls.proofs.reference.load.Goals as goal
 
 -- ---- The bytes were loaded.
@@ -141,10 +143,15 @@ returns-in-Err-clause-idle g c =
 pub returns-in-Err-clause-cause : goal.returns-in-Err-clause-cause
 returns-in-Err-clause-cause g c =
     let long : length c.load.new.into ≡ c.args.count = search rules in
-    subst (λ (n : ℕ). ReachHalts (BreaksFor (state c.args.core.now) c.args.core.now.intervals c.args.address n) (state c.args.core.now) (state c.load.new.self) c.in-Err.halt) (sym c.load.ensures.width ∙ long) c.in-Err.ensures.cause
+    subst (λ (n : ℕ). TouchHalts (BreaksFor (state c.args.core.now) c.args.core.now.intervals c.args.address n) (state c.args.core.now) (state c.load.new.self) c.in-Err.halt) (sym c.load.ensures.width ∙ long) c.in-Err.ensures.cause
+
+pub returns-in-Err-clause-missing : goal.returns-in-Err-clause-missing
+returns-in-Err-clause-missing g c =
+    let long : length c.load.new.into ≡ c.args.count = search rules in
+    λ ss s. subst (λ (n : ℕ). LacksPage (shown_units ss c.args.address n) c.in-Err.halt) (sym c.load.ensures.width ∙ long) (c.in-Err.ensures.missing ss s)
 
 pub returns-in-Err-clause-so : goal.returns-in-Err-clause-so
-returns-in-Err-clause-so g c = shows_so _ (state c.args.core.now) (state c.load.new.self) (fits c.args.core.now.filer.swapper c.requires.size) c.load.ensures.reaches.goes.makes c.in-Err.halt c.in-Err.ensures.cause
+returns-in-Err-clause-so g c = touch_so _ (state c.args.core.now) (state c.load.new.self) (fits c.args.core.now.filer.swapper c.requires.size) c.load.ensures.reaches.goes.makes c.in-Err.halt c.in-Err.ensures.cause
 
 -- ---- No label was written.
 
@@ -163,13 +170,13 @@ returns-in-Err-clause-moves g c = moves_of_reaches (state c.args.core.now) (stat
 -- ---- The tables are told.
 
 pub returns-in-Ok-Done-clause-sees : goal.returns-in-Ok-Done-clause-sees
-returns-in-Ok-Done-clause-sees g c = λ s. (s.0, c.load.ensures.sees s.0 s.1)
+returns-in-Ok-Done-clause-sees g c = λ ss s. (ss, (c.load.ensures.sees ss s, shown_here ss))
 
 pub returns-in-Ok-NoMap-clause-sees : goal.returns-in-Ok-NoMap-clause-sees
-returns-in-Ok-NoMap-clause-sees g c = λ s. (s.0, c.load.ensures.sees s.0 s.1)
+returns-in-Ok-NoMap-clause-sees g c = λ ss s. (ss, (c.load.ensures.sees ss s, shown_here ss))
 
 pub returns-in-Ok-ReadOnly-clause-sees : goal.returns-in-Ok-ReadOnly-clause-sees
-returns-in-Ok-ReadOnly-clause-sees g c = λ s. (s.0, c.load.ensures.sees s.0 s.1)
+returns-in-Ok-ReadOnly-clause-sees g c = λ ss s. (ss, (c.load.ensures.sees ss s, shown_here ss))
 
 pub returns-in-Err-clause-right : goal.returns-in-Err-clause-right
 returns-in-Err-clause-right g c = λ s. c.in-Err.ensures.right s.0 s.1

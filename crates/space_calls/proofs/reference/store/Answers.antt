@@ -12,8 +12,9 @@ use Rattle.space_calls.proofs.CameLemmas.{Came, knows, store_makes, whole_of, wr
 use Rattle.space_calls.proofs.MovedLemmas.{store_runs}
 use Rattle.space_calls.proofs.StoreLemmas.{are_bytes, other_than_done, refused_came, stays_where, store_allowed, store_not_refused, store_stays, store_tells, store_word}
 use Rattle.filer_kernel.specs.EvidenceLaws.{fits}
-use Rattle.fault_core.proofs.EvidenceLemmas.{shows_so}
+use Rattle.fault_core.proofs.EvidenceLemmas.{touch_so}
 use Rattle.running_words.specs.MovingLaws.{moves_of_touches}
+use Rattle.space_calls.specs.FilesLaws.{shown_here}
 use Rattle.space_calls.proofs.reference.store.Goals as goal
 
 -- ---- The bytes were stored.
@@ -154,7 +155,7 @@ returns-in-Ok-ReadOnly-clause-idle g c = λ volume m r first last.
     (refl, two.1, two.2)
 
 pub returns-in-Err-clause-so : goal.returns-in-Err-clause-so
-returns-in-Err-clause-so g c = shows_so _ (state c.args.core.now) (state c.store.new.self) (fits c.args.core.now.filer.swapper c.requires.size) c.store.ensures.touches.goes.makes c.in-Err.halt c.in-Err.ensures.cause
+returns-in-Err-clause-so g c = touch_so _ (state c.args.core.now) (state c.store.new.self) (fits c.args.core.now.filer.swapper c.requires.size) c.store.ensures.touches.goes.makes c.in-Err.halt c.in-Err.ensures.cause
 
 pub returns-in-Err-clause-idle : goal.returns-in-Err-clause-idle
 returns-in-Err-clause-idle g c = λ volume m r first last.
@@ -179,13 +180,13 @@ returns-in-Err-clause-moves g c = moves_of_touches (state c.args.core.now) (stat
 -- ---- The tables are told.
 
 pub returns-in-Ok-Done-clause-sees : goal.returns-in-Ok-Done-clause-sees
-returns-in-Ok-Done-clause-sees g c = λ s. (s.0, c.store.ensures.sees s.0 s.1)
+returns-in-Ok-Done-clause-sees g c = λ ss s. (ss, (c.store.ensures.sees ss s, shown_here ss))
 
 pub returns-in-Ok-NoMap-clause-sees : goal.returns-in-Ok-NoMap-clause-sees
-returns-in-Ok-NoMap-clause-sees g c = λ s. (s.0, c.store.ensures.sees s.0 s.1)
+returns-in-Ok-NoMap-clause-sees g c = λ ss s. (ss, (c.store.ensures.sees ss s, shown_here ss))
 
 pub returns-in-Ok-ReadOnly-clause-sees : goal.returns-in-Ok-ReadOnly-clause-sees
-returns-in-Ok-ReadOnly-clause-sees g c = λ s. (s.0, c.store.ensures.sees s.0 s.1)
+returns-in-Ok-ReadOnly-clause-sees g c = λ ss s. (ss, (c.store.ensures.sees ss s, shown_here ss))
 
 pub returns-in-Err-clause-right : goal.returns-in-Err-clause-right
 returns-in-Err-clause-right g c = λ s. c.in-Err.ensures.right s.0 s.1

@@ -20,8 +20,5 @@ returns-in-Err-clause-reaches g c =
 pub returns-in-Ok-clause-still : goal.returns-in-Ok-clause-still
 returns-in-Ok-clause-still g c = λ ss s. reached_sees (returns-in-Ok-clause-reaches g c) refl refl s
 
-pub returns-in-Ok-clause-sees : goal.returns-in-Ok-clause-sees
-returns-in-Ok-clause-sees g c = λ s. (s.0, returns-in-Ok-clause-still g c s.0 s.1)
-
 pub returns-in-Err-clause-still : goal.returns-in-Err-clause-still
 returns-in-Err-clause-still g c = λ ss s. reached_sees (returns-in-Err-clause-reaches g c) refl refl s

@@ -1,10 +1,14 @@
+use Rattle.std.proofs.Common.{refl}
+use Rattle.projection_laws.specs.Tests.{made}
 use Rattle.space_calls.proofs.RunLemmas.{knows, nothing_labelled, quiet_passes, retabled_makes, retabled_then}
 use Rattle.space_calls.proofs.SpaceLemmas.{make_refused, space_made}
 use Rattle.fault_core.specs.Core.{state}
 use Rattle.filer_kernel.specs.EvidenceLaws.{fits}
 use Rattle.fault_core.proofs.EvidenceLemmas.{shows_so}
 use Rattle.space_calls.proofs.MovesLemmas.{moves_tables}
-use Rattle.space_calls.specs.Sees.{SeesOn}
+use Rattle.space_calls.specs.FilesLaws.{shown_here}
+use Rattle.space_calls.specs.Sees.{IsShown, SeesFiles}
+use Rattle.space_calls.proofs.OnLemmas.{put_on}
 use Rattle.space_calls.proofs.SeesLemmas.{either_way}
 use Rattle.space_calls.proofs.spaces.make_space.Goals as goal
 
@@ -64,10 +68,12 @@ returns-in-Err-answer-clause-moves g c = rw c.frame_count-frames.ensures.same (m
 -- ---- The tables are told.
 
 pub returns-in-Ok-answer-clause-sees : goal.returns-in-Ok-answer-clause-sees
-returns-in-Ok-answer-clause-sees g c = λ s. rw c.frame_count-frames.ensures.same (either_way _ _ _ (SeesOn c.add.new.core) (λ a h. (_, h.0)) (λ h. (s.0, h)) c.in-Ok.answer (c.in-Ok.ensures.sees s.0 s.1))
+returns-in-Ok-answer-clause-sees g c = λ ss s.
+    rw c.frame_count-frames.ensures.same (either_way _ _ _ (SeesFiles (IsShown ss) c.add.new.core) (λ a h. (_, (h.0, put_on (IsShown ss) ss (shown_here ss) (made ss c.args.parent c.args.pages c.args.first) refl))) (λ h. (ss, (h, shown_here ss))) c.in-Ok.answer (c.in-Ok.ensures.sees ss s))
 
 pub returns-in-Err-answer-clause-sees : goal.returns-in-Err-answer-clause-sees
-returns-in-Err-answer-clause-sees g c = λ s. rw c.frame_count-frames.ensures.same (either_way _ _ _ (SeesOn c.add.new.core) (λ a h. (_, h.0)) (λ h. (s.0, h)) c.in-Ok.answer (c.in-Ok.ensures.sees s.0 s.1))
+returns-in-Err-answer-clause-sees g c = λ ss s.
+    rw c.frame_count-frames.ensures.same (either_way _ _ _ (SeesFiles (IsShown ss) c.add.new.core) (λ a h. (_, (h.0, put_on (IsShown ss) ss (shown_here ss) (made ss c.args.parent c.args.pages c.args.first) refl))) (λ h. (ss, (h, shown_here ss))) c.in-Ok.answer (c.in-Ok.ensures.sees ss s))
 
 pub returns-in-Err-clause-right : goal.returns-in-Err-clause-right
 returns-in-Err-clause-right g c = λ s. c.in-Err.ensures.right s.0 s.1

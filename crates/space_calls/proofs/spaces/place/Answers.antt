@@ -4,6 +4,7 @@ use Rattle.fault_core.specs.Core.{state}
 use Rattle.filer_kernel.specs.EvidenceLaws.{fits}
 use Rattle.fault_core.proofs.EvidenceLemmas.{shows_so}
 use Rattle.running_words.specs.MovingLaws.{moves_of_reaches}
+use Rattle.space_calls.specs.FilesLaws.{shown_here}
 use Rattle.space_calls.proofs.spaces.place.Goals as goal
 
 pub returns-in-Ok-Ok-clause-carried : goal.returns-in-Ok-Ok-clause-carried
@@ -58,10 +59,10 @@ returns-in-Err-clause-moves g c = moves_of_reaches (state c.args.core.now) (stat
 -- ---- The tables are told.
 
 pub returns-in-Ok-Ok-clause-sees : goal.returns-in-Ok-Ok-clause-sees
-returns-in-Ok-Ok-clause-sees g c = λ s. (s.0, c.place.ensures.sees s.0 s.1)
+returns-in-Ok-Ok-clause-sees g c = λ ss s. (ss, (c.place.ensures.sees ss s, shown_here ss))
 
 pub returns-in-Ok-Err-clause-sees : goal.returns-in-Ok-Err-clause-sees
-returns-in-Ok-Err-clause-sees g c = λ s. (s.0, c.place.ensures.sees s.0 s.1)
+returns-in-Ok-Err-clause-sees g c = λ ss s. (ss, (c.place.ensures.sees ss s, shown_here ss))
 
 pub returns-in-Err-clause-right : goal.returns-in-Err-clause-right
 returns-in-Err-clause-right g c = λ s. c.in-Err.ensures.right s.0 s.1

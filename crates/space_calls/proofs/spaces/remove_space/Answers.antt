@@ -4,7 +4,9 @@ use Rattle.fault_core.specs.Core.{state}
 use Rattle.filer_kernel.specs.EvidenceLaws.{fits}
 use Rattle.fault_core.proofs.EvidenceLemmas.{shows_so}
 use Rattle.space_calls.proofs.MovesLemmas.{moves_tables}
-use Rattle.space_calls.specs.Sees.{SeesOn}
+use Rattle.space_calls.specs.FilesLaws.{shown_here}
+use Rattle.space_calls.specs.Sees.{IsShown, SeesFiles}
+use Rattle.space_calls.proofs.OnLemmas.{without_on}
 use Rattle.space_calls.proofs.SeesLemmas.{either_way}
 use Rattle.space_calls.proofs.spaces.remove_space.Goals as goal
 
@@ -64,10 +66,12 @@ returns-in-Err-answer-clause-moves g c = rw c.frame_count-frames.ensures.same (m
 -- ---- The tables are told.
 
 pub returns-in-Ok-answer-clause-sees : goal.returns-in-Ok-answer-clause-sees
-returns-in-Ok-answer-clause-sees g c = λ s. rw c.frame_count-frames.ensures.same (either_way _ _ _ (SeesOn c.remove.new.core) (λ a h. (_, h)) (λ h. (s.0, h)) c.in-Ok.answer (c.in-Ok.ensures.sees s.0 s.1))
+returns-in-Ok-answer-clause-sees g c = λ ss s.
+    rw c.frame_count-frames.ensures.same (either_way _ _ _ (SeesFiles (IsShown ss) c.remove.new.core) (λ a h. (_, (h, without_on (IsShown ss) ss (shown_here ss) c.args.space))) (λ h. (ss, (h, shown_here ss))) c.in-Ok.answer (c.in-Ok.ensures.sees ss s))
 
 pub returns-in-Err-answer-clause-sees : goal.returns-in-Err-answer-clause-sees
-returns-in-Err-answer-clause-sees g c = λ s. rw c.frame_count-frames.ensures.same (either_way _ _ _ (SeesOn c.remove.new.core) (λ a h. (_, h)) (λ h. (s.0, h)) c.in-Ok.answer (c.in-Ok.ensures.sees s.0 s.1))
+returns-in-Err-answer-clause-sees g c = λ ss s.
+    rw c.frame_count-frames.ensures.same (either_way _ _ _ (SeesFiles (IsShown ss) c.remove.new.core) (λ a h. (_, (h, without_on (IsShown ss) ss (shown_here ss) c.args.space))) (λ h. (ss, (h, shown_here ss))) c.in-Ok.answer (c.in-Ok.ensures.sees ss s))
 
 pub returns-in-Err-clause-right : goal.returns-in-Err-clause-right
 returns-in-Err-clause-right g c = λ s. c.in-Err.ensures.right s.0 s.1

@@ -20,6 +20,8 @@ use Rattle.filer_kernel.proofs.Outcomes.{err_wider}
 use Rattle.space_calls.proofs.HaltLemmas.{slot_protect, writable_protect}
 use Rattle.running_words.specs.MovingLaws.{moves_of_reaches}
 use Rattle.space_calls.proofs.MovesLemmas.{moves_behind}
+use Rattle.space_calls.specs.FilesLaws.{shown_here}
+use Rattle.space_calls.proofs.OnLemmas.{each_still_on}
 use Rattle.space_calls.proofs.unmapping.protect.Goals as goal
 
 pub returns-in-Ok-Err-clause-carried : goal.returns-in-Ok-Err-clause-carried
@@ -131,17 +133,17 @@ returns-clause-moves g c = moves_behind (state c.args.core.now) (state c.find_wi
 -- ---- The tables are told.
 
 pub returns-in-Ok-Err-clause-sees : goal.returns-in-Ok-Err-clause-sees
-returns-in-Ok-Err-clause-sees g c = λ s. (s.0, c.find_window.ensures.still s.0 s.1)
+returns-in-Ok-Err-clause-sees g c = λ ss s. (ss, (c.find_window.ensures.still ss s, shown_here ss))
 
 pub returns-then-writable-clause-sees : goal.returns-then-writable-clause-sees
-returns-then-writable-clause-sees g c = λ s.
-    let w = (found_told s.0 c.args.space c.in-Ok-Ok.field-0 (c.in-Ok-Ok.ensures.seen s.0 s.1) c.in-Ok-Ok.found c.in-Ok-Ok.field-0-is).1 in
-    c.protect_writable.ensures.sees s.0 w.0 (c.find_window.ensures.still s.0 s.1) w.1 w.2
+returns-then-writable-clause-sees g c = each_still_on c.args.core.now c.protect_writable.new.core c.protect_writable.result (λ ss s.
+    let w = (found_told ss c.args.space c.in-Ok-Ok.field-0 (c.in-Ok-Ok.ensures.seen ss s) c.in-Ok-Ok.found c.in-Ok-Ok.field-0-is).1 in
+    c.protect_writable.ensures.sees ss w.0 (c.find_window.ensures.still ss s) w.1 w.2)
 
 pub returns-clause-sees : goal.returns-clause-sees
-returns-clause-sees g c = λ s.
-    let w = (found_told s.0 c.args.space c.in-Ok-Ok.field-0 (c.in-Ok-Ok.ensures.seen s.0 s.1) c.in-Ok-Ok.found c.in-Ok-Ok.field-0-is).1 in
-    c.protect_read_only.ensures.sees s.0 w.0 (c.find_window.ensures.still s.0 s.1) w.1 w.2
+returns-clause-sees g c = each_still_on c.args.core.now c.protect_read_only.new.core c.protect_read_only.result (λ ss s.
+    let w = (found_told ss c.args.space c.in-Ok-Ok.field-0 (c.in-Ok-Ok.ensures.seen ss s) c.in-Ok-Ok.found c.in-Ok-Ok.field-0-is).1 in
+    c.protect_read_only.ensures.sees ss w.0 (c.find_window.ensures.still ss s) w.1 w.2)
 
 pub returns-then-writable-clause-right : goal.returns-then-writable-clause-right
 returns-then-writable-clause-right g c = λ s. c.protect_writable.ensures.right (s.0, c.find_window.ensures.still s.0 s.1)

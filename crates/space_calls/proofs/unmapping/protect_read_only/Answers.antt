@@ -12,8 +12,8 @@ use Rattle.running_words.specs.MovingLaws.{moves_of_reaches}
 use Rattle.space_calls.proofs.MovesLemmas.{moves_behind, moves_before}
 use Rattle.space_calls.specs.ReasonLaws.{moves_of_reshapes}
 use Rattle.space_tables.specs.Shows.{window_of}
-use Rattle.space_calls.specs.Sees.{SeesOn}
 use Rattle.space_calls.proofs.SeesLemmas.{are_seen, fault_spares, handle_so, shown_fits, shown_may, windows_seen}
+use Rattle.space_calls.proofs.OnLemmas.{mode_on}
 use Rattle.space_calls.proofs.unmapping.protect_read_only.Goals as goal
 
 pub returns-in-Err-clause-sound : goal.returns-in-Err-clause-sound
@@ -107,12 +107,14 @@ returns-in-Err-settle-clause-moves g c = moves_before (state c.args.core.now) (s
 -- ---- The tables are told.
 
 pub returns-in-Ok-Err-clause-sees : goal.returns-in-Ok-Err-clause-sees
-returns-in-Ok-Err-clause-sees g c = λ ss x s at has. c.in-Ok-Err.ensures.sees ss x (c.force_range.ensures.still ss s) (shown_may ss c.args.space (are_seen s) x at (window_of c.args.shown) has) (handle_so ss c.args.space (are_seen s) x at) (shown_fits ss c.args.space (are_seen s) x at (window_of c.args.shown) has (windows_seen s) false)
+returns-in-Ok-Err-clause-sees g c = λ ss x s at has.
+    let told = c.in-Ok-Err.ensures.sees ss x (c.force_range.ensures.still ss s) (shown_may ss c.args.space (are_seen s) x at (window_of c.args.shown) has) (handle_so ss c.args.space (are_seen s) x at) (shown_fits ss c.args.space (are_seen s) x at (window_of c.args.shown) has (windows_seen s) false) in
+    (_, (told, mode_on ss (are_seen s) c.args.space c.args.shown (x, at, has) false))
 
 pub returns-in-Ok-settle-clause-sees : goal.returns-in-Ok-settle-clause-sees
 returns-in-Ok-settle-clause-sees g c = λ ss x s at has.
-    let t : SeesOn c.change_window.new.core = c.in-Ok-Ok.ensures.sees ss x (c.force_range.ensures.still ss s) (shown_may ss c.args.space (are_seen s) x at (window_of c.args.shown) has) (handle_so ss c.args.space (are_seen s) x at) (shown_fits ss c.args.space (are_seen s) x at (window_of c.args.shown) has (windows_seen s) false) in
-    (t.0, c.settle.ensures.still t.0 t.1)
+    let told = c.in-Ok-Ok.ensures.sees ss x (c.force_range.ensures.still ss s) (shown_may ss c.args.space (are_seen s) x at (window_of c.args.shown) has) (handle_so ss c.args.space (are_seen s) x at) (shown_fits ss c.args.space (are_seen s) x at (window_of c.args.shown) has (windows_seen s) false) in
+    (_, (c.settle.ensures.still _ told, mode_on ss (are_seen s) c.args.space c.args.shown (x, at, has) false))
 
 pub returns-in-Err-change_window-clause-right : goal.returns-in-Err-change_window-clause-right
 returns-in-Err-change_window-clause-right g c = λ s. c.in-Err-change_window.ensures.right (s.0, c.force_range.ensures.still s.0 s.1)

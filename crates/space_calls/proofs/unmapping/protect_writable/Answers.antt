@@ -14,6 +14,8 @@ use Rattle.space_calls.proofs.MovesLemmas.{moves_behind}
 use Rattle.space_calls.specs.ReasonLaws.{moves_of_reshapes}
 use Rattle.space_tables.specs.Shows.{window_of}
 use Rattle.space_calls.proofs.SeesLemmas.{are_seen, handle_so, shown_fits, shown_may, windows_seen}
+use Rattle.space_calls.specs.FilesLaws.{shown_here}
+use Rattle.space_calls.proofs.OnLemmas.{mode_on}
 use Rattle.space_calls.proofs.unmapping.protect_writable.Goals as goal
 
 pub returns-in-Ok-true-clause-carried : goal.returns-in-Ok-true-clause-carried
@@ -96,13 +98,17 @@ returns-in-Err-change_window-clause-moves g c = moves_behind (state c.args.core.
 -- ---- The tables are told.
 
 pub returns-in-Ok-true-clause-sees : goal.returns-in-Ok-true-clause-sees
-returns-in-Ok-true-clause-sees g c = λ ss x s at has. (ss, c.shows_immutable.ensures.still ss s)
+returns-in-Ok-true-clause-sees g c = λ ss x s at has. (ss, (c.shows_immutable.ensures.still ss s, shown_here ss))
 
 pub returns-in-Ok-Ok-clause-sees : goal.returns-in-Ok-Ok-clause-sees
-returns-in-Ok-Ok-clause-sees g c = λ ss x s at has. c.in-Ok-Ok.ensures.sees ss x (c.shows_immutable.ensures.still ss s) (shown_may ss c.args.space (are_seen s) x at (window_of c.args.shown) has) (handle_so ss c.args.space (are_seen s) x at) (shown_fits ss c.args.space (are_seen s) x at (window_of c.args.shown) has (windows_seen s) true)
+returns-in-Ok-Ok-clause-sees g c = λ ss x s at has.
+    let told = c.in-Ok-Ok.ensures.sees ss x (c.shows_immutable.ensures.still ss s) (shown_may ss c.args.space (are_seen s) x at (window_of c.args.shown) has) (handle_so ss c.args.space (are_seen s) x at) (shown_fits ss c.args.space (are_seen s) x at (window_of c.args.shown) has (windows_seen s) true) in
+    (_, (told, mode_on ss (are_seen s) c.args.space c.args.shown (x, at, has) true))
 
 pub returns-in-Ok-Err-clause-sees : goal.returns-in-Ok-Err-clause-sees
-returns-in-Ok-Err-clause-sees g c = λ ss x s at has. c.in-Ok-Err.ensures.sees ss x (c.shows_immutable.ensures.still ss s) (shown_may ss c.args.space (are_seen s) x at (window_of c.args.shown) has) (handle_so ss c.args.space (are_seen s) x at) (shown_fits ss c.args.space (are_seen s) x at (window_of c.args.shown) has (windows_seen s) true)
+returns-in-Ok-Err-clause-sees g c = λ ss x s at has.
+    let told = c.in-Ok-Err.ensures.sees ss x (c.shows_immutable.ensures.still ss s) (shown_may ss c.args.space (are_seen s) x at (window_of c.args.shown) has) (handle_so ss c.args.space (are_seen s) x at) (shown_fits ss c.args.space (are_seen s) x at (window_of c.args.shown) has (windows_seen s) true) in
+    (_, (told, mode_on ss (are_seen s) c.args.space c.args.shown (x, at, has) true))
 
 pub returns-in-Err-change_window-clause-right : goal.returns-in-Err-change_window-clause-right
 returns-in-Err-change_window-clause-right g c = λ s. c.in-Err-change_window.ensures.right (s.0, c.shows_immutable.ensures.still s.0 s.1)

@@ -1,4 +1,4 @@
-use Rattle.std.proofs.Common.{◌≡◌, ℕ, Some, ◌∙◌, refl}
+use Rattle.std.proofs.Common.{◌≡◌, ℕ, Some, None, ◌∙◌, refl}
 use Rattle.flat_machine.specs.declared.space.Space.{Space}
 use Rattle.flat_machine.specs.Next.{without_window_of}
 use Rattle.space_tables.specs.declared.shown.Shown.{Shown}
@@ -16,8 +16,10 @@ use Rattle.space_calls.specs.Ranges.{BreaksWindow}
 use Rattle.space_calls.proofs.RangeLemmas.{fault_halt, given_so}
 use Rattle.space_calls.proofs.WindowHalts.{slot_window, range_window, change_halt}
 use Rattle.space_calls.proofs.ReshapeLemmas.{reshapes_behind, reshapes_reached, reshapes_settled}
-use Rattle.space_calls.specs.Sees.{SeesOn}
+use Rattle.space_calls.specs.Sees.{IsShown}
 use Rattle.space_calls.proofs.SeesLemmas.{are_seen, fault_spares, handle_so, shown_may}
+use Rattle.space_calls.specs.FilesLaws.{shown_here}
+use Rattle.space_calls.proofs.OnLemmas.{window_set_on}
 use Rattle.space_calls.proofs.unmapping.take_window.Goals as goal
 
 pub returns-in-Ok-Err-clause-taken : goal.returns-in-Ok-Err-clause-taken
@@ -191,24 +193,30 @@ returns-in-Err-settle-clause-reshapes g c =
 -- ---- The tables are told.
 
 pub returns-in-Ok-Err-clause-sees : goal.returns-in-Ok-Err-clause-sees
-returns-in-Ok-Err-clause-sees g c = λ s. (s.0, c.find_window.ensures.still s.0 s.1)
+returns-in-Ok-Err-clause-sees g c = λ ss s. (ss, (c.find_window.ensures.still ss s, shown_here ss))
 
 pub returns-in-Err-let_range_go-clause-right : goal.returns-in-Err-let_range_go-clause-right
 returns-in-Err-let_range_go-clause-right g c = λ s. c.in-Err-let_range_go.ensures.right (s.0, c.find_window.ensures.still s.0 s.1)
 
 pub returns-in-Ok-Err-change_window-clause-sees : goal.returns-in-Ok-Err-change_window-clause-sees
-returns-in-Ok-Err-change_window-clause-sees g c = λ s.
-    let w = (found_told s.0 c.args.space c.in-Ok-Ok.field-0 (c.in-Ok-Ok.ensures.seen s.0 s.1) c.in-Ok-Ok.found c.in-Ok-Ok.field-0-is).1 in
-    c.in-Ok-Err-change_window.ensures.sees s.0 w.0 (c.let_range_go.ensures.still s.0 (c.find_window.ensures.still s.0 s.1)) (shown_may s.0 c.args.space (are_seen s.1) w.0 w.1 (window_of c.in-Ok-Ok.found.0) w.2) (handle_so s.0 c.args.space (are_seen s.1) w.0 w.1) tt
+returns-in-Ok-Err-change_window-clause-sees g c = λ ss s.
+    let w = (found_told ss c.args.space c.in-Ok-Ok.field-0 (c.in-Ok-Ok.ensures.seen ss s) c.in-Ok-Ok.found c.in-Ok-Ok.field-0-is).1 in
+    let told = c.in-Ok-Err-change_window.ensures.sees ss w.0 (c.let_range_go.ensures.still ss (c.find_window.ensures.still ss s)) (shown_may ss c.args.space (are_seen s) w.0 w.1 (window_of c.in-Ok-Ok.found.0) w.2) (handle_so ss c.args.space (are_seen s) w.0 w.1) tt in
+    (_, (told, window_set_on (IsShown ss) ss (shown_here ss) c.args.space None (λ x there same. tt)))
 
 pub returns-in-Err-change_window-clause-right : goal.returns-in-Err-change_window-clause-right
 returns-in-Err-change_window-clause-right g c = λ s. c.in-Err-change_window.ensures.right (s.0, c.let_range_go.ensures.still s.0 (c.find_window.ensures.still s.0 s.1))
 
 pub returns-in-Ok-settle-clause-sees : goal.returns-in-Ok-settle-clause-sees
-returns-in-Ok-settle-clause-sees g c = λ s.
-    let w = (found_told s.0 c.args.space c.in-Ok-Ok.field-0 (c.in-Ok-Ok.ensures.seen s.0 s.1) c.in-Ok-Ok.found c.in-Ok-Ok.field-0-is).1 in
-    let t : SeesOn c.change_window.new.core = c.in-Ok-Ok-change_window.ensures.sees s.0 w.0 (c.let_range_go.ensures.still s.0 (c.find_window.ensures.still s.0 s.1)) (shown_may s.0 c.args.space (are_seen s.1) w.0 w.1 (window_of c.in-Ok-Ok.found.0) w.2) (handle_so s.0 c.args.space (are_seen s.1) w.0 w.1) tt in
-    (t.0, c.settle.ensures.still t.0 t.1)
+returns-in-Ok-settle-clause-sees g c = λ ss s.
+    let w = (found_told ss c.args.space c.in-Ok-Ok.field-0 (c.in-Ok-Ok.ensures.seen ss s) c.in-Ok-Ok.found c.in-Ok-Ok.field-0-is).1 in
+    let told = c.in-Ok-Ok-change_window.ensures.sees ss w.0 (c.let_range_go.ensures.still ss (c.find_window.ensures.still ss s)) (shown_may ss c.args.space (are_seen s) w.0 w.1 (window_of c.in-Ok-Ok.found.0) w.2) (handle_so ss c.args.space (are_seen s) w.0 w.1) tt in
+    (_, (c.settle.ensures.still _ told, window_set_on (IsShown ss) ss (shown_here ss) c.args.space None (λ x there same. tt)))
+
+pub returns-in-Ok-settle-clause-seen : goal.returns-in-Ok-settle-clause-seen
+returns-in-Ok-settle-clause-seen g c = λ ss s.
+    let w = (found_told ss c.args.space c.in-Ok-Ok.field-0 (c.in-Ok-Ok.ensures.seen ss s) c.in-Ok-Ok.found c.in-Ok-Ok.field-0-is).1 in
+    (w.0, w.1, w.2)
 
 pub returns-in-Err-settle-clause-right : goal.returns-in-Err-settle-clause-right
 returns-in-Err-settle-clause-right g c = λ s. fault_spares c.in-Err-settle.halt c.in-Err-settle.ensures.fault

@@ -1,10 +1,13 @@
+use Rattle.std.specs.Prelude.{option_map}
 use Rattle.space_calls.proofs.RunLemmas.{knows}
 use Rattle.space_calls.proofs.WindowLemmas.{window_changed}
-use Rattle.fault_core.specs.Core.{state}
+use Rattle.fault_core.specs.Core.{kept, state}
 use Rattle.filer_kernel.specs.EvidenceLaws.{fits}
 use Rattle.fault_core.proofs.EvidenceLemmas.{shows_so}
 use Rattle.space_calls.proofs.ReshapeLemmas.{reshapes_tables}
-use Rattle.space_calls.specs.Sees.{SeesOn}
+use Rattle.fault_core.specs.Lack.{Sees}
+use Rattle.flat_machine.specs.Next.{set_window}
+use Rattle.space_tables.specs.Shows.{window_of}
 use Rattle.space_calls.proofs.SeesLemmas.{set_so}
 use Rattle.space_calls.proofs.windows.change_window.Goals as goal
 
@@ -34,7 +37,9 @@ returns-clause-reshapes g c = rw c.frame_count-frames.ensures.same (reshapes_tab
 -- ---- The tables are told.
 
 pub returns-clause-sees : goal.returns-clause-sees
-returns-clause-sees g c = λ ss x s may named fits. rw c.frame_count-frames.ensures.same (set_so _ (SeesOn c.set_window.new.core) (λ h. (_, h)) c.in-Ok.answer (c.in-Ok.ensures.sees ss x s may named fits))
+returns-clause-sees g c = λ ss x s may named fits.
+    let new = c.set_window.new.core in
+    rw c.frame_count-frames.ensures.same (set_so _ (Sees (state new) (kept new) new.intervals (set_window c.args.space (option_map window_of c.args.shown) ss)) (λ h. h) c.in-Ok.answer (c.in-Ok.ensures.sees ss x s may named fits))
 
 pub returns-in-Err-clause-right : goal.returns-in-Err-clause-right
 returns-in-Err-clause-right g c = λ s. c.in-Err.ensures.right s.0 s.1

@@ -1,12 +1,13 @@
 use Rattle.std.proofs.Common.{ℕ, ◌+◌, ◌/◌, length, refl, subst, arith}
 use Rattle.swapper_kernel.specs.HaltLaws.{brings_then}
+use Rattle.filer_kernel.specs.Evidence.{MayBeMissing}
 use Rattle.fault_core.specs.Activate.{AreUnits, start_at}
 use Rattle.fault_core.specs.Core.{kept, state}
 use Rattle.fault_core.specs.Kill.{BreaksWithin}
 use Rattle.fault_core.specs.Told.{BreaksTables}
 use Rattle.fault_core.proofs.AccessLemmas.{breaks_before}
 use Rattle.fault_core.proofs.ActivateLemmas.{none_active, touched_whole}
-use Rattle.fault_core.proofs.ReachLemmas.{reaches_then, halts_before}
+use Rattle.fault_core.proofs.ReachLemmas.{reaches_then, finds_before}
 use Rattle.fault_core.proofs.WholeLemmas.{whole_stays}
 use Rattle.fault_core.specs.Lack.{range_units, shown_unit}
 use Rattle.fault_core.proofs.LackLemmas.{lacks_wider}
@@ -75,7 +76,7 @@ returns-in-Err-touch2-clause-cause g c =
     let page = c.in-Ok.brought.1 in
     let h = c.bring_units.ensures.reaches in
     let within = c.in-Ok.ensures.within c.if-units-eq0.false in
-    halts_before v w c.args.self.now.filer.swapper.accepted h (BreaksTables w c.bring_units.new.self.intervals page) (BreaksWithin v c.args.self.now.intervals c.args.first (c.args.first + c.args.pages))
+    finds_before v w c.args.self.now.filer.swapper.accepted h MayBeMissing (BreaksTables w c.bring_units.new.self.intervals page) (BreaksWithin v c.args.self.now.intervals c.args.first (c.args.first + c.args.pages))
     (λ broken breaks. record {
       asked = page;
       from = within.0;

@@ -1,15 +1,16 @@
 use Rattle.std.proofs.Common.{inl, inr, refl, arith}
 use Rattle.swapper_kernel.specs.HaltLaws.{brings_then}
+use Rattle.filer_kernel.specs.Evidence.{MayBeMissing}
 use Rattle.fault_core.specs.Core.{state}
+use Rattle.fault_core.specs.ReachLaws.{reach_lacks, touch_of_reach}
 use Rattle.fault_core.specs.Told.{BreaksTables}
 use Rattle.fault_core.proofs.AccessLemmas.{breaks_before}
 use Rattle.fault_core.proofs.ActivateLemmas.{touched_ready, unit_brought}
-use Rattle.fault_core.proofs.ReachLemmas.{reaches_then, halts_before}
+use Rattle.fault_core.proofs.ReachLemmas.{reaches_then, finds_before}
 use Rattle.fault_core.proofs.RoomLemmas.{room_then}
 use Rattle.fault_core.proofs.ShowLemmas.{own_came}
 use Rattle.fault_core.proofs.WholeLemmas.{none_whole, shown_here, unit_whole}
 use Rattle.fault_core.specs.Lack.{shown_unit}
-use Rattle.fault_core.proofs.LackLemmas.{none_lacks}
 use Rattle.fault_core.proofs.core_over.CoreOver.bring_next.Goals as goal
 
 -- ---- No window shows the page.
@@ -63,6 +64,9 @@ returns-in-Ok-touch2-clause-came g c = λ m named ss knows.
 
 -- ---- It could not be brought in.
 
+pub returns-in-Err-clause-cause : goal.returns-in-Err-clause-cause
+returns-in-Err-clause-cause g c = touch_of_reach (BreaksTables (state c.args.self.now) c.args.self.now.intervals c.args.so_far.page) (state c.args.self.now) (state c.unit_at.new.self) c.in-Err.halt c.in-Err.ensures.cause
+
 pub returns-in-Err-touch2-clause-cause : goal.returns-in-Err-touch2-clause-cause
 returns-in-Err-touch2-clause-cause g c =
     let v = state c.args.self.now in
@@ -70,7 +74,7 @@ returns-in-Err-touch2-clause-cause g c =
     let x = state c.touch2.new.self in
     let page = c.args.so_far.page in
     let h = c.unit_at.ensures.reaches in
-    halts_before v w c.args.self.now.filer.swapper.accepted h (BreaksTables w c.unit_at.new.self.intervals page) (BreaksTables v c.args.self.now.intervals page)
+    finds_before v w c.args.self.now.filer.swapper.accepted h MayBeMissing (BreaksTables w c.unit_at.new.self.intervals page) (BreaksTables v c.args.self.now.intervals page)
     (λ broken breaks. breaks_before v w h c.args.self.now.intervals c.unit_at.new.self.intervals page broken c.unit_at.ensures.intervals breaks) x x (omega arith) c.in-Err-touch2.halt c.in-Err-touch2.ensures.cause
 
 pub returns-in-Err-touch2-clause-sound : goal.returns-in-Err-touch2-clause-sound
@@ -90,7 +94,10 @@ returns-in-Err-touch2-clause-came g c = λ m named ss knows.
 -- ---- A page has no sector.
 
 pub returns-in-Err-clause-missing : goal.returns-in-Err-clause-missing
-returns-in-Err-clause-missing g c = λ ss s. none_lacks (shown_unit ss c.args.so_far.page) c.in-Err.halt c.in-Err.ensures.lacks
+returns-in-Err-clause-missing g c = λ ss s.
+    let v = state c.args.self.now in
+    let page = c.args.so_far.page in
+    reach_lacks (BreaksTables v c.args.self.now.intervals page) v (state c.unit_at.new.self) (shown_unit ss page) c.in-Err.halt c.in-Err.ensures.cause
 
 pub returns-in-Err-touch2-clause-missing : goal.returns-in-Err-touch2-clause-missing
 returns-in-Err-touch2-clause-missing g c = λ ss s. c.in-Err-touch2.ensures.missing ss (c.unit_at.ensures.sees ss s)

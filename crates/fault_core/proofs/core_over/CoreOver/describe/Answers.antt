@@ -6,7 +6,8 @@ use Rattle.swap_units.specs.Unit.{Holds}
 use Rattle.descriptor_cache.specs.Cache.{kept_in}
 use Rattle.space_tables.specs.SpaceTables.{IsIntervalAt}
 use Rattle.fault_core.specs.Kept.{IsFormed, IsKept, AreFormed}
-use Rattle.fault_core.specs.Told.{IsIntervalOf}
+use Rattle.fault_core.specs.ReachLaws.{touch_of_reach}
+use Rattle.fault_core.specs.Told.{BreaksTables, IsIntervalOf}
 use Rattle.fault_core.specs.View.{view_of}
 use Rattle.fault_core.proofs.KeptLemmas.{kept_new, kept_before, formed_more, Looked, looked}
 use Rattle.fault_core.proofs.ReachLemmas.{reaches_itself}
@@ -121,4 +122,6 @@ returns-in_default-found-clause-sees g c = λ ss s. sees_after s _ _ c.look_up.e
 pub returns-in_err-found-clause-right : goal.returns-in_err-found-clause-right
 returns-in_err-found-clause-right g c = λ ss s.
     let failed : c.from_residual.result ≡ Err c.in_err-found.field-0.0 = search rules in
-    rw failed (table_spares s c.args.self.now.some (view_of c.look_up.new.filer) c.in_err-found.field-0.0 c.args.page c.in_err-found.ensures.cause)
+    let v = view_of c.args.self.now.filer in
+    let w = view_of c.look_up.new.filer in
+    rw failed (table_spares s c.args.self.now.some w c.in_err-found.field-0.0 c.args.page (touch_of_reach (BreaksTables v c.args.self.now.intervals c.args.page) v w c.in_err-found.field-0.0 c.in_err-found.ensures.cause))

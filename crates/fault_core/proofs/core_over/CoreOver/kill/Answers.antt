@@ -1,6 +1,8 @@
 use Rattle.std.proofs.Common.{◌<◌, ◌+◌, ◌∙◌, arith, refl}
 use Rattle.swapper_kernel.specs.HaltLaws.{brings_then}
 use Rattle.fault_core.specs.Core.{kept, state}
+use Rattle.fault_core.specs.Kill.{BreaksWithin}
+use Rattle.fault_core.specs.ReachLaws.{touch_of_reach}
 use Rattle.fault_core.proofs.BeforeLemmas.{touches_then}
 use Rattle.fault_core.proofs.KillLemmas.{killing_none, killing_more, killing_left, killing_halt, killing_sound, killing_cost, killing_found, killed_all, killed_cost, killed_goes, killed_known, killed_most, range_of}
 use Rattle.fault_core.proofs.SparesLemmas.{range_spares}
@@ -134,4 +136,8 @@ pub returns-in-Err-clause-sees : goal.returns-in-Err-clause-sees
 returns-in-Err-clause-sees g c = λ ss s. c.kill_part.ensures.sees ss (c.loop-part.invariant.sees ss s)
 
 pub returns-in-Err-clause-right : goal.returns-in-Err-clause-right
-returns-in-Err-clause-right g c = λ ss s. range_spares s c.args.self.now.some (state c.kill_part.new.self) c.in-Err.halt c.args.first (c.args.first + c.args.pages) (returns-in-Err-clause-cause g c)
+returns-in-Err-clause-right g c = λ ss s.
+    let v = state c.args.self.now in
+    let w = state c.kill_part.new.self in
+    let to = c.args.first + c.args.pages in
+    range_spares s c.args.self.now.some w c.in-Err.halt c.args.first to (touch_of_reach (BreaksWithin v c.args.self.now.intervals c.args.first to) v w c.in-Err.halt (returns-in-Err-clause-cause g c))

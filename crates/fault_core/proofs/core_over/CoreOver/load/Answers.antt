@@ -3,15 +3,17 @@ use Rattle.swapper_kernel.specs.HaltLaws.{brings_then}
 use Rattle.fault_core.specs.Access.{Shows, access_of, last_page, BreaksFor}
 use Rattle.fault_core.specs.Core.{kept, state}
 use Rattle.fault_core.specs.Kept.{IsKept}
+use Rattle.filer_kernel.specs.Evidence.{MayBeMissing}
 use Rattle.fault_core.specs.Reach.{no_break}
+use Rattle.fault_core.specs.ReachLaws.{reach_lacks, touch_of_reach}
 use Rattle.fault_core.specs.Unit.{IsWhole}
 use Rattle.fault_core.specs.View.{view_of}
 use Rattle.fault_core.proofs.AccessLemmas.{at_shown, both_seen, came_to}
-use Rattle.fault_core.proofs.ReachLemmas.{reaches_then, halts_before}
+use Rattle.fault_core.proofs.ReachLemmas.{reaches_then, finds_before}
 use Rattle.fault_core.proofs.ShowLemmas.{own_came, both_came}
 use Rattle.fault_core.proofs.ToldLemmas.{told_after}
 use Rattle.fault_core.specs.Lack.{both_units, shown_units}
-use Rattle.fault_core.proofs.LackLemmas.{lacks_wider, none_lacks, sees_after, unit_shown}
+use Rattle.fault_core.proofs.LackLemmas.{lacks_wider, sees_after, unit_shown}
 use Rattle.space_tables.specs.SpaceTables.{IsIntervalAt}
 use Rattle.fault_core.proofs.SparesLemmas.{reference_spares}
 use Rattle.fault_core.proofs.core_over.CoreOver.load.Goals as goal
@@ -89,11 +91,14 @@ returns-in-Ok-clause-idle g c = λ first last apart.
 
 -- ---- The disk failed.
 
+pub returns-in-Err-clause-cause : goal.returns-in-Err-clause-cause
+returns-in-Err-clause-cause g c = touch_of_reach (BreaksFor (state c.args.self.now) c.args.self.now.intervals c.args.address (length c.args.into.now)) (state c.args.self.now) (state c.refer.new.self) c.in-Err.halt c.in-Err.ensures.cause
+
 pub returns-in-Err-load_shown-clause-cause : goal.returns-in-Err-load_shown-clause-cause
 returns-in-Err-load_shown-clause-cause g c =
     let v = state c.args.self.now in
     let x = view_of c.load_shown.new.filer in
-    halts_before v (state c.refer.new.self) c.args.self.now.filer.swapper.accepted c.refer.ensures.reaches no_break (BreaksFor v c.args.self.now.intervals c.args.address (length c.args.into.now)) (λ page none. absurd none)
+    finds_before v (state c.refer.new.self) c.args.self.now.filer.swapper.accepted c.refer.ensures.reaches MayBeMissing no_break (BreaksFor v c.args.self.now.intervals c.args.address (length c.args.into.now)) (λ page none. absurd none)
     x x (omega arith) c.in-Err-load_shown.halt c.in-Err-load_shown.ensures.cause
 
 pub returns-in-Err-load_shown-clause-sound : goal.returns-in-Err-load_shown-clause-sound
@@ -141,7 +146,10 @@ returns-in-Err-load_shown-clause-idle g c = λ first last apart.
 -- ---- A page has no sector.
 
 pub returns-in-Err-clause-missing : goal.returns-in-Err-clause-missing
-returns-in-Err-clause-missing g c = λ ss s. none_lacks (shown_units ss c.args.address (length c.args.into.now)) c.in-Err.halt c.in-Err.ensures.lacks
+returns-in-Err-clause-missing g c = λ ss s.
+    let v = state c.args.self.now in
+    let n = length c.args.into.now in
+    reach_lacks (BreaksFor v c.args.self.now.intervals c.args.address n) v (state c.refer.new.self) (shown_units ss c.args.address n) c.in-Err.halt c.in-Err.ensures.cause
 
 pub returns-in-Err-load_shown-clause-missing : goal.returns-in-Err-load_shown-clause-missing
 returns-in-Err-load_shown-clause-missing g c = λ ss s.
@@ -166,7 +174,7 @@ pub returns-in-Err-load_shown-clause-sees : goal.returns-in-Err-load_shown-claus
 returns-in-Err-load_shown-clause-sees g c = λ ss s. sees_after (c.in-Ok-Shown.ensures.sees ss s) _ _ c.load_shown.ensures.reaches (λ x one. inl one)
 
 pub returns-in-Err-clause-right : goal.returns-in-Err-clause-right
-returns-in-Err-clause-right g c = λ ss s. reference_spares s c.args.self.now.some (state c.refer.new.self) c.in-Err.halt c.args.address (length c.args.into.now) c.in-Err.ensures.cause
+returns-in-Err-clause-right g c = λ ss s. reference_spares s c.args.self.now.some (state c.refer.new.self) c.in-Err.halt c.args.address (length c.args.into.now) (returns-in-Err-clause-cause g c)
 
 pub returns-in-Err-load_shown-clause-right : goal.returns-in-Err-load_shown-clause-right
 returns-in-Err-load_shown-clause-right g c = λ ss s. reference_spares s c.args.self.now.some (view_of c.load_shown.new.filer) c.in-Err-load_shown.halt c.args.address (length c.args.into.now) (returns-in-Err-load_shown-clause-cause g c)

@@ -2,16 +2,18 @@ use Rattle.std.proofs.Common.{◌∙◌, sym, refl, arith, inl, ◌+◌, ◌-◌
 use Rattle.std.proofs.lemmas.Option.{none-some}
 use Rattle.fault_core.specs.Core.{state, kept}
 use Rattle.fault_core.specs.Homes.{homes_in}
+use Rattle.filer_kernel.specs.Evidence.{MayBeMissing}
 use Rattle.fault_core.specs.Reach.{no_break}
+use Rattle.fault_core.specs.ReachLaws.{reach_lacks, touch_of_reach}
 use Rattle.fault_core.specs.Told.{BreaksTables}
 use Rattle.fault_core.specs.View.{view_of}
 use Rattle.fault_core.proofs.AccessLemmas.{shows_of, at_of}
 use Rattle.fault_core.proofs.PlanLemmas.{plan_is, unit_has_sectors}
-use Rattle.fault_core.proofs.ReachLemmas.{reaches_then, halts_before}
+use Rattle.fault_core.proofs.ReachLemmas.{reaches_then, finds_before}
 use Rattle.fault_core.proofs.ShowLemmas.{shown_is, all_stored}
 use Rattle.fault_core.proofs.ToldLemmas.{interval_of, told_after}
 use Rattle.fault_core.specs.Lack.{kept_unit, run_pages, shown_unit}
-use Rattle.fault_core.proofs.LackLemmas.{lacks_wider, none_lacks, run_unit, seen_at, sees_after, unit_shown}
+use Rattle.fault_core.proofs.LackLemmas.{lacks_wider, run_unit, seen_at, sees_after, unit_shown}
 use Rattle.fault_core.proofs.UnitLemmas.{unit_run_is}
 use Rattle.std.specs.Prelude.{IfSome}
 use Rattle.swap_units.specs.declared.interval.Interval.{Interval}
@@ -52,11 +54,14 @@ returns-in-Ok-clause-reaches g c =
 
 -- ---- They could not be found.
 
+pub returns-in-Err-clause-cause : goal.returns-in-Err-clause-cause
+returns-in-Err-clause-cause g c = touch_of_reach (BreaksTables (state c.args.self.now) c.args.self.now.intervals c.args.page) (state c.args.self.now) (state c.shown.new.self) c.in-Err.halt c.in-Err.ensures.cause
+
 pub returns-in-Err-homes_of-clause-cause : goal.returns-in-Err-homes_of-clause-cause
 returns-in-Err-homes_of-clause-cause g c =
     let v = state c.args.self.now in
     let x = view_of c.homes_of.new.filer in
-    halts_before v (state c.shown.new.self) c.args.self.now.filer.swapper.accepted c.shown.ensures.reaches no_break (BreaksTables v c.args.self.now.intervals c.args.page) (λ page none. absurd none)
+    finds_before v (state c.shown.new.self) c.args.self.now.filer.swapper.accepted c.shown.ensures.reaches MayBeMissing no_break (BreaksTables v c.args.self.now.intervals c.args.page) (λ page none. absurd none)
     x x (omega arith) c.in-Err-homes_of.halt c.in-Err-homes_of.ensures.cause
 
 pub returns-in-Err-homes_of-clause-sound : goal.returns-in-Err-homes_of-clause-sound
@@ -80,10 +85,10 @@ returns-in-Err-homes_of-clause-reaches g c =
 -- ---- A page has no sector.
 
 pub returns-in-Err-clause-lacks : goal.returns-in-Err-clause-lacks
-returns-in-Err-clause-lacks g c = none_lacks (kept_unit (kept c.shown.new.self) c.args.page) c.in-Err.halt c.in-Err.ensures.lacks
+returns-in-Err-clause-lacks g c = reach_lacks (BreaksTables (state c.args.self.now) c.args.self.now.intervals c.args.page) (state c.args.self.now) (state c.shown.new.self) (kept_unit (kept c.shown.new.self) c.args.page) c.in-Err.halt c.in-Err.ensures.cause
 
 pub returns-in-Err-clause-missing : goal.returns-in-Err-clause-missing
-returns-in-Err-clause-missing g c = λ ss s. none_lacks (shown_unit ss c.args.page) c.in-Err.halt c.in-Err.ensures.lacks
+returns-in-Err-clause-missing g c = λ ss s. reach_lacks (BreaksTables (state c.args.self.now) c.args.self.now.intervals c.args.page) (state c.args.self.now) (state c.shown.new.self) (shown_unit ss c.args.page) c.in-Err.halt c.in-Err.ensures.cause
 
 pub returns-in-Err-homes_of-clause-lacks : goal.returns-in-Err-homes_of-clause-lacks
 returns-in-Err-homes_of-clause-lacks g c =
@@ -120,7 +125,7 @@ pub returns-in-Err-homes_of-clause-sees : goal.returns-in-Err-homes_of-clause-se
 returns-in-Err-homes_of-clause-sees g c = λ ss s. sees_after (c.in-Ok-Some.ensures.sees ss s) _ _ c.homes_of.ensures.reaches (λ x one. inl one)
 
 pub returns-in-Err-clause-right : goal.returns-in-Err-clause-right
-returns-in-Err-clause-right g c = λ ss s. table_spares s c.args.self.now.some (state c.shown.new.self) c.in-Err.halt c.args.page c.in-Err.ensures.cause
+returns-in-Err-clause-right g c = λ ss s. table_spares s c.args.self.now.some (state c.shown.new.self) c.in-Err.halt c.args.page (returns-in-Err-clause-cause g c)
 
 pub returns-in-Err-homes_of-clause-right : goal.returns-in-Err-homes_of-clause-right
 returns-in-Err-homes_of-clause-right g c = λ ss s. table_spares s c.args.self.now.some (view_of c.homes_of.new.filer) c.in-Err-homes_of.halt c.args.page (returns-in-Err-homes_of-clause-cause g c)

@@ -1,6 +1,8 @@
 use Rattle.std.proofs.Common.{◌∙◌, ◌+◌, ◌<◌, arith}
 use Rattle.swapper_kernel.specs.HaltLaws.{brings_then}
 use Rattle.fault_core.specs.Core.{kept, state}
+use Rattle.fault_core.specs.Kill.{BreaksWithin}
+use Rattle.fault_core.specs.ReachLaws.{touch_of_reach}
 use Rattle.fault_core.proofs.YieldLemmas.{yield_then}
 use Rattle.fault_core.proofs.RangeLemmas.{resting_none, resting_more, resting_halt, resting_stopped, resting_done, resting_all, resting_cost, stopped_cost, frames_stopped, frames_done}
 use Rattle.fault_core.proofs.SparesLemmas.{range_spares}
@@ -122,4 +124,8 @@ pub returns-in-Err-clause-sees : goal.returns-in-Err-clause-sees
 returns-in-Err-clause-sees g c = λ ss s. c.rest_part.ensures.sees ss (c.loop-part.invariant.sees ss s)
 
 pub returns-in-Err-clause-right : goal.returns-in-Err-clause-right
-returns-in-Err-clause-right g c = λ ss s. range_spares s c.args.self.now.some (state c.rest_part.new.self) c.in-Err.halt c.args.first (c.args.first + c.args.pages) (returns-in-Err-clause-cause g c)
+returns-in-Err-clause-right g c = λ ss s.
+    let v = state c.args.self.now in
+    let w = state c.rest_part.new.self in
+    let to = c.args.first + c.args.pages in
+    range_spares s c.args.self.now.some w c.in-Err.halt c.args.first to (touch_of_reach (BreaksWithin v c.args.self.now.intervals c.args.first to) v w c.in-Err.halt (returns-in-Err-clause-cause g c))

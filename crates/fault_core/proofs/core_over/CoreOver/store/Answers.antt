@@ -6,16 +6,18 @@ use Rattle.fault_core.specs.Access.{Shows, access_of, last_page, BreaksFor}
 use Rattle.fault_core.specs.Core.{kept, state}
 use Rattle.fault_core.specs.Kept.{IsKept}
 use Rattle.fault_core.specs.Moves.{StoresAs, StoresSome, client_page, of_reference}
+use Rattle.filer_kernel.specs.Evidence.{MayBeMissing}
 use Rattle.fault_core.specs.Reach.{no_break}
+use Rattle.fault_core.specs.ReachLaws.{reach_lacks, touch_of_reach}
 use Rattle.fault_core.specs.Unit.{IsWhole, file_page}
 use Rattle.fault_core.specs.View.{view_of}
 use Rattle.fault_core.proofs.AccessLemmas.{at_shown, both_seen, came_to}
 use Rattle.fault_core.proofs.BeforeLemmas.{touches_of, touches_then, touches_wider}
 use Rattle.fault_core.proofs.LeaveLemmas.{clients_alone, goes_refused, goes_told, none_stored, told_leaves, told_stands, touched_or_own}
-use Rattle.fault_core.proofs.ReachLemmas.{halts_before}
+use Rattle.fault_core.proofs.ReachLemmas.{finds_before}
 use Rattle.fault_core.proofs.ShowLemmas.{own_came, both_came}
 use Rattle.fault_core.specs.Lack.{both_units, shown_units}
-use Rattle.fault_core.proofs.LackLemmas.{lacks_wider, none_lacks, unit_shown}
+use Rattle.fault_core.proofs.LackLemmas.{lacks_wider, unit_shown}
 use Rattle.space_tables.specs.SpaceTables.{IsIntervalAt}
 use Rattle.fault_core.proofs.SparesLemmas.{reference_spares, sees_touched}
 use Rattle.fault_core.proofs.core_over.CoreOver.store.Goals as goal
@@ -51,6 +53,9 @@ pub returns-in-Ok-ReadOnly-clause-touches : goal.returns-in-Ok-ReadOnly-clause-t
 returns-in-Ok-ReadOnly-clause-touches g c = touches_of client_page c.refer.ensures.reaches
 
 -- ---- The pages could not be described.
+
+pub returns-in-Err-clause-cause : goal.returns-in-Err-clause-cause
+returns-in-Err-clause-cause g c = touch_of_reach (BreaksFor (state c.args.self.now) c.args.self.now.intervals c.args.address (length c.args.bytes.now)) (state c.args.self.now) (state c.refer.new.self) c.in-Err.halt c.in-Err.ensures.cause
 
 pub returns-in-Err-clause-halted : goal.returns-in-Err-clause-halted
 returns-in-Err-clause-halted g c = λ m named ss knows.
@@ -176,7 +181,7 @@ pub returns-in-Err-store_shown-clause-cause : goal.returns-in-Err-store_shown-cl
 returns-in-Err-store_shown-clause-cause g c =
     let v = state c.args.self.now in
     let x = view_of c.store_shown.new.filer in
-    halts_before v (state c.refer.new.self) c.args.self.now.filer.swapper.accepted c.refer.ensures.reaches no_break (BreaksFor v c.args.self.now.intervals c.args.address (length c.args.bytes.now)) (λ page none. absurd none)
+    finds_before v (state c.refer.new.self) c.args.self.now.filer.swapper.accepted c.refer.ensures.reaches MayBeMissing no_break (BreaksFor v c.args.self.now.intervals c.args.address (length c.args.bytes.now)) (λ page none. absurd none)
     x x (omega arith) c.in-Err-store_shown.halt c.in-Err-store_shown.ensures.cause
 
 pub returns-in-Err-store_shown-clause-sound : goal.returns-in-Err-store_shown-clause-sound
@@ -219,7 +224,10 @@ returns-in-Err-store_shown-clause-idle g c = λ first last apart.
 -- ---- A page has no sector.
 
 pub returns-in-Err-clause-missing : goal.returns-in-Err-clause-missing
-returns-in-Err-clause-missing g c = λ ss s. none_lacks (shown_units ss c.args.address (length c.args.bytes.now)) c.in-Err.halt c.in-Err.ensures.lacks
+returns-in-Err-clause-missing g c = λ ss s.
+    let v = state c.args.self.now in
+    let n = length c.args.bytes.now in
+    reach_lacks (BreaksFor v c.args.self.now.intervals c.args.address n) v (state c.refer.new.self) (shown_units ss c.args.address n) c.in-Err.halt c.in-Err.ensures.cause
 
 pub returns-in-Err-store_shown-clause-missing : goal.returns-in-Err-store_shown-clause-missing
 returns-in-Err-store_shown-clause-missing g c = λ ss s.
@@ -250,7 +258,7 @@ returns-in-Err-store_shown-clause-sees g c =
     λ ss s. sees_touched (c.in-Ok-Shown.ensures.sees ss s) (of_reference x y c.args.address (length c.args.bytes.now)) (view_of c.store_shown.new.filer) c.store_shown.ensures.touches
 
 pub returns-in-Err-clause-right : goal.returns-in-Err-clause-right
-returns-in-Err-clause-right g c = λ ss s. reference_spares s c.args.self.now.some (state c.refer.new.self) c.in-Err.halt c.args.address (length c.args.bytes.now) c.in-Err.ensures.cause
+returns-in-Err-clause-right g c = λ ss s. reference_spares s c.args.self.now.some (state c.refer.new.self) c.in-Err.halt c.args.address (length c.args.bytes.now) (returns-in-Err-clause-cause g c)
 
 pub returns-in-Err-store_shown-clause-right : goal.returns-in-Err-store_shown-clause-right
 returns-in-Err-store_shown-clause-right g c = λ ss s. reference_spares s c.args.self.now.some (view_of c.store_shown.new.filer) c.in-Err-store_shown.halt c.args.address (length c.args.bytes.now) (returns-in-Err-store_shown-clause-cause g c)

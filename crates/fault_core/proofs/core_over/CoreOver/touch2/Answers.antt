@@ -5,17 +5,19 @@ use Rattle.swap_units.specs.declared.interval.Interval.{Interval}
 use Rattle.swapper_kernel.specs.HaltLaws.{brings_then}
 use Rattle.fault_core.specs.Core.{kept, state}
 use Rattle.fault_core.specs.Kept.{IsKept}
+use Rattle.filer_kernel.specs.Evidence.{MayBeMissing}
 use Rattle.fault_core.specs.Reach.{no_break}
+use Rattle.fault_core.specs.ReachLaws.{reach_lacks, touch_of_reach}
 use Rattle.fault_core.specs.Told.{BreaksTables}
 use Rattle.fault_core.specs.Unit.{IsWhole, file_page}
 use Rattle.fault_core.specs.View.{view_of}
 use Rattle.fault_core.proofs.AccessLemmas.{shows_of, at_of}
-use Rattle.fault_core.proofs.ReachLemmas.{reaches_then, halts_before}
+use Rattle.fault_core.proofs.ReachLemmas.{reaches_then, finds_before}
 use Rattle.fault_core.proofs.RoomLemmas.{room_then}
 use Rattle.fault_core.proofs.ShowLemmas.{shown_is, all_stored, known_came, own_came}
 use Rattle.fault_core.proofs.ToldLemmas.{interval_of, told_after}
 use Rattle.fault_core.specs.Lack.{kept_unit, shown_unit, unit_pages}
-use Rattle.fault_core.proofs.LackLemmas.{lacks_wider, none_lacks, seen_at, sees_after, unit_shown}
+use Rattle.fault_core.proofs.LackLemmas.{lacks_wider, seen_at, sees_after, unit_shown}
 use Rattle.fault_core.proofs.SparesLemmas.{table_spares}
 use Rattle.fault_core.proofs.core_over.CoreOver.touch2.Goals as goal
 
@@ -84,11 +86,14 @@ returns-in-Ok-clause-idle g c = λ ready apart.
 
 -- ---- The unit could not be brought in.
 
+pub returns-in-Err-clause-cause : goal.returns-in-Err-clause-cause
+returns-in-Err-clause-cause g c = touch_of_reach (BreaksTables (state c.args.self.now) c.args.self.now.intervals c.args.page) (state c.args.self.now) (state c.shown.new.self) c.in-Err.halt c.in-Err.ensures.cause
+
 pub returns-in-Err-touch-clause-cause : goal.returns-in-Err-touch-clause-cause
 returns-in-Err-touch-clause-cause g c =
     let v = state c.args.self.now in
     let x = view_of c.touch.new.filer in
-    halts_before v (state c.shown.new.self) c.args.self.now.filer.swapper.accepted c.shown.ensures.reaches no_break (BreaksTables v c.args.self.now.intervals c.args.page) (λ page none. absurd none)
+    finds_before v (state c.shown.new.self) c.args.self.now.filer.swapper.accepted c.shown.ensures.reaches MayBeMissing no_break (BreaksTables v c.args.self.now.intervals c.args.page) (λ page none. absurd none)
     x x (omega arith) c.in-Err-touch.halt c.in-Err-touch.ensures.cause
 
 pub returns-in-Err-touch-clause-sound : goal.returns-in-Err-touch-clause-sound
@@ -135,10 +140,10 @@ returns-in-Err-touch-clause-room g c = room_then c.shown.ensures.room c.touch.en
 -- ---- A page has no sector.
 
 pub returns-in-Err-clause-lacks : goal.returns-in-Err-clause-lacks
-returns-in-Err-clause-lacks g c = none_lacks (kept_unit (kept c.shown.new.self) c.args.page) c.in-Err.halt c.in-Err.ensures.lacks
+returns-in-Err-clause-lacks g c = reach_lacks (BreaksTables (state c.args.self.now) c.args.self.now.intervals c.args.page) (state c.args.self.now) (state c.shown.new.self) (kept_unit (kept c.shown.new.self) c.args.page) c.in-Err.halt c.in-Err.ensures.cause
 
 pub returns-in-Err-clause-missing : goal.returns-in-Err-clause-missing
-returns-in-Err-clause-missing g c = λ ss s. none_lacks (shown_unit ss c.args.page) c.in-Err.halt c.in-Err.ensures.lacks
+returns-in-Err-clause-missing g c = λ ss s. reach_lacks (BreaksTables (state c.args.self.now) c.args.self.now.intervals c.args.page) (state c.args.self.now) (state c.shown.new.self) (shown_unit ss c.args.page) c.in-Err.halt c.in-Err.ensures.cause
 
 pub returns-in-Err-touch-clause-lacks : goal.returns-in-Err-touch-clause-lacks
 returns-in-Err-touch-clause-lacks g c =
@@ -164,7 +169,7 @@ returns-in-Err-touch-clause-sees g c = λ ss s. sees_after (c.in-Ok-Some.ensures
 -- ---- The tables are told.
 
 pub returns-in-Err-clause-right : goal.returns-in-Err-clause-right
-returns-in-Err-clause-right g c = λ ss s. table_spares s c.args.self.now.some (state c.shown.new.self) c.in-Err.halt c.args.page c.in-Err.ensures.cause
+returns-in-Err-clause-right g c = λ ss s. table_spares s c.args.self.now.some (state c.shown.new.self) c.in-Err.halt c.args.page (returns-in-Err-clause-cause g c)
 
 pub returns-in-Err-touch-clause-right : goal.returns-in-Err-touch-clause-right
 returns-in-Err-touch-clause-right g c = λ ss s. table_spares s c.args.self.now.some (view_of c.touch.new.filer) c.in-Err-touch.halt c.args.page (returns-in-Err-touch-clause-cause g c)

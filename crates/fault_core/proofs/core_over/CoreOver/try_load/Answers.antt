@@ -1,8 +1,9 @@
 use Rattle.std.proofs.Common.{◌≡◌, ◌≢◌, ◌∙◌, ◌/◌, false, length, refl}
 use Rattle.fault_core.specs.declared.reference.Access.TheVariants as access
-use Rattle.fault_core.specs.Access.{access_of, last_page}
+use Rattle.fault_core.specs.Access.{access_of, last_page, BreaksFor}
 use Rattle.fault_core.specs.Attempt.{HasClient, IfAbsent, IfAccess, IsAbsent, IsHere, IsReferred, moved}
 use Rattle.fault_core.specs.Core.{kept, state}
+use Rattle.fault_core.specs.ReachLaws.{touch_of_reach}
 use Rattle.fault_core.specs.Unit.{IsSlotOf}
 use Rattle.fault_core.proofs.AttemptLemmas.{all_present, at_ready, at_settled}
 use Rattle.fault_core.proofs.SparesLemmas.{reference_spares}
@@ -92,4 +93,8 @@ pub returns-clause-sees : goal.returns-clause-sees
 returns-clause-sees g c = λ ss s. rw c.copy_pages.ensures.same (c.in-Ok-Ready.ensures.sees ss s)
 
 pub returns-in-Err-clause-right : goal.returns-in-Err-clause-right
-returns-in-Err-clause-right g c = λ ss s. reference_spares s c.args.self.now.some (state c.look_ahead.new.self) c.in-Err.halt c.args.address (length c.args.into.now) c.in-Err.ensures.cause
+returns-in-Err-clause-right g c = λ ss s.
+    let v = state c.args.self.now in
+    let w = state c.look_ahead.new.self in
+    let n = length c.args.into.now in
+    reference_spares s c.args.self.now.some w c.in-Err.halt c.args.address n (touch_of_reach (BreaksFor v c.args.self.now.intervals c.args.address n) v w c.in-Err.halt c.in-Err.ensures.cause)

@@ -2,10 +2,11 @@ use Rattle.std.proofs.Common.{◌≡◌, ◌≢◌, ◌∙◌, ◌/◌, true, le
 use Rattle.swapper_kernel.specs.HaltLaws.{brings_then}
 use Rattle.session_words.specs.CellLaws.{IsTouchedOrOwn}
 use Rattle.fault_core.specs.declared.reference.Access.TheVariants as access
-use Rattle.fault_core.specs.Access.{access_of, last_page}
+use Rattle.fault_core.specs.Access.{access_of, last_page, BreaksFor}
 use Rattle.fault_core.specs.Attempt.{HasClient, IfAbsent, IfAccess, IsAbsent, IsHere, IsReferred, StoresTried, moved, either}
 use Rattle.fault_core.specs.Core.{kept, state}
 use Rattle.fault_core.specs.Moves.{client_page}
+use Rattle.fault_core.specs.ReachLaws.{touch_of_reach}
 use Rattle.fault_core.specs.Unit.{IsSlotOf}
 use Rattle.fault_core.specs.View.{view_of}
 use Rattle.fault_core.proofs.AttemptLemmas.{all_present, at_ready, at_settled, here_stays, slot_stays, tried_stays}
@@ -167,4 +168,8 @@ returns-clause-sees g c =
     λ ss s. sees_touched (c.in-Ok-Ready.ensures.sees ss s) (either p.id p.page q.id q.page) (view_of c.change_pages.new.filer) (c.change_pages.ensures.touches p.id p.page q.id q.page p.has q.has p.client q.client)
 
 pub returns-in-Err-clause-right : goal.returns-in-Err-clause-right
-returns-in-Err-clause-right g c = λ ss s. reference_spares s c.args.self.now.some (state c.look_ahead.new.self) c.in-Err.halt c.args.address (length c.args.bytes.now) c.in-Err.ensures.cause
+returns-in-Err-clause-right g c = λ ss s.
+    let v = state c.args.self.now in
+    let w = state c.look_ahead.new.self in
+    let n = length c.args.bytes.now in
+    reference_spares s c.args.self.now.some w c.in-Err.halt c.args.address n (touch_of_reach (BreaksFor v c.args.self.now.intervals c.args.address n) v w c.in-Err.halt c.in-Err.ensures.cause)

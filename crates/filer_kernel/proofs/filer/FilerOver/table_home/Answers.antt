@@ -5,7 +5,7 @@ use Rattle.file_map.specs.FileMap.{IsFound}
 use Rattle.swapper_kernel.specs.Stands.{Stands}
 use Rattle.filer_kernel.specs.Cached.{runs_of}
 use Rattle.filer_kernel.specs.Tables.{BesideTables, TablesTell}
-use Rattle.filer_kernel.specs.TableOnce.{tables_stay}
+use Rattle.filer_kernel.specs.TableOnce.{map_over, tables_stay}
 use Rattle.filer_kernel.proofs.FoundLemmas.{memory_stays, beside_found, accounted_found, accounted_missing, none_missing, found_home, found_named}
 use Rattle.filer_kernel.proofs.filer.FilerOver.table_home.Given as given
 use Rattle.filer_kernel.proofs.filer.FilerOver.table_home.Goals as goal
@@ -21,6 +21,7 @@ stays g c =
 same : (g : given.Over) (c : After-find g) → (b : List ℕ) → TablesTell (g.D.Disk.state c.args.self.now.swapper.under) c.args.self.now.swapper.pool c.args.self.now.swapper.layout c.args.self.now.runs b
     → TablesTell (g.D.Disk.state c.find.new.self.swapper.under) c.find.new.self.swapper.pool c.find.new.self.swapper.layout c.find.new.self.runs b
 same g c = λ b tells. tables_stay c.find.ensures.beside.layout c.find.ensures.beside.goes.makes.went.sectors (λ m named stands map. stays g c m stands) c.find.ensures.runs_are b tells
+    (map_over c.args.self.now.swapper.layout tells.triples c.find.ensures.beside.brings)
 
 kept : (g : given.Over) (c : After-find g)
     → BesideTables (g.D.Disk.state c.args.self.now.swapper.under) c.args.self.now.swapper.pool c.args.self.now.swapper.layout c.args.self.now.runs (g.D.Disk.state c.find.new.self.swapper.under) c.find.new.self.swapper.pool c.find.new.self.swapper.layout c.find.new.self.runs

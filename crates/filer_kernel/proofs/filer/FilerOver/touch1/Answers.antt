@@ -2,8 +2,7 @@ use Rattle.std.proofs.Common.{◌≡◌, refl}
 use Rattle.swapper_kernel.specs.declared.manager.Manager.TheVariants.{FileMap}
 use Rattle.swapper_kernel.proofs.WindowLemmas.{tells_swapped}
 use Rattle.filer_kernel.specs.TableLaws.{beside_tables_itself}
-use Rattle.filer_kernel.specs.TableOnce.{tables_swapped}
-use Rattle.filer_kernel.proofs.TableLemmas.{table_shown, table_there, table_shown_there, beside_fetched, accounted_fetched, found_missing}
+use Rattle.filer_kernel.proofs.TableLemmas.{table_shown, table_there, table_shown_there, beside_fetched, told_fetched, accounted_fetched, found_missing}
 use Rattle.filer_kernel.proofs.filer.FilerOver.touch1.Goals as goal
 
 pub returns-in-Some-clause-shown : goal.returns-in-Some-clause-shown
@@ -11,7 +10,7 @@ returns-in-Some-clause-shown g c = λ b tells.
     let self = c.args.self.now in
     let found = c.in-Some.ensures.found in
     let has = rw c.frames.ensures at found.1 in
-    (found.0, has, table_shown self.swapper.layout _ self.swapper.pool self.runs b c.args.page c.in-Some.slot found.0 c.requires.page self.swapper.placed tells has found.2.0 found.2.1)
+    (found.0, has, table_shown self.swapper.layout _ self.swapper.pool self.runs b c.args.page c.in-Some.slot found.0 c.requires.page tells has found.2.0 found.2.1)
 
 pub returns-in-Some-clause-kept : goal.returns-in-Some-clause-kept
 returns-in-Some-clause-kept g c =
@@ -25,11 +24,12 @@ pub returns-clause-shown : goal.returns-clause-shown
 returns-clause-shown g c = λ b tells.
     let after = c.fetch.new.self in
     let there = table_there c.fetch.result after.pool c.in_ok-home.home c.args.page c.in_ok-home.ensures.found.table.of_tables c.in_ok-home.ensures.page c.fetch.ensures.there in
-    table_shown_there c.fetch.result after.layout _ after.pool c.table_home.new.self.runs b c.args.page c.requires.page after.placed
-    (tables_swapped c.fetch.ensures.layout c.fetch.ensures.swaps b (c.in_ok-home.ensures.same b tells)) there
+    table_shown_there c.fetch.result after.layout _ after.pool c.table_home.new.self.runs b c.args.page c.requires.page
+    (told_fetched c.in_ok-home.home c.in_ok-home.ensures.kept c.in_ok-home.ensures.found c.args.self.now.swapper.accepted c.fetch.ensures.swaps c.fetch.ensures.brings c.fetch.ensures.layout c.in_ok-home.ensures.same b tells) there
 
 pub returns-clause-same : goal.returns-clause-same
-returns-clause-same g c = λ b tells. tables_swapped c.fetch.ensures.layout c.fetch.ensures.swaps b (c.in_ok-home.ensures.same b tells)
+returns-clause-same g c =
+    told_fetched c.in_ok-home.home c.in_ok-home.ensures.kept c.in_ok-home.ensures.found c.args.self.now.swapper.accepted c.fetch.ensures.swaps c.fetch.ensures.brings c.fetch.ensures.layout c.in_ok-home.ensures.same
 
 pub returns-clause-error : goal.returns-clause-error
 returns-clause-error g c =
@@ -38,7 +38,7 @@ returns-clause-error g c =
 
 pub returns-clause-kept : goal.returns-clause-kept
 returns-clause-kept g c =
-    beside_fetched c.in_ok-home.home c.in_ok-home.ensures.kept c.in_ok-home.ensures.found c.fetch.ensures.swaps c.fetch.ensures.brings c.fetch.ensures.steps c.fetch.ensures.layout
+    beside_fetched c.in_ok-home.home c.in_ok-home.ensures.kept c.in_ok-home.ensures.found c.args.self.now.swapper.accepted c.fetch.ensures.swaps c.fetch.ensures.brings c.fetch.ensures.steps c.fetch.ensures.layout
 
 pub returns-clause-idle : goal.returns-clause-idle
 returns-clause-idle g c = λ i has. absurd (c.find.ensures.nowhere.0 c.in_default.is i has.0 (rw c.frames.ensures has.1) has.2.0 has.2.1)

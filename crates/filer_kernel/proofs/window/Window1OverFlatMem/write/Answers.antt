@@ -34,7 +34,7 @@ returns-clause-written g c =
     let place : 512 * (c.args.at / 512) + c.args.at % 512 ≡ c.args.at = omega arith in
     λ b tells.
     let changed = tables_changed now.swapper.accepted (c.args.at / 512) below c.change.ensures.layout there.0 (now.swapper.placed c.in_ok-slot.slot there.0 there.1) there.2 there.3 (c.args.at % 512) c.args.bytes.now
-    c.requires.in_one_page (c.change.ensures.goes there.0 there.1) b (c.in_ok-slot.ensures.same b tells) in
+    c.requires.in_one_page (c.change.ensures.goes there.0 there.1) c.in_ok-slot.slot there.1 (c.change.ensures.frame there.0 there.1) b (c.in_ok-slot.ensures.same b tells) in
     subst (λ (n : ℕ). TablesTell (g.D.Disk.state c.change.new.self.under) c.change.new.self.pool c.change.new.self.layout now.runs (overwritten b n c.args.bytes.now)) place changed
 
 pub returns-clause-kept : goal.returns-clause-kept

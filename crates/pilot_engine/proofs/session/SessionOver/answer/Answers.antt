@@ -2,14 +2,22 @@ use Rattle.std.proofs.Common.{refl, sym, ap, ◌∙◌, arith, subst}
 use Rattle.std.proofs.lemmas.Bool.{true≢false}
 use Rattle.flat_machine.specs.References.{is_reference}
 use Rattle.pilot_engine.specs.Stepping.{relabels, waits, IsResident}
-use Rattle.fault_core.specs.Core.{kept}
+use Rattle.fault_core.specs.Core.{kept, state}
+use Rattle.swapper_kernel.specs.Goes.{no_page}
+use Rattle.file_manager.specs.Creating.{next_id}
+use Rattle.space_calls.specs.Halts.{NamedHalts, OnNamedHalts}
+use Rattle.file_manager.specs.Grounds.{IsNewPage}
+use Rattle.pilot_engine.specs.Halting.{MarkHalts, NewFileHalts, NextHalts, RemoveHalts, SizeHalts}
 use Rattle.pilot_engine.proofs.BoundLemmas.{asked_inside, spent_inside}
 use Rattle.pilot_engine.proofs.LiftLemmas.{carried_out}
 use Rattle.pilot_engine.proofs.StepLemmas.{nothing_told, on_spaces}
 use Rattle.flat_machine.specs.declared.call.Call.{Call}
 use Rattle.flat_machine.specs.declared.call.Call.TheVariants as call
 use Rattle.pilot_engine.proofs.OwnLemmas.{own_of, own_none, none_relabelled}
-use Rattle.pilot_engine.proofs.SeesLemmas.{some_or_spared}
+use Rattle.pilot_engine.proofs.HomeSteps.{same_or_spared}
+use Rattle.pilot_engine.proofs.LackLemmas.{fails_lacking, mark_lacks, named_lacks, new_lacks, on_named_lacks, pages_of, remove_lacks, size_lacks}
+use Rattle.pilot_engine.proofs.ReasonSteps.{ahead_on}
+use Rattle.pilot_engine.proofs.SpaceLacks.{next_lacks}
 use Rattle.pilot_engine.proofs.session.SessionOver.answer.Goals as goal
 
 pub returns-in-Create-clause-carried : goal.returns-in-Create-clause-carried
@@ -270,6 +278,34 @@ returns-in-Volume-clause-cause g c = rw c.in-Volume.is c.volume.ensures.cause
 
 -- ---- The outset.
 
+pub returns-in-Delete-clause-keeps_to : goal.returns-in-Delete-clause-keeps_to
+returns-in-Delete-clause-keeps_to g c = λ o k up.
+    ahead_on c.delete.result o (state c.delete.new.self.core) c.args.self.now.volume.root c.delete.new.self.volume.root up c.delete.ensures.onward (c.delete.ensures.keeps_to o k)
+
+pub returns-in-Attributes-clause-keeps_to : goal.returns-in-Attributes-clause-keeps_to
+returns-in-Attributes-clause-keeps_to g c = λ o k up.
+    ahead_on c.attributes.result o (state c.attributes.new.self.core) c.args.self.now.volume.root c.attributes.new.self.volume.root up c.attributes.ensures.onward (c.attributes.ensures.keeps_to o k)
+
+pub returns-in-SetSize-clause-keeps_to : goal.returns-in-SetSize-clause-keeps_to
+returns-in-SetSize-clause-keeps_to g c = λ o k up.
+    ahead_on c.set_size.result o (state c.set_size.new.self.core) c.args.self.now.volume.root c.set_size.new.self.volume.root up c.set_size.ensures.onward (c.set_size.ensures.keeps_to o k)
+
+pub returns-in-MakePermanent-clause-keeps_to : goal.returns-in-MakePermanent-clause-keeps_to
+returns-in-MakePermanent-clause-keeps_to g c = λ o k up.
+    ahead_on c.make_permanent.result o (state c.make_permanent.new.self.core) c.args.self.now.volume.root c.make_permanent.new.self.volume.root up c.make_permanent.ensures.onward (c.make_permanent.ensures.keeps_to o k)
+
+pub returns-in-MakeImmutable-clause-keeps_to : goal.returns-in-MakeImmutable-clause-keeps_to
+returns-in-MakeImmutable-clause-keeps_to g c = λ o k up.
+    ahead_on c.make_immutable.result o (state c.make_immutable.new.self.core) c.args.self.now.volume.root c.make_immutable.new.self.volume.root up c.make_immutable.ensures.onward (c.make_immutable.ensures.keeps_to o k)
+
+pub returns-in-Next-clause-keeps_to : goal.returns-in-Next-clause-keeps_to
+returns-in-Next-clause-keeps_to g c = λ o k up.
+    ahead_on c.next.result o (state c.next.new.self.core) c.args.self.now.volume.root c.next.new.self.volume.root up c.next.ensures.onward (c.next.ensures.keeps_to o k)
+
+pub returns-in-Volume-clause-keeps_to : goal.returns-in-Volume-clause-keeps_to
+returns-in-Volume-clause-keeps_to g c = λ o k up.
+    ahead_on c.volume.result o (state c.volume.new.self.core) c.args.self.now.volume.root c.volume.new.self.volume.root up c.volume.ensures.onward (c.volume.ensures.keeps_to o k)
+
 pub returns-in-Delete-clause-reasons : goal.returns-in-Delete-clause-reasons
 returns-in-Delete-clause-reasons g c = λ o k up. c.delete.ensures.reasons o k
 
@@ -288,10 +324,58 @@ returns-in-MakeImmutable-clause-reasons g c = λ o k up. c.make_immutable.ensure
 pub returns-in-Next-clause-reasons : goal.returns-in-Next-clause-reasons
 returns-in-Next-clause-reasons g c = λ o k up. c.next.ensures.reasons o k
 
+-- ---- Which pages are missing.
+
+pub returns-in-Create-clause-missing : goal.returns-in-Create-clause-missing
+returns-in-Create-clause-missing g c = λ ss sees.
+    let old = c.args.self.now.core in
+    rw c.in-Create.is (fails_lacking (NewFileHalts (next_id c.args.self.now.volume.root) (IsNewPage c.in-Create.pages)) no_page (new_lacks no_page (next_id c.args.self.now.volume.root) (IsNewPage c.in-Create.pages)) (state old) (state c.create.new.self.core) c.create.result c.create.ensures.cause)
+
+pub returns-in-Delete-clause-missing : goal.returns-in-Delete-clause-missing
+returns-in-Delete-clause-missing g c = λ ss sees.
+    let old = c.args.self.now.core in
+    let count = old.intervals in
+    rw c.in-Delete.is (fails_lacking (OnNamedHalts c.in-Delete.id count (RemoveHalts c.in-Delete.id)) (pages_of c.in-Delete.id) (on_named_lacks c.in-Delete.id count (RemoveHalts c.in-Delete.id) (pages_of c.in-Delete.id) (remove_lacks c.in-Delete.id)) (state old) (state c.delete.new.self.core) c.delete.result c.delete.ensures.cause)
+
+pub returns-in-Attributes-clause-missing : goal.returns-in-Attributes-clause-missing
+returns-in-Attributes-clause-missing g c = λ ss sees.
+    let old = c.args.self.now.core in
+    let count = old.intervals in
+    rw c.in-Attributes.is (fails_lacking (NamedHalts c.in-Attributes.id count) no_page (named_lacks no_page c.in-Attributes.id count) (state old) (state c.attributes.new.self.core) c.attributes.result c.attributes.ensures.cause)
+
+pub returns-in-SetSize-clause-missing : goal.returns-in-SetSize-clause-missing
+returns-in-SetSize-clause-missing g c = λ ss sees.
+    let old = c.args.self.now.core in
+    let count = old.intervals in
+    rw c.in-SetSize.is (fails_lacking (OnNamedHalts c.in-SetSize.id count (SizeHalts c.in-SetSize.id c.in-SetSize.pages)) (pages_of c.in-SetSize.id) (on_named_lacks c.in-SetSize.id count (SizeHalts c.in-SetSize.id c.in-SetSize.pages) (pages_of c.in-SetSize.id) (size_lacks c.in-SetSize.id c.in-SetSize.pages)) (state old) (state c.set_size.new.self.core) c.set_size.result c.set_size.ensures.cause)
+
+pub returns-in-MakePermanent-clause-missing : goal.returns-in-MakePermanent-clause-missing
+returns-in-MakePermanent-clause-missing g c = λ ss sees.
+    let old = c.args.self.now.core in
+    let count = old.intervals in
+    rw c.in-MakePermanent.is (fails_lacking (OnNamedHalts c.in-MakePermanent.id count (MarkHalts c.in-MakePermanent.id)) (pages_of c.in-MakePermanent.id) (on_named_lacks c.in-MakePermanent.id count (MarkHalts c.in-MakePermanent.id) (pages_of c.in-MakePermanent.id) (mark_lacks c.in-MakePermanent.id)) (state old) (state c.make_permanent.new.self.core) c.make_permanent.result c.make_permanent.ensures.cause)
+
+pub returns-in-MakeImmutable-clause-missing : goal.returns-in-MakeImmutable-clause-missing
+returns-in-MakeImmutable-clause-missing g c = λ ss sees.
+    let old = c.args.self.now.core in
+    let count = old.intervals in
+    rw c.in-MakeImmutable.is (fails_lacking (OnNamedHalts c.in-MakeImmutable.id count (MarkHalts c.in-MakeImmutable.id)) (pages_of c.in-MakeImmutable.id) (on_named_lacks c.in-MakeImmutable.id count (MarkHalts c.in-MakeImmutable.id) (pages_of c.in-MakeImmutable.id) (mark_lacks c.in-MakeImmutable.id)) (state old) (state c.make_immutable.new.self.core) c.make_immutable.result c.make_immutable.ensures.cause)
+
+pub returns-in-Next-clause-missing : goal.returns-in-Next-clause-missing
+returns-in-Next-clause-missing g c = λ ss sees.
+    let old = c.args.self.now.core in
+    let count = old.intervals in
+    rw c.in-Next.is (fails_lacking (NextHalts count) no_page (next_lacks count no_page) (state old) (state c.next.new.self.core) c.next.result c.next.ensures.cause)
+
+pub returns-in-Volume-clause-missing : goal.returns-in-Volume-clause-missing
+returns-in-Volume-clause-missing g c = λ ss sees.
+    let old = c.args.self.now.core in
+    rw c.in-Volume.is (fails_lacking (λ v w e. ⊥) no_page (λ v w e none. absurd none) (state old) (state c.volume.new.self.core) c.volume.result c.volume.ensures.cause)
+
 -- ---- The space tables are seen.
 
 pub returns-in-Create-clause-sees : goal.returns-in-Create-clause-sees
-returns-in-Create-clause-sees g c = λ o k up seen. some_or_spared c.args.self.now.core c.create.new.self.core c.create.result (c.create.ensures.sees o k up) seen
+returns-in-Create-clause-sees g c = λ o k up seen. same_or_spared o c.args.self.now.core c.create.new.self.core c.create.ensures.wrote.makes c.create.result (c.create.ensures.sees o k up) seen
 
 pub returns-in-Delete-clause-sees : goal.returns-in-Delete-clause-sees
 returns-in-Delete-clause-sees g c = λ o k up seen. c.delete.ensures.sees o k seen

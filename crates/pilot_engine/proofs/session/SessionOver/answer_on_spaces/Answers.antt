@@ -1,4 +1,4 @@
-use Rattle.std.proofs.Common.{◌≤◌, ℕ, List, length, refl, sym, ap, subst, ◌∙◌, arith}
+use Rattle.std.proofs.Common.{◌≡◌, ◌≤◌, ℕ, List, length, refl, sym, ap, subst, ◌∙◌, arith}
 use Rattle.std.proofs.lemmas.Bool.{true≢false}
 use Rattle.flat_machine.specs.References.{is_reference}
 use Rattle.pilot_engine.specs.Stepping.{IsResident, StepHalts, waits}
@@ -19,12 +19,24 @@ use Rattle.flat_machine.specs.Form.{IsInForm}
 use Rattle.flat_machine.specs.Refusal.{refusal}
 use Rattle.flat_machine.specs.declared.call.Call.{Call}
 use Rattle.flat_machine.specs.declared.call.Call.TheVariants as call
-use Rattle.space_calls.specs.Ranges.{BreaksRange}
+use Rattle.flat_machine.specs.declared.call.Reply.TheVariants as answer
+use Rattle.swapper_kernel.specs.Goes.{no_page}
+use Rattle.filer_kernel.proofs.Outcomes.{ok_wider}
+use Rattle.file_manager.specs.Creating.{next_id}
+use Rattle.file_manager.specs.Reasons.{WasBelow}
+use Rattle.fault_core.specs.Lack.{LacksPage, shown_units}
+use Rattle.fault_core.specs.Reach.{ReachHalts}
+use Rattle.pilot_engine.specs.Halting.{MapNewHalts}
+use Rattle.space_calls.specs.FilesLaws.{space_on, units_on}
+use Rattle.space_calls.specs.Ranges.{BreaksRange, space_units}
 use Rattle.space_calls.specs.Halts.{ChangeHalts, MakeSpaceHalts, MapFileHalts, PlaceHalts, ProtectHalts, RemoveSpaceHalts}
 use Rattle.space_calls.specs.ReasonLaws.{change_reasons, make_space_reasons, map_file_reasons, place_reasons, protect_reasons, remove_space_reasons}
-use Rattle.pilot_engine.proofs.ReasonSteps.{moving_keeps, moving_reasons, reaching_reasons}
-use Rattle.space_calls.specs.Sees.{SeesOn}
-use Rattle.pilot_engine.proofs.SeesLemmas.{seen_or_spared}
+use Rattle.pilot_engine.proofs.HomeLemmas.{have_lower, reached_below}
+use Rattle.space_calls.specs.Mapping.{IsLastFrom, ReachesOver}
+use Rattle.pilot_engine.proofs.HomeSteps.{map_or_spared, none_or_spared, still_or_spared}
+use Rattle.pilot_engine.proofs.LackLemmas.{fails_lacking}
+use Rattle.pilot_engine.proofs.ReasonSteps.{ahead_on, moving_ahead, moving_reasons, reaching_reasons, touching_reasons}
+use Rattle.pilot_engine.proofs.SpaceLacks.{change_lacks, make_space_lacks, map_file_lacks, map_new_lacks, place_lacks, protect_lacks, range_lacks, remove_space_lacks}
 use Rattle.pilot_engine.proofs.session.SessionOver.answer_on_spaces.Goals as goal
 
 pub returns-in-MakeSpace-clause-carried : goal.returns-in-MakeSpace-clause-carried
@@ -505,176 +517,314 @@ returns-in-ForceOut-clause-cause g c = rw c.in-ForceOut.is c.force_out.ensures.c
 -- ---- The outset.
 
 pub returns-in-MakeSpace-clause-keeps_to : goal.returns-in-MakeSpace-clause-keeps_to
-returns-in-MakeSpace-clause-keeps_to g c = λ o k next.
+returns-in-MakeSpace-clause-keeps_to g c = λ o k up.
     let old = c.args.self.now.core in
-    moving_keeps (state old) (state c.make_space.new.core) c.make_space.result old.filer.swapper.accepted c.make_space.ensures.moves o k
+    moving_ahead (state old) (state c.make_space.new.core) c.make_space.result old.filer.swapper.accepted c.make_space.ensures.moves o c.args.self.now.volume.root k up
 
 pub returns-in-MakeSpace-clause-reasons : goal.returns-in-MakeSpace-clause-reasons
-returns-in-MakeSpace-clause-reasons g c = λ o k next.
+returns-in-MakeSpace-clause-reasons g c = λ o k up.
     let old = c.args.self.now.core in
     let count = old.intervals in
     moving_reasons (MakeSpaceHalts c.in-MakeSpace.parent c.in-MakeSpace.pages c.in-MakeSpace.first count) (make_space_reasons c.in-MakeSpace.parent c.in-MakeSpace.pages c.in-MakeSpace.first count)
     (state old) (state c.make_space.new.core) c.make_space.result old.filer.swapper.accepted c.make_space.ensures.moves c.make_space.ensures.cause o k
 
 pub returns-in-RemoveSpace-clause-keeps_to : goal.returns-in-RemoveSpace-clause-keeps_to
-returns-in-RemoveSpace-clause-keeps_to g c = λ o k next.
+returns-in-RemoveSpace-clause-keeps_to g c = λ o k up.
     let old = c.args.self.now.core in
-    moving_keeps (state old) (state c.remove_space.new.core) c.remove_space.result old.filer.swapper.accepted c.remove_space.ensures.moves o k
+    moving_ahead (state old) (state c.remove_space.new.core) c.remove_space.result old.filer.swapper.accepted c.remove_space.ensures.moves o c.args.self.now.volume.root k up
 
 pub returns-in-RemoveSpace-clause-reasons : goal.returns-in-RemoveSpace-clause-reasons
-returns-in-RemoveSpace-clause-reasons g c = λ o k next.
+returns-in-RemoveSpace-clause-reasons g c = λ o k up.
     let old = c.args.self.now.core in
     let count = old.intervals in
     moving_reasons (RemoveSpaceHalts c.in-RemoveSpace.space count) (remove_space_reasons c.in-RemoveSpace.space count)
     (state old) (state c.remove_space.new.core) c.remove_space.result old.filer.swapper.accepted c.remove_space.ensures.moves c.remove_space.ensures.cause o k
 
 pub returns-in-Place-clause-keeps_to : goal.returns-in-Place-clause-keeps_to
-returns-in-Place-clause-keeps_to g c = λ o k next. moving_keeps (state c.args.self.now.core) (state c.place.new.core) c.place.result c.args.self.now.core.filer.swapper.accepted c.place.ensures.moves o k
+returns-in-Place-clause-keeps_to g c = λ o k up.
+    let old = c.args.self.now.core in
+    moving_ahead (state old) (state c.place.new.core) c.place.result old.filer.swapper.accepted c.place.ensures.moves o c.args.self.now.volume.root k up
 
 pub returns-in-Place-clause-reasons : goal.returns-in-Place-clause-reasons
-returns-in-Place-clause-reasons g c = λ o k next.
+returns-in-Place-clause-reasons g c = λ o k up.
     let old = c.args.self.now.core in
     let count = old.intervals in
     moving_reasons (PlaceHalts c.in-Place.page count) (place_reasons c.in-Place.page count)
     (state old) (state c.place.new.core) c.place.result old.filer.swapper.accepted c.place.ensures.moves c.place.ensures.cause o k
 
 pub returns-in-Units-clause-keeps_to : goal.returns-in-Units-clause-keeps_to
-returns-in-Units-clause-keeps_to g c = λ o k next.
+returns-in-Units-clause-keeps_to g c = λ o k up.
     let old = c.args.self.now.core in
-    moving_keeps (state old) (state c.set_units.new.core) c.set_units.result old.filer.swapper.accepted c.set_units.ensures.moves o k
+    moving_ahead (state old) (state c.set_units.new.core) c.set_units.result old.filer.swapper.accepted c.set_units.ensures.moves o c.args.self.now.volume.root k up
 
 pub returns-in-Units-clause-reasons : goal.returns-in-Units-clause-reasons
-returns-in-Units-clause-reasons g c = λ o k next.
+returns-in-Units-clause-reasons g c = λ o k up.
     let old = c.args.self.now.core in
     let count = old.intervals in
     moving_reasons (ChangeHalts count) (change_reasons count) (state old) (state c.set_units.new.core) c.set_units.result old.filer.swapper.accepted c.set_units.ensures.moves c.set_units.ensures.cause o k
 
 pub returns-in-Map-clause-keeps_to : goal.returns-in-Map-clause-keeps_to
-returns-in-Map-clause-keeps_to g c = λ o k next. moving_keeps (state c.args.self.now.core) (state c.map.new.core) c.map.result c.args.self.now.core.filer.swapper.accepted c.map.ensures.moves o k
+returns-in-Map-clause-keeps_to g c = λ o k up.
+    let old = c.args.self.now.core in
+    moving_ahead (state old) (state c.map.new.core) c.map.result old.filer.swapper.accepted c.map.ensures.moves o c.args.self.now.volume.root k up
 
 pub returns-in-Map-clause-reasons : goal.returns-in-Map-clause-reasons
-returns-in-Map-clause-reasons g c = λ o k next.
+returns-in-Map-clause-reasons g c = λ o k up.
     let old = c.args.self.now.core in
     let count = old.intervals in
     moving_reasons (MapFileHalts c.in-Map.space c.in-Map.id count) (map_file_reasons c.in-Map.space c.in-Map.id count)
     (state old) (state c.map.new.core) c.map.result old.filer.swapper.accepted c.map.ensures.moves c.map.ensures.cause o k
 
+pub returns-in-Unmap-clause-keeps_to : goal.returns-in-Unmap-clause-keeps_to
+returns-in-Unmap-clause-keeps_to g c = λ o k up.
+    ahead_on c.unmap.result o (state c.unmap.new.self.core) c.args.self.now.volume.root c.unmap.new.self.volume.root up c.unmap.ensures.onward (c.unmap.ensures.keeps_to o k)
+
 pub returns-in-Unmap-clause-reasons : goal.returns-in-Unmap-clause-reasons
-returns-in-Unmap-clause-reasons g c = λ o k next. c.unmap.ensures.reasons o k
+returns-in-Unmap-clause-reasons g c = λ o k up. c.unmap.ensures.reasons o k
 
 pub returns-in-Protect-clause-keeps_to : goal.returns-in-Protect-clause-keeps_to
-returns-in-Protect-clause-keeps_to g c = λ o k next.
+returns-in-Protect-clause-keeps_to g c = λ o k up.
     let old = c.args.self.now.core in
-    moving_keeps (state old) (state c.protect.new.core) c.protect.result old.filer.swapper.accepted c.protect.ensures.moves o k
+    moving_ahead (state old) (state c.protect.new.core) c.protect.result old.filer.swapper.accepted c.protect.ensures.moves o c.args.self.now.volume.root k up
 
 pub returns-in-Protect-clause-reasons : goal.returns-in-Protect-clause-reasons
-returns-in-Protect-clause-reasons g c = λ o k next.
+returns-in-Protect-clause-reasons g c = λ o k up.
     let old = c.args.self.now.core in
     let count = old.intervals in
     moving_reasons (ProtectHalts c.in-Protect.space c.in-Protect.writable count) (protect_reasons c.in-Protect.space c.in-Protect.writable count)
     (state old) (state c.protect.new.core) c.protect.result old.filer.swapper.accepted c.protect.ensures.moves c.protect.ensures.cause o k
 
 pub returns-in-Load-clause-keeps_to : goal.returns-in-Load-clause-keeps_to
-returns-in-Load-clause-keeps_to g c = λ o k next. moving_keeps (state c.args.self.now.core) (state c.load.new.core) c.load.result c.args.self.now.core.filer.swapper.accepted c.load.ensures.moves o k
+returns-in-Load-clause-keeps_to g c = λ o k up.
+    let old = c.args.self.now.core in
+    moving_ahead (state old) (state c.load.new.core) c.load.result old.filer.swapper.accepted c.load.ensures.moves o c.args.self.now.volume.root k up
 
 pub returns-in-Load-clause-reasons : goal.returns-in-Load-clause-reasons
-returns-in-Load-clause-reasons g c = λ o k next.
+returns-in-Load-clause-reasons g c = λ o k up.
     let old = c.args.self.now.core in
     let count = old.intervals in
-    reaching_reasons (λ v. BreaksFor v count c.in-Load.address c.in-Load.count) (state old) (state c.load.new.core) c.load.result old.filer.swapper.accepted c.load.ensures.moves c.load.ensures.cause o k
+    touching_reasons (λ v. BreaksFor v count c.in-Load.address c.in-Load.count) (state old) (state c.load.new.core) c.load.result old.filer.swapper.accepted c.load.ensures.moves c.load.ensures.cause o k
 
 pub returns-in-Store-clause-keeps_to : goal.returns-in-Store-clause-keeps_to
-returns-in-Store-clause-keeps_to g c = λ o k next. moving_keeps (state c.args.self.now.core) (state c.store.new.core) c.store.result c.args.self.now.core.filer.swapper.accepted c.store.ensures.moves o k
+returns-in-Store-clause-keeps_to g c = λ o k up.
+    let old = c.args.self.now.core in
+    moving_ahead (state old) (state c.store.new.core) c.store.result old.filer.swapper.accepted c.store.ensures.moves o c.args.self.now.volume.root k up
 
 pub returns-in-Store-clause-reasons : goal.returns-in-Store-clause-reasons
-returns-in-Store-clause-reasons g c = λ o k next.
+returns-in-Store-clause-reasons g c = λ o k up.
     let old = c.args.self.now.core in
     let count = old.intervals in
-    reaching_reasons (λ v. BreaksFor v count c.in-Store.address (length c.as_slice.result.now))
+    touching_reasons (λ v. BreaksFor v count c.in-Store.address (length c.as_slice.result.now))
     (state old) (state c.store.new.core) c.store.result old.filer.swapper.accepted c.store.ensures.moves c.store.ensures.cause o k
 
 pub returns-in-Activate-clause-keeps_to : goal.returns-in-Activate-clause-keeps_to
-returns-in-Activate-clause-keeps_to g c = λ o k next.
+returns-in-Activate-clause-keeps_to g c = λ o k up.
     let old = c.args.self.now.core in
-    moving_keeps (state old) (state c.activate.new.core) c.activate.result old.filer.swapper.accepted c.activate.ensures.moves o k
+    moving_ahead (state old) (state c.activate.new.core) c.activate.result old.filer.swapper.accepted c.activate.ensures.moves o c.args.self.now.volume.root k up
 
 pub returns-in-Activate-clause-reasons : goal.returns-in-Activate-clause-reasons
-returns-in-Activate-clause-reasons g c = λ o k next.
+returns-in-Activate-clause-reasons g c = λ o k up.
     let old = c.args.self.now.core in
     let count = old.intervals in
-    reaching_reasons (λ v. BreaksRange v count c.in-Activate.space)
+    touching_reasons (λ v. BreaksRange v count c.in-Activate.space)
     (state old) (state c.activate.new.core) c.activate.result old.filer.swapper.accepted c.activate.ensures.moves c.activate.ensures.cause o k
 
 pub returns-in-Deactivate-clause-keeps_to : goal.returns-in-Deactivate-clause-keeps_to
-returns-in-Deactivate-clause-keeps_to g c = λ o k next.
+returns-in-Deactivate-clause-keeps_to g c = λ o k up.
     let old = c.args.self.now.core in
-    moving_keeps (state old) (state c.deactivate.new.core) c.deactivate.result old.filer.swapper.accepted c.deactivate.ensures.moves o k
+    moving_ahead (state old) (state c.deactivate.new.core) c.deactivate.result old.filer.swapper.accepted c.deactivate.ensures.moves o c.args.self.now.volume.root k up
 
 pub returns-in-Deactivate-clause-reasons : goal.returns-in-Deactivate-clause-reasons
-returns-in-Deactivate-clause-reasons g c = λ o k next.
+returns-in-Deactivate-clause-reasons g c = λ o k up.
     let old = c.args.self.now.core in
     let count = old.intervals in
     reaching_reasons (λ v. BreaksRange v count c.in-Deactivate.space)
     (state old) (state c.deactivate.new.core) c.deactivate.result old.filer.swapper.accepted c.deactivate.ensures.moves c.deactivate.ensures.cause o k
 
 pub returns-in-Kill-clause-keeps_to : goal.returns-in-Kill-clause-keeps_to
-returns-in-Kill-clause-keeps_to g c = λ o k next. moving_keeps (state c.args.self.now.core) (state c.kill.new.core) c.kill.result c.args.self.now.core.filer.swapper.accepted c.kill.ensures.moves o k
+returns-in-Kill-clause-keeps_to g c = λ o k up.
+    let old = c.args.self.now.core in
+    moving_ahead (state old) (state c.kill.new.core) c.kill.result old.filer.swapper.accepted c.kill.ensures.moves o c.args.self.now.volume.root k up
 
 pub returns-in-Kill-clause-reasons : goal.returns-in-Kill-clause-reasons
-returns-in-Kill-clause-reasons g c = λ o k next.
+returns-in-Kill-clause-reasons g c = λ o k up.
     let old = c.args.self.now.core in
     let count = old.intervals in
     reaching_reasons (λ v. BreaksRange v count c.in-Kill.space) (state old) (state c.kill.new.core) c.kill.result old.filer.swapper.accepted c.kill.ensures.moves c.kill.ensures.cause o k
 
 pub returns-in-ForceOut-clause-keeps_to : goal.returns-in-ForceOut-clause-keeps_to
-returns-in-ForceOut-clause-keeps_to g c = λ o k next.
+returns-in-ForceOut-clause-keeps_to g c = λ o k up.
     let old = c.args.self.now.core in
-    moving_keeps (state old) (state c.force_out.new.core) c.force_out.result old.filer.swapper.accepted c.force_out.ensures.moves o k
+    moving_ahead (state old) (state c.force_out.new.core) c.force_out.result old.filer.swapper.accepted c.force_out.ensures.moves o c.args.self.now.volume.root k up
 
 pub returns-in-ForceOut-clause-reasons : goal.returns-in-ForceOut-clause-reasons
-returns-in-ForceOut-clause-reasons g c = λ o k next.
+returns-in-ForceOut-clause-reasons g c = λ o k up.
     let old = c.args.self.now.core in
     let count = old.intervals in
     reaching_reasons (λ v. BreaksRange v count c.in-ForceOut.space)
     (state old) (state c.force_out.new.core) c.force_out.result old.filer.swapper.accepted c.force_out.ensures.moves c.force_out.ensures.cause o k
 
+-- ---- Which pages are missing.
+
+pub returns-in-MakeSpace-clause-missing : goal.returns-in-MakeSpace-clause-missing
+returns-in-MakeSpace-clause-missing g c = λ ss sees.
+    let old = c.args.self.now.core in
+    let count = old.intervals in
+    rw c.in-MakeSpace.is (fails_lacking (MakeSpaceHalts c.in-MakeSpace.parent c.in-MakeSpace.pages c.in-MakeSpace.first count) no_page (make_space_lacks c.in-MakeSpace.parent c.in-MakeSpace.pages c.in-MakeSpace.first count no_page) (state old) (state c.make_space.new.core) c.make_space.result c.make_space.ensures.cause)
+
+pub returns-in-RemoveSpace-clause-missing : goal.returns-in-RemoveSpace-clause-missing
+returns-in-RemoveSpace-clause-missing g c = λ ss sees.
+    let old = c.args.self.now.core in
+    let count = old.intervals in
+    rw c.in-RemoveSpace.is (fails_lacking (RemoveSpaceHalts c.in-RemoveSpace.space count) no_page (remove_space_lacks c.in-RemoveSpace.space count no_page) (state old) (state c.remove_space.new.core) c.remove_space.result c.remove_space.ensures.cause)
+
+pub returns-in-Place-clause-missing : goal.returns-in-Place-clause-missing
+returns-in-Place-clause-missing g c = λ ss sees.
+    let old = c.args.self.now.core in
+    let count = old.intervals in
+    rw c.in-Place.is (fails_lacking (PlaceHalts c.in-Place.page count) no_page (place_lacks c.in-Place.page count no_page) (state old) (state c.place.new.core) c.place.result c.place.ensures.cause)
+
+pub returns-in-Units-clause-missing : goal.returns-in-Units-clause-missing
+returns-in-Units-clause-missing g c = λ ss sees.
+    let old = c.args.self.now.core in
+    let count = old.intervals in
+    rw c.in-Units.is (fails_lacking (ChangeHalts count) no_page (change_lacks count no_page) (state old) (state c.set_units.new.core) c.set_units.result c.set_units.ensures.cause)
+
+pub returns-in-Map-clause-missing : goal.returns-in-Map-clause-missing
+returns-in-Map-clause-missing g c = λ ss sees.
+    let old = c.args.self.now.core in
+    let count = old.intervals in
+    rw c.in-Map.is (fails_lacking (MapFileHalts c.in-Map.space c.in-Map.id count) no_page (map_file_lacks c.in-Map.space c.in-Map.id count no_page) (state old) (state c.map.new.core) c.map.result c.map.ensures.cause)
+
+pub returns-in-MapAnonymous-clause-missing : goal.returns-in-MapAnonymous-clause-missing
+returns-in-MapAnonymous-clause-missing g c = λ ss sees.
+    let old = c.args.self.now.core in
+    let count = old.intervals in
+    rw c.in-MapAnonymous.is (fails_lacking (MapNewHalts (next_id c.args.self.now.volume.root) count) no_page (map_new_lacks (next_id c.args.self.now.volume.root) count no_page) (state old) (state c.map_anonymous.new.self.core) c.map_anonymous.result c.map_anonymous.ensures.cause)
+
+pub returns-in-Unmap-clause-missing : goal.returns-in-Unmap-clause-missing
+returns-in-Unmap-clause-missing g c = λ ss sees. rw c.in-Unmap.is (c.unmap.ensures.missing ss sees)
+
+pub returns-in-Protect-clause-missing : goal.returns-in-Protect-clause-missing
+returns-in-Protect-clause-missing g c = λ ss sees.
+    let old = c.args.self.now.core in
+    let count = old.intervals in
+    rw c.in-Protect.is (fails_lacking (ProtectHalts c.in-Protect.space c.in-Protect.writable count) no_page (protect_lacks c.in-Protect.space c.in-Protect.writable count no_page) (state old) (state c.protect.new.core) c.protect.result c.protect.ensures.cause)
+
+pub returns-in-Load-clause-missing : goal.returns-in-Load-clause-missing
+returns-in-Load-clause-missing g c = λ ss sees. rw c.in-Load.is (c.load.ensures.missing ss sees)
+
+pub returns-in-Store-clause-missing : goal.returns-in-Store-clause-missing
+returns-in-Store-clause-missing g c = λ ss sees.
+    rw c.in-Store.is
+    (subst (λ (bs : List ℕ). IfErr c.store.result (LacksPage (shown_units ss c.in-Store.address (length bs)))) c.as_slice.ensures.bytes (c.store.ensures.missing ss sees))
+
+pub returns-in-Activate-clause-missing : goal.returns-in-Activate-clause-missing
+returns-in-Activate-clause-missing g c = λ ss sees. rw c.in-Activate.is (c.activate.ensures.missing ss sees)
+
+pub returns-in-Deactivate-clause-missing : goal.returns-in-Deactivate-clause-missing
+returns-in-Deactivate-clause-missing g c = λ ss sees.
+    let old = c.args.self.now.core in
+    let count = old.intervals in
+    rw c.in-Deactivate.is (fails_lacking (λ v w e. ReachHalts (BreaksRange v count c.in-Deactivate.space) v w e) no_page (range_lacks c.in-Deactivate.space count no_page) (state old) (state c.deactivate.new.core) c.deactivate.result c.deactivate.ensures.cause)
+
+pub returns-in-Kill-clause-missing : goal.returns-in-Kill-clause-missing
+returns-in-Kill-clause-missing g c = λ ss sees.
+    let old = c.args.self.now.core in
+    let count = old.intervals in
+    rw c.in-Kill.is (fails_lacking (λ v w e. ReachHalts (BreaksRange v count c.in-Kill.space) v w e) no_page (range_lacks c.in-Kill.space count no_page) (state old) (state c.kill.new.core) c.kill.result c.kill.ensures.cause)
+
+pub returns-in-ForceOut-clause-missing : goal.returns-in-ForceOut-clause-missing
+returns-in-ForceOut-clause-missing g c = λ ss sees.
+    let old = c.args.self.now.core in
+    let count = old.intervals in
+    rw c.in-ForceOut.is (fails_lacking (λ v w e. ReachHalts (BreaksRange v count c.in-ForceOut.space) v w e) no_page (range_lacks c.in-ForceOut.space count no_page) (state old) (state c.force_out.new.core) c.force_out.result c.force_out.ensures.cause)
+
 -- ---- The space tables are seen.
 
 pub returns-in-MakeSpace-clause-sees : goal.returns-in-MakeSpace-clause-sees
-returns-in-MakeSpace-clause-sees g c = λ o k next seen. seen_or_spared (SeesOn c.make_space.new.core) c.make_space.result (c.make_space.ensures.sees seen) (c.make_space.ensures.right seen)
+returns-in-MakeSpace-clause-sees g c = λ o k up seen.
+    let old = c.args.self.now.core in
+    let count = old.intervals in
+    none_or_spared o old c.make_space.new.core c.make_space.ensures.moves.goes.makes c.make_space.result c.make_space.ensures.sees c.make_space.ensures.right
+    (fails_lacking (MakeSpaceHalts c.in-MakeSpace.parent c.in-MakeSpace.pages c.in-MakeSpace.first count) no_page (make_space_lacks c.in-MakeSpace.parent c.in-MakeSpace.pages c.in-MakeSpace.first count no_page) (state old) (state c.make_space.new.core) c.make_space.result c.make_space.ensures.cause) seen
 
 pub returns-in-RemoveSpace-clause-sees : goal.returns-in-RemoveSpace-clause-sees
-returns-in-RemoveSpace-clause-sees g c = λ o k next seen. seen_or_spared (SeesOn c.remove_space.new.core) c.remove_space.result (c.remove_space.ensures.sees seen) (c.remove_space.ensures.right seen)
+returns-in-RemoveSpace-clause-sees g c = λ o k up seen.
+    let old = c.args.self.now.core in
+    let count = old.intervals in
+    none_or_spared o old c.remove_space.new.core c.remove_space.ensures.moves.goes.makes c.remove_space.result c.remove_space.ensures.sees c.remove_space.ensures.right
+    (fails_lacking (RemoveSpaceHalts c.in-RemoveSpace.space count) no_page (remove_space_lacks c.in-RemoveSpace.space count no_page) (state old) (state c.remove_space.new.core) c.remove_space.result c.remove_space.ensures.cause) seen
 
 pub returns-in-Place-clause-sees : goal.returns-in-Place-clause-sees
-returns-in-Place-clause-sees g c = λ o k next seen. seen_or_spared (SeesOn c.place.new.core) c.place.result (c.place.ensures.sees seen) (c.place.ensures.right seen)
+returns-in-Place-clause-sees g c = λ o k up seen.
+    let old = c.args.self.now.core in
+    let count = old.intervals in
+    none_or_spared o old c.place.new.core c.place.ensures.moves.goes.makes c.place.result c.place.ensures.sees c.place.ensures.right
+    (fails_lacking (PlaceHalts c.in-Place.page count) no_page (place_lacks c.in-Place.page count no_page) (state old) (state c.place.new.core) c.place.result c.place.ensures.cause) seen
 
 pub returns-in-Units-clause-sees : goal.returns-in-Units-clause-sees
-returns-in-Units-clause-sees g c = λ o k next seen. seen_or_spared (SeesOn c.set_units.new.core) c.set_units.result (c.set_units.ensures.sees seen) (c.set_units.ensures.right seen)
+returns-in-Units-clause-sees g c = λ o k up seen.
+    let old = c.args.self.now.core in
+    let count = old.intervals in
+    none_or_spared o old c.set_units.new.core c.set_units.ensures.moves.goes.makes c.set_units.result c.set_units.ensures.sees c.set_units.ensures.right
+    (fails_lacking (ChangeHalts count) no_page (change_lacks count no_page) (state old) (state c.set_units.new.core) c.set_units.result c.set_units.ensures.cause) seen
 
 pub returns-in-Map-clause-sees : goal.returns-in-Map-clause-sees
-returns-in-Map-clause-sees g c = λ o k next seen. seen_or_spared (SeesOn c.map.new.core) c.map.result (c.map.ensures.sees seen) (c.map.ensures.right seen)
+returns-in-Map-clause-sees g c = λ o k up seen.
+    let old = c.args.self.now.core in
+    let count = old.intervals in
+    let reached = c.map.ensures.found seen.0 k.1.0.memory k.0 seen.1.0 k.1.0.stands k.1.0.map k.1.0.kept in
+    map_or_spared o old c.map.new.core c.map.ensures.moves.goes.makes c.in-Map.space c.in-Map.id c.in-Map.page c.map.result c.map.ensures.sees seen
+    (ok_wider c.map.result (λ reply. reply ≡ answer.Done → ReachesOver seen.0 c.in-Map.space c.in-Map.id c.in-Map.page k.0) (λ reply. reply ≡ answer.Done → (last : ℕ) → IsLastFrom seen.0 c.in-Map.space c.in-Map.page last → WasBelow o (g.D.Disk.state old.filer.swapper.under) c.in-Map.id last)
+    (λ reply reaches is. reached_below k.1.0 seen.0 c.in-Map.space c.in-Map.id c.in-Map.page (reaches is)) reached)
+    c.map.ensures.right (fails_lacking (MapFileHalts c.in-Map.space c.in-Map.id count) no_page (map_file_lacks c.in-Map.space c.in-Map.id count no_page) (state old) (state c.map.new.core) c.map.result c.map.ensures.cause)
 
 pub returns-in-Unmap-clause-sees : goal.returns-in-Unmap-clause-sees
-returns-in-Unmap-clause-sees g c = λ o k next seen. c.unmap.ensures.sees o k seen
+returns-in-Unmap-clause-sees g c = λ o k up seen. c.unmap.ensures.sees o k seen
 
 pub returns-in-Protect-clause-sees : goal.returns-in-Protect-clause-sees
-returns-in-Protect-clause-sees g c = λ o k next seen. seen_or_spared (SeesOn c.protect.new.core) c.protect.result (c.protect.ensures.sees seen) (c.protect.ensures.right seen)
+returns-in-Protect-clause-sees g c = λ o k up seen.
+    let old = c.args.self.now.core in
+    let count = old.intervals in
+    none_or_spared o old c.protect.new.core c.protect.ensures.moves.goes.makes c.protect.result c.protect.ensures.sees c.protect.ensures.right
+    (fails_lacking (ProtectHalts c.in-Protect.space c.in-Protect.writable count) no_page (protect_lacks c.in-Protect.space c.in-Protect.writable count no_page) (state old) (state c.protect.new.core) c.protect.result c.protect.ensures.cause) seen
 
 pub returns-in-Load-clause-sees : goal.returns-in-Load-clause-sees
-returns-in-Load-clause-sees g c = λ o k next seen. seen_or_spared (SeesOn c.load.new.core) c.load.result (c.load.ensures.sees seen) (c.load.ensures.right seen)
+returns-in-Load-clause-sees g c = λ o k up seen.
+    let old = c.args.self.now.core in
+    still_or_spared o old c.load.new.core c.load.ensures.moves.goes.makes c.load.result c.load.ensures.sees c.load.ensures.right
+    (shown_units seen.0 c.in-Load.address c.in-Load.count) (c.load.ensures.missing seen.0 seen.1.0) (units_on (WasBelow o (g.D.Disk.state old.filer.swapper.under)) (have_lower o (g.D.Disk.state old.filer.swapper.under)) seen.0 seen.1.1 c.in-Load.address c.in-Load.count) seen
 
 pub returns-in-Store-clause-sees : goal.returns-in-Store-clause-sees
-returns-in-Store-clause-sees g c = λ o k next seen. seen_or_spared (SeesOn c.store.new.core) c.store.result (c.store.ensures.sees seen) (c.store.ensures.right seen)
+returns-in-Store-clause-sees g c = λ o k up seen.
+    let old = c.args.self.now.core in
+    still_or_spared o old c.store.new.core c.store.ensures.moves.goes.makes c.store.result c.store.ensures.sees c.store.ensures.right
+    (shown_units seen.0 c.in-Store.address (length c.as_slice.result.now)) (c.store.ensures.missing seen.0 seen.1.0) (units_on (WasBelow o (g.D.Disk.state old.filer.swapper.under)) (have_lower o (g.D.Disk.state old.filer.swapper.under)) seen.0 seen.1.1 c.in-Store.address (length c.as_slice.result.now)) seen
 
 pub returns-in-Activate-clause-sees : goal.returns-in-Activate-clause-sees
-returns-in-Activate-clause-sees g c = λ o k next seen. seen_or_spared (SeesOn c.activate.new.core) c.activate.result (c.activate.ensures.sees seen) (c.activate.ensures.right seen)
+returns-in-Activate-clause-sees g c = λ o k up seen.
+    let old = c.args.self.now.core in
+    still_or_spared o old c.activate.new.core c.activate.ensures.moves.goes.makes c.activate.result c.activate.ensures.sees c.activate.ensures.right
+    (space_units seen.0 c.in-Activate.space) (c.activate.ensures.missing seen.0 seen.1.0) (space_on (WasBelow o (g.D.Disk.state old.filer.swapper.under)) (have_lower o (g.D.Disk.state old.filer.swapper.under)) seen.0 seen.1.1 c.in-Activate.space) seen
 
 pub returns-in-Deactivate-clause-sees : goal.returns-in-Deactivate-clause-sees
-returns-in-Deactivate-clause-sees g c = λ o k next seen. seen_or_spared (SeesOn c.deactivate.new.core) c.deactivate.result (c.deactivate.ensures.sees seen) (c.deactivate.ensures.right seen)
+returns-in-Deactivate-clause-sees g c = λ o k up seen.
+    let old = c.args.self.now.core in
+    let count = old.intervals in
+    none_or_spared o old c.deactivate.new.core c.deactivate.ensures.moves.goes.makes c.deactivate.result c.deactivate.ensures.sees c.deactivate.ensures.right
+    (fails_lacking (λ v w e. ReachHalts (BreaksRange v count c.in-Deactivate.space) v w e) no_page (range_lacks c.in-Deactivate.space count no_page) (state old) (state c.deactivate.new.core) c.deactivate.result c.deactivate.ensures.cause) seen
 
 pub returns-in-Kill-clause-sees : goal.returns-in-Kill-clause-sees
-returns-in-Kill-clause-sees g c = λ o k next seen. seen_or_spared (SeesOn c.kill.new.core) c.kill.result (c.kill.ensures.sees seen) (c.kill.ensures.right seen)
+returns-in-Kill-clause-sees g c = λ o k up seen.
+    let old = c.args.self.now.core in
+    let count = old.intervals in
+    none_or_spared o old c.kill.new.core c.kill.ensures.moves.goes.makes c.kill.result c.kill.ensures.sees c.kill.ensures.right
+    (fails_lacking (λ v w e. ReachHalts (BreaksRange v count c.in-Kill.space) v w e) no_page (range_lacks c.in-Kill.space count no_page) (state old) (state c.kill.new.core) c.kill.result c.kill.ensures.cause) seen
 
 pub returns-in-ForceOut-clause-sees : goal.returns-in-ForceOut-clause-sees
-returns-in-ForceOut-clause-sees g c = λ o k next seen. seen_or_spared (SeesOn c.force_out.new.core) c.force_out.result (c.force_out.ensures.sees seen) (c.force_out.ensures.right seen)
+returns-in-ForceOut-clause-sees g c = λ o k up seen.
+    let old = c.args.self.now.core in
+    let count = old.intervals in
+    none_or_spared o old c.force_out.new.core c.force_out.ensures.moves.goes.makes c.force_out.result c.force_out.ensures.sees c.force_out.ensures.right
+    (fails_lacking (λ v w e. ReachHalts (BreaksRange v count c.in-ForceOut.space) v w e) no_page (range_lacks c.in-ForceOut.space count no_page) (state old) (state c.force_out.new.core) c.force_out.result c.force_out.ensures.cause) seen

@@ -12,6 +12,8 @@ use Rattle.space_calls.specs.ReasonLaws.{named_reasons}
 use Rattle.space_calls.specs.Halts.{NamedHalts}
 use Rattle.pilot_engine.proofs.ReasonSteps.{reached_on, shows_after}
 use Rattle.running_words.specs.SparedLaws.{spares_form}
+use Rattle.pilot_engine.proofs.HomeLemmas.{file_pages, home_still}
+use Rattle.pilot_engine.proofs.LackLemmas.{named_lacks}
 use Rattle.pilot_engine.proofs.session.SessionOver.attributes.Goals as goal
 
 pub returns-in-Ok-None-clause-carried : goal.returns-in-Ok-None-clause-carried
@@ -67,16 +69,16 @@ returns-in-Err-clause-reasons g c = λ o k.
     shows_after (NamedHalts c.args.id count) (named_reasons c.args.id count)
     o (state old) (state c.named_file.new.core) old.filer.swapper.accepted c.named_file.ensures.reaches.goes.makes k c.in-Err.halt c.in-Err.ensures.cause
 
--- ---- What is seen of the space tables.
+-- ---- What is seen of the space tables, and which page is told as missing.
 
 pub returns-clause-sees : goal.returns-clause-sees
-returns-clause-sees g c = λ o k seen.
-    c.in-Ok-Some.ensures.sees seen
+returns-clause-sees g c = λ o k seen. home_still o c.args.self.now.core c.named_file.new.core c.named_file.ensures.makes c.named_file.ensures.still seen
 
 pub returns-in-Ok-None-clause-sees : goal.returns-in-Ok-None-clause-sees
-returns-in-Ok-None-clause-sees g c = λ o k seen.
-    c.in-Ok-None.ensures.sees seen
+returns-in-Ok-None-clause-sees g c = λ o k seen. home_still o c.args.self.now.core c.named_file.new.core c.named_file.ensures.makes c.named_file.ensures.still seen
 
 pub returns-in-Err-clause-sees : goal.returns-in-Err-clause-sees
 returns-in-Err-clause-sees g c = λ o k seen.
-    spares_form c.in-Err.halt (c.in-Err.ensures.right seen)
+    let old = c.args.self.now.core in
+    let new = c.named_file.new.core in
+    (spares_form c.in-Err.halt (c.in-Err.ensures.right (seen.0, seen.1.0)), named_lacks (file_pages o (g.D.Disk.state new.filer.swapper.under)) c.args.id old.intervals (state old) (state new) c.in-Err.halt c.in-Err.ensures.cause)

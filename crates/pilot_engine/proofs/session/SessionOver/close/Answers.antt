@@ -247,13 +247,16 @@ returns-in-Err-write_clean-clause-reasons g c = λ o keeps. rw c.in-Err-write_cl
 pub returns-in-Err-wait-clause-reasons : goal.returns-in-Err-wait-clause-reasons
 returns-in-Err-wait-clause-reasons g c = λ o keeps. rw c.in-Err-wait.ensures.fault tt
 
--- ---- No page of the space tables is told as broken.
+-- ---- No page of the space tables is told as broken, and none of a file as missing that was nowhere at home.
 
 pub returns-in-Err-empty-clause-sees : goal.returns-in-Err-empty-clause-sees
 returns-in-Err-empty-clause-sees g c = λ o keeps seen. c.in-Err-empty.ensures.sees o (c.in-Ok.ensures.keeps_to o keeps) (c.in-Ok.ensures.sees o keeps seen)
 
+pub returns-in-Err-write_maps-clause-sees : goal.returns-in-Err-write_maps-clause-sees
+returns-in-Err-write_maps-clause-sees g c = λ o keeps seen. c.in-Err-write_maps.ensures.right o
+
 pub returns-in-Err-write_clean-clause-sees : goal.returns-in-Err-write_clean-clause-sees
-returns-in-Err-write_clean-clause-sees g c = λ o keeps seen. rw c.in-Err-write_clean.ensures.fault tt
+returns-in-Err-write_clean-clause-sees g c = λ o keeps seen. rw c.in-Err-write_clean.ensures.fault (tt, tt)
 
 pub returns-in-Err-wait-clause-sees : goal.returns-in-Err-wait-clause-sees
-returns-in-Err-wait-clause-sees g c = λ o keeps seen. rw c.in-Err-wait.ensures.fault tt
+returns-in-Err-wait-clause-sees g c = λ o keeps seen. rw c.in-Err-wait.ensures.fault (tt, tt)

@@ -1,4 +1,4 @@
-use Rattle.std.proofs.Common.{rules, ◌≡◌, ◌<◌, ℕ, [], refl, sym, ◌∙◌, ap, subst, arith}
+use Rattle.std.proofs.Common.{rules, ◌≡◌, ◌<◌, ◌^◌, ℕ, [], refl, sym, ◌∙◌, ap, subst, arith}
 use Rattle.flat_machine.specs.declared.call.Call.TheVariants as call
 use Rattle.flat_machine.specs.declared.call.Reply.TheVariants as reply
 use Rattle.flat_machine.specs.declared.call.Refusal.TheVariants as why
@@ -16,11 +16,17 @@ use Rattle.pilot_engine.proofs.RefusalLemmas.{create_full, create_ids, create_th
 use Rattle.running_words.proofs.SessionLemmas.{room_is}
 use Rattle.running_words.proofs.StageLemmas.{no_step}
 use Rattle.pilot_engine.proofs.WroteLemmas.{wrote_file, wrote_some}
-use Rattle.file_manager.specs.Reasons.{telling}
+use Rattle.file_manager.specs.Creating.{next_id}
+use Rattle.file_manager.specs.Reasons.{WasBelow, giving, telling}
 use Rattle.file_manager.specs.declared.volume.Volume.{Volume}
 use Rattle.fault_core.specs.Core.{state}
 use Rattle.fault_core.specs.View.{view_of}
-use Rattle.pilot_engine.proofs.SeesLemmas.{counted_next, same_from, same_next, seen_spared}
+use Rattle.pilot_engine.proofs.HomeLemmas.{file_pages}
+use Rattle.pilot_engine.proofs.HomeSteps.{new_file, same_given}
+use Rattle.file_manager.specs.Grounds.{IsNewPage}
+use Rattle.pilot_engine.proofs.LackLemmas.{new_lacks}
+use Rattle.pilot_engine.proofs.ReasonSteps.{given_on}
+use Rattle.pilot_engine.proofs.SeesLemmas.{counted_next, same_next, seen_spared}
 use Rattle.pilot_engine.proofs.session.SessionOver.create.Goals as goal
 
 pub returns-then-pages-free-clause-carried : goal.returns-then-pages-free-clause-carried
@@ -128,7 +134,27 @@ returns-then-self-clause-next g c = λ id is. absurd (none_named why.Ids id is)
 pub returns-in-Ok-clause-next : goal.returns-in-Ok-clause-next
 returns-in-Ok-clause-next g c = λ id is. sym (one_named c.in-Ok.id id is) ∙ c.in-Ok.ensures.next
 
+-- each of its pages was given a sector
+pub returns-then-pages-free-clause-home : goal.returns-then-pages-free-clause-home
+returns-then-pages-free-clause-home g c = λ o k id is. absurd (none_named why.Full id is)
+
+pub returns-then-self-clause-home : goal.returns-then-self-clause-home
+returns-then-self-clause-home g c = λ o k id is. absurd (none_named why.Ids id is)
+
+pub returns-in-Ok-clause-home : goal.returns-in-Ok-clause-home
+returns-in-Ok-clause-home g c =
+    let small : c.args.pages < 2 ^ 32 = search rules in
+    λ o k id is page below.
+    let same : id ≡ next_id c.args.self.now.volume.root = sym (one_named c.in-Ok.id id is) ∙ c.in-Ok.ensures.next in
+    subst (λ (n : ℕ). WasBelow o (g.D.Disk.state c.create.new.filer.swapper.under) n page) (sym same) (new_file o c.args.self.now.volume.root c.args.kind c.args.pages k.1.0.since c.in-Ok.ensures.makes small page below)
+
 -- ---- The outset.
+
+pub returns-then-pages-free-clause-keeps_to : goal.returns-then-pages-free-clause-keeps_to
+returns-then-pages-free-clause-keeps_to g c = λ o k up. given_on o (state c.args.self.now.core) (next_id c.args.self.now.volume.root) up.next k
+
+pub returns-then-self-clause-keeps_to : goal.returns-then-self-clause-keeps_to
+returns-then-self-clause-keeps_to g c = λ o k up. given_on o (state c.args.self.now.core) (next_id c.args.self.now.volume.root) up.next k
 
 pub returns-in-Ok-clause-keeps_to : goal.returns-in-Ok-clause-keeps_to
 returns-in-Ok-clause-keeps_to g c = λ o k up. let from = c.in-Ok.ensures.keeps_to o k.0 k.1.0 up in (from.0, (from.1, (from.2 k.1.1.0, k.1.1.1)))
@@ -147,12 +173,15 @@ returns-then-self-clause-sees g c = λ o k up ss sees. sees
 pub returns-in-Ok-clause-sees : goal.returns-in-Ok-clause-sees
 returns-in-Ok-clause-sees g c = λ o k up.
     let old = c.args.self.now.core in
-    same_from o (state old) old.filer.swapper.accepted k (view_of c.create.new.filer) (λ b h. c.in-Ok.ensures.keeps_to (telling o b) k.0 h up)
+    same_given o (giving o (next_id c.create.new.volume.root)) (state old) (view_of c.create.new.filer) old.filer.swapper.accepted k
+    (λ b h. c.in-Ok.ensures.keeps_to (telling o b) k.0 h (record { onward = up.onward; next = up.next }))
 
 pub returns-in-Err-clause-sees : goal.returns-in-Err-clause-sees
 returns-in-Err-clause-sees g c = λ o k up seen.
     let old = c.args.self.now.core in
-    seen_spared o (state old) old.filer.swapper.accepted k old.filer.swapper.layout (g.D.Disk.state c.create.new.filer.swapper.under) c.in-Err.halt (λ b h. c.in-Err.ensures.reasons (telling o b) k.0 h up) seen
+    let disk = g.D.Disk.state c.create.new.filer.swapper.under in
+    seen_spared o (state old) old.filer.swapper.accepted k old.filer.swapper.layout disk c.in-Err.halt (λ b h. c.in-Err.ensures.reasons (telling o b) k.0 h (record { onward = up.onward; next = up.next }))
+    (new_lacks (file_pages o disk) (next_id c.args.self.now.volume.root) (IsNewPage c.args.pages) (state old) (view_of c.create.new.filer) c.in-Err.halt c.in-Err.ensures.cause) seen
 
 -- ---- The next identifier.
 

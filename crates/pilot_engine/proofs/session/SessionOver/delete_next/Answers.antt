@@ -15,6 +15,9 @@ use Rattle.space_calls.proofs.HaltLemmas.{look_reaches}
 use Rattle.labelled_disk.specs.declared.layout.Layout.{Layout}
 use Rattle.file_manager.specs.Reasons.{ShowsReason, telling}
 use Rattle.fault_core.specs.View.{view_of}
+use Rattle.pilot_engine.proofs.EndSpares.{end_spared, search_no_table}
+use Rattle.pilot_engine.proofs.HomeLemmas.{file_later, file_pages}
+use Rattle.pilot_engine.proofs.LackLemmas.{search_lacks}
 use Rattle.pilot_engine.proofs.SeesLemmas.{seen_spared, seen_still}
 use Rattle.pilot_engine.proofs.session.SessionOver.delete_next.Goals as goal
 
@@ -142,26 +145,29 @@ returns-in-Err-delete_unless_permanent-clause-reasons g c = λ o keeps.
     subst (λ (l : Layout). ShowsReason o l (g.D.Disk.state c.delete_unless_permanent.new.self.core.filer.swapper.under) c.in-Err-delete_unless_permanent.halt) c.next.ensures.layout
     (c.in-Err-delete_unless_permanent.ensures.reasons o (keeps.0, (c.in-Ok-Some.ensures.keeps_to o keeps.0 keeps.1.0, keeps.1.1)))
 
--- ---- The space tables are seen.
+-- ---- What is seen of the space tables, and which page is told as missing.
 
 pub returns-in-Ok-None-clause-sees : goal.returns-in-Ok-None-clause-sees
 returns-in-Ok-None-clause-sees g c = λ o keeps seen.
     let old = c.args.self.now.core in
-    seen_still o (state old) old.filer.swapper.accepted keeps (view_of c.next.new.filer) (λ b h. c.in-Ok-None.ensures.keeps_to (telling o b) keeps.0 h) seen
+    seen_still o (state old) old.filer.swapper.accepted keeps (view_of c.next.new.filer) (λ b. c.in-Ok-None.ensures.keeps_to (telling o b) keeps.0) (file_later o c.next.ensures.makes) seen
 
 pub returns-in-Err-clause-sees : goal.returns-in-Err-clause-sees
 returns-in-Err-clause-sees g c = λ o keeps seen.
     let old = c.args.self.now.core in
-    seen_spared o (state old) old.filer.swapper.accepted keeps old.filer.swapper.layout (g.D.Disk.state c.next.new.filer.swapper.under) c.in-Err.halt (λ b h. c.in-Err.ensures.reasons (telling o b) keeps.0 h) seen
+    let disk = g.D.Disk.state c.next.new.filer.swapper.under in
+    end_spared o disk c.in-Err.halt (seen_spared o (state old) old.filer.swapper.accepted keeps old.filer.swapper.layout disk c.in-Err.halt (λ b. c.in-Err.ensures.reasons (telling o b) keeps.0)
+    (search_lacks (file_pages o disk) old.filer.swapper.layout (g.D.Disk.state old.filer.swapper.under) old.filer.swapper.pool disk c.in-Err.halt c.in-Err.ensures.cause) (seen.0, seen.1.0))
+    (search_no_table old.filer.swapper.layout (g.D.Disk.state old.filer.swapper.under) old.filer.swapper.pool disk c.in-Err.halt c.in-Err.ensures.cause)
 
 pub returns-in-Ok-clause-sees : goal.returns-in-Ok-clause-sees
 returns-in-Ok-clause-sees g c = λ o keeps seen.
     let old = c.args.self.now.core in
     c.in-Ok.ensures.sees o (keeps.0, (c.in-Ok-Some.ensures.keeps_to o keeps.0 keeps.1.0, keeps.1.1))
-    (seen_still o (state old) old.filer.swapper.accepted keeps (view_of c.next.new.filer) (λ b h. c.in-Ok-Some.ensures.keeps_to (telling o b) keeps.0 h) seen)
+    (seen_still o (state old) old.filer.swapper.accepted keeps (view_of c.next.new.filer) (λ b. c.in-Ok-Some.ensures.keeps_to (telling o b) keeps.0) (file_later o c.next.ensures.makes) seen)
 
 pub returns-in-Err-delete_unless_permanent-clause-sees : goal.returns-in-Err-delete_unless_permanent-clause-sees
 returns-in-Err-delete_unless_permanent-clause-sees g c = λ o keeps seen.
     let old = c.args.self.now.core in
     c.in-Err-delete_unless_permanent.ensures.sees o (keeps.0, (c.in-Ok-Some.ensures.keeps_to o keeps.0 keeps.1.0, keeps.1.1))
-    (seen_still o (state old) old.filer.swapper.accepted keeps (view_of c.next.new.filer) (λ b h. c.in-Ok-Some.ensures.keeps_to (telling o b) keeps.0 h) seen)
+    (seen_still o (state old) old.filer.swapper.accepted keeps (view_of c.next.new.filer) (λ b. c.in-Ok-Some.ensures.keeps_to (telling o b) keeps.0) (file_later o c.next.ensures.makes) seen)

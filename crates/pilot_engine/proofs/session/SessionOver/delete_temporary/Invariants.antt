@@ -1,6 +1,6 @@
 use Rattle.std.proofs.Common.{◌-◌, ◌^◌}
 use Rattle.file_manager.specs.Reasons.{KeepsOn, Outset}
-use Rattle.space_calls.specs.Sees.{SeesOn}
+use Rattle.pilot_engine.specs.Reasons.{SeesHome}
 use Rattle.pilot_engine.proofs.ClearedUpTo.{ClearedUpTo}
 use Rattle.pilot_engine.proofs.session.SessionOver.delete_temporary.Given as goal
 
@@ -9,7 +9,7 @@ abbrev pub invariant-files : goal.invariant-files
 invariant-files g l =
     ClearedUpTo l.cursor (g.D.Disk.state l.fn.self.core.filer.swapper.under) l.fn.self.core.filer.swapper.pool l.fn.self.core.filer.swapper.layout l.fn.self.core.filer.runs l.fn.self.volume
     (g.D.Disk.state l.self.core.filer.swapper.under) l.self.core.filer.swapper.pool l.self.core.filer.swapper.layout l.self.core.filer.runs l.self.volume
-    × ((o : Outset) → KeepsOn o l.fn.self.core.filer → SeesOn l.fn.self.core → SeesOn l.self.core)
+    × ((o : Outset) → KeepsOn o l.fn.self.core.filer → SeesHome o l.fn.self.core → SeesHome o l.self.core)
 
 abbrev pub decreases-files : goal.decreases-files
 decreases-files g l = 2 ^ 64 - l.cursor

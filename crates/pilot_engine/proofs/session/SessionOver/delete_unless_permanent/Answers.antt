@@ -1,4 +1,5 @@
 use Rattle.std.proofs.Common.{inr, subst, inl}
+use Rattle.labelled_disk.specs.Label.{leader_page}
 use Rattle.session_words.specs.Parts.{shapes_of}
 use Rattle.file_manager.specs.Attributes.{IsAttributesOf}
 use Rattle.pilot_engine.proofs.EndLemmas.{none_shown}
@@ -14,6 +15,9 @@ use Rattle.space_calls.proofs.HaltLemmas.{look_reaches}
 use Rattle.labelled_disk.specs.declared.layout.Layout.{Layout}
 use Rattle.file_manager.specs.Reasons.{ShowsReason, telling}
 use Rattle.fault_core.specs.View.{view_of}
+use Rattle.pilot_engine.proofs.EndSpares.{end_spared, look_no_table, remove_no_table}
+use Rattle.pilot_engine.proofs.HomeLemmas.{file_behind, file_later, file_pages, found_file, lacks_file}
+use Rattle.pilot_engine.proofs.LackLemmas.{look_lacks, remove_lacks_own}
 use Rattle.pilot_engine.proofs.SeesLemmas.{seen_from, seen_spared, seen_still}
 use Rattle.pilot_engine.proofs.session.SessionOver.delete_unless_permanent.Goals as goal
 
@@ -150,30 +154,38 @@ returns-in-Err-delete-clause-reasons g c = λ o keeps.
     subst (λ (l : Layout). ShowsReason o l (g.D.Disk.state c.delete.new.filer.swapper.under) c.in-Err-delete.halt) c.attributes_of.ensures.layout
     (c.in-Err-delete.ensures.reasons o keeps.0 (c.in-Ok-Some.ensures.keeps_to o keeps.0 keeps.1.0))
 
--- ---- The space tables are seen.
+-- ---- What is seen of the space tables, and which page is told as missing.
 
 pub returns-in-Ok-None-clause-sees : goal.returns-in-Ok-None-clause-sees
 returns-in-Ok-None-clause-sees g c = λ o keeps seen.
     let old = c.args.self.now.core in
-    seen_still o (state old) old.filer.swapper.accepted keeps (view_of c.attributes_of.new.filer) (λ b h. c.in-Ok-None.ensures.keeps_to (telling o b) keeps.0 h) seen
+    seen_still o (state old) old.filer.swapper.accepted keeps (view_of c.attributes_of.new.filer) (λ b. c.in-Ok-None.ensures.keeps_to (telling o b) keeps.0) (file_later o c.attributes_of.ensures.makes) seen
 
 pub returns-in-Err-clause-sees : goal.returns-in-Err-clause-sees
 returns-in-Err-clause-sees g c = λ o keeps seen.
     let old = c.args.self.now.core in
-    seen_spared o (state old) old.filer.swapper.accepted keeps old.filer.swapper.layout (g.D.Disk.state c.attributes_of.new.filer.swapper.under) c.in-Err.halt (λ b h. c.in-Err.ensures.reasons (telling o b) keeps.0 h) seen
+    let disk = g.D.Disk.state c.attributes_of.new.filer.swapper.under in
+    end_spared o disk c.in-Err.halt (seen_spared o (state old) old.filer.swapper.accepted keeps old.filer.swapper.layout disk c.in-Err.halt (λ b. c.in-Err.ensures.reasons (telling o b) keeps.0)
+    (look_lacks (file_pages o disk) c.args.id (state old) (view_of c.attributes_of.new.filer) c.in-Err.halt c.in-Err.ensures.cause) (seen.0, seen.1.0))
+    (look_no_table c.args.id (state old) (view_of c.attributes_of.new.filer) c.in-Err.halt c.in-Err.ensures.cause)
 
 pub returns-then-found-clause-sees : goal.returns-then-found-clause-sees
 returns-then-found-clause-sees g c = λ o keeps seen.
     let old = c.args.self.now.core in
-    seen_still o (state old) old.filer.swapper.accepted keeps (view_of c.attributes_of.new.filer) (λ b h. c.in-Ok-Some.ensures.keeps_to (telling o b) keeps.0 h) seen
+    seen_still o (state old) old.filer.swapper.accepted keeps (view_of c.attributes_of.new.filer) (λ b. c.in-Ok-Some.ensures.keeps_to (telling o b) keeps.0) (file_later o c.attributes_of.ensures.makes) seen
 
 pub returns-in-Ok-clause-sees : goal.returns-in-Ok-clause-sees
 returns-in-Ok-clause-sees g c = λ o keeps seen.
     let old = c.args.self.now.core in
-    seen_from o (state old) old.filer.swapper.accepted keeps (view_of c.delete.new.filer) (λ b h. c.in-Ok.ensures.keeps_to (telling o b) keeps.0 (c.in-Ok-Some.ensures.keeps_to (telling o b) keeps.0 h)) seen
+    seen_from o (state old) old.filer.swapper.accepted keeps (view_of c.delete.new.filer) (λ b h. c.in-Ok.ensures.keeps_to (telling o b) keeps.0 (c.in-Ok-Some.ensures.keeps_to (telling o b) keeps.0 h))
+    (file_behind o (returns-in-Ok-clause-wrote g c)) seen
 
 pub returns-in-Err-delete-clause-sees : goal.returns-in-Err-delete-clause-sees
 returns-in-Err-delete-clause-sees g c = λ o keeps seen.
     let old = c.args.self.now.core in
-    seen_spared o (state old) old.filer.swapper.accepted keeps c.attributes_of.new.filer.swapper.layout (g.D.Disk.state c.delete.new.filer.swapper.under) c.in-Err-delete.halt
-    (λ b h. c.in-Err-delete.ensures.reasons (telling o b) keeps.0 (c.in-Ok-Some.ensures.keeps_to (telling o b) keeps.0 h)) seen
+    let disk = g.D.Disk.state c.delete.new.filer.swapper.under in
+    let was = found_file keeps.1.0 c.args.id _ _ c.in-Ok-Some.field-0-is c.in-Ok-Some.ensures.leader in
+    end_spared o disk c.in-Err-delete.halt (seen_spared o (state old) old.filer.swapper.accepted keeps c.attributes_of.new.filer.swapper.layout disk c.in-Err-delete.halt (λ b h. c.in-Err-delete.ensures.reasons (telling o b) keeps.0 (c.in-Ok-Some.ensures.keeps_to (telling o b) keeps.0 h))
+    (lacks_file (c.in-Ok-Some.ensures.keeps_to o keeps.0 keeps.1.0) disk (file_later o c.in-Err-delete.ensures.stopped.makes) c.args.id (file_behind o (returns-in-Err-delete-clause-wrote g c) c.args.id leader_page was) c.in-Err-delete.halt
+    (remove_lacks_own c.args.id (view_of c.attributes_of.new.filer) (view_of c.delete.new.filer) c.in-Err-delete.halt c.in-Err-delete.ensures.cause)) (seen.0, seen.1.0))
+    (remove_no_table c.args.id c.requires.client (view_of c.attributes_of.new.filer) (view_of c.delete.new.filer) c.in-Err-delete.halt c.in-Err-delete.ensures.cause)

@@ -15,7 +15,10 @@ use Rattle.fault_core.specs.View.{kept_by}
 use Rattle.file_manager.specs.Grounds.{AreTables}
 use Rattle.labelled_disk.specs.declared.layout.Layout.{Layout}
 use Rattle.file_manager.specs.Reasons.{ShowsReason}
+use Rattle.pilot_engine.proofs.EndSpares.{end_spared, none_no_table}
 use Rattle.pilot_engine.proofs.FormLemmas.{cut_form}
+use Rattle.pilot_engine.proofs.HomeLemmas.{file_pages}
+use Rattle.pilot_engine.proofs.LackLemmas.{cut_lacks, tables_lack}
 use Rattle.pilot_engine.proofs.session.SessionOver.empty.Goals as goal
 
 pub returns-in-Ok-free_tables-clause-emptied : goal.returns-in-Ok-free_tables-clause-emptied
@@ -94,9 +97,16 @@ returns-in-Err-free_tables-clause-reasons g c = λ o keeps.
     let mid = c.in-Ok.ensures.keeps_to o keeps in
     subst (λ (l : Layout). ShowsReason o l (g.D.Disk.state c.free_tables.new.filer.swapper.under) c.in-Err-free_tables.halt) c.delete_temporary.ensures.layout (c.in-Err-free_tables.ensures.reasons o mid.0 mid.1.0 mid.1.1.1 mid.1.1.0)
 
--- ---- No page of the space tables is told as broken.
+-- ---- No page of the space tables is told, as broken or as missing, and no other is missing.
 
 pub returns-in-Err-free_tables-clause-sees : goal.returns-in-Err-free_tables-clause-sees
 returns-in-Err-free_tables-clause-sees g c = λ o keeps seen.
     let v = state c.delete_temporary.new.self.core in
-    cut_form (AreTables v.slots) v.layout (kept_by v) 3 0 (λ page. page < 96) v.disk v.slots (g.D.Disk.state c.free_tables.new.filer.swapper.under) c.in-Err-free_tables.halt c.in-Err-free_tables.ensures.cause
+    let disk = g.D.Disk.state c.free_tables.new.filer.swapper.under in
+    let halt = c.in-Err-free_tables.halt in
+    let cause = c.in-Err-free_tables.ensures.cause in
+    let mid = c.in-Ok.ensures.keeps_to o keeps in
+    end_spared o disk halt (
+      cut_form (AreTables v.slots) v.layout (kept_by v) 3 0 (λ page. page < 96) v.disk v.slots disk halt cause,
+      tables_lack (λ page. page < 96) (file_pages o disk) halt (cut_lacks (AreTables v.slots) v.layout (kept_by v) 3 0 (λ page. page < 96) v.disk v.slots disk halt cause),
+    ) (none_no_table halt (c.in-Err-free_tables.ensures.right o mid.0 mid.1.0 mid.1.1.1 mid.1.1.0))

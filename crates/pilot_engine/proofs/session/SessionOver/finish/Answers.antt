@@ -21,3 +21,6 @@ returns-clause-cause g c = rw c.into_disk.ensures c.close-closed.ensures.cause
 
 pub returns-clause-reasons : goal.returns-clause-reasons
 returns-clause-reasons g c = λ o keeps. rw c.into_disk.ensures (c.close-closed.ensures.reasons o keeps)
+
+pub returns-clause-sees : goal.returns-clause-sees
+returns-clause-sees g c = λ o keeps seen. rw c.into_disk.ensures (c.close-closed.ensures.sees o keeps seen)

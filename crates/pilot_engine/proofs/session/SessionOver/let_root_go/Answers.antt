@@ -12,7 +12,10 @@ use Rattle.running_words.specs.Running.{exactly}
 use Rattle.filer_kernel.specs.EvidenceLaws.{fits}
 use Rattle.fault_core.proofs.EvidenceLemmas.{shows_so}
 use Rattle.running_words.specs.MovingLaws.{keeps_moved, moves_of_reaches, reach_reasons}
-use Rattle.running_words.specs.SparedLaws.{spares_form}
+use Rattle.flat_machine.specs.Space.{root_pages}
+use Rattle.fault_core.specs.Kill.{BreaksWithin}
+use Rattle.fault_core.specs.ReachLaws.{reach_lacks}
+use Rattle.pilot_engine.proofs.HomeLemmas.{file_pages, files_later}
 use Rattle.pilot_engine.proofs.session.SessionOver.let_root_go.Goals as goal
 
 pub returns-in-Ok-clause-alone : goal.returns-in-Ok-clause-alone
@@ -75,10 +78,14 @@ pub returns-in-Err-clause-reasons : goal.returns-in-Err-clause-reasons
 returns-in-Err-clause-reasons g c = λ o keeps.
     reach_reasons o (state c.args.self.now.core) (state c.let_go.new.self) keeps.0 _ c.args.self.now.core.filer.swapper.accepted keeps.1 c.let_go.ensures.reaches.goes.makes c.in-Err.halt c.in-Err.ensures.cause
 
--- ---- The space tables are seen.
+-- ---- What is seen of the space tables, and which page is told as missing.
 
 pub returns-in-Ok-clause-sees : goal.returns-in-Ok-clause-sees
-returns-in-Ok-clause-sees g c = λ o keeps seen. (seen.0, c.let_go.ensures.sees seen.0 seen.1)
+returns-in-Ok-clause-sees g c = λ o keeps seen. (seen.0, (c.let_go.ensures.sees seen.0 seen.1.0, files_later o c.let_go.ensures.reaches.goes.makes seen.0 seen.1.1))
 
 pub returns-in-Err-clause-sees : goal.returns-in-Err-clause-sees
-returns-in-Err-clause-sees g c = λ o keeps seen. spares_form c.in-Err.halt (c.in-Err.ensures.right seen.0 seen.1)
+returns-in-Err-clause-sees g c = λ o keeps seen.
+    let old = c.args.self.now.core in
+    let v = state old in
+    let new = c.let_go.new.self in
+    (c.in-Err.ensures.right seen.0 seen.1.0, reach_lacks (BreaksWithin v old.intervals 0 root_pages) v (state new) (file_pages o (g.D.Disk.state new.filer.swapper.under)) c.in-Err.halt c.in-Err.ensures.cause)

@@ -26,6 +26,8 @@ use Rattle.space_calls.specs.Halts.{SightHalts}
 use Rattle.pilot_engine.proofs.ReasonSteps.{reached_on, reasons_since, shows_after, shows_since}
 use Rattle.file_manager.specs.declared.volume.Volume.{Volume}
 use Rattle.running_words.specs.SparedLaws.{spares_form}
+use Rattle.pilot_engine.proofs.HomeLemmas.{file_pages, home_still}
+use Rattle.pilot_engine.proofs.LackLemmas.{sight_lacks}
 use Rattle.pilot_engine.proofs.SeesLemmas.{then_next}
 use Rattle.pilot_engine.proofs.session.SessionOver.make_immutable.Goals as goal
 
@@ -171,21 +173,25 @@ returns-clause-reasons g c = λ o k.
     reasons_since c.mark_immutable.result o (g.D.Disk.state c.mark_immutable.new.self.core.filer.swapper.under) (c.window_on.ensures.layout ∙ c.sight.ensures.layout)
     (c.mark_immutable.ensures.reasons o (reached_on o (state u) (state c.window_on.new.core) u.filer.swapper.accepted c.window_on.ensures.reaches (c.in-Ok-By.ensures.keeps_to o k)))
 
--- ---- What is seen of the space tables.
+-- ---- What is seen of the space tables, and which page is told as missing.
 
 pub returns-in-Ok-Some-clause-sees : goal.returns-in-Ok-Some-clause-sees
-returns-in-Ok-Some-clause-sees g c = λ o k seen.
-    c.in-Ok-Some.ensures.sees (c.in-Ok-By.ensures.sees o k seen)
+returns-in-Ok-Some-clause-sees g c = λ o k seen. home_still o c.sight.new.self.core c.window_on.new.core c.window_on.ensures.makes c.window_on.ensures.still (c.in-Ok-By.ensures.sees o k seen)
 
 pub returns-in-Err-window_on-clause-sees : goal.returns-in-Err-window_on-clause-sees
 returns-in-Err-window_on-clause-sees g c = λ o k seen.
-    spares_form c.in-Err-window_on.halt (c.in-Err-window_on.ensures.right (c.in-Ok-By.ensures.sees o k seen))
+    let u = c.sight.new.self.core in
+    let new = c.window_on.new.core in
+    let there = c.in-Ok-By.ensures.sees o k seen in (
+      spares_form c.in-Err-window_on.halt (c.in-Err-window_on.ensures.right (there.0, there.1.0)),
+      sight_lacks (file_pages o (g.D.Disk.state new.filer.swapper.under)) u.intervals (state u) (state new) c.in-Err-window_on.halt c.in-Err-window_on.ensures.cause,
+    )
 
 pub returns-clause-sees : goal.returns-clause-sees
 returns-clause-sees g c = λ o k seen.
     let u = c.sight.new.self.core in
     c.mark_immutable.ensures.sees o (reached_on o (state u) (state c.window_on.new.core) u.filer.swapper.accepted c.window_on.ensures.reaches (c.in-Ok-By.ensures.keeps_to o k))
-    (c.in-Ok-None.ensures.sees (c.in-Ok-By.ensures.sees o k seen))
+    (home_still o u c.window_on.new.core c.window_on.ensures.makes c.window_on.ensures.still (c.in-Ok-By.ensures.sees o k seen))
 
 -- ---- The next identifier.
 

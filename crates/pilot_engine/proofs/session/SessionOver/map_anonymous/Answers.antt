@@ -22,14 +22,22 @@ use Rattle.filer_kernel.proofs.Outcomes.{err_wider}
 use Rattle.space_calls.specs.Halts.{ChangeHalts, PathHalts}
 use Rattle.space_calls.proofs.HaltLemmas.{counted_change}
 use Rattle.file_manager.specs.Creating.{next_id}
+use Rattle.file_manager.specs.Grounds.{IsNewPage}
+use Rattle.file_manager.specs.Taking.{every_page}
+use Rattle.file_manager.proofs.RoomStops.{create_wider}
 use Rattle.pilot_engine.specs.Halting.{MapNewHalts}
 use Rattle.space_calls.specs.ReasonLaws.{change_reasons, path_reasons}
-use Rattle.pilot_engine.proofs.ReasonSteps.{moving_keeps, moving_reasons, reached_on, reasons_since, shows_after, shows_since}
+use Rattle.pilot_engine.proofs.ReasonSteps.{given_on, given_reasons, moving_keeps, moving_reasons, reached_on, reasons_since, shows_after, shows_since}
 use Rattle.running_words.specs.SparedLaws.{spares_form}
-use Rattle.space_calls.specs.Sees.{SeesOn}
+use Rattle.space_calls.specs.FilesLaws.{given_for_files}
+use Rattle.swapper_kernel.specs.Goes.{no_page}
+use Rattle.file_manager.specs.Reasons.{WasBelow, giving}
 use Rattle.space_calls.proofs.SeesLemmas.{are_seen, free_may, handle_so}
 use Rattle.space_calls.proofs.TableAnswers.{map_told}
-use Rattle.pilot_engine.proofs.SeesLemmas.{seen_or_spared}
+use Rattle.pilot_engine.proofs.HomeLemmas.{files_later, home_still, none_spared}
+use Rattle.pilot_engine.proofs.HomeSteps.{last_within, on_or_spared}
+use Rattle.pilot_engine.proofs.LackLemmas.{fails_lacking}
+use Rattle.pilot_engine.proofs.SpaceLacks.{change_lacks, path_lacks}
 use Rattle.pilot_engine.proofs.session.SessionOver.map_anonymous.Goals as goal
 
 pub returns-in-Ok-Err-clause-passes : goal.returns-in-Ok-Err-clause-passes
@@ -163,7 +171,7 @@ pub returns-in-Err-clause-cause : goal.returns-in-Err-clause-cause
 returns-in-Err-clause-cause g c = inl c.in-Err.ensures.cause
 
 pub returns-in-Err-create-clause-cause : goal.returns-in-Err-create-clause-cause
-returns-in-Err-create-clause-cause g c = inr (state c.can_map.new.core, c.can_map.ensures.asked.reaches, inl c.in-Err-create.ensures.cause)
+returns-in-Err-create-clause-cause g c = inr (state c.can_map.new.core, c.can_map.ensures.asked.reaches, inl (create_wider c.can_map.new.core.filer.swapper.layout (next_id c.args.self.now.volume.root) (IsNewPage c.in-Ok-Ok.run'.1) every_page (λ p own. tt) (state c.can_map.new.core).disk (state c.create.new.self.core).disk (state c.can_map.new.core).slots (state c.create.new.self.core).slots c.in-Err-create.halt c.in-Err-create.ensures.cause))
 
 pub returns-clause-cause : goal.returns-clause-cause
 returns-clause-cause g c =
@@ -178,48 +186,54 @@ returns-clause-cause g c =
 -- ---- The outset.
 
 pub returns-in-Ok-Err-clause-keeps_to : goal.returns-in-Ok-Err-clause-keeps_to
-returns-in-Ok-Err-clause-keeps_to g c = λ o k next.
+returns-in-Ok-Err-clause-keeps_to g c = λ o k up.
     let old = c.args.self.now.core in
-    reached_on o (state old) (state c.can_map.new.core) old.filer.swapper.accepted c.can_map.ensures.asked.reaches k
+    given_on o (state c.can_map.new.core) (next_id c.args.self.now.volume.root) up.next (reached_on o (state old) (state c.can_map.new.core) old.filer.swapper.accepted c.can_map.ensures.asked.reaches k)
 
 pub returns-in_default-clause-keeps_to : goal.returns-in_default-clause-keeps_to
-returns-in_default-clause-keeps_to g c = λ o k next.
+returns-in_default-clause-keeps_to g c = λ o k up.
     let old = c.args.self.now.core in
-    c.in-Ok.ensures.keeps_to o (reached_on o (state old) (state c.can_map.new.core) old.filer.swapper.accepted c.can_map.ensures.asked.reaches k) next
+    c.in-Ok.ensures.keeps_to o (reached_on o (state old) (state c.can_map.new.core) old.filer.swapper.accepted c.can_map.ensures.asked.reaches k) up
 
 pub returns-clause-keeps_to : goal.returns-clause-keeps_to
-returns-clause-keeps_to g c = λ o k next.
-    moving_keeps (state c.create.new.self.core) (state c.give_window.new.core) c.give_window.result c.create.new.self.core.filer.swapper.accepted c.give_window.ensures.moves o
-    (c.in-Ok.ensures.keeps_to o (reached_on o (state c.args.self.now.core) (state c.can_map.new.core) c.args.self.now.core.filer.swapper.accepted c.can_map.ensures.asked.reaches k) next)
+returns-clause-keeps_to g c = λ o k up.
+    moving_keeps (state c.create.new.self.core) (state c.give_window.new.core) c.give_window.result c.create.new.self.core.filer.swapper.accepted c.give_window.ensures.moves (giving o (next_id c.create.new.self.volume.root))
+    (c.in-Ok.ensures.keeps_to o (reached_on o (state c.args.self.now.core) (state c.can_map.new.core) c.args.self.now.core.filer.swapper.accepted c.can_map.ensures.asked.reaches k) up)
 
 pub returns-in-Err-clause-reasons : goal.returns-in-Err-clause-reasons
-returns-in-Err-clause-reasons g c = λ o k next.
+returns-in-Err-clause-reasons g c = λ o k up.
     let old = c.args.self.now.core in
     shows_after PathHalts path_reasons o (state old) (state c.can_map.new.core) old.filer.swapper.accepted c.can_map.ensures.asked.reaches.goes.makes k c.in-Err.halt c.in-Err.ensures.cause
 
 pub returns-in-Err-create-clause-reasons : goal.returns-in-Err-create-clause-reasons
-returns-in-Err-create-clause-reasons g c = λ o k next.
+returns-in-Err-create-clause-reasons g c = λ o k up.
     shows_since o (g.D.Disk.state c.create.new.self.core.filer.swapper.under) c.in-Err-create.halt c.can_map.ensures.asked.reaches.layout
-    (c.in-Err-create.ensures.reasons o (reached_on o (state c.args.self.now.core) (state c.can_map.new.core) c.args.self.now.core.filer.swapper.accepted c.can_map.ensures.asked.reaches k) next)
+    (c.in-Err-create.ensures.reasons o (reached_on o (state c.args.self.now.core) (state c.can_map.new.core) c.args.self.now.core.filer.swapper.accepted c.can_map.ensures.asked.reaches k) up)
 
 pub returns-clause-reasons : goal.returns-clause-reasons
-returns-clause-reasons g c = λ o k next.
+returns-clause-reasons g c = λ o k up.
     let old = c.args.self.now.core in
     let count = c.create.new.self.core.intervals in
-    reasons_since c.give_window.result o (g.D.Disk.state c.give_window.new.core.filer.swapper.under) (c.create.ensures.layout ∙ c.can_map.ensures.asked.reaches.layout)
+    let next = next_id c.create.new.self.volume.root in
+    let disk = g.D.Disk.state c.give_window.new.core.filer.swapper.under in
+    reasons_since c.give_window.result o disk (c.create.ensures.layout ∙ c.can_map.ensures.asked.reaches.layout)
+    (given_reasons c.give_window.result o next c.create.new.self.core.filer.swapper.layout disk
     (moving_reasons (ChangeHalts count) (change_reasons count)
-    (state c.create.new.self.core) (state c.give_window.new.core) c.give_window.result c.create.new.self.core.filer.swapper.accepted c.give_window.ensures.moves c.give_window.ensures.cause o
-    (c.in-Ok.ensures.keeps_to o (reached_on o (state old) (state c.can_map.new.core) old.filer.swapper.accepted c.can_map.ensures.asked.reaches k) next))
+    (state c.create.new.self.core) (state c.give_window.new.core) c.give_window.result c.create.new.self.core.filer.swapper.accepted c.give_window.ensures.moves c.give_window.ensures.cause (giving o next)
+    (c.in-Ok.ensures.keeps_to o (reached_on o (state old) (state c.can_map.new.core) old.filer.swapper.accepted c.can_map.ensures.asked.reaches k) up)))
 
 -- ---- The space tables are seen.
 
 pub returns-in-Ok-Err-clause-sees : goal.returns-in-Ok-Err-clause-sees
-returns-in-Ok-Err-clause-sees g c = λ o k next seen. (seen.0, c.can_map.ensures.sees seen.0 seen.1)
+returns-in-Ok-Err-clause-sees g c = λ o k up seen. home_still o c.args.self.now.core c.can_map.new.core (reached_makes c.can_map.ensures.asked.reaches) c.can_map.ensures.sees seen
 
 pub returns-in_default-clause-sees : goal.returns-in_default-clause-sees
-returns-in_default-clause-sees g c = λ o k next seen.
+returns-in_default-clause-sees g c = λ o k up seen.
     let old = c.args.self.now.core in
-    (seen.0, c.in-Ok.ensures.sees o (reached_on o (state old) (state c.can_map.new.core) old.filer.swapper.accepted c.can_map.ensures.asked.reaches k) next seen.0 (c.can_map.ensures.sees seen.0 seen.1))
+    let u = c.can_map.new.core in
+    let makes = reached_makes c.can_map.ensures.asked.reaches in
+    let keeps = reached_on o (state old) (state u) old.filer.swapper.accepted c.can_map.ensures.asked.reaches k in
+    home_still o u c.create.new.self.core c.create.ensures.wrote.makes (c.in-Ok.ensures.sees o keeps up) (home_still o old u makes c.can_map.ensures.sees seen)
 
 pub returns-clause-sees : goal.returns-clause-sees
 returns-clause-sees g c =
@@ -227,21 +241,32 @@ returns-clause-sees g c =
     let small : c.in-File.id < 2 ^ 64 = search rules in
     let serial = c.requires.opened.valid.serial in
     let same_id : c.in-File.id ≡ next_id c.args.self.now.volume.root = c.in-Ok.ensures.next c.in-File.id c.in-File.is in
-    λ o k next seen.
+    λ o k up seen.
     let old = c.args.self.now.core in
-    let can = map_told seen.0 c.args.space c.in-Ok-Ok.field-0 c.in-Ok-Ok.run' c.in-Ok-Ok.field-0-is (c.in-Ok-Ok.ensures.seen seen.0 seen.1) in
-    let x : Space = can.1.0 in
-    let long : c.in-Ok-Ok.run'.1 ≡ x.pages = ap (λ (run : ℕ × ℕ). run.1) can.1.2 in
-    let made = c.in-Ok.ensures.sees o (reached_on o (state old) (state c.can_map.new.core) old.filer.swapper.accepted c.can_map.ensures.asked.reaches k) next seen.0 (c.can_map.ensures.sees seen.0 seen.1) in
-    seen_or_spared (SeesOn c.give_window.new.core) c.give_window.result
-    (c.give_window.ensures.sees seen.0 x made (free_may seen.0 c.args.space (are_seen seen.1) x can.1.1 can.0) (handle_so seen.0 c.args.space (are_seen seen.1) x can.1.1)
-    (record { above_reserved = omega (arith, serial, same_id); small = small; pages_fit = omega (arith, few, long) }))
-    (c.give_window.ensures.right (seen.0, made))
+    let u = c.can_map.new.core in
+    let x = c.create.new.self.core in
+    let files = WasBelow o (g.D.Disk.state x.filer.swapper.under) in
+    let sees = seen.1.0 in
+    let can = map_told seen.0 c.args.space c.in-Ok-Ok.field-0 c.in-Ok-Ok.run' c.in-Ok-Ok.field-0-is (c.in-Ok-Ok.ensures.seen seen.0 sees) in
+    let s : Space = can.1.0 in
+    let long : c.in-Ok-Ok.run'.1 ≡ s.pages = ap (λ (run : ℕ × ℕ). run.1) can.1.2 in
+    let keeps = reached_on o (state old) (state u) old.filer.swapper.accepted c.can_map.ensures.asked.reaches k in
+    let made = c.in-Ok.ensures.sees o keeps up seen.0 (c.can_map.ensures.sees seen.0 sees) in
+    let on = files_later o c.create.ensures.wrote.makes seen.0 (files_later o (reached_makes c.can_map.ensures.asked.reaches) seen.0 seen.1.1) in
+    let given = c.give_window.ensures.sees seen.0 s made (free_may seen.0 c.args.space (are_seen sees) s can.1.1 can.0) (handle_so seen.0 c.args.space (are_seen sees) s can.1.1)
+    (record { above_reserved = omega (arith, serial, same_id); small = small; pages_fit = omega (arith, few, long) }) in
+    on_or_spared o x c.give_window.new.core c.give_window.ensures.makes c.give_window.result
+    (given_for_files c.give_window.new.core c.args.space c.in-File.id 0 c.give_window.result seen.0 given files on
+    (λ last at. c.in-Ok.ensures.home o keeps c.in-File.id c.in-File.is last (last_within seen.0 (are_seen sees) c.args.space s can.1.1 c.in-Ok-Ok.run'.1 long last at)))
+    (c.give_window.ensures.right (seen.0, made)) no_page
+    (fails_lacking (ChangeHalts x.intervals) no_page (change_lacks x.intervals no_page) (state x) (state c.give_window.new.core) c.give_window.result c.give_window.ensures.cause) (λ id page none. absurd none)
 
 pub returns-in-Err-clause-sees : goal.returns-in-Err-clause-sees
-returns-in-Err-clause-sees g c = λ o k next seen. spares_form c.in-Err.halt (c.in-Err.ensures.right seen.0 seen.1)
+returns-in-Err-clause-sees g c = λ o k up seen.
+    let u = c.can_map.new.core in
+    none_spared o (g.D.Disk.state u.filer.swapper.under) c.in-Err.halt (spares_form c.in-Err.halt (c.in-Err.ensures.right seen.0 seen.1.0)) (λ pages. path_lacks pages (state c.args.self.now.core) (state u) c.in-Err.halt c.in-Err.ensures.cause)
 
 pub returns-in-Err-create-clause-sees : goal.returns-in-Err-create-clause-sees
-returns-in-Err-create-clause-sees g c = λ o k next seen.
+returns-in-Err-create-clause-sees g c = λ o k up seen.
     let old = c.args.self.now.core in
-    c.in-Err-create.ensures.sees o (reached_on o (state old) (state c.can_map.new.core) old.filer.swapper.accepted c.can_map.ensures.asked.reaches k) next (seen.0, c.can_map.ensures.sees seen.0 seen.1)
+    c.in-Err-create.ensures.sees o (reached_on o (state old) (state c.can_map.new.core) old.filer.swapper.accepted c.can_map.ensures.asked.reaches k) up (seen.0, c.can_map.ensures.sees seen.0 seen.1.0)

@@ -1,4 +1,7 @@
 use Rattle.std.proofs.Common.{Option, refl, subst, inl, inr}
+use Rattle.labelled_disk.specs.Label.{leader_page}
+use Rattle.session_words.specs.Volume.{volume_page}
+use Rattle.swapper_kernel.specs.GoesLaws.{makes_nothing}
 use Rattle.flat_machine.specs.declared.call.Call.TheVariants as call
 use Rattle.file_manager.specs.declared.attributes.Attributes.{Attributes}
 use Rattle.file_manager.specs.Attributes.{IsAttributesOf}
@@ -15,6 +18,8 @@ use Rattle.space_calls.proofs.HaltLemmas.{look_reaches}
 use Rattle.pilot_engine.proofs.ReasonSteps.{shows_since}
 use Rattle.file_manager.specs.Reasons.{telling}
 use Rattle.fault_core.specs.View.{view_of}
+use Rattle.pilot_engine.proofs.HomeLemmas.{file_behind, file_later, file_pages, found_file, lacks_file}
+use Rattle.pilot_engine.proofs.LackLemmas.{look_lacks, mark_lacks_own}
 use Rattle.pilot_engine.proofs.SeesLemmas.{seen_spared, seen_still}
 use Rattle.pilot_engine.proofs.session.SessionOver.mark_permanent.Goals as goal
 
@@ -110,24 +115,33 @@ returns-in-Err-make_permanent-clause-reasons g c = λ o k.
     shows_since o (g.D.Disk.state c.make_permanent.new.filer.swapper.under) c.in-Err-make_permanent.halt c.attributes_of.ensures.layout
     (c.in-Err-make_permanent.ensures.reasons o k.0 (c.in-Ok-Some.ensures.keeps_to o k.0 k.1.0))
 
--- ---- What is seen of the space tables.
+-- ---- What is seen of the space tables, and which page is told as missing.
 
 pub returns-in-Ok-None-clause-sees : goal.returns-in-Ok-None-clause-sees
 returns-in-Ok-None-clause-sees g c = λ o k seen.
     let old = c.args.self.now.core in
-    seen_still o (state old) old.filer.swapper.accepted k (view_of c.attributes_of.new.filer) (λ b. c.in-Ok-None.ensures.keeps_to (telling o b) k.0) seen
+    seen_still o (state old) old.filer.swapper.accepted k (view_of c.attributes_of.new.filer) (λ b. c.in-Ok-None.ensures.keeps_to (telling o b) k.0) (file_later o c.attributes_of.ensures.makes) seen
 
 pub returns-in-Err-clause-sees : goal.returns-in-Err-clause-sees
 returns-in-Err-clause-sees g c = λ o k seen.
     let old = c.args.self.now.core in
-    seen_spared o (state old) old.filer.swapper.accepted k old.filer.swapper.layout (g.D.Disk.state c.attributes_of.new.filer.swapper.under) c.in-Err.halt (λ b. c.in-Err.ensures.reasons (telling o b) k.0) seen
+    let disk = g.D.Disk.state c.attributes_of.new.filer.swapper.under in
+    seen_spared o (state old) old.filer.swapper.accepted k old.filer.swapper.layout disk c.in-Err.halt (λ b. c.in-Err.ensures.reasons (telling o b) k.0)
+    (look_lacks (file_pages o disk) c.args.id (state old) (view_of c.attributes_of.new.filer) c.in-Err.halt c.in-Err.ensures.cause) (seen.0, seen.1.0)
 
 pub returns-in-Ok-clause-sees : goal.returns-in-Ok-clause-sees
 returns-in-Ok-clause-sees g c = λ o k seen.
     let old = c.args.self.now.core in
-    seen_still o (state old) old.filer.swapper.accepted k (view_of c.make_permanent.new.filer) (λ b h. c.in-Ok.ensures.keeps_to (telling o b) k.0 (c.in-Ok-Some.ensures.keeps_to (telling o b) k.0 h)) seen
+    seen_still o (state old) old.filer.swapper.accepted k (view_of c.make_permanent.new.filer) (λ b h. c.in-Ok.ensures.keeps_to (telling o b) k.0 (c.in-Ok-Some.ensures.keeps_to (telling o b) k.0 h))
+    (file_behind o (returns-in-Ok-clause-wrote g c)) seen
 
 pub returns-in-Err-make_permanent-clause-sees : goal.returns-in-Err-make_permanent-clause-sees
 returns-in-Err-make_permanent-clause-sees g c = λ o k seen.
     let old = c.args.self.now.core in
-    seen_spared o (state old) old.filer.swapper.accepted k c.attributes_of.new.filer.swapper.layout (g.D.Disk.state c.make_permanent.new.filer.swapper.under) c.in-Err-make_permanent.halt (λ b h. c.in-Err-make_permanent.ensures.reasons (telling o b) k.0 (c.in-Ok-Some.ensures.keeps_to (telling o b) k.0 h)) seen
+    let disk = g.D.Disk.state c.make_permanent.new.filer.swapper.under in
+    let was = found_file k.1.0 c.args.id _ _ c.in-Ok-Some.field-0-is c.in-Ok-Some.ensures.leader in
+    seen_spared o (state old) old.filer.swapper.accepted k c.attributes_of.new.filer.swapper.layout disk c.in-Err-make_permanent.halt (λ b h. c.in-Err-make_permanent.ensures.reasons (telling o b) k.0 (c.in-Ok-Some.ensures.keeps_to (telling o b) k.0 h))
+    (lacks_file (c.in-Ok-Some.ensures.keeps_to o k.0 k.1.0) disk
+    (file_behind o (mark_wrote Permanent (makes_nothing volume_page (g.D.Disk.state c.attributes_of.new.filer.swapper.under) c.attributes_of.new.filer.swapper.pool) c.make_permanent.ensures.makes)) c.args.id
+    (file_behind o (returns-in-Err-make_permanent-clause-wrote g c) c.args.id leader_page was) c.in-Err-make_permanent.halt
+    (mark_lacks_own c.args.id (view_of c.attributes_of.new.filer) (view_of c.make_permanent.new.filer) c.in-Err-make_permanent.halt c.in-Err-make_permanent.ensures.cause)) (seen.0, seen.1.0)

@@ -14,6 +14,8 @@ use Rattle.space_calls.proofs.HaltLemmas.{look_reaches}
 use Rattle.pilot_engine.proofs.ReasonSteps.{shows_since}
 use Rattle.file_manager.specs.Reasons.{telling}
 use Rattle.fault_core.specs.View.{view_of}
+use Rattle.pilot_engine.proofs.HomeLemmas.{file_later, file_pages}
+use Rattle.pilot_engine.proofs.LackLemmas.{search_lacks}
 use Rattle.pilot_engine.proofs.SeesLemmas.{seen_spared, seen_still}
 use Rattle.pilot_engine.proofs.session.SessionOver.next_passed.Goals as goal
 
@@ -140,32 +142,34 @@ returns-in-Err-sight-clause-reasons g c = λ o k.
     shows_since o (g.D.Disk.state c.sight.new.self.core.filer.swapper.under) c.in-Err-sight.halt c.next.ensures.layout
     (c.in-Err-sight.ensures.reasons o (k.0, (c.in-Ok-Some.ensures.keeps_to o k.0 k.1.0, k.1.1)))
 
--- ---- What is seen of the space tables.
+-- ---- What is seen of the space tables, and which page is told as missing.
 
 pub returns-in-Ok-None-clause-sees : goal.returns-in-Ok-None-clause-sees
 returns-in-Ok-None-clause-sees g c = λ o k seen.
     let old = c.args.self.now.core in
-    seen_still o (state old) old.filer.swapper.accepted k (view_of c.next.new.filer) (λ b. c.in-Ok-None.ensures.keeps_to (telling o b) k.0) seen
+    seen_still o (state old) old.filer.swapper.accepted k (view_of c.next.new.filer) (λ b. c.in-Ok-None.ensures.keeps_to (telling o b) k.0) (file_later o c.next.ensures.makes) seen
 
 pub returns-in-Err-clause-sees : goal.returns-in-Err-clause-sees
 returns-in-Err-clause-sees g c = λ o k seen.
     let old = c.args.self.now.core in
-    seen_spared o (state old) old.filer.swapper.accepted k old.filer.swapper.layout (g.D.Disk.state c.next.new.filer.swapper.under) c.in-Err.halt (λ b. c.in-Err.ensures.reasons (telling o b) k.0) seen
+    let disk = g.D.Disk.state c.next.new.filer.swapper.under in
+    seen_spared o (state old) old.filer.swapper.accepted k old.filer.swapper.layout disk c.in-Err.halt (λ b. c.in-Err.ensures.reasons (telling o b) k.0)
+    (search_lacks (file_pages o disk) old.filer.swapper.layout (g.D.Disk.state old.filer.swapper.under) old.filer.swapper.pool disk c.in-Err.halt c.in-Err.ensures.cause) (seen.0, seen.1.0)
 
 pub returns-in-Ok-Hidden-clause-sees : goal.returns-in-Ok-Hidden-clause-sees
 returns-in-Ok-Hidden-clause-sees g c = λ o k seen.
     let old = c.args.self.now.core in
     c.in-Ok-Hidden.ensures.sees o (k.0, (c.in-Ok-Some.ensures.keeps_to o k.0 k.1.0, k.1.1))
-    (seen_still o (state old) old.filer.swapper.accepted k (view_of c.next.new.filer) (λ b. c.in-Ok-Some.ensures.keeps_to (telling o b) k.0) seen)
+    (seen_still o (state old) old.filer.swapper.accepted k (view_of c.next.new.filer) (λ b. c.in-Ok-Some.ensures.keeps_to (telling o b) k.0) (file_later o c.next.ensures.makes) seen)
 
 pub returns-in-Ok-By-clause-sees : goal.returns-in-Ok-By-clause-sees
 returns-in-Ok-By-clause-sees g c = λ o k seen.
     let old = c.args.self.now.core in
     c.in-Ok-By.ensures.sees o (k.0, (c.in-Ok-Some.ensures.keeps_to o k.0 k.1.0, k.1.1))
-    (seen_still o (state old) old.filer.swapper.accepted k (view_of c.next.new.filer) (λ b. c.in-Ok-Some.ensures.keeps_to (telling o b) k.0) seen)
+    (seen_still o (state old) old.filer.swapper.accepted k (view_of c.next.new.filer) (λ b. c.in-Ok-Some.ensures.keeps_to (telling o b) k.0) (file_later o c.next.ensures.makes) seen)
 
 pub returns-in-Err-sight-clause-sees : goal.returns-in-Err-sight-clause-sees
 returns-in-Err-sight-clause-sees g c = λ o k seen.
     let old = c.args.self.now.core in
     c.in-Err-sight.ensures.sees o (k.0, (c.in-Ok-Some.ensures.keeps_to o k.0 k.1.0, k.1.1))
-    (seen_still o (state old) old.filer.swapper.accepted k (view_of c.next.new.filer) (λ b. c.in-Ok-Some.ensures.keeps_to (telling o b) k.0) seen)
+    (seen_still o (state old) old.filer.swapper.accepted k (view_of c.next.new.filer) (λ b. c.in-Ok-Some.ensures.keeps_to (telling o b) k.0) (file_later o c.next.ensures.makes) seen)

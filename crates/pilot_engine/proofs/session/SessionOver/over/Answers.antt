@@ -4,7 +4,7 @@ use Rattle.flat_machine.specs.Start.{start}
 use Rattle.volume_root.specs.RootPage.{root_write}
 use Rattle.volume_root.specs.declared.root.Root.{Root}
 use Rattle.pilot_engine.specs.Opening.{in_use}
-use Rattle.pilot_engine.proofs.StartFaults.{early_form, early_left, early_outside, early_so, early_cause, early_reason}
+use Rattle.pilot_engine.proofs.StartFaults.{early_cause, early_left, early_outside, early_reason, early_so, early_spares}
 use Rattle.pilot_engine.proofs.StartRuns.{runs_over, sees_over}
 use Rattle.pilot_engine.proofs.StartWrites.{read_wrote, read_keeps, start_wrote, start_keeps}
 use Rattle.fault_core.specs.View.{view_of}
@@ -13,7 +13,6 @@ use Rattle.labelled_disk.specs.Layout.{layout_of}
 use Rattle.file_manager.specs.Creating.{IsOnward}
 use Rattle.file_manager.specs.Reasons.{ShowsReason, outset}
 use Rattle.pilot_engine.proofs.BoundLemmas.{on_layout, start_bounded}
-use Rattle.pilot_engine.specs.Reasons.{HasNoTables}
 use Rattle.pilot_engine.proofs.OutsetLemmas.{begun_read}
 use Rattle.pilot_engine.proofs.session.SessionOver.over.Goals as goal
 
@@ -117,22 +116,14 @@ returns-in-Ok-begin-clause-keeps_to g c = λ d named ws begun. rw c.over.ensures
 -- ---- What is seen of the space tables.
 
 pub returns-in-Err-clause-sees : goal.returns-in-Err-clause-sees
-returns-in-Err-clause-sees g c = λ d named ws begun untabled. early_form c.in-Err.fault.0 c.in-Err.ensures.early
+returns-in-Err-clause-sees g c = λ d named ws begun. early_spares c.in-Err.fault.0 c.in-Err.ensures.early
 
 pub returns-in-Err-begin-clause-sees : goal.returns-in-Err-begin-clause-sees
-returns-in-Err-begin-clause-sees g c = λ d named ws begun untabled.
-    let layout = c.in-Ok.opened.0.swapper.layout in
-    let long = g.met.D.Disk.whole c.args.disk d begun.contents ∙ sym c.in-Ok.ensures.reads.only.sectors ∙ c.in-Ok.ensures.size in
-    let same : layout_of (length d) ≡ layout = ap layout_of long ∙ sym c.in-Ok.opened.0.swapper.accepted.1 in
-    c.in-Err-begin.ensures.sees d named ws (begun_read c.in-Ok.ensures.reads.only begun) (subst (λ (l : Layout). HasNoTables l d) same untabled)
+returns-in-Err-begin-clause-sees g c = λ d named ws begun. c.in-Err-begin.ensures.sees d named ws (begun_read c.in-Ok.ensures.reads.only begun)
 
 pub returns-in-Ok-begin-clause-sees : goal.returns-in-Ok-begin-clause-sees
-returns-in-Ok-begin-clause-sees g c = λ d named ws begun untabled.
-    let layout = c.in-Ok.opened.0.swapper.layout in
-    let long = g.met.D.Disk.whole c.args.disk d begun.contents ∙ sym c.in-Ok.ensures.reads.only.sectors ∙ c.in-Ok.ensures.size in
-    let same : layout_of (length d) ≡ layout = ap layout_of long ∙ sym c.in-Ok.opened.0.swapper.accepted.1 in
-    sees_over c.over.result c.begin.new.filer c.over.ensures.filer c.over.ensures.kept c.over.ensures.intervals
-    (c.in-Ok-begin.ensures.sees d named ws (begun_read c.in-Ok.ensures.reads.only begun) (subst (λ (l : Layout). HasNoTables l d) same untabled))
+returns-in-Ok-begin-clause-sees g c = λ d named ws begun.
+    sees_over c.over.result c.begin.new.filer c.over.ensures.filer c.over.ensures.kept c.over.ensures.intervals (c.in-Ok-begin.ensures.sees d named ws (begun_read c.in-Ok.ensures.reads.only begun))
 
 pub returns-in-Ok-begin-clause-onward : goal.returns-in-Ok-begin-clause-onward
 returns-in-Ok-begin-clause-onward g c = λ d told. subst (λ (r : Root). IsOnward r c.in-Ok-begin.volume.root) (c.in-Ok.ensures.read d told) c.in-Ok-begin.ensures.onward

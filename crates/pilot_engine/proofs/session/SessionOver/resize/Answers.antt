@@ -1,4 +1,5 @@
 use Rattle.std.proofs.Common.{Option, refl, sym, ◌∙◌, subst, arith, inl, inr, ap}
+use Rattle.labelled_disk.specs.Label.{leader_page}
 use Rattle.flat_machine.specs.declared.call.Call.TheVariants as call
 use Rattle.flat_machine.specs.declared.call.Refusal.TheVariants as why
 use Rattle.swapper_kernel.specs.GoesLaws.{makes_nothing}
@@ -22,6 +23,8 @@ use Rattle.space_calls.proofs.HaltLemmas.{look_reaches}
 use Rattle.pilot_engine.proofs.ReasonSteps.{shows_since}
 use Rattle.file_manager.specs.Reasons.{telling}
 use Rattle.fault_core.specs.View.{view_of}
+use Rattle.pilot_engine.proofs.HomeLemmas.{file_behind, file_later, file_pages, found_file, lacks_file}
+use Rattle.pilot_engine.proofs.LackLemmas.{look_lacks, size_lacks_own}
 use Rattle.pilot_engine.proofs.SeesLemmas.{same_next, seen_from, seen_spared, seen_still}
 use Rattle.pilot_engine.proofs.session.SessionOver.resize.Goals as goal
 
@@ -217,42 +220,51 @@ returns-in-Err-set_size-clause-reasons g c = λ o k.
     shows_since o (g.D.Disk.state c.set_size.new.filer.swapper.under) c.in-Err-set_size.halt c.attributes_of.ensures.layout
     (c.in-Err-set_size.ensures.reasons o k.0 (c.in-Ok-Some.ensures.keeps_to o k.0 k.1.0))
 
--- ---- What is seen of the space tables.
+-- ---- What is seen of the space tables, and which page is told as missing.
 
 pub returns-in-Ok-None-clause-sees : goal.returns-in-Ok-None-clause-sees
 returns-in-Ok-None-clause-sees g c = λ o k seen.
     let old = c.args.self.now.core in
-    seen_still o (state old) old.filer.swapper.accepted k (view_of c.attributes_of.new.filer) (λ b. c.in-Ok-None.ensures.keeps_to (telling o b) k.0) seen
+    seen_still o (state old) old.filer.swapper.accepted k (view_of c.attributes_of.new.filer) (λ b. c.in-Ok-None.ensures.keeps_to (telling o b) k.0) (file_later o c.attributes_of.ensures.makes) seen
 
 pub returns-in-Err-clause-sees : goal.returns-in-Err-clause-sees
 returns-in-Err-clause-sees g c = λ o k seen.
     let old = c.args.self.now.core in
-    seen_spared o (state old) old.filer.swapper.accepted k old.filer.swapper.layout (g.D.Disk.state c.attributes_of.new.filer.swapper.under) c.in-Err.halt (λ b. c.in-Err.ensures.reasons (telling o b) k.0) seen
+    let disk = g.D.Disk.state c.attributes_of.new.filer.swapper.under in
+    seen_spared o (state old) old.filer.swapper.accepted k old.filer.swapper.layout disk c.in-Err.halt (λ b. c.in-Err.ensures.reasons (telling o b) k.0)
+    (look_lacks (file_pages o disk) c.args.id (state old) (view_of c.attributes_of.new.filer) c.in-Err.halt c.in-Err.ensures.cause) (seen.0, seen.1.0)
 
 pub returns-then-found-clause-sees : goal.returns-then-found-clause-sees
 returns-then-found-clause-sees g c = λ o k seen.
     let old = c.args.self.now.core in
-    seen_still o (state old) old.filer.swapper.accepted k (view_of c.attributes_of.new.filer) (λ b. c.in-Ok-Some.ensures.keeps_to (telling o b) k.0) seen
+    seen_still o (state old) old.filer.swapper.accepted k (view_of c.attributes_of.new.filer) (λ b. c.in-Ok-Some.ensures.keeps_to (telling o b) k.0) (file_later o c.attributes_of.ensures.makes) seen
 
 pub returns-in-Some-clause-sees : goal.returns-in-Some-clause-sees
 returns-in-Some-clause-sees g c = λ o k seen.
     let old = c.args.self.now.core in
-    seen_still o (state old) old.filer.swapper.accepted k (view_of c.attributes_of.new.filer) (λ b. c.in-Ok-Some.ensures.keeps_to (telling o b) k.0) seen
+    seen_still o (state old) old.filer.swapper.accepted k (view_of c.attributes_of.new.filer) (λ b. c.in-Ok-Some.ensures.keeps_to (telling o b) k.0) (file_later o c.attributes_of.ensures.makes) seen
 
 pub returns-then-not-has_room-clause-sees : goal.returns-then-not-has_room-clause-sees
 returns-then-not-has_room-clause-sees g c = λ o k seen.
     let old = c.args.self.now.core in
-    seen_still o (state old) old.filer.swapper.accepted k (view_of c.attributes_of.new.filer) (λ b. c.in-Ok-Some.ensures.keeps_to (telling o b) k.0) seen
+    seen_still o (state old) old.filer.swapper.accepted k (view_of c.attributes_of.new.filer) (λ b. c.in-Ok-Some.ensures.keeps_to (telling o b) k.0) (file_later o c.attributes_of.ensures.makes) seen
 
 pub returns-in-Ok-clause-sees : goal.returns-in-Ok-clause-sees
 returns-in-Ok-clause-sees g c = λ o k seen.
     let old = c.args.self.now.core in
-    seen_from o (state old) old.filer.swapper.accepted k (view_of c.set_size.new.filer) (λ b h. c.in-Ok.ensures.keeps_to (telling o b) k.0 (c.in-Ok-Some.ensures.keeps_to (telling o b) k.0 h)) seen
+    seen_from o (state old) old.filer.swapper.accepted k (view_of c.set_size.new.filer) (λ b h. c.in-Ok.ensures.keeps_to (telling o b) k.0 (c.in-Ok-Some.ensures.keeps_to (telling o b) k.0 h))
+    (file_behind o (returns-in-Ok-clause-wrote g c)) seen
 
 pub returns-in-Err-set_size-clause-sees : goal.returns-in-Err-set_size-clause-sees
 returns-in-Err-set_size-clause-sees g c = λ o k seen.
     let old = c.args.self.now.core in
-    seen_spared o (state old) old.filer.swapper.accepted k c.attributes_of.new.filer.swapper.layout (g.D.Disk.state c.set_size.new.filer.swapper.under) c.in-Err-set_size.halt (λ b h. c.in-Err-set_size.ensures.reasons (telling o b) k.0 (c.in-Ok-Some.ensures.keeps_to (telling o b) k.0 h)) seen
+    let disk = g.D.Disk.state c.set_size.new.filer.swapper.under in
+    let was = found_file k.1.0 c.args.id _ _ c.in-Ok-Some.field-0-is c.in-Ok-Some.ensures.leader in
+    seen_spared o (state old) old.filer.swapper.accepted k c.attributes_of.new.filer.swapper.layout disk c.in-Err-set_size.halt (λ b h. c.in-Err-set_size.ensures.reasons (telling o b) k.0 (c.in-Ok-Some.ensures.keeps_to (telling o b) k.0 h))
+    (lacks_file (c.in-Ok-Some.ensures.keeps_to o k.0 k.1.0) disk
+    (file_behind o (some_resized_wrote c.args.id c.args.pages (makes_nothing volume_page (g.D.Disk.state c.attributes_of.new.filer.swapper.under) c.attributes_of.new.filer.swapper.pool) c.in-Err-set_size.ensures.stopped)) c.args.id
+    (file_behind o (returns-in-Err-set_size-clause-wrote g c) c.args.id leader_page was) c.in-Err-set_size.halt
+    (size_lacks_own c.args.id c.args.pages (view_of c.attributes_of.new.filer) (view_of c.set_size.new.filer) c.in-Err-set_size.halt c.in-Err-set_size.ensures.cause)) (seen.0, seen.1.0)
 
 -- ---- The next identifier.
 

@@ -7,6 +7,8 @@ use Rattle.space_calls.specs.ReasonLaws.{sight_reasons}
 use Rattle.space_calls.specs.Halts.{SightHalts}
 use Rattle.pilot_engine.proofs.ReasonSteps.{reached_on, shows_after}
 use Rattle.running_words.specs.SparedLaws.{spares_form}
+use Rattle.pilot_engine.proofs.HomeLemmas.{file_pages, home_still}
+use Rattle.pilot_engine.proofs.LackLemmas.{sight_lacks}
 use Rattle.pilot_engine.proofs.session.SessionOver.sight.Goals as goal
 
 pub returns-then-shown-clause-answer : goal.returns-then-shown-clause-answer
@@ -57,20 +59,19 @@ returns-in-Err-clause-reasons g c = λ o k.
     shows_after (SightHalts count) (sight_reasons count)
     o (state old) (state c.window_on.new.core) old.filer.swapper.accepted c.window_on.ensures.reaches.goes.makes k c.in-Err.halt c.in-Err.ensures.cause
 
--- ---- What is seen of the space tables.
+-- ---- What is seen of the space tables, and which page is told as missing.
 
 pub returns-then-shown-clause-sees : goal.returns-then-shown-clause-sees
-returns-then-shown-clause-sees g c = λ o k seen.
-    c.in-Ok-Some.ensures.sees seen
+returns-then-shown-clause-sees g c = λ o k seen. home_still o c.args.self.now.core c.window_on.new.core c.window_on.ensures.makes c.window_on.ensures.still seen
 
 pub returns-else-shown-clause-sees : goal.returns-else-shown-clause-sees
-returns-else-shown-clause-sees g c = λ o k seen.
-    c.in-Ok-Some.ensures.sees seen
+returns-else-shown-clause-sees g c = λ o k seen. home_still o c.args.self.now.core c.window_on.new.core c.window_on.ensures.makes c.window_on.ensures.still seen
 
 pub returns-in-Ok-None-clause-sees : goal.returns-in-Ok-None-clause-sees
-returns-in-Ok-None-clause-sees g c = λ o k seen.
-    c.in-Ok-None.ensures.sees seen
+returns-in-Ok-None-clause-sees g c = λ o k seen. home_still o c.args.self.now.core c.window_on.new.core c.window_on.ensures.makes c.window_on.ensures.still seen
 
 pub returns-in-Err-clause-sees : goal.returns-in-Err-clause-sees
 returns-in-Err-clause-sees g c = λ o k seen.
-    spares_form c.in-Err.halt (c.in-Err.ensures.right seen)
+    let old = c.args.self.now.core in
+    let new = c.window_on.new.core in
+    (spares_form c.in-Err.halt (c.in-Err.ensures.right (seen.0, seen.1.0)), sight_lacks (file_pages o (g.D.Disk.state new.filer.swapper.under)) old.intervals (state old) (state new) c.in-Err.halt c.in-Err.ensures.cause)

@@ -47,3 +47,9 @@ returns-then-is_err-clause-idle g c = λ m r resident. c.answer-answer.ensures.i
 
 pub returns-else-is_err-clause-idle : goal.returns-else-is_err-clause-idle
 returns-else-is_err-clause-idle g c = λ m r resident. c.answer-answer.ensures.idle m r resident
+
+pub returns-then-is_err-clause-missing : goal.returns-then-is_err-clause-missing
+returns-then-is_err-clause-missing g c = λ ss sees. c.answer-answer.ensures.missing ss sees
+
+pub returns-else-is_err-clause-missing : goal.returns-else-is_err-clause-missing
+returns-else-is_err-clause-missing g c = λ ss sees. c.answer-answer.ensures.missing ss sees

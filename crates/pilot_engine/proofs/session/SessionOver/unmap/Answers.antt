@@ -7,7 +7,7 @@ use Rattle.projection_laws.specs.Tests.{window_row}
 use Rattle.space_tables.specs.declared.shown.Shown.{Shown}
 use Rattle.space_tables.specs.Shows.{IsShownAt}
 use Rattle.table_calls.specs.Answers.{TablesSay, Tells}
-use Rattle.space_calls.specs.Unmapping.{IsGivenUp, IsRefused, IsTaken}
+use Rattle.space_calls.specs.Unmapping.{IsGivenUp, IsRefused, IsTaken, ShowsIn}
 use Rattle.space_calls.proofs.RunLemmas.{reached_makes}
 use Rattle.running_words.specs.Running.{Runs}
 use Rattle.pilot_engine.proofs.AnonymousLemmas.{hidden_alike, hidden_carried, hidden_numbers, is_set, left_unseen, not_taken, passes_still, plain_carried, refused_undone, took, unset, waited_carried}
@@ -22,7 +22,12 @@ use Rattle.space_calls.specs.ReasonLaws.{take_window_reasons}
 use Rattle.space_calls.specs.Halts.{TakeWindowHalts}
 use Rattle.pilot_engine.proofs.ReasonSteps.{fault_shows, reached_on, reshaped_on, shows_after, shows_since}
 use Rattle.running_words.specs.SparedLaws.{spares_form}
-use Rattle.pilot_engine.proofs.FormLemmas.{fault_form}
+use Rattle.file_manager.specs.Reasons.{WasBelow}
+use Rattle.space_calls.specs.FilesLaws.{still_on}
+use Rattle.pilot_engine.specs.Stepping.{lacking}
+use Rattle.pilot_engine.proofs.HomeLemmas.{home_on, home_still, none_spared}
+use Rattle.pilot_engine.proofs.HomeSteps.{fault_spared}
+use Rattle.pilot_engine.proofs.SpaceLacks.{fault_lacks, take_window_lacks, unmap_lacks}
 use Rattle.pilot_engine.proofs.session.SessionOver.unmap.Goals as goal
 
 pub returns-in-Ok-Err-clause-passes : goal.returns-in-Ok-Err-clause-passes
@@ -228,26 +233,56 @@ returns-in-Err-delete_unseen-clause-reasons g c = λ o k.
 pub returns-in-Err-wait-clause-reasons : goal.returns-in-Err-wait-clause-reasons
 returns-in-Err-wait-clause-reasons g c = λ o k. fault_shows o c.args.self.now.core.filer.swapper.layout (g.D.Disk.state c.settle.new.core.filer.swapper.under) c.in-Err-wait.halt c.in-Err-wait.ensures.fault
 
+-- ---- Which pages are missing.
+
+pub returns-in-Err-clause-missing : goal.returns-in-Err-clause-missing
+returns-in-Err-clause-missing g c = λ ss sees.
+    let old = c.args.self.now.core in
+    take_window_lacks c.args.space old.intervals (lacking (call.Unmap c.args.space) ss) (state old) (state c.take_window.new.core) c.in-Err.halt c.in-Err.ensures.cause
+
+pub returns-in-Err-delete_unseen-clause-missing : goal.returns-in-Err-delete_unseen-clause-missing
+returns-in-Err-delete_unseen-clause-missing g c = λ ss sees.
+    unmap_lacks ss c.args.space c.in-Ok-Ok.shown (given_so (ShowsIn ss c.args.space) c.in-Ok-Ok.shown c.in-Ok-Ok.field-0 c.in-Ok-Ok.field-0-is (c.in-Ok-Ok.ensures.seen ss sees)) (is_set _ c.if-not-shown.false)
+    (state c.take_window.new.core) (state c.delete_unseen.new.self.core) c.in-Err-delete_unseen.halt c.in-Err-delete_unseen.ensures.cause
+
+pub returns-in-Err-wait-clause-missing : goal.returns-in-Err-wait-clause-missing
+returns-in-Err-wait-clause-missing g c = λ ss sees. fault_lacks (lacking (call.Unmap c.args.space) ss) c.in-Err-wait.halt c.in-Err-wait.ensures.fault
+
 -- ---- The space tables are seen.
 
 pub returns-in-Ok-Err-clause-sees : goal.returns-in-Ok-Err-clause-sees
-returns-in-Ok-Err-clause-sees g c = λ o k seen. c.in-Ok-Err.ensures.sees seen
+returns-in-Ok-Err-clause-sees g c = λ o k seen.
+    let old = c.args.self.now.core in
+    let u = c.take_window.new.core in
+    home_on o old u c.take_window.ensures.makes (still_on old u c.in-Ok-Err.ensures.sees (WasBelow o (g.D.Disk.state old.filer.swapper.under)) seen)
 
 pub returns-then-not-shown-clause-sees : goal.returns-then-not-shown-clause-sees
-returns-then-not-shown-clause-sees g c = λ o k seen. c.in-Ok-Ok.ensures.sees seen
+returns-then-not-shown-clause-sees g c = λ o k seen.
+    let old = c.args.self.now.core in
+    let u = c.take_window.new.core in
+    home_on o old u c.take_window.ensures.makes (still_on old u c.in-Ok-Ok.ensures.sees (WasBelow o (g.D.Disk.state old.filer.swapper.under)) seen)
 
 pub returns-in-Ok-wait-clause-sees : goal.returns-in-Ok-wait-clause-sees
 returns-in-Ok-wait-clause-sees g c = λ o k seen.
     let old = c.args.self.now.core in
-    c.in-Ok-wait.ensures.sees (c.in-Ok.ensures.sees o (reshaped_on o (state old) (state c.take_window.new.core) old.filer.swapper.accepted c.take_window.ensures.reshapes k) (c.in-Ok-Ok.ensures.sees seen))
+    let u = c.take_window.new.core in
+    let taken = home_on o old u c.take_window.ensures.makes (still_on old u c.in-Ok-Ok.ensures.sees (WasBelow o (g.D.Disk.state old.filer.swapper.under)) seen) in
+    home_still o c.delete_unseen.new.self.core c.settle.new.core (reached_makes c.settle.ensures.reaches) c.settle.ensures.still
+    (c.in-Ok.ensures.sees o (reshaped_on o (state old) (state u) old.filer.swapper.accepted c.take_window.ensures.reshapes k) taken)
 
 pub returns-in-Err-clause-sees : goal.returns-in-Err-clause-sees
-returns-in-Err-clause-sees g c = λ o k seen. spares_form c.in-Err.halt (c.in-Err.ensures.right seen)
+returns-in-Err-clause-sees g c = λ o k seen.
+    let old = c.args.self.now.core in
+    let u = c.take_window.new.core in
+    none_spared o (g.D.Disk.state u.filer.swapper.under) c.in-Err.halt (spares_form c.in-Err.halt (c.in-Err.ensures.right (seen.0, seen.1.0)))
+    (λ pages. take_window_lacks c.args.space old.intervals pages (state old) (state u) c.in-Err.halt c.in-Err.ensures.cause)
 
 pub returns-in-Err-delete_unseen-clause-sees : goal.returns-in-Err-delete_unseen-clause-sees
 returns-in-Err-delete_unseen-clause-sees g c = λ o k seen.
     let old = c.args.self.now.core in
-    c.in-Err-delete_unseen.ensures.sees o (reshaped_on o (state old) (state c.take_window.new.core) old.filer.swapper.accepted c.take_window.ensures.reshapes k) (c.in-Ok-Ok.ensures.sees seen)
+    let u = c.take_window.new.core in
+    let taken = home_on o old u c.take_window.ensures.makes (still_on old u c.in-Ok-Ok.ensures.sees (WasBelow o (g.D.Disk.state old.filer.swapper.under)) seen) in
+    c.in-Err-delete_unseen.ensures.sees o (reshaped_on o (state old) (state u) old.filer.swapper.accepted c.take_window.ensures.reshapes k) taken
 
 pub returns-in-Err-wait-clause-sees : goal.returns-in-Err-wait-clause-sees
-returns-in-Err-wait-clause-sees g c = λ o k seen. fault_form c.in-Err-wait.halt c.in-Err-wait.ensures.fault
+returns-in-Err-wait-clause-sees g c = λ o k seen. fault_spared o (g.D.Disk.state c.settle.new.core.filer.swapper.under) c.in-Err-wait.halt c.in-Err-wait.ensures.fault

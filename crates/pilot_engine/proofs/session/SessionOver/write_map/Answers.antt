@@ -9,7 +9,10 @@ use Rattle.fault_core.specs.View.{View}
 use Rattle.swapper_kernel.specs.Homes.{no_home}
 use Rattle.file_manager.specs.ReasonLaws.{label_reasons}
 use Rattle.pilot_engine.proofs.OutsetLemmas.{keeps_written, written_reaches}
+use Rattle.fault_core.proofs.LackLemmas.{brought_lacks}
+use Rattle.pilot_engine.proofs.EndSpares.{end_spared, label_no_table}
 use Rattle.pilot_engine.proofs.FormLemmas.{label_form}
+use Rattle.pilot_engine.proofs.HomeLemmas.{file_pages}
 use Rattle.pilot_engine.proofs.session.SessionOver.write_map.Goals as goal
 
 pub returns-in-Ok-clause-clean : goal.returns-in-Ok-clause-clean
@@ -48,7 +51,7 @@ returns-in-Ok-clause-keeps_to g c = λ o keeps.
     let swaps = (rw c.swapper_over-swapper.ensures.value at c.force.ensures.swaps) in
     let run = (rw c.swapper_over-swapper.ensures.value at c.force.ensures.run) in
     let layout = (rw c.swapper_over-swapper.ensures.value at c.force.ensures.layout) in
-    (keeps.0, (keeps_written o v w keeps.0 c.args.self.now.core.filer.swapper.accepted keeps.1.1 keeps.1.0 (written_reaches v w swaps run.frames layout refl), keeps.1.1))
+    (keeps.0, (keeps_written o v w keeps.0 c.args.self.now.core.filer.swapper.accepted keeps.1.1 keeps.1.0 (written_reaches v w c.args.self.now.core.filer.swapper.accepted swaps run.frames layout refl), keeps.1.1))
 
 pub returns-in-Err-clause-reasons : goal.returns-in-Err-clause-reasons
 returns-in-Err-clause-reasons g c = λ o keeps.
@@ -58,9 +61,12 @@ returns-in-Err-clause-reasons g c = λ o keeps.
     let halts = (rw c.swapper_over-swapper.ensures.value at c.in-Err.ensures.cause) in
     label_reasons keeps.1.0 swaps.makes no_home (λ home none. absurd none) c.in-Err.halt halts
 
--- ---- No page of the space tables is told as broken.
+-- ---- No page of the space tables is told as broken, and none is missing.
 
 pub returns-in-Err-clause-right : goal.returns-in-Err-clause-right
-returns-in-Err-clause-right g c =
+returns-in-Err-clause-right g c = λ o.
     let v = state c.args.self.now.core in
-    label_form no_home v.disk v.slots (g.D.Disk.state c.force.new.swapper.under) c.in-Err.halt (rw c.swapper_over-swapper.ensures.value at c.in-Err.ensures.cause)
+    let disk = g.D.Disk.state c.force.new.swapper.under in
+    let cause = rw c.swapper_over-swapper.ensures.value at c.in-Err.ensures.cause in
+    end_spared o disk c.in-Err.halt (label_form no_home v.disk v.slots disk c.in-Err.halt cause, brought_lacks no_home v.disk v.slots disk (file_pages o disk) c.in-Err.halt cause)
+    (label_no_table no_home v.disk v.slots disk c.in-Err.halt cause)
