@@ -182,11 +182,12 @@ pub record IsLetSince (was lied : Type 0) (old : Root) (writes : List DiskWrite)
   pub outset : was → HasMade writes now (Lets lied old home)
   pub since : AnsweredSince writes now (Gives home) (Lets lied old home)
 
--- by what the file map named at the outset: a root lets only what it named of a file whose identifier had not been given out
+-- by what the file map named at the outset: a root lets pages only of a file of which it named some page then, though the identifier
+-- had not been given out
 abbrev pub IsLet : Outset → DiskState → Home → Type 0
 IsLet o disk home = IsLetSince (o.named home.id home.page home.sector ≡ true) (HadNamed o home.id) o.root o.writes disk.writes home
 
--- a file may be given pages: it is the space tables', its identifier was given out, or the file map named a page of it at the outset
+-- a file may be given pages: it is none of a client's, its identifier was given out, or the file map named a page of it at the outset
 abbrev pub MayTake : Outset → ℕ → Type 0
 MayTake o id = 16 ≤ id → (id < o.next) ⊎ HadNamed o id
 
