@@ -1,0 +1,9 @@
+pub mod UnitLemmas
+pub mod MomentLemmas
+pub mod CutLemmas
+mod SettleLemmas
+pub mod TurnLemmas
+pub mod PairLemmas
+pub mod SteadyLemmas
+pub mod StayLemmas
+mod ShapeLemmas
