@@ -7,3 +7,7 @@ pub mod PairLemmas
 pub mod SteadyLemmas
 pub mod StayLemmas
 mod ShapeLemmas
+mod RestoredLemmas
+mod RootLemmas
+pub mod OwnLemmas
+pub mod SizeLemmas

@@ -14,7 +14,7 @@ get_take (suc n) (x ∷ xs) (suc k) low = get_take n xs k (omega (arith, low))
 pub unit-map : {X Y : Type 0} (f : X → Y) (u : ℕ) (xs : List X) → unit u (map f xs) ≡ map f (unit u xs)
 unit-map f u xs = ap (λ l. take 16 l) (drop-map f (16 * u) xs) ∙ take-map f 16 (drop (16 * u) xs)
 
-in_unit : {X : Type 0} (xs : List X) (i : ℕ) → slice_get (unit (i / 16) xs) (i % 16) ≡ slice_get xs i
+pub in_unit : {X : Type 0} (xs : List X) (i : ℕ) → slice_get (unit (i / 16) xs) (i % 16) ≡ slice_get xs i
 in_unit xs i =
     let z : 16 * (i / 16) + i % 16 ≡ i = omega arith in
     get_take 16 (drop (16 * (i / 16)) xs) (i % 16) (omega arith) ∙ get_drop (16 * (i / 16)) xs (i % 16) ∙ ap (λ (n : ℕ). slice_get xs n) z

@@ -1,6 +1,10 @@
 pub mod Cut
 pub mod CutLaws
+pub mod OwnBytes
+pub mod Restored
+pub mod Roots
 pub mod Settles
 pub mod ShapeLaws
+pub mod SizeLaws
 pub mod StayLaws
 pub mod Windows

@@ -2,8 +2,12 @@
 
 ghost use Rattle.std.specs.Prelude.{ℕ, Bool, List};
 ghost use Rattle.cut_laws.specs.CutLaws.{CutLaws, WindowLaws};
+ghost use Rattle.cut_laws.specs.OwnBytes.{OwnBytes};
+ghost use Rattle.cut_laws.specs.Restored.{RestoredKeepsFiles};
+ghost use Rattle.cut_laws.specs.Roots.{FlagLaws};
 ghost use Rattle.cut_laws.specs.Settles.{SettleLaws};
 ghost use Rattle.cut_laws.specs.ShapeLaws.{LeaderFreed, LeaderWritten, NoLabelWritten};
+ghost use Rattle.cut_laws.specs.SizeLaws.{PagesAreOwn, SizeOfOneMoment};
 ghost use Rattle.cut_laws.specs.StayLaws.{NoneAppears, OthersStayInCuts, PagesOfFile};
 
 /// What a cut is: any part of the writes since the last settle.
@@ -25,4 +29,25 @@ pub fn shapes_stay_in_cuts()
     ensures no_label { (with_temporary : Bool) → NoLabelWritten with_temporary }
     ensures marks { (with_temporary : Bool) → LeaderWritten with_temporary }
     ensures leaves { (with_temporary : Bool) → LeaderFreed with_temporary }
+{}
+
+/// Sectors that no file needs are freed, and root and maps are written: each cut has the files.
+pub fn restored_keep_files_in_cuts()
+    ensures { (with_temporary : Bool) → RestoredKeepsFiles with_temporary }
+{}
+
+/// The root, and its clean flag, in a cut.
+pub fn root_in_cuts()
+    ensures { FlagLaws }
+{}
+
+/// A file has bytes of its own in a cut, where its sectors were no other's since the last settle.
+pub fn own_bytes_in_cuts()
+    ensures { (id : ℕ) → OwnBytes id }
+{}
+
+/// A file that gets more pages, or fewer, has a size in a cut that it had at some moment.
+pub fn sizes_in_cuts()
+    ensures size { (with_temporary : Bool) → SizeOfOneMoment with_temporary }
+    ensures pages { PagesAreOwn }
 {}
