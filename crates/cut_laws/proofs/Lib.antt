@@ -11,3 +11,5 @@ mod RestoredLemmas
 mod RootLemmas
 pub mod OwnLemmas
 pub mod SizeLemmas
+pub mod WholeLemmas
+mod ResizeLemmas

@@ -68,7 +68,7 @@ module _ (c : ℕ → ℕ) (n m : ℕ) (up : (j : ℕ) → j < n → c (suc j) �
       either (inr after) = let z : a ≡ b + (a - b) = omega (arith, after) in fall (a - b) b (omega (arith, few_a, after)) high (subst (λ (i : ℕ). c i ≤ m) z low)
 
 -- one of the first numbers is so, or each is otherwise
-some_or_each : (P Q : ℕ → Type 0) → ((j : ℕ) → P j ⊎ Q j) → (n : ℕ) → ((j : ℕ) × (j ≤ n) × P j) ⊎ ((j : ℕ) → j ≤ n → Q j)
+pub some_or_each : (P Q : ℕ → Type 0) → ((j : ℕ) → P j ⊎ Q j) → (n : ℕ) → ((j : ℕ) × (j ≤ n) × P j) ⊎ ((j : ℕ) → j ≤ n → Q j)
 some_or_each P Q each zero = elim (each 0) [
   | inl p ↦ inl (0, omega arith, p)
   | inr q ↦ inr (λ j few. subst Q (let z : 0 ≡ j = omega (arith, few) in z) q)
@@ -295,7 +295,7 @@ module _ (d : List Sector) (writes : List DiskWrite) (e : List Sector) (id : ℕ
       )
 
   -- where a page stands, it is the page of the file
-  shown : (j p i : ℕ) (s : Sector) → j ≤ length writes → slice_get (data_sectors (moment d writes j)) i ≡ Some s → is_page id p s ≡ true → disk_page (moment d writes j) id p ≡ Some (map byte s.1)
+  pub shown : (j p i : ℕ) (s : Sector) → j ≤ length writes → slice_get (data_sectors (moment d writes j)) i ≡ Some s → is_page id p s ≡ true → disk_page (moment d writes j) id p ≡ Some (map byte s.1)
   shown j p i s few at is =
       ap (λ (o : Option Sector). option_map (λ u. map byte u.1) o)
       (find_alone (is_page id p) (data_sectors (moment d writes j)) i s at is (λ k t there passes. (pages_at j few).once k i p t s there at passes is))

@@ -1,6 +1,7 @@
 pub mod Cut
 pub mod CutLaws
 pub mod OwnBytes
+pub mod ResizeLaws
 pub mod Restored
 pub mod Roots
 pub mod Settles

@@ -3,6 +3,7 @@
 ghost use Rattle.std.specs.Prelude.{ℕ, Bool, List};
 ghost use Rattle.cut_laws.specs.CutLaws.{CutLaws, WindowLaws};
 ghost use Rattle.cut_laws.specs.OwnBytes.{OwnBytes};
+ghost use Rattle.cut_laws.specs.ResizeLaws.{ResizedHasSizeBetween};
 ghost use Rattle.cut_laws.specs.Restored.{RestoredKeepsFiles};
 ghost use Rattle.cut_laws.specs.Roots.{FlagLaws};
 ghost use Rattle.cut_laws.specs.Settles.{SettleLaws};
@@ -50,4 +51,5 @@ pub fn own_bytes_in_cuts()
 pub fn sizes_in_cuts()
     ensures size { (with_temporary : Bool) → SizeOfOneMoment with_temporary }
     ensures pages { PagesAreOwn }
+    ensures resized { (with_temporary : Bool) → ResizedHasSizeBetween with_temporary }
 {}

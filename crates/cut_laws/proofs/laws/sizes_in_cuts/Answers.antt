@@ -1,3 +1,4 @@
+use Rattle.cut_laws.proofs.ResizeLemmas as resize
 use Rattle.cut_laws.proofs.SizeLemmas as sizes
 use Rattle.cut_laws.proofs.laws.sizes_in_cuts.Goals as goal
 
@@ -6,3 +7,6 @@ returns-clause-size c with_temporary = sizes.size_of_one_moment with_temporary
 
 pub returns-clause-pages : goal.returns-clause-pages
 returns-clause-pages c = sizes.pages_are_own
+
+pub returns-clause-resized : goal.returns-clause-resized
+returns-clause-resized c with_temporary = resize.resized_has_size_between with_temporary
