@@ -10,6 +10,8 @@ mod ShapeLemmas
 mod RestoredLemmas
 mod RootLemmas
 pub mod OwnLemmas
+mod NumberLemmas
 pub mod SizeLemmas
 pub mod WholeLemmas
+mod WholeWriteLemmas
 mod ResizeLemmas

@@ -1,5 +1,5 @@
 -- A file that is shortened or lengthened, from its writes alone.
-use Rattle.std.proofs.Common.{◌≡◌, ◌≢◌, ◌⊎◌, inl, inr, ℕ, zero, suc, ◌+◌, ◌-◌, ◌<◌, ◌≤◌, Bool, true, false, ◌&&◌, List, [], map, length, Option, Some, None, refl, sym, ◌∙◌, ap, subst, arith, eqb}
+use Rattle.std.proofs.Common.{◌≡◌, ◌≢◌, ◌⊎◌, inl, inr, ℕ, zero, suc, ◌+◌, ◌<◌, ◌≤◌, Bool, true, false, ◌&&◌, List, [], map, length, Option, Some, None, refl, sym, ◌∙◌, ap, subst, arith, eqb}
 use Rattle.std.specs.Prelude.{slice_get, slice_set, find}
 use Rattle.std.proofs.lemmas.Bool.{cases_eq, cases_lt, true≢false, eqb-true}
 use Rattle.std.proofs.lemmas.Option.{same_Some, none-some, slice_get_within}
@@ -8,7 +8,7 @@ use Rattle.labelled_disk.specs.declared.label.Wanted.{Wanted}
 use Rattle.labelled_disk.specs.declared.disk.DiskWrite.{DiskWrite}
 use Rattle.labelled_disk.specs.declared.disk.DiskWrite.TheVariants as kind
 use Rattle.labelled_disk.specs.File.{File, Page, byte, size}
-use Rattle.labelled_disk.specs.FilesOn.{is_of, is_page, disk_file}
+use Rattle.labelled_disk.specs.FilesOn.{is_page, disk_file}
 use Rattle.labelled_disk.specs.Label.{is_free, names, leader_page}
 use Rattle.labelled_disk.specs.Lawful.{Lawful}
 use Rattle.labelled_disk.specs.Layout.{data_sectors, first_data}
@@ -18,13 +18,12 @@ use Rattle.labelled_disk.specs.Sectors.{Sector}
 use Rattle.labelled_disk.proofs.Finds.{get_set_same}
 use Rattle.labelled_disk.proofs.LowestLemmas.{files_are_as_told}
 use Rattle.labelled_disk.proofs.SectorWrites as w
-use Rattle.labelled_disk.proofs.WriteLemmas as laws
 use Rattle.label_laws.specs.LawfulRuns.{AreLawful}
 use Rattle.label_laws.specs.Mixed.{gives_label}
 use Rattle.label_laws.specs.OneFile.{id_of}
 use Rattle.label_laws.proofs.FileLemmas.{free_none, label_written, named_id}
 use Rattle.label_laws.proofs.LawfulLemmas.{each_lawful}
-use Rattle.label_laws.proofs.MixedLemmas.{moment_long, written_long}
+use Rattle.label_laws.proofs.MixedLemmas.{moment_long}
 use Rattle.cut_laws.specs.Cut.{unit, IsCutSince}
 use Rattle.cut_laws.specs.OwnBytes.{AreOwnOrFree, IsOwnOrFree, of_page}
 use Rattle.cut_laws.specs.ResizeLaws.{AddsNextPage, FreesLastPage, IsResized, ResizedHasSizeBetween}
@@ -33,68 +32,17 @@ use Rattle.cut_laws.specs.SizeLaws.{IsOnPage, IsWholeThroughout}
 use Rattle.cut_laws.specs.Windows.{EachWrite, IsLabelWriteOf, IsPageWriteOf, IsUnwritten, disk_page}
 use Rattle.cut_laws.proofs.UnitLemmas.{same_units}
 use Rattle.cut_laws.proofs.MomentLemmas.{get_some, data_at, moment-step}
+use Rattle.cut_laws.proofs.NumberLemmas.{some_or_each}
 use Rattle.cut_laws.proofs.PairLemmas.{Alike, alike_passes, alike_test, alike_then, lowest as lowest_of}
-use Rattle.cut_laws.proofs.SizeLemmas.{pages_are_own, shown, size_of_one_moment, some_or_each}
-use Rattle.cut_laws.proofs.SteadyLemmas.{before, data_pairs, found_page, same_alike}
-use Rattle.cut_laws.proofs.StayLemmas.{Of, named_page, of_id, turn_alike, turn_same}
-use Rattle.cut_laws.proofs.TurnLemmas.{Turn, stays, bytes, fresh, freed, marked, turn, turns, id_of_page}
-use Rattle.cut_laws.proofs.WholeLemmas.{IsWholeAmong, whole_alike, whole_among, whole_longer, whole_on, whole_shorter}
-
--- One write leaves the file whole.
-
-same_size : (now : List Sector) (id : ℕ) (f g : File) → disk_file true now id ≡ Some f → disk_file true now id ≡ Some g → size f ≡ size g
-same_size now id f g a b = ap size (same_Some f g (sym a ∙ b))
+use Rattle.cut_laws.proofs.SizeLemmas.{pages_are_own, shown, size_of_one_moment}
+use Rattle.cut_laws.proofs.SteadyLemmas.{before, found_page, same_alike}
+use Rattle.cut_laws.proofs.StayLemmas.{Of, named_page, of_id, turn_same}
+use Rattle.cut_laws.proofs.TurnLemmas.{Turn, stays, bytes, fresh, freed, marked, turns, id_of_page}
+use Rattle.cut_laws.proofs.WholeWriteLemmas.{whole_step}
 
 -- of a label that passes no free one does
 page_not_free : (id p : ℕ) (l : Label) → is_page id p (l, []) ≡ true → is_free l ≡ true → ⊥
 page_not_free id p l is free = true≢false (sym (w.page_of true id p (l, []) is) ∙ ap (λ (b : Bool). b && eqb l.id id) (free_none l free))
-
-whole_step : (id : ℕ) (now : List Sector) (write : DiskWrite) → Lawful now write → (IsLabelWriteOf id now write → FreesLastPage id now write ⊎ AddsNextPage id now write) → IsWholeOn now id
-    → IsWholeOn (written write now) id
-whole_step id now write lawful ends whole = either (gives_label write) refl (cases_eq id (id_of now write))
-  where
-    other : (gives_label write ≡ true → id ≢ id_of now write) → IsWholeOn (written write now) id
-    other apart =
-        whole_on (written write now) id
-        (whole_alike id (data_sectors now) (data_sectors (written write now))
-        (data_pairs (λ s t. Alike (Of id) s.0 t.0) now (written write now) (written_long now write)
-        (λ i s t low here there. turn_alike id now write i s t here apart (turn now write i s t lawful low here there)))
-        (whole_among now id whole))
-
-    frees : (write : DiskWrite) → Lawful now write → FreesLastPage id now write → IsWholeOn (written write now) id
-    frees (kind.Whole sector label page) may last = absurd last
-    frees (kind.Page sector wanted page) may last = absurd last
-    frees (kind.LabelOnly sector label) may last =
-        let is_data : first_data (length now) ≤ sector = may.old.1.is_data in
-        let s = last.3 in
-        whole_on (written (kind.LabelOnly sector label) now) id
-        (subst (λ (xs : List Sector). IsWholeAmong xs id)
-        (sym (ap data_sectors (label_written now sector s label last.4) ∙ laws.data_set true 0 0 now sector (label, s.1) is_data))
-        (whole_shorter id (data_sectors now) (sector - first_data (length now)) s (label, s.1) (laws.data_get true 0 0 now sector s is_data last.4) (whole_among now id whole) last.5
-        (same_size now id whole.0 last.1 whole.1 last.2 ∙ last.6) last.7 (ap (λ (l : Label). is_of id (l, s.1)) last.0)))
-
-    adds : (write : DiskWrite) → Lawful now write → AddsNextPage id now write → IsWholeOn (written write now) id
-    adds (kind.LabelOnly sector label) may next = absurd next
-    adds (kind.Page sector wanted page) may next = absurd next
-    adds (kind.Whole sector label page) (inl root) next = absurd (true≢false (sym next.2 ∙ ap (λ (l : Label). is_page id (size next.0) (l, page)) root.root_label))
-    adds (kind.Whole sector label page) (inr now_free) next =
-        let s = now_free.old.0 in
-        let is_data : first_data (length now) ≤ sector = now_free.old.1.is_data in
-        let same : size next.0 ≡ size whole.0 = same_size now id next.0 whole.0 next.1 whole.1 in
-        whole_on (written (kind.Whole sector label page) now) id
-        (subst (λ (xs : List Sector). IsWholeAmong xs id) (sym (laws.data_set true 0 0 now sector (label, page) is_data))
-        (whole_longer id (data_sectors now) (sector - first_data (length now)) s (label, page) (laws.data_get true 0 0 now sector s is_data now_free.old.1.here) (whole_among now id whole)
-        (ap (λ (b : Bool). b && eqb s.0.id id) (free_none s.0 now_free.old.2)) (ap (λ (n : ℕ). is_page id n (label, page)) (sym same) ∙ next.2)
-        (subst (λ (n : ℕ). suc n < leader_page) same next.3)))
-
-    own : FreesLastPage id now write ⊎ AddsNextPage id now write → IsWholeOn (written write now) id
-    own (inl last) = frees write lawful last
-    own (inr next) = adds write lawful next
-
-    either : (b : Bool) → gives_label write ≡ b → (id ≡ id_of now write) ⊎ (id ≢ id_of now write) → IsWholeOn (written write now) id
-    either false f of = other (λ gives. absurd (true≢false (sym gives ∙ f)))
-    either true f (inr apart) = other (λ gives. apart)
-    either true f (inl of) = own (ends (f, sym of))
 
 module _ (d : List Sector) (writes : List DiskWrite) (id : ℕ) (lawful : AreLawful d writes) (resized : IsResized d writes id) where
   whole_throughout : IsWholeThroughout d writes id
