@@ -15,3 +15,4 @@ pub mod SizeLemmas
 pub mod WholeLemmas
 mod WholeWriteLemmas
 mod ResizeLemmas
+mod MixLemmas

@@ -2,6 +2,7 @@
 
 ghost use Rattle.std.specs.Prelude.{ℕ, Bool, List};
 ghost use Rattle.cut_laws.specs.CutLaws.{CutLaws, WindowLaws};
+ghost use Rattle.cut_laws.specs.Mixes.{MixLaws};
 ghost use Rattle.cut_laws.specs.OwnBytes.{OwnBytes};
 ghost use Rattle.cut_laws.specs.ResizeLaws.{ResizedHasSizeBetween};
 ghost use Rattle.cut_laws.specs.Restored.{RestoredKeepsFiles};
@@ -15,6 +16,7 @@ ghost use Rattle.cut_laws.specs.StayLaws.{NoneAppears, OthersStayInCuts, PagesOf
 pub fn cuts_are_parts_of_writes()
     ensures cuts { CutLaws }
     ensures windows { WindowLaws }
+    ensures mixes { MixLaws }
     ensures settles { (settles : List ℕ) (k : ℕ) → SettleLaws settles k }
 {}
 

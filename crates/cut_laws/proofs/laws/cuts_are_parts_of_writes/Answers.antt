@@ -1,3 +1,4 @@
+use Rattle.cut_laws.proofs.MixLemmas as mixes
 use Rattle.cut_laws.proofs.CutLemmas as cuts
 use Rattle.cut_laws.proofs.SettleLemmas as settles
 use Rattle.cut_laws.proofs.laws.cuts_are_parts_of_writes.Goals as goal
@@ -10,3 +11,6 @@ returns-clause-windows c = cuts.window_laws
 
 pub returns-clause-settles : goal.returns-clause-settles
 returns-clause-settles c = settles.settle_laws
+
+pub returns-clause-mixes : goal.returns-clause-mixes
+returns-clause-mixes c = mixes.mix_laws
