@@ -16,3 +16,4 @@ pub mod WholeLemmas
 mod WholeWriteLemmas
 mod ResizeLemmas
 mod MixLemmas
+mod ExampleLemmas

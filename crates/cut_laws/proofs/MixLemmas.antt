@@ -1,5 +1,5 @@
 -- Pages of which a part was not written.
-use Rattle.std.proofs.Common.{◌≡◌, ◌≢◌, ◌⊎◌, inl, inr, ℕ, zero, suc, ◌+◌, ◌-◌, ◌*◌, ◌<◌, ◌≤◌, Bool, true, List, [], ◌∷◌, length, take, drop, Option, Some, None, refl, sym, ◌∙◌, ap, subst, arith, length-set}
+use Rattle.std.proofs.Common.{◌≡◌, ◌≢◌, ◌⊎◌, inl, inr, ℕ, zero, suc, ◌+◌, ◌-◌, ◌*◌, ◌<◌, ◌≤◌, Bool, true, List, [], ◌∷◌, length, take, drop, Option, Some, None, refl, sym, ◌∙◌, ap, arith, length-set}
 use Rattle.std.specs.Prelude.{slice_get, slice_set, if◌then◌else◌}
 use Rattle.std.proofs.lemmas.Bool.{cases_eq, cases_lt}
 use Rattle.std.proofs.lemmas.List.{drop-take}
@@ -78,14 +78,14 @@ module _ (d : List Sector) (i : ℕ) (s : Sector) (wanted : Wanted) (new : List 
       at_either j (suc (suc k)) v few there = absurd (omega (arith, few))
       at_either j zero v few there = elim (cases_eq j i) [
         | inl on ↦ (
-          let same : v ≡ s = same_Some v s (sym there ∙ ap (λ (n : ℕ). slice_get d n) on ∙ here) in
-          inl (on, ap (λ (x : Sector). x.0) same, inl (ap (λ (x : Sector). x.1) same)))
+            let same : v ≡ s = same_Some v s (sym there ∙ ap (λ (n : ℕ). slice_get d n) on ∙ here) in
+            inl (on, ap (λ (x : Sector). x.0) same, inl (ap (λ (x : Sector). x.1) same)))
         | inr off ↦ inr (off, there)
       ]
       at_either j (suc zero) v few there = elim (cases_eq j i) [
         | inl on ↦ (
-          let same : (s.0, new) ≡ v = same_Some (s.0, new) v (sym (put new) ∙ ap (λ (n : ℕ). slice_get (slice_set d i (s.0, new)) n) (sym on) ∙ sym (after j) ∙ there) in
-          inl (on, ap (λ (x : Sector). x.0) (sym same), inr (ap (λ (x : Sector). x.1) (sym same))))
+            let same : (s.0, new) ≡ v = same_Some (s.0, new) v (sym (put new) ∙ ap (λ (n : ℕ). slice_get (slice_set d i (s.0, new)) n) (sym on) ∙ sym (after j) ∙ there) in
+            inl (on, ap (λ (x : Sector). x.0) (sym same), inr (ap (λ (x : Sector). x.1) (sym same))))
         | inr off ↦ inr (off, sym (get_set_other d i j (s.0, new) off) ∙ sym (after j) ∙ there)
       ]
 

@@ -141,6 +141,7 @@ module _ (d : List Sector) (writes : List DiskWrite) (e : List Sector) (cut : Is
     flag = flag;
     numbers = numbers;
     valid = λ each. valid (length d) each;
+    none = λ each t here. let part = cut.labels 0 t here in ap (λ (l : Label). names l wanted_root) (sym part.3.2) ∙ each part.0 part.3.0 part.2 part.3.1;
     maps = λ each. record {
       allocation = λ k low. named (1 + k) (λ l. names l (record { id = 1; page = k })) (λ j few. (each j few).allocation k low);
       file_map = λ k low. named (1 + vam (length d) + k) (λ l. names l (record { id = 2; page = k })) (λ j few. (each j few).file_map k low);

@@ -6,6 +6,7 @@ use Rattle.std.proofs.lemmas.Option.{same_Some, slice_get_within}
 use Rattle.labelled_disk.specs.declared.label.Label.{Label}
 use Rattle.labelled_disk.specs.declared.disk.DiskWrite.{DiskWrite}
 use Rattle.labelled_disk.specs.declared.disk.DiskWrite.TheVariants as kind
+use Rattle.labelled_disk.specs.File.{File, Page, size}
 use Rattle.labelled_disk.specs.FilesOn.{is_page, leads_file, page_at, disk_file}
 use Rattle.labelled_disk.specs.Label.{is_file, is_permanent, leader_page}
 use Rattle.labelled_disk.specs.Layout.{data_sectors, first_data}
@@ -18,26 +19,40 @@ use Rattle.labelled_disk.proofs.WriteLemmas as laws
 use Rattle.label_laws.specs.LawfulRuns.{AreLawful}
 use Rattle.label_laws.specs.Mixed.{gives_label}
 use Rattle.label_laws.specs.OneFile.{id_of}
-use Rattle.label_laws.specs.Shape.{SameShape}
+use Rattle.label_laws.specs.Shape.{SameShape, bare_file}
 use Rattle.label_laws.proofs.MixedLemmas.{moment_long}
 use Rattle.cut_laws.specs.Cut.{AtSome, IsCutSince}
-use Rattle.cut_laws.specs.ShapeLaws.{FreesLeader, IsOnLeader, IsWholeOn, LeaderFreed, LeaderWritten, NoLabelWritten, PagesStay}
+use Rattle.cut_laws.specs.ShapeLaws.{FreesLeader, IsOnLeader, IsWholeOn, LeaderFreed, LeaderWritten, NoLabelWritten, PagesStay, ShapesOfOneMoment}
 use Rattle.cut_laws.specs.Windows.{EachWrite, IsLabelWriteOf}
 use Rattle.cut_laws.proofs.MomentLemmas.{get_some, data_at}
 use Rattle.cut_laws.proofs.PairLemmas.{Alike, alike_less, leader_pairs, there_pairs, count_pairs, shape_by_count}
 use Rattle.cut_laws.proofs.SteadyLemmas.{SameBy, Steady, data_pairs, steady_pairs, not_of-not_leader, other_id}
-use Rattle.cut_laws.proofs.StayLemmas.{Of, LabelsLeavePage, narrow_page, pages_stay, shape_pairs, steady_by_turns, steady_page, turn_alike, turn_same}
+use Rattle.cut_laws.proofs.StayLemmas.{Of, LabelsLeavePage, narrow_page, none_appears, pages_stay, shape_pairs, steady_by_turns, steady_page, turn_alike, turn_same}
 use Rattle.cut_laws.proofs.TurnLemmas.{Turn, stays, bytes, fresh, freed, marked, turns, id_of_label}
 
 pub no_label_written : (all : Bool) → NoLabelWritten all
 no_label_written all d writes e id lawful cut none = (
-  shape_pairs all id (data_sectors d) (data_sectors e) (steady_pairs d writes e cut (Of id) steady 0 (omega arith)),
+  λ j few. shape_pairs all id (data_sectors (moment d writes j)) (data_sectors e) (steady_pairs d writes e cut (Of id) steady j few),
   pages_stay d writes e id lawful cut
       (λ p low k write i s t is now gives turn. narrow_page id p s t (turn_same id (moment d writes k) write i s t now (λ e. none k write is (gives, sym e)) turn)),
 )
   where
     steady : Steady (Of id) d writes
     steady = steady_by_turns (Of id) d writes lawful (λ k write i s t is low now turn. turn_alike id (moment d writes k) write i s t now (λ gives e. none k write is (gives, sym e)) turn)
+
+-- two files, or none
+same_none : (all : Bool) (d e : List Sector) (id : ℕ) → disk_file all d id ≡ None → disk_file all e id ≡ None → SameShape all d e id
+same_none all d e id a b = ap (λ (o : Option File). option_map bare_file o) (b ∙ sym a)
+
+pub shapes_of_one_moment : (all : Bool) → ShapesOfOneMoment all
+shapes_of_one_moment all d writes e id lawful cut others some = (some.0, some.1, some.2, λ each. either each (cases_eq each id))
+  where
+    either : (each : ℕ) → (each ≡ id) ⊎ (each ≢ id) → SameShape all (moment d writes some.0) e each
+    either each (inl is) = subst (λ (n : ℕ). SameShape all (moment d writes some.0) e n) (sym is) some.3
+    either each (inr off) = elim (others each off) [
+      | inl none ↦ (no_label_written all d writes e each lawful cut none).0 some.0 some.2
+      | inr never ↦ same_none all (moment d writes some.0) e each (never some.0 some.2) (none_appears all d writes e each cut never)
+    ]
 
 -- Labels of the leader.
 abbrev pub Leads : ℕ → Label → Bool
@@ -157,6 +172,14 @@ module _ (d : List Sector) (writes : List DiskWrite) (e : List Sector) (id : ℕ
           (same s t (ap (λ (n : ℕ). slice_get (moment d writes j) n) (sym at) ∙ here) (ap (λ (n : ℕ). slice_get e n) (sym at) ∙ there))
       either i s t low here there (inr apart) = inr (leads_less all id s.0 (never i low apart j few s here), leads_less all id t.0 (never_cut i low apart t there))
 
+  -- it has all its pages
+  pub same_size : (all : Bool) (g : File) → disk_file all e id ≡ Some g → size g ≡ size whole.0
+  same_size all g is =
+      ap (λ (l : List Page). length l) (w.file_pages all (data_sectors e) id g is)
+      ∙ count_pairs (page_at (data_sectors d) id) (page_at (data_sectors e) id) 0 leader_page (λ p low. there_pairs id p (data_sectors d) (data_sectors e)
+      (steady_pairs d writes e cut (λ l. is_page id p (l, [])) (steady_page id p d writes lawful (leave_pages d writes id only p (omega (arith, low)))) 0 (omega arith)))
+      ∙ sym (ap (λ (l : List Page). length l) (w.file_pages true (data_sectors d) id whole.0 whole.1))
+
   -- the leader's sector in the cut
   pub at_place : (t : Sector) × (slice_get e place ≡ Some t)
   at_place =
@@ -184,7 +207,11 @@ module _ (d : List Sector) (writes : List DiskWrite) (e : List Sector) (id : ℕ
       either i t (inr apart) there = never_cut (first_data (length e) + i) (subst (λ (n : ℕ). first_data n ≤ first_data (length e) + i) cut.sectors (omega arith)) apart t there
 
 pub leader_written : (all : Bool) → LeaderWritten all
-leader_written all d writes e id lawful cut whole only = (of_one_moment d writes e id lawful cut whole only all, stay d writes e id lawful cut whole only)
+leader_written all d writes e id lawful cut whole only = (
+  of_one_moment d writes e id lawful cut whole only all,
+  λ g is. same_size d writes e id lawful cut whole only all g is,
+  stay d writes e id lawful cut whole only,
+)
 
 on_leader : (id : ℕ) (now : List Sector) (write : DiskWrite) → FreesLeader id now write → IsOnLeader id now write
 on_leader id now (kind.Whole sector label page) frees = frees

@@ -1,5 +1,6 @@
 pub mod Cut
 pub mod CutLaws
+pub mod Example
 pub mod Mixes
 pub mod OwnBytes
 pub mod ResizeLaws

@@ -1,9 +1,9 @@
 -- The root in a cut. Its label is a unit; magic, version, flag and count are in unit 0 of its page, serial and counter in
 -- unit 1.
-use Rattle.std.specs.Prelude.{◌≡◌, ◌≢◌, ◌⊎◌, ℕ, ◌≤◌, List, [], ◌∷◌, length, drop, slice_get, Some}
+use Rattle.std.specs.Prelude.{◌≡◌, ◌≢◌, ◌⊎◌, ℕ, ◌≤◌, false, List, [], ◌∷◌, length, drop, slice_get, Some}
 use Rattle.labelled_disk.specs.declared.disk.DiskWrite.{DiskWrite}
 use Rattle.labelled_disk.specs.declared.disk.DiskWrite.TheVariants.{Whole, LabelOnly, Page}
-use Rattle.labelled_disk.specs.Label.{root_label}
+use Rattle.labelled_disk.specs.Label.{names, root_label, wanted_root}
 use Rattle.labelled_disk.specs.Moment.{moment, written}
 use Rattle.labelled_disk.specs.Root.{IsRoot, HasMaps, root_page, short_at, serial_of, counter_of}
 use Rattle.labelled_disk.specs.Sectors.{Sector}
@@ -20,6 +20,7 @@ pub record RootOfMoments (d : List Sector) (writes : List DiskWrite) (e : List S
   pub numbers : AtSome 0 (length writes) (λ j. (serial_of e ≡ serial_of (moment d writes j)) × (counter_of e ≡ counter_of (moment d writes j)))
   pub valid : ((j : ℕ) → j ≤ length writes → IsRoot (length d) (slice_get (moment d writes j) 0)) → IsRoot (length d) (slice_get e 0)
   pub maps : ((j : ℕ) → j ≤ length writes → HasMaps (length d) (moment d writes j)) → HasMaps (length d) e
+  pub none : ((j : ℕ) (s : Sector) → j ≤ length writes → slice_get (moment d writes j) 0 ≡ Some s → names s.0 wanted_root ≡ false) → (t : Sector) → slice_get e 0 ≡ Some t → names t.0 wanted_root ≡ false
 
 -- a root with the flag 1 is written
 abbrev pub SetsFlag : DiskWrite → Type 0

@@ -2,13 +2,14 @@
 
 ghost use Rattle.std.specs.Prelude.{ℕ, Bool, List};
 ghost use Rattle.cut_laws.specs.CutLaws.{CutLaws, WindowLaws};
+ghost use Rattle.cut_laws.specs.Example.{ExampleCuts};
 ghost use Rattle.cut_laws.specs.Mixes.{MixLaws};
 ghost use Rattle.cut_laws.specs.OwnBytes.{OwnBytes};
 ghost use Rattle.cut_laws.specs.ResizeLaws.{ResizedHasSizeBetween};
 ghost use Rattle.cut_laws.specs.Restored.{RestoredKeepsFiles};
 ghost use Rattle.cut_laws.specs.Roots.{FlagLaws};
 ghost use Rattle.cut_laws.specs.Settles.{SettleLaws};
-ghost use Rattle.cut_laws.specs.ShapeLaws.{LeaderFreed, LeaderWritten, NoLabelWritten};
+ghost use Rattle.cut_laws.specs.ShapeLaws.{LeaderFreed, LeaderWritten, NoLabelWritten, ShapesOfOneMoment};
 ghost use Rattle.cut_laws.specs.SizeLaws.{PagesAreOwn, SizeOfOneMoment};
 ghost use Rattle.cut_laws.specs.StayLaws.{NoneAppears, OthersStayInCuts, PagesOfFile};
 
@@ -32,6 +33,7 @@ pub fn shapes_stay_in_cuts()
     ensures no_label { (with_temporary : Bool) → NoLabelWritten with_temporary }
     ensures marks { (with_temporary : Bool) → LeaderWritten with_temporary }
     ensures leaves { (with_temporary : Bool) → LeaderFreed with_temporary }
+    ensures all { (with_temporary : Bool) → ShapesOfOneMoment with_temporary }
 {}
 
 /// Sectors that no file needs are freed, and root and maps are written: each cut has the files.
@@ -54,4 +56,9 @@ pub fn sizes_in_cuts()
     ensures size { (with_temporary : Bool) → SizeOfOneMoment with_temporary }
     ensures pages { PagesAreOwn }
     ensures resized { (with_temporary : Bool) → ResizedHasSizeBetween with_temporary }
+{}
+
+/// Cuts of disks that are written out: a root with the new flag and the old counter, and bytes of another file.
+pub fn example_cuts()
+    ensures { ExampleCuts }
 {}

@@ -9,3 +9,6 @@ returns-clause-marks c with_temporary = shape.leader_written with_temporary
 
 pub returns-clause-leaves : goal.returns-clause-leaves
 returns-clause-leaves c with_temporary = shape.leader_freed with_temporary
+
+pub returns-clause-all : goal.returns-clause-all
+returns-clause-all c with_temporary = shape.shapes_of_one_moment with_temporary

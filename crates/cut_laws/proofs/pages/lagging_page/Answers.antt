@@ -1,4 +1,4 @@
-use Rattle.std.proofs.Common.{rules, ◌≡◌, ◌≢◌, ℕ, ◌+◌, ◌*◌, ◌≤◌, length, arith}
+use Rattle.std.proofs.Common.{rules}
 use Rattle.cut_laws.proofs.MixLemmas.{unit-put_mid}
 use Rattle.cut_laws.proofs.pages.lagging_page.Goals as goal
 
