@@ -1,5 +1,5 @@
 -- What cuts are.
-use Rattle.std.proofs.Common.{◌≡◌, ◌⊎◌, inl, inr, true, ℕ, zero, suc, ◌+◌, ◌-◌, ◌<◌, ◌≤◌, List, [], ◌∷◌, length, take, Some, refl, sym, ◌∙◌, ap, subst, arith}
+use Rattle.std.proofs.Common.{◌≡◌, ◌⊎◌, inl, inr, true, ℕ, zero, suc, ◌+◌, ◌-◌, ◌<◌, ◌≤◌, List, [], ◌∷◌, ◌++◌, length, take, Some, refl, sym, ◌∙◌, ap, subst, arith}
 use Rattle.std.specs.Prelude.{slice_get}
 use Rattle.std.proofs.lemmas.Bool.{cases_lt}
 use Rattle.std.proofs.lemmas.List.{length-drop}
@@ -8,10 +8,11 @@ use Rattle.labelled_disk.specs.declared.disk.DiskWrite.{DiskWrite}
 use Rattle.labelled_disk.specs.Moment.{moment}
 use Rattle.labelled_disk.specs.Sectors.{Sector}
 use Rattle.labelled_disk.proofs.WriteLemmas.{same_elements}
+use Rattle.labelled_disk.proofs.WriteRunLemmas.{moment-earlier}
 use Rattle.label_laws.proofs.MixedLemmas.{moment_long}
 use Rattle.label_laws.specs.LawfulRuns.{AreLawful}
 use Rattle.cut_laws.specs.Cut.{unit, AtSome, HasLabelAt, HasUnitAt, IsCut}
-use Rattle.cut_laws.specs.CutLaws.{CutLaws, WindowLaws, between}
+use Rattle.cut_laws.specs.CutLaws.{CutLaws, LaterIsNotThere, WindowLaws, between}
 use Rattle.cut_laws.proofs.UnitLemmas.{same_units}
 use Rattle.cut_laws.proofs.MomentLemmas.{get_some, moment-then, moment-past, moment-take, lawful-take, lawful-drop}
 
@@ -54,8 +55,29 @@ wider d writes r s k l e low high cut = record {
   units = λ i u t here. wider_some (λ j. HasUnitAt (moment d writes j) i u (unit u t.1)) r s k l low high (cut.units i u t here);
 }
 
+-- moments up to the first writes' end are those of the first writes
+same_moments : (P : List Sector → Type 0) (d : List Sector) (first next : List DiskWrite) (s k : ℕ) → k ≤ length first → AtSome s k (λ j. P (moment d (first ++ next) j)) → AtSome s k (λ j. P (moment d first j))
+same_moments P d first next s k few some = (some.0, some.1, some.2, subst P (moment-earlier d first next some.0 (omega (arith, few, some.2))) some.3)
+
+more_moments : (P : List Sector → Type 0) (d : List Sector) (first next : List DiskWrite) (s k : ℕ) → k ≤ length first → AtSome s k (λ j. P (moment d first j)) → AtSome s k (λ j. P (moment d (first ++ next) j))
+more_moments P d first next s k few some = (some.0, some.1, some.2, subst P (sym (moment-earlier d first next some.0 (omega (arith, few, some.2)))) some.3)
+
+later : LaterIsNotThere
+later d first next s k e few = (
+  λ cut. record {
+    sectors = cut.sectors;
+    labels = λ i t here. same_moments (λ now. HasLabelAt now i t.0) d first next s k few (cut.labels i t here);
+    units = λ i u t here. same_moments (λ now. HasUnitAt now i u (unit u t.1)) d first next s k few (cut.units i u t here);
+  },
+  λ cut. record {
+    sectors = cut.sectors;
+    labels = λ i t here. more_moments (λ now. HasLabelAt now i t.0) d first next s k few (cut.labels i t here);
+    units = λ i u t here. more_moments (λ now. HasUnitAt now i u (unit u t.1)) d first next s k few (cut.units i u t here);
+  },
+)
+
 pub cut_laws : CutLaws
-cut_laws = record { settled = settled; moments = moments; wider = wider }
+cut_laws = record { settled = settled; moments = moments; wider = wider; later = later }
 
 between_long : (s k : ℕ) (writes : List DiskWrite) → length (between s k writes) ≡ length (take k writes) - s
 between_long s k writes = length-drop s (take k writes)

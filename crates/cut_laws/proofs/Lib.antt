@@ -1,7 +1,7 @@
 pub mod UnitLemmas
 pub mod MomentLemmas
 pub mod CutLemmas
-mod SettleLemmas
+pub mod SettleLemmas
 pub mod TurnLemmas
 pub mod PairLemmas
 pub mod SteadyLemmas

@@ -1,9 +1,16 @@
 -- The last settle by some write.
-use Rattle.std.proofs.Common.{◌≡◌, ◌⊎◌, inl, inr, ℕ, zero, suc, ◌<◌, ◌≤◌, Bool, true, false, List, [], ◌∷◌, length, Option, Some, None, refl, sym, ◌∙◌, ap, subst, arith, max}
+use Rattle.std.proofs.Common.{◌≡◌, ◌⊎◌, inl, inr, ℕ, zero, suc, ◌<◌, ◌≤◌, Bool, true, false, List, [], ◌∷◌, ◌++◌, length, Option, Some, None, refl, sym, ◌∙◌, ap, subst, arith, max}
 use Rattle.std.specs.Prelude.{Contains, nat_le, if◌then◌else◌, slice_index_or}
 use Rattle.std.specs.Option.{option_map_or}
-use Rattle.std.proofs.lemmas.Bool.{cases_lt, leb-true, leb-false}
-use Rattle.cut_laws.specs.Settles.{last_settle, IsLastSettle, SettleLaws}
+use Rattle.std.proofs.lemmas.List.Elements.{Contains-push, Contains-push_cases}
+use Rattle.std.proofs.lemmas.Bool.{cases_lt, leb-true, leb-false, lt-leb}
+use Rattle.labelled_disk.specs.declared.disk.DiskWrite.{DiskWrite}
+use Rattle.labelled_disk.specs.Moment.{moment}
+use Rattle.labelled_disk.specs.Sectors.{Sector}
+use Rattle.cut_laws.specs.Cut.{IsCutSince}
+use Rattle.cut_laws.specs.CutLaws.{between}
+use Rattle.cut_laws.specs.Settles.{last_settle, IsLastSettle, SettleLaws, Tears}
+use Rattle.cut_laws.proofs.CutLemmas.{window_laws}
 
 contains_cases : (x : ℕ) (xs : List ℕ) (s : ℕ) → Contains (x ∷ xs) s → (x ≡ s) ⊎ Contains xs s
 contains_cases x xs s has = either has.0 has.1 has.2
@@ -54,14 +61,39 @@ told (x ∷ xs) k = either (nat_le x k) refl (last_settle xs k) (told xs k)
       none_between = λ later has by. elim (contains_cases x xs later has) [ inl is ↦ omega (arith, is) | inr rest ↦ omega (arith, last.none_between later rest by) ];
     }
 
-pub settle_laws : (settles : List ℕ) (k : ℕ) → SettleLaws settles k
-settle_laws settles k = record {
-  told = λ s. (λ e. same_told settles k (last_settle settles k) (Some s) e (told settles k), λ last. either s last (last_settle settles k) refl);
-  none = λ e. same_told settles k (last_settle settles k) None e (told settles k);
-}
+-- a settle after k
+later : (settles : List ℕ) (k n : ℕ) → k < n → last_settle (settles ++ n ∷ []) k ≡ last_settle settles k
+later [] k n late = ap (λ (b : Bool). if b then Some n else None) (lt-leb n k late)
+later (x ∷ xs) k n late = ap (λ (o : Option ℕ). if nat_le x k then Some (option_map_or (max x) o x) else o) (later xs k n late)
+
+-- the last settle is told
+one_last : (settles : List ℕ) (k s : ℕ) → IsLastSettle settles k s → last_settle settles k ≡ Some s
+one_last settles k s last = either (last_settle settles k) refl
   where
-    either : (s : ℕ) → IsLastSettle settles k s → (o : Option ℕ) → last_settle settles k ≡ o → last_settle settles k ≡ Some s
-    either s last None e = absurd (same_told settles k (last_settle settles k) None e (told settles k) s last.made last.by_then)
-    either s last (Some t) e =
+    either : (o : Option ℕ) → last_settle settles k ≡ o → last_settle settles k ≡ Some s
+    either None e = absurd (same_told settles k (last_settle settles k) None e (told settles k) s last.made last.by_then)
+    either (Some t) e =
         let is = same_told settles k (last_settle settles k) (Some t) e (told settles k) in
         e ∙ ap (λ (n : ℕ). Some n) (let z : t ≡ s = omega (arith, last.none_between t is.made is.by_then, is.none_between s last.made last.by_then) in z)
+
+pub settle_laws : (settles : List ℕ) (k : ℕ) → SettleLaws settles k
+settle_laws settles k = record {
+  told = λ s. (λ e. same_told settles k (last_settle settles k) (Some s) e (told settles k), λ last. one_last settles k s last);
+  none = λ e. same_told settles k (last_settle settles k) None e (told settles k);
+  later = λ n late. later settles k n late;
+  last = λ n low below. one_last (settles ++ n ∷ []) k n (record {
+    made = Contains-push settles n;
+    by_then = low;
+    none_between = λ s has by. elim (Contains-push_cases settles n s has) [ inl before ↦ below s before | inr is ↦ omega (arith, is) ];
+  });
+}
+
+-- What is so of each cut of a window, on the disk as it was at its settle, is so once the disk was settled.
+pub tears_by_windows : (P : ℕ → List Sector → Type 0) (d : List Sector) (writes : List DiskWrite) (settles : List ℕ)
+    → ((k s : ℕ) (e : List Sector) → IsLastSettle settles k s → IsCutSince (moment d writes s) (between s k writes) e → P k e) → Tears P d writes settles
+tears_by_windows P d writes settles each k s e is cut =
+    let last = (settle_laws settles k).told s in
+    each k s e (last.0 is) (window_laws.cut d writes s k e (last.0 is).by_then cut)
+
+pub tears_weaker : (P Q : ℕ → List Sector → Type 0) (d : List Sector) (writes : List DiskWrite) (settles : List ℕ) → ((k : ℕ) (e : List Sector) → P k e → Q k e) → Tears P d writes settles → Tears Q d writes settles
+tears_weaker P Q d writes settles less tears k s e is cut = less k e (tears k s e is cut)

@@ -1,13 +1,13 @@
 -- A file that is shortened or lengthened at its end stays whole.
-use Rattle.std.proofs.Common.{◌≡◌, ◌≢◌, ◌⊎◌, inl, inr, ℕ, zero, suc, ◌+◌, ◌<◌, ◌≤◌, Bool, true, false, List, [], ◌∷◌, ◌++◌, map, length, take, Option, Some, None, refl, sym, ◌∙◌, ap, subst, arith}
+use Rattle.std.proofs.Common.{◌≡◌, ◌≢◌, ◌⊎◌, inl, inr, ℕ, zero, suc, ◌+◌, ◌<◌, ◌≤◌, Bool, true, false, List, [], ◌∷◌, ◌++◌, map, length, take, Option, Some, None, refl, sym, ◌∙◌, ap, subst, arith, ◌&&◌, ◌||◌, eqb}
 use Rattle.std.specs.Prelude.{slice_get, slice_set, option_map}
 use Rattle.std.proofs.lemmas.Bool.{cases_eq, true≢false}
 use Rattle.std.proofs.lemmas.List.{length_push, length-take-le}
 use Rattle.std.proofs.lemmas.Option.{same_Some, none-some, slice_get_within}
 use Rattle.labelled_disk.specs.declared.label.Label.{Label}
 use Rattle.labelled_disk.specs.File.{File, Page, byte, size}
-use Rattle.labelled_disk.specs.FilesOn.{is_of, is_page, page_at, file_among}
-use Rattle.labelled_disk.specs.Label.{leader_page}
+use Rattle.labelled_disk.specs.FilesOn.{is_of, is_page, leads_file, page_at, file_among, disk_file}
+use Rattle.labelled_disk.specs.Label.{is_file, is_permanent, leader_page}
 use Rattle.labelled_disk.specs.Layout.{data_sectors}
 use Rattle.labelled_disk.specs.Right.{IsWhole}
 use Rattle.labelled_disk.specs.Sectors.{Sector}
@@ -15,8 +15,10 @@ use Rattle.labelled_disk.proofs.Finds.{IsAlone, find_none, get_set_same, get_set
 use Rattle.labelled_disk.proofs.LowestLemmas as lowest
 use Rattle.labelled_disk.proofs.Pages.{pages_most}
 use Rattle.labelled_disk.proofs.SectorWrites as w
+use Rattle.labelled_disk.proofs.WriteLemmas as laws
 use Rattle.label_laws.specs.Shape.{bare_file, BareFile}
 use Rattle.cut_laws.specs.ShapeLaws.{IsWholeOn}
+use Rattle.cut_laws.specs.SizeLaws.{RightIsWhole}
 use Rattle.cut_laws.proofs.PairLemmas.{Pairs, Alike, alike_passes, alike_sym, alike_test}
 use Rattle.cut_laws.proofs.StayLemmas.{Of, shape_pairs}
 
@@ -168,3 +170,43 @@ module _ (id : ℕ) (xs : List Sector) (i : ℕ) (s t : Sector) (here : slice_ge
       one j k u v of also same (inr a) (inr b) = whole.3.once j k u v a.1 b.1 of also same
       one j k u v of also same (inl a) (inr b) = absurd (apart k v b.1 also (sym same ∙ ap (λ (w : Sector). w.0.page) a.1 ∙ number))
       one j k u v of also same (inr a) (inl b) = absurd (apart j u a.1 of (same ∙ ap (λ (w : Sector). w.0.page) b.1 ∙ number))
+
+-- With right labels a file that counts has one leader, and so is the file whether or not temporary ones count.
+pub right_is_whole : (all : Bool) → RightIsWhole all
+right_is_whole all serial counter d id f right is =
+    let told = (lowest.files_are_as_told all d).told id f is in
+    let whole = laws.of_file all 0 0 (IsWhole (data_sectors d)) d right.whole_files id f is in
+    let l = told.0.leader in
+    let own : is_of f.id l.1 ≡ true = laws.leader_of all 0 0 f.id l.1 l.2.passes in
+    let same : disk_file true d f.id ≡ Some f =
+    (lowest.files_are_as_told true d).all f (record {
+      leader = (
+        l.0,
+        l.1,
+        record {
+          here = l.2.here;
+          passes = leads_more (is_file l.1.0) (eqb l.1.0.page leader_page) (all || is_permanent l.1.0) (eqb l.1.0.id f.id) l.2.passes;
+          none_below = λ j t below at. other whole l.0 l.1 l.2.here own (w.leader_number all f.id l.1 l.2.passes) j t below at (leads_file true f.id t) refl;
+        },
+        l.3,
+        l.4,
+        l.5,
+      );
+      page = told.0.page;
+      numbered = told.0.numbered;
+      ends = told.0.ends;
+    }) in
+    (f, ap (disk_file true d) (sym told.1) ∙ same, whole)
+  where
+    leads_more : (a b c e : Bool) → ((a && b && c) && e) ≡ true → ((a && b && true) && e) ≡ true
+    leads_more true true true e h = h
+    leads_more true true false e h = absurd (true≢false (sym h))
+    leads_more true false c e h = absurd (true≢false (sym h))
+    leads_more false b c e h = absurd (true≢false (sym h))
+
+    -- no other sector is a leader of it
+    other : IsWhole (data_sectors d) f → (i : ℕ) (s : Sector) → slice_get (data_sectors d) i ≡ Some s → is_of f.id s ≡ true → s.0.page ≡ leader_page
+        → (j : ℕ) (t : Sector) → j < i → slice_get (data_sectors d) j ≡ Some t → (b : Bool) → leads_file true f.id t ≡ b → leads_file true f.id t ≡ false
+    other whole i s here own page j t below at false e = e
+    other whole i s here own page j t below at true e =
+        absurd (omega (arith, below, whole.once j i t s at here (laws.leader_of true 0 0 f.id t e) own (w.leader_number true f.id t e ∙ sym page)))

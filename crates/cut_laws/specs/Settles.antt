@@ -1,5 +1,5 @@
 -- The last settle before a write, and what is so of each cut.
-use Rattle.std.specs.Prelude.{◌≡◌, ◌↔◌, ℕ, ◌≤◌, nat_le, if◌then◌else◌, List, [], ◌∷◌, Contains, Option, Some, None, max}
+use Rattle.std.specs.Prelude.{◌≡◌, ◌↔◌, ℕ, ◌≤◌, nat_le, if◌then◌else◌, List, [], ◌∷◌, ◌++◌, Contains, Option, Some, None, max, ◌<◌}
 use Rattle.std.specs.Option.{option_map_or}
 use Rattle.labelled_disk.specs.declared.disk.DiskWrite.{DiskWrite}
 use Rattle.labelled_disk.specs.Sectors.{Sector}
@@ -23,3 +23,7 @@ Tears P d writes settles = (k s : ℕ) (e : List Sector) → last_settle settles
 pub record SettleLaws (settles : List ℕ) (k : ℕ) : Type 0 where
   pub told : (s : ℕ) → last_settle settles k ≡ Some s ↔ IsLastSettle settles k s
   pub none : last_settle settles k ≡ None → (s : ℕ) → Contains settles s → s ≤ k → ⊥
+  -- a settle that was made later changes nothing of what came before it
+  pub later : (n : ℕ) → k < n → last_settle (settles ++ n ∷ []) k ≡ last_settle settles k
+  -- one that was made behind all others is the last from then on
+  pub last : (n : ℕ) → n ≤ k → ((s : ℕ) → Contains settles s → s ≤ n) → last_settle (settles ++ n ∷ []) k ≡ Some n

@@ -2,8 +2,11 @@
 use Rattle.std.specs.Prelude.{◌≡◌, ◌≢◌, ℕ, ◌≤◌, Bool, List, length, slice_get, Some}
 use Rattle.labelled_disk.specs.declared.disk.DiskWrite.{DiskWrite}
 use Rattle.labelled_disk.specs.declared.disk.DiskWrite.TheVariants.{Whole, LabelOnly, Page}
+use Rattle.labelled_disk.specs.File.{File}
+use Rattle.labelled_disk.specs.FilesOn.{disk_file}
 use Rattle.labelled_disk.specs.Label.{leader_page}
 use Rattle.labelled_disk.specs.Moment.{moment}
+use Rattle.labelled_disk.specs.Right.{FilesRight}
 use Rattle.labelled_disk.specs.Sectors.{Sector}
 use Rattle.label_laws.specs.LawfulRuns.{AreLawful}
 use Rattle.label_laws.specs.Shape.{SameShape}
@@ -32,3 +35,7 @@ SizeOfOneMoment with_temporary = (d : List Sector) (writes : List DiskWrite) (e 
 abbrev pub PagesAreOwn : Type 0
 PagesAreOwn = (d : List Sector) (writes : List DiskWrite) (e : List Sector) (id : ℕ) → AreLawful d writes → IsCutSince d writes e → IsWholeThroughout d writes id
     → FreeIsUnwritten d writes → ((p : ℕ) → AreOwnOrFree (of_page id p) d writes) → PagesOfMoments d writes e id
+
+-- where labels are right, the file is whole
+abbrev pub RightIsWhole : Bool → Type 0
+RightIsWhole with_temporary = (serial counter : ℕ) (d : List Sector) (id : ℕ) (f : File) → FilesRight with_temporary serial counter d → disk_file with_temporary d id ≡ Some f → IsWholeOn d id

@@ -10,7 +10,7 @@ ghost use Rattle.cut_laws.specs.Restored.{RestoredKeepsFiles};
 ghost use Rattle.cut_laws.specs.Roots.{FlagLaws};
 ghost use Rattle.cut_laws.specs.Settles.{SettleLaws};
 ghost use Rattle.cut_laws.specs.ShapeLaws.{LeaderFreed, LeaderWritten, NoLabelWritten, ShapesOfOneMoment};
-ghost use Rattle.cut_laws.specs.SizeLaws.{PagesAreOwn, SizeOfOneMoment};
+ghost use Rattle.cut_laws.specs.SizeLaws.{PagesAreOwn, RightIsWhole, SizeOfOneMoment};
 ghost use Rattle.cut_laws.specs.StayLaws.{NoneAppears, OthersStayInCuts, PagesOfFile};
 
 /// What a cut is: any part of the writes since the last settle.
@@ -55,6 +55,7 @@ pub fn own_bytes_in_cuts()
 pub fn sizes_in_cuts()
     ensures size { (with_temporary : Bool) → SizeOfOneMoment with_temporary }
     ensures pages { PagesAreOwn }
+    ensures whole { (with_temporary : Bool) → RightIsWhole with_temporary }
     ensures resized { (with_temporary : Bool) → ResizedHasSizeBetween with_temporary }
 {}
 

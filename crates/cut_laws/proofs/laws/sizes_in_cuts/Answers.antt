@@ -1,3 +1,4 @@
+use Rattle.cut_laws.proofs.WholeLemmas as whole
 use Rattle.cut_laws.proofs.ResizeLemmas as resize
 use Rattle.cut_laws.proofs.SizeLemmas as sizes
 use Rattle.cut_laws.proofs.laws.sizes_in_cuts.Goals as goal
@@ -10,3 +11,6 @@ returns-clause-pages c = sizes.pages_are_own
 
 pub returns-clause-resized : goal.returns-clause-resized
 returns-clause-resized c with_temporary = resize.resized_has_size_between with_temporary
+
+pub returns-clause-whole : goal.returns-clause-whole
+returns-clause-whole c with_temporary = whole.right_is_whole with_temporary
