@@ -1,12 +1,13 @@
 -- Lists by index, and what waits among them.
-use Rattle.std.proofs.Common.{◌≡◌, ◌≢◌, ◌⊎◌, inl, inr, ℕ, zero, suc, ◌+◌, ◌-◌, ◌<◌, ◌≤◌, List, [], ◌∷◌, ◌++◌, length, take, get_or, Option, Some, None, refl, sym, ◌∙◌, ap, subst, arith, rules, Bool, true, false, cond, length-set, leb, eq-eqb, ne_eqb, eqb-true}
-use Rattle.std.specs.Prelude.{slice_get, slice_set, swap_remove, find, ◌==◌, if◌then◌else◌, slice_index_or}
-use Rattle.std.proofs.lemmas.Option.{same_Some, none-some, slice_get_within, slice_get-get_or, slice_get_past, get_or_from_slice_get}
+use Rattle.std.proofs.Common.{◌≡◌, ◌≢◌, ◌⊎◌, inl, inr, ℕ, zero, suc, ◌-◌, ◌<◌, ◌≤◌, List, [], ◌∷◌, ◌++◌, length, take, get_or, Option, Some, None, refl, sym, ◌∙◌, ap, arith, Bool, true, false, leb, eq-eqb, ne_eqb, eqb-true}
+use Rattle.std.specs.Prelude.{slice_get, slice_set, swap_remove, ◌==◌, if◌then◌else◌}
+use Rattle.std.proofs.lemmas.Option.{same_Some, none-some, slice_get_within, slice_get-get_or}
 use Rattle.std.proofs.lemmas.Bool.{cases_eq, true≢false}
 use Rattle.std.proofs.lemmas.Bool.Decides.{leb_tells}
-use Rattle.labelled_disk.proofs.Finds.{find_none, find_alone, found_at, none_passes, get_set_same, get_set_other}
-use Rattle.write_queue.specs.declared.queue.Entry.{Entry}
-use Rattle.write_queue.specs.Entries.{waiting_at, IsOnce, IsLess}
+use Rattle.labelled_disk.proofs.Finds.{find_none, find_alone, none_passes, get_set_same, get_set_other}
+use Rattle.write_queue.specs.declared.entry.Entry.{Entry}
+use Rattle.write_queue.specs.Entries.{waiting_at, IsOnce}
+use Rattle.write_queue.specs.Sweeps.{IsLess}
 use Rattle.write_queue.specs.QueueLaws.{waits_there}
 
 -- two lists with the same elements by index are the same

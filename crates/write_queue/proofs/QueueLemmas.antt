@@ -1,6 +1,6 @@
 -- A queue as a disk: what one call of it comes to.
 use Rattle.std.proofs.Common.{◌≡◌, ◌⊎◌, inl, inr, ℕ, ◌+◌, ◌-◌, ◌^◌, ◌<◌, ◌≤◌, min, List, [], ◌∷◌, ◌++◌, length, get_or, Option, Some, None, refl, sym, ◌∙◌, ap, subst, arith, true, false, eqb-true, Result, Ok, Err}
-use Rattle.std.specs.Prelude.{slice_get, slice_set, ◌==◌, if◌then◌else◌, option_map, IfOk, IfErr, OnErr, is_err, ◌&&◌, Bool}
+use Rattle.std.specs.Prelude.{slice_get, slice_set, ◌==◌, if◌then◌else◌, option_map, IfOk, OnErr, is_err, ◌&&◌, Bool}
 use Rattle.labelled_disk.specs.declared.label.Label.{Label}
 use Rattle.labelled_disk.specs.declared.label.Wanted.{Wanted}
 use Rattle.labelled_disk.specs.declared.disk.DiskError.{DiskError}
@@ -10,11 +10,12 @@ use Rattle.labelled_disk.specs.declared.disk.DiskWrite.TheVariants.{Page}
 use Rattle.labelled_disk.proofs.CallLemmas.{tells_write_later, tells_same_then, rose_earlier}
 use Rattle.labelled_disk.specs.Label.{names}
 use Rattle.labelled_disk.specs.Moment.{written}
-use Rattle.labelled_disk.specs.Calls.{Moved, Moves, Rose, Settles, TellsSame, TellsWrite, Reads, Writes, WritesData, FailsWith}
+use Rattle.labelled_disk.specs.Calls.{Moved, Moves, Rose, Settles, TellsSame, TellsWrite, Reads, Writes, WritesData}
 use Rattle.labelled_disk.specs.Sectors.{Sector, IsSector}
 use Rattle.labelled_disk.specs.State.{DiskState, Holds, NamesThere}
-use Rattle.write_queue.specs.declared.queue.Entry.{Entry}
-use Rattle.write_queue.specs.Entries.{AreWaiting, IsOnce, LabelsStay, MakesRoom, Waits, waiting_at, laid, page_write}
+use Rattle.write_queue.specs.declared.entry.Entry.{Entry}
+use Rattle.write_queue.specs.Entries.{AreWaiting, IsOnce, Waits, waiting_at, laid}
+use Rattle.write_queue.specs.Inside.{LabelsStay, MakesRoom}
 use Rattle.write_queue.specs.Queue.{queued}
 use Rattle.write_queue.specs.QueueLaws.{told_before}
 use Rattle.write_queue.proofs.LaidLemmas.{labels-laid, laid-none}

@@ -1,62 +1,14 @@
--- What is written out, one first page after the other, is the sweep; and its moments.
-use Rattle.std.proofs.Common.{◌≡◌, ◌≢◌, ◌⊎◌, inl, inr, ℕ, zero, suc, ◌+◌, ◌^◌, ◌<◌, ◌≤◌, leb, List, [], ◌∷◌, ◌++◌, map, take, length, Option, Some, None, refl, sym, ◌∙◌, ap, subst, arith, Bool, true, false, eq-eqb, ne_eqb, ltb-true, ltb-false, lt-ltb}
-use Rattle.std.specs.Prelude.{slice_get, find, ◌==◌, ◌&&◌, nat_lt, if◌then◌else◌, option_map}
-use Rattle.std.specs.Option.{option_map_or}
+-- What is written out, one first page after the other, is the sweep.
+use Rattle.std.proofs.Common.{◌≡◌, ◌≢◌, ◌⊎◌, inl, inr, ℕ, zero, suc, ◌+◌, ◌^◌, ◌<◌, ◌≤◌, leb, List, [], ◌∷◌, ◌++◌, Some, None, refl, sym, ◌∙◌, ap, subst, arith, Bool, true, false, eq-eqb, ne_eqb, ltb-true, lt-ltb}
+use Rattle.std.specs.Prelude.{slice_get, ◌==◌, nat_lt, if◌then◌else◌}
 use Rattle.std.proofs.lemmas.Option.{same_Some, none-some}
 use Rattle.std.proofs.lemmas.Bool.{cases_eq}
 use Rattle.std.proofs.lemmas.Bool.Decides.{leb_tells}
-use Rattle.labelled_disk.specs.Label.{names}
-use Rattle.labelled_disk.specs.Moment.{moment, written}
-use Rattle.labelled_disk.specs.Sectors.{Sector}
-use Rattle.write_queue.specs.declared.queue.Entry.{Entry}
-use Rattle.write_queue.specs.Entries.{IsFirst, IsLess, Sweeps, laid, laid_over, page_write, sweep_key, waiting_at}
-use Rattle.write_queue.specs.QueueLaws.{get-laid, waits_there}
-use Rattle.write_queue.specs.SweepLaws.{AreShort, AreSome, IsBetween, IsSweep, MomentsAreBetween, Rise, SweepsRise}
-use Rattle.write_queue.proofs.LaidLemmas.{get-written, laid-still}
-
--- ---- Moments.
-
--- after one page was written each sector is as it was, or has the page that waited for it
-one-written : (es : List Entry) (e : Entry) (d : List Sector) (k : ℕ) → waiting_at es e.sector ≡ Some e
-    → (slice_get (written (page_write e) d) k ≡ slice_get d k) ⊎ (slice_get (written (page_write e) d) k ≡ slice_get (laid es d) k)
-one-written es e d k waits = found (slice_get d k) refl
-  where
-    found : (o : Option Sector) → slice_get d k ≡ o → (slice_get (written (page_write e) d) k ≡ slice_get d k) ⊎ (slice_get (written (page_write e) d) k ≡ slice_get (laid es d) k)
-    found None none = inl (get-written e.sector e.wanted e.page d k ∙ ap (option_map _) none ∙ sym none)
-    found (Some s) some = either (cases_eq e.sector k) (names s.0 e.wanted) refl
-      where
-        now : slice_get (written (page_write e) d) k ≡ Some (if e.sector == k && names s.0 e.wanted then (s.0, e.page) else s)
-        now = get-written e.sector e.wanted e.page d k ∙ ap (option_map _) some
-
-        either : (e.sector ≡ k) ⊎ (e.sector ≢ k) → (b : Bool) → names s.0 e.wanted ≡ b
-            → (slice_get (written (page_write e) d) k ≡ slice_get d k) ⊎ (slice_get (written (page_write e) d) k ≡ slice_get (laid es d) k)
-        either (inl same) true named =
-            let here : waiting_at es k ≡ Some e = ap (λ (m : ℕ). waiting_at es m) (sym same) ∙ waits in
-            inr (now ∙ ap (λ (t : Bool). Some (if t then (s.0, e.page) else s)) (ap (λ (t : Bool). t && names s.0 e.wanted) (eq-eqb e.sector k same) ∙ named)
-            ∙ ap (λ (o : Option Entry). Some (option_map_or (λ (f : Entry). (s.0, f.page)) o s)) (sym here)
-            ∙ ap (option_map (laid_over es k)) (sym some) ∙ sym (get-laid es d k))
-        either (inl same) false named = inl (now ∙ ap (λ (t : Bool). Some (if t then (s.0, e.page) else s)) (ap (λ (t : Bool). t && names s.0 e.wanted) (eq-eqb e.sector k same) ∙ named) ∙ sym some)
-        either (inr apart) b named = inl (now ∙ ap (λ (t : Bool). Some (if t && names s.0 e.wanted then (s.0, e.page) else s)) (ne_eqb e.sector k apart) ∙ sym some)
-
-pub moments_between : MomentsAreBetween
-moments_between es [] d zero some k = inl refl
-moments_between es [] d (suc n) some k = inl refl
-moments_between es (e ∷ swept) d zero some k = inl refl
-moments_between es (e ∷ swept) d (suc n) some k =
-    let more = moments_between es swept (written (page_write e) d) n (λ j f is. some (suc j) f is) k in
-    either more (one-written es e d k (some 0 e refl))
-  where
-    m : List Sector
-    m = moment d (map page_write (e ∷ swept)) (suc n)
-
-    either : (slice_get m k ≡ slice_get (written (page_write e) d) k) ⊎ (slice_get m k ≡ slice_get (laid es (written (page_write e) d)) k)
-        → (slice_get (written (page_write e) d) k ≡ slice_get d k) ⊎ (slice_get (written (page_write e) d) k ≡ slice_get (laid es d) k)
-        → (slice_get m k ≡ slice_get d k) ⊎ (slice_get m k ≡ slice_get (laid es d) k)
-    either (inr at) step = inr (at ∙ ap (λ (x : List Sector). slice_get x k) (laid-still es e d (some 0 e refl)))
-    either (inl at) (inl same) = inl (at ∙ same)
-    either (inl at) (inr came) = inr (at ∙ came)
-
--- ---- The order.
+use Rattle.write_queue.specs.declared.entry.Entry.{Entry}
+use Rattle.write_queue.specs.Entries.{waiting_at}
+use Rattle.write_queue.specs.Sweeps.{IsLess, Sweeps, sweep_key}
+use Rattle.write_queue.specs.QueueLaws.{waits_there}
+use Rattle.write_queue.specs.SweepLaws.{AreShort, IsSweep, Rise, SweepsRise}
 
 at-or-above : (head s : ℕ) → head ≤ s → sweep_key head s ≡ s
 at-or-above head s above = ap (λ (b : Bool). if b then 2 ^ 32 + s else s) (not_below (nat_lt s head) refl)
@@ -88,10 +40,20 @@ among es fewer e less f waits = either (cases_eq e.sector f.sector)
     either (inl same) = absurd (none-some f (sym (less.rest f.sector ∙ ap (λ (t : Bool). if t then None else waiting_at es f.sector) (eq-eqb e.sector f.sector same)) ∙ waits))
     either (inr apart) = (sym (less.rest f.sector ∙ ap (λ (t : Bool). if t then None else waiting_at es f.sector) (ne_eqb e.sector f.sector apart)) ∙ waits, apart)
 
-some-of : (head : ℕ) (es swept : List Entry) → Sweeps head es swept [] → (f : Entry) → IsIn f swept → waiting_at es f.sector ≡ Some f
-some-of head es [] is f at = absurd (none-some f at.1)
-some-of head es (e ∷ swept) is f (zero, at) = subst (λ (x : Entry). waiting_at es x.sector ≡ Some x) (same_Some e f at) is.1.there
-some-of head es (e ∷ swept) is f (suc k, at) = (among es is.0 e is.2 f (some-of e.sector is.0 swept is.4 f (k, at))).0
+-- what is left waited before
+pub waited_before : (head : ℕ) (es swept left : List Entry) → Sweeps head es swept left → (k : ℕ) (f : Entry) → waiting_at left k ≡ Some f → waiting_at es k ≡ Some f
+waited_before head es [] left is k f waits = ap (λ (x : List Entry). waiting_at x k) (sym is) ∙ waits
+waited_before head es (e ∷ swept) left is k f waits = either (waited_before e.sector is.0 swept left is.4 k f waits) (cases_eq e.sector k)
+  where
+    either : waiting_at is.0 k ≡ Some f → (e.sector ≡ k) ⊎ (e.sector ≢ k) → waiting_at es k ≡ Some f
+    either was (inl same) = absurd (none-some f (sym (is.2.rest k ∙ ap (λ (t : Bool). if t then None else waiting_at es k) (eq-eqb e.sector k same)) ∙ was))
+    either was (inr apart) = sym (is.2.rest k ∙ ap (λ (t : Bool). if t then None else waiting_at es k) (ne_eqb e.sector k apart)) ∙ was
+
+-- and so did what was written out
+pub some_swept : (head : ℕ) (es swept left : List Entry) → Sweeps head es swept left → (f : Entry) (k : ℕ) → slice_get swept k ≡ Some f → waiting_at es f.sector ≡ Some f
+some_swept head es [] left is f k at = absurd (none-some f at)
+some_swept head es (e ∷ swept) left is f zero at = subst (λ (x : Entry). waiting_at es x.sector ≡ Some x) (same_Some e f at) is.1.there
+some_swept head es (e ∷ swept) left is f (suc k) at = (among es is.0 e is.2 f (some_swept e.sector is.0 swept left is.4 f k at)).0
 
 short-fewer : (es fewer : List Entry) (e : Entry) → IsLess es e fewer → AreShort es → AreShort fewer
 short-fewer es fewer e less short k f waits =
@@ -114,7 +76,7 @@ sweep_more head es e swept short is r = either (leb_tells head e.sector)
   where
     -- each other one waited too, elsewhere, and is behind the first
     other : (f : Entry) → IsIn f swept → (waiting_at es f.sector ≡ Some f) × (e.sector ≢ f.sector)
-    other f at = among es is.0 e is.2 f (some-of e.sector is.0 swept is.4 f at)
+    other f at = among es is.0 e is.2 f (some_swept e.sector is.0 swept [] is.4 f at.0 at.1)
 
     behind : (f : Entry) → IsIn f swept → sweep_key head e.sector ≤ sweep_key head f.sector
     behind f at = is.1.least f.sector f (other f at).0

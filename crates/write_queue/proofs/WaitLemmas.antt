@@ -1,5 +1,5 @@
 -- What waits in front of a disk, while that changes.
-use Rattle.std.proofs.Common.{◌≡◌, ◌≢◌, ◌⊎◌, inl, inr, ℕ, zero, suc, map, min, ◌-◌, ◌^◌, ◌+◌, ◌<◌, ◌≤◌, List, [], ◌∷◌, ◌++◌, length, get_or, Option, Some, None, refl, sym, ◌∙◌, ap, subst, arith, rules, true, false, Bool, Result, Ok, Err}
+use Rattle.std.proofs.Common.{◌≡◌, ◌≢◌, ◌⊎◌, inl, inr, ℕ, map, min, ◌-◌, ◌^◌, ◌+◌, ◌<◌, ◌≤◌, List, [], ◌∷◌, ◌++◌, length, get_or, Option, Some, None, refl, sym, ◌∙◌, ap, subst, arith, true, false, Bool, Result, Ok, Err}
 use Rattle.std.specs.Prelude.{slice_get, slice_set, swap_remove, option_map, ◌==◌, if◌then◌else◌}
 use Rattle.std.specs.Option.{option_map_or}
 use Rattle.labelled_disk.specs.declared.disk.DiskWrite.{DiskWrite}
@@ -12,17 +12,19 @@ use Rattle.labelled_disk.specs.Label.{names}
 use Rattle.labelled_disk.specs.declared.label.Label.{Label}
 use Rattle.labelled_disk.specs.declared.label.Wanted.{Wanted}
 use Rattle.labelled_disk.specs.declared.disk.DiskWrite.TheVariants.{Page}
-use Rattle.labelled_disk.specs.Calls.{TellsSame, TellsWrite, Writes, WritesData}
+use Rattle.labelled_disk.specs.Calls.{TellsSame, TellsWrite, WritesData}
 use Rattle.labelled_disk.specs.Moment.{written}
 use Rattle.labelled_disk.specs.WriteRuns.{Appended}
 use Rattle.labelled_disk.proofs.CallLemmas.{tells_same_itself}
 use Rattle.labelled_disk.proofs.WriteRunLemmas.{appended_none, appended_one, appended_then, appended_no_more}
 use Rattle.labelled_disk.specs.Sectors.{Sector}
-use Rattle.labelled_disk.specs.State.{DiskState, HasLabel, Holds, NamesThere}
-use Rattle.write_queue.specs.declared.queue.Entry.{Entry}
-use Rattle.write_queue.specs.Entries.{AreWaiting, PassedOn, SweptBeneath, LabelsStay, MakesRoom, Waits, IsFirst, IsLess, Sweeps, Sweeping, WritesOut, head_after, waiting_at, laid, laid_over, page_write}
+use Rattle.labelled_disk.specs.State.{DiskState, Holds, NamesThere}
+use Rattle.write_queue.specs.declared.entry.Entry.{Entry}
+use Rattle.write_queue.specs.Entries.{AreWaiting, Waits, waiting_at, laid, laid_over, page_write}
+use Rattle.write_queue.specs.Inside.{LabelsStay, MakesRoom, Sweeping, WritesOut}
+use Rattle.write_queue.specs.Sweeps.{IsFirst, IsLess, Sweeps, head_after}
 use Rattle.write_queue.proofs.ListLemmas.{stood, once-fewer, added-there, once-added, set-there, once-set}
-use Rattle.write_queue.proofs.LaidLemmas.{labels-stay, labels-laid, laid-out, laid-still, laid-put, laid-through}
+use Rattle.write_queue.proofs.LaidLemmas.{labels-stay, laid-out, laid-still, laid-put, laid-through}
 use Rattle.write_queue.specs.QueueLaws.{told_before, get-laid}
 
 pub labels_same : (old new : DiskState) → TellsSame old new → LabelsStay old new
@@ -329,44 +331,3 @@ made_out head es old new r left later out = record {
   sectors = out.moves.sectors;
   lent = out.moves.lent;
 }
-
--- what a sweep wrote beneath, whatever it came to
-pub swept_beneath : (head : ℕ) (es : List Entry) (old : DiskState) (r : Result (Unit {0}) DiskError) (new : DiskState) (left : List Entry) (later : ℕ) → Sweeping head es old r new left later → SweptBeneath head es old new
-swept_beneath head es old (Ok x) new left later s = record { swept = s.swept; left = left; sweeps = s.sweeps; wrote = inl s.all.1 }
-swept_beneath head es old (Err e) new left later s = record { swept = s.swept; left = left; sweeps = s.sweeps; wrote = either s.part.2 }
-  where
-    first : IsFirst (head_after head s.swept) left s.part.0
-    first = subst (λ (h : ℕ). IsFirst h left s.part.0) s.ends s.part.1
-
-    either : Appended (map page_write s.swept) old new ⊎ Appended (map page_write s.swept ++ page_write s.part.0 ∷ []) old new
-        → Appended (map page_write s.swept) old new ⊎ ((next : Entry) × IsFirst (head_after head s.swept) left next × Appended (map page_write s.swept ++ page_write next ∷ []) old new)
-    either (inl a) = inl a
-    either (inr a) = inr (s.part.0, first, a)
-
--- and nothing more was written
-pub swept_same : (head : ℕ) (es : List Entry) (old mid new : DiskState) → SweptBeneath head es old mid → TellsSame mid new → SweptBeneath head es old new
-swept_same head es old mid new s same = record { swept = s.swept; left = s.left; sweeps = s.sweeps; wrote = either s.wrote }
-  where
-    either : Appended (map page_write s.swept) old mid ⊎ ((next : Entry) × IsFirst (head_after head s.swept) s.left next × Appended (map page_write s.swept ++ page_write next ∷ []) old mid)
-        → Appended (map page_write s.swept) old new ⊎ ((next : Entry) × IsFirst (head_after head s.swept) s.left next × Appended (map page_write s.swept ++ page_write next ∷ []) old new)
-    either (inl a) = inl (appended_no_more (map page_write s.swept) a same)
-    either (inr a) = inr (a.0, a.1, appended_no_more (map page_write s.swept ++ page_write a.0 ∷ []) a.2 same)
-
--- all that waited was written, and then the call's write, or nothing more
-pub passed_on : (head : ℕ) (es : List Entry) (old mid new : DiskState) (left : List Entry) (later : ℕ) (x : Unit {0}) (w : DiskWrite) (r : Result (Unit {0}) DiskError) → Sweeping head es old (Ok x) mid left later → Writes w mid r new
-    → PassedOn w head es old new
-passed_on head es old mid new left later x w r s made = which r made
-  where
-    sent : TellsWrite w mid new → PassedOn w head es old new
-    sent t = inr (s.swept, subst (Sweeps head es s.swept) s.all.0 s.sweeps, appended_then (map page_write s.swept) (w ∷ []) s.all.1 (appended_one w t))
-
-    unsent : TellsSame mid new → PassedOn w head es old new
-    unsent same = inl (swept_same head es old mid new (swept_beneath head es old (Ok x) mid left later s) same)
-
-    which : (r : Result (Unit {0}) DiskError) → Writes w mid r new → PassedOn w head es old new
-    which (Ok y) m = sent m.written
-    which (Err e) m = either m.whole_or_absent
-      where
-        either : TellsSame mid new ⊎ TellsWrite w mid new → PassedOn w head es old new
-        either (inl same) = unsent same
-        either (inr t) = sent t

@@ -1,4 +1,6 @@
-use Rattle.std.proofs.Common.{rules, ◌≡◌, ◌+◌, ◌∙◌, arith, length, Err}
+use Rattle.std.proofs.Common.{rules, ◌≡◌, ◌∙◌, arith, Err}
+use Rattle.write_queue.specs.Queue.{view_of}
+use Rattle.write_queue.proofs.BeneathLemmas.{meets_later}
 use Rattle.write_queue.proofs.WaitLemmas.{part_swept, so_far_more}
 use Rattle.write_queue.proofs.queue.QueueOver.empty.Goals as goal
 
@@ -10,6 +12,11 @@ returns-in_err-write_first-clause-swept g c =
     let new = c.write_first.new.self in
     rw same (part_swept old.head old.entries.items (g.D.Disk.state old.under) old.own now.entries.items now.head (g.D.Disk.state now.under) now.own
     c.in_err-write_first.field-0.0 new.entries.items new.head (g.D.Disk.state new.under) c.loop.invariant.0 c.in_err-write_first.ensures.out)
+
+pub returns-in_err-write_first-clause-met : goal.returns-in_err-write_first-clause-met
+returns-in_err-write_first-clause-met g c =
+    let same : c.from_residual.result ≡ Err c.in_err-write_first.field-0.0 = search rules in
+    rw same (meets_later (view_of c.args.self.now) (view_of c.loop.self) (view_of c.write_first.new.self) (Err c.in_err-write_first.field-0.0) c.loop.invariant.4 c.in_err-write_first.ensures.met)
 
 pub loop-preserved : goal.loop-preserved
 loop-preserved g c =
@@ -28,4 +35,5 @@ loop-preserved g c =
         begun = c.write_first.ensures.same.begun ∙ before.3.begun;
         unsettled = c.write_first.ensures.same.unsettled ∙ before.3.unsettled;
       },
+      (c.in_ok-write_first.ensures.met.0.0 ∙ before.4.0, c.in_ok-write_first.ensures.met.0.1 ∙ before.4.1),
     )

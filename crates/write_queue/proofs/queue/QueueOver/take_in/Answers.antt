@@ -1,7 +1,9 @@
-use Rattle.std.proofs.Common.{rules, ◌≡◌, ◌<◌, ◌^◌, ℕ, refl, sym, ap, ◌∙◌, List, length, get_or}
+use Rattle.std.proofs.Common.{rules, ◌≡◌, ◌<◌, ◌^◌, ℕ, sym, ◌∙◌, List, length, get_or, Err}
 use Rattle.std.proofs.lemmas.List.Elements.{All-from_get_or}
 use Rattle.labelled_disk.specs.declared.label.Label.{Label}
 use Rattle.labelled_disk.specs.Sectors.{IsSector}
+use Rattle.write_queue.specs.Queue.{view_of}
+use Rattle.write_queue.proofs.BeneathLemmas.{takes_none, takes_no_room, takes_more}
 use Rattle.write_queue.proofs.WaitLemmas.{are_kept, labels_same}
 use Rattle.write_queue.proofs.QueueLemmas.{data_other, waits_read, data_taken}
 use Rattle.write_queue.proofs.queue.QueueOver.take_in.Goals as goal
@@ -25,6 +27,7 @@ invariant_of-self g c =
     let new = g.D.Disk.state c.read.new.self in
     record {
       waiting = are_kept old new self.entries.items c.read.ensures.moves.sectors (labels_same old new c.read.ensures.same) self.waiting;
+      listed = self.listed;
       fits = self.fits;
       room_kept = self.room_kept;
       rooms = self.rooms;
@@ -60,3 +63,27 @@ returns-clause-data g c =
     c.requires.free waits in
     let transfers : c.put_in.new.self.transfers ≡ self.transfers = c.put_in.ensures.same.transfers ∙ c.make_room.ensures.same.transfers in
     rw (c.put_in.ensures.put, c.put_in.ensures.under, c.put_in.ensures.own, transfers) taken
+
+pub returns-in_err-label-clause-takes : goal.returns-in_err-label-clause-takes
+returns-in_err-label-clause-takes g c =
+    let self = c.args.self.now in
+    let same : c.from_residual.result ≡ Err c.in_err-label.field-0.0 = search rules in
+    rw same (takes_none (view_of self) (g.D.Disk.state c.read.new.self) c.args.sector c.args.wanted c.args.page.now c.in_err-label.field-0.0 c.requires.free c.read.ensures.same c.read.ensures.moves.transfers.by_one)
+
+pub returns-then-not-names-clause-takes : goal.returns-then-not-names-clause-takes
+returns-then-not-names-clause-takes g c =
+    takes_none (view_of c.args.self.now) (g.D.Disk.state c.read.new.self) c.args.sector c.args.wanted c.args.page.now _ c.requires.free c.read.ensures.same c.read.ensures.moves.transfers.by_one
+
+pub returns-in_err-make_room-clause-takes : goal.returns-in_err-make_room-clause-takes
+returns-in_err-make_room-clause-takes g c =
+    let same : c.from_residual-in_err-make_room.result ≡ Err c.in_err-make_room.field-0.0 = search rules in
+    rw same (takes_no_room (view_of c.args.self.now) (g.D.Disk.state c.read.new.self) (view_of c.make_room.new.self) c.args.sector c.args.wanted c.args.page.now c.in_err-make_room.field-0.0 c.requires.free
+    c.read.ensures.same c.read.ensures.moves.transfers.by_one c.make_room.ensures.few c.in_err-make_room.ensures.takes)
+
+pub returns-clause-takes : goal.returns-clause-takes
+returns-clause-takes g c =
+    let self = c.args.self.now in
+    let room = c.make_room.new.self in
+    rw (c.put_in.ensures.put, c.put_in.ensures.under, c.put_in.ensures.own, c.put_in.ensures.head, c.put_in.ensures.changed, c.put_in.ensures.same.room)
+    (takes_more (view_of self) (g.D.Disk.state c.read.new.self) (view_of room) _ c.requires.free c.read.ensures.same c.read.ensures.moves.transfers.by_one c.make_room.ensures.few
+    c.in_ok-make_room.ensures.takes room.waiting.once (c.make_room.ensures.made.free c.args.sector c.requires.free))

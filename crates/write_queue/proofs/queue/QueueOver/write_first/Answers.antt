@@ -1,13 +1,14 @@
-use Rattle.std.proofs.Common.{rules, ◌≡◌, ◌⊎◌, inl, inr, ◌<◌, ◌≤◌, ◌+◌, ℕ, true, length, List, Option, Some, None, refl, sym, ◌∙◌, ap, arith, get_or}
+use Rattle.std.proofs.Common.{rules, ◌≡◌, inl, inr, ◌<◌, ℕ, length, List, Some, refl, sym, ◌∙◌, ap, get_or}
 use Rattle.std.specs.Prelude.{slice_get, option_map}
-use Rattle.std.proofs.lemmas.Option.{slice_get_read, same_Some}
-use Rattle.labelled_disk.specs.Sectors.{Sector}
-use Rattle.write_queue.specs.declared.queue.Entry.{Entry}
-use Rattle.write_queue.specs.Entries.{laid, IsOnce, IsFirst, HasFirst}
+use Rattle.std.proofs.lemmas.Option.{slice_get_read}
+use Rattle.write_queue.specs.declared.entry.Entry.{Entry}
+use Rattle.write_queue.specs.Entries.{laid, IsOnce}
+use Rattle.write_queue.specs.Inside.{HasFirst}
+use Rattle.write_queue.specs.Sweeps.{IsFirst}
 use Rattle.write_queue.specs.QueueLaws.{waits_there}
 use Rattle.write_queue.proofs.ListLemmas.{less-fewer, stands_waiting}
+use Rattle.write_queue.proofs.PlaceLemmas.{sectors-removed}
 use Rattle.write_queue.proofs.WaitLemmas.{told_out, told_still, differs_then, made_or_not, labels_after, told_after, never_wrong, are_kept, are_fewer}
-use Rattle.write_queue.proofs.queue.QueueOver.write_first.Given as given
 use Rattle.write_queue.proofs.queue.QueueOver.write_first.Goals as goal
 
 -- the first page stands there
@@ -33,6 +34,7 @@ invariant_of-self g c =
     let kept = are_kept old new es c.write_data.ensures.moves.sectors (labels_after old new e.sector e.wanted e.page c.write_data.result c.write_data.ensures) self.waiting in
     record {
       waiting = rw c.swap_remove.ensures.items (are_fewer new es c.first_place-place.result c.first_place-place.ensures.below c.swap_remove.result kept);
+      listed = rw c.swap_remove.ensures.items (c.swap_remove-self.ensures.items ∙ sectors-removed es self.sectors.items c.first_place-place.result c.swap_remove.result c.swap_remove-self.result self.listed c.first_place-place.ensures.below);
       fits = search rules;
       room_kept = search rules;
       rooms = self.rooms;
@@ -51,6 +53,7 @@ invariant_of-self-in-Err-Failed g c =
     let e = c.index.result.now in
     record {
       waiting = are_kept old new es c.write_data.ensures.moves.sectors (labels_after old new e.sector e.wanted e.page c.write_data.result c.write_data.ensures) self.waiting;
+      listed = self.listed;
       fits = self.fits;
       room_kept = self.room_kept;
       rooms = self.rooms;
@@ -70,6 +73,7 @@ invariant_of-self-in-Err-Wrong g c =
     let wrong = rw c.in-Err-Wrong.field-0-is at c.in-Err-Wrong.ensures in
     record {
       waiting = are_kept old new es c.write_data.ensures.moves.sectors (labels_after old new e.sector e.wanted e.page c.write_data.result c.write_data.ensures) self.waiting;
+      listed = self.listed;
       fits = self.fits;
       room_kept = self.room_kept;
       rooms = self.rooms;
@@ -140,3 +144,22 @@ pub returns-in-Err-Wrong-clause-told : goal.returns-in-Err-Wrong-clause-told
 returns-in-Err-Wrong-clause-told g c =
     let wrong = rw c.in-Err-Wrong.field-0-is at c.in-Err-Wrong.ensures in
     ap (option_map (laid c.args.self.now.entries.items)) wrong.wrong.2.contents
+
+pub returns-in-Err-Wrong-clause-met : goal.returns-in-Err-Wrong-clause-met
+returns-in-Err-Wrong-clause-met g c =
+    let self = c.args.self.now in
+    let es = self.entries.items in
+    let e = c.index.result.now in
+    let at = there es c.first_place-place.result e c.first_place-place.ensures.below c.index.ensures in
+    let wrong = rw c.in-Err-Wrong.field-0-is at c.in-Err-Wrong.ensures in (
+      tt,
+      inr (record {
+        entry = e;
+        found = c.in-Err-Wrong.found;
+        waits = stands_waiting es self.waiting.once c.first_place-place.result e at e.sector refl;
+        stands = λ d told. wrong.wrong.1 d (sym wrong.wrong.2.contents ∙ told);
+        other = wrong.wrong.0;
+        counted = c.saturating_add-self.ensures;
+        told = refl;
+      }),
+    )
