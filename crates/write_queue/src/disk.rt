@@ -1,5 +1,5 @@
 //! A queue as a disk.
-ghost use Rattle.std.specs.Prelude.{◌≡◌, ◌<◌};
+ghost use Rattle.std.specs.Prelude.{◌≡◌, ◌<◌, true, OnOk};
 ghost use Rattle.labelled_disk.specs.Calls.{Reads, Writes, WritesData, Settles};
 ghost use Rattle.write_queue.specs.Beneath.{ReadsOne, PassesOn, TakesIn, Empties, CountsCall, CountsSettle};
 ghost use Rattle.write_queue.specs.Moments.{MomentsBetween};
@@ -91,6 +91,7 @@ impl<D: Disk, A: Allocator> Disk for QueueOver<D, A> {
 
     fn settle(&mut self) -> Result<(), DiskError>
         ensures settles { Settles (state_of self.old) result (state_of self.new) }
+        ensures synced { OnOk result ((view_of self.new).under.synced ≡ true) }
         ensures beneath { Empties (view_of self.old) result (view_of self.new) }
         ensures moments { MomentsBetween (view_of self.old) (view_of self.new) }
         ensures counts { CountsSettle (tally_of self.old) result (tally_of self.new) }

@@ -5,7 +5,7 @@ use Rattle.write_queue.specs.declared.entry.Entry.{Entry}
 use Rattle.write_queue.specs.Entries.{laid, IsOnce}
 use Rattle.write_queue.specs.Inside.{HasFirst}
 use Rattle.write_queue.specs.Sweeps.{IsFirst}
-use Rattle.write_queue.specs.QueueLaws.{waits_there}
+use Rattle.write_queue.proofs.FrontLemmas.{is_first}
 use Rattle.write_queue.proofs.ListLemmas.{less-fewer, stands_waiting}
 use Rattle.write_queue.proofs.PlaceLemmas.{sectors-removed}
 use Rattle.write_queue.proofs.WaitLemmas.{told_out, told_still, differs_then, made_or_not, labels_after, told_after, never_wrong, are_kept, are_fewer}
@@ -16,10 +16,7 @@ abbrev there : (es : List Entry) (place : ℕ) (e : Entry) → place < length es
 there es place e below is = slice_get_read es (length es) place e refl below is
 
 abbrev first : (head : ℕ) (es : List Entry) (place : ℕ) (e : Entry) → IsOnce es → HasFirst head es place → e ≡ get_or es place e → IsFirst head es e
-first head es place e once has is = record {
-  there = stands_waiting es once place e (there es place e has.below is) e.sector refl;
-  least = λ k f other. let w = waits_there es k f other in has.least e w.0 f (there es place e has.below is) w.1;
-}
+first head es place e once has is = is_first head es place e once has (there es place e has.below is)
 
 pub write_data-requires : goal.write_data-requires
 write_data-requires g c = (c.args.self.now.waiting.each c.first_place-place.result c.index.result.now (there c.args.self.now.entries.items c.first_place-place.result c.index.result.now c.first_place-place.ensures.below c.index.ensures)).inside
