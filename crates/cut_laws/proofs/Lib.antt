@@ -17,3 +17,4 @@ mod WholeWriteLemmas
 mod ResizeLemmas
 mod MixLemmas
 mod ExampleLemmas
+pub mod OwnRunLemmas

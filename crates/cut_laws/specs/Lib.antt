@@ -3,6 +3,7 @@ pub mod CutLaws
 pub mod Example
 pub mod Mixes
 pub mod OwnBytes
+pub mod OwnRuns
 pub mod ResizeLaws
 pub mod Restored
 pub mod Roots

@@ -5,6 +5,7 @@ ghost use Rattle.cut_laws.specs.CutLaws.{CutLaws, WindowLaws};
 ghost use Rattle.cut_laws.specs.Example.{ExampleCuts};
 ghost use Rattle.cut_laws.specs.Mixes.{MixLaws};
 ghost use Rattle.cut_laws.specs.OwnBytes.{OwnBytes};
+ghost use Rattle.cut_laws.specs.OwnRuns.{OwnRunLaws};
 ghost use Rattle.cut_laws.specs.ResizeLaws.{ResizedHasSizeBetween};
 ghost use Rattle.cut_laws.specs.Restored.{RestoredKeepsFiles};
 ghost use Rattle.cut_laws.specs.Roots.{FlagLaws};
@@ -62,4 +63,9 @@ pub fn sizes_in_cuts()
 /// Cuts of disks that are written out: a root with the new flag and the old counter, and bytes of another file.
 pub fn example_cuts()
     ensures { ExampleCuts }
+{}
+
+/// The label writes of one file among writes of all: its runs, said of each write.
+pub fn runs_of_one_file()
+    ensures { (id : ℕ) → OwnRunLaws id }
 {}
