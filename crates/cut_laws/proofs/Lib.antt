@@ -18,3 +18,4 @@ mod ResizeLemmas
 mod MixLemmas
 mod ExampleLemmas
 pub mod OwnRunLemmas
+mod RootWriteLemmas

@@ -6,6 +6,7 @@ pub mod OwnBytes
 pub mod OwnRuns
 pub mod ResizeLaws
 pub mod Restored
+pub mod RootWrites
 pub mod Roots
 pub mod Settles
 pub mod ShapeLaws

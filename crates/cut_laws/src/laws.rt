@@ -8,6 +8,7 @@ ghost use Rattle.cut_laws.specs.OwnBytes.{OwnBytes};
 ghost use Rattle.cut_laws.specs.OwnRuns.{OwnRunLaws};
 ghost use Rattle.cut_laws.specs.ResizeLaws.{ResizedHasSizeBetween};
 ghost use Rattle.cut_laws.specs.Restored.{RestoredKeepsFiles};
+ghost use Rattle.cut_laws.specs.RootWrites.{RootIsWhole};
 ghost use Rattle.cut_laws.specs.Roots.{FlagLaws};
 ghost use Rattle.cut_laws.specs.Settles.{SettleLaws};
 ghost use Rattle.cut_laws.specs.ShapeLaws.{LeaderFreed, LeaderWritten, NoLabelWritten, ShapesOfOneMoment};
@@ -44,7 +45,8 @@ pub fn restored_keep_files_in_cuts()
 
 /// The root, and its clean flag, in a cut.
 pub fn root_in_cuts()
-    ensures { FlagLaws }
+    ensures laws { FlagLaws }
+    ensures written { RootIsWhole }
 {}
 
 /// A file has bytes of its own in a cut, where its sectors were no other's since the last settle.
