@@ -1,10 +1,10 @@
 -- What is planned from labels is right for each disk that has them.
-use Rattle.std.proofs.Common.{◌≡◌, ◌⊎◌, inl, inr, ℕ, zero, suc, ◌+◌, ◌-◌, ◌<◌, ◌≤◌, ◌^◌, Bool, true, false, ◌&&◌, ◌||◌, List, [], ◌∷◌, ◌++◌, length, map, take, drop, replicate, Option, Some, None, refl, sym, ◌∙◌, ap, subst, arith, eqb, leb, length-append, Result, Ok, Err, slice_index_or}
+use Rattle.std.proofs.Common.{◌≡◌, inl, inr, ℕ, zero, suc, ◌+◌, ◌-◌, ◌<◌, ◌≤◌, Bool, true, false, ◌&&◌, ◌||◌, List, [], ◌∷◌, ◌++◌, length, map, take, drop, replicate, Option, Some, None, refl, sym, ◌∙◌, ap, subst, arith, eqb, length-append, Result, Ok, Err, slice_index_or}
 use Rattle.std.specs.Prelude.{slice_get, nat_lt, nat_le, option_map, OnOk}
 use Rattle.std.specs.List.{AllByRecursion}
 use Rattle.std.specs.Option.{option_map_or}
 use Rattle.std.proofs.Math.Seq.{drop-append_seam}
-use Rattle.std.proofs.lemmas.Bool.{cases_lt, and_parts, and_from, eqb-true, eq-eqb, leb-true, le-leb, lt-ltb, lt-leb, false≢true}
+use Rattle.std.proofs.lemmas.Bool.{cases_lt, and_parts, and_from, eqb-true, eq-eqb, leb-true, le-leb, lt-ltb, false≢true}
 use Rattle.std.proofs.lemmas.List.{length-replicate, length-map}
 use Rattle.std.proofs.lemmas.Option.{same_Some, none-some, slice_get-map, slice_get-get_or, slice_get_within}
 use Rattle.labelled_disk.specs.declared.label.Label.{Label}
@@ -14,7 +14,6 @@ use Rattle.labelled_disk.specs.declared.layout.RootFault.{RootFault}
 use Rattle.labelled_disk.specs.Sectors.{Sector, zero_sector, free_label}
 use Rattle.volume_root.specs.declared.root.Root.{Root}
 use Rattle.volume_root.specs.RootPage.{first_of, judged, root_in, tests}
-use Rattle.labelled_disk.specs.WriteLaws.{HasData}
 use Rattle.labelled_disk.proofs.WriteLemmas as writes
 use Rattle.label_laws.specs.Counts.{IsLost, needs_place, lost_sectors}
 use Rattle.label_laws.proofs.CountLemmas.{list_laws}
@@ -23,7 +22,7 @@ use Rattle.label_survey.specs.declared.triples.Triple.{Triple}
 use Rattle.label_survey.specs.Laws.{KeptAreNeeded, NeededAreFiles}
 use Rattle.label_survey.specs.Standings.{standing, AreStandings}
 use Rattle.label_survey.specs.Survey.{is_kept}
-use Rattle.label_survey.specs.Triples.{AreNeeded, triple_of}
+use Rattle.label_survey.specs.Triples.{AreNeeded}
 use Rattle.scavenger.specs.declared.report.Lost.{Lost}
 use Rattle.scavenger.specs.Marks.{marks}
 use Rattle.scavenger.specs.Naming.{among, AreTriples}
@@ -54,6 +53,18 @@ imagined_has n labels all =
           firsts labels ∙ ap (map (λ (s : Sector). s.0)) (sym (drop-append_seam low high)
           ∙ ap (λ (k : ℕ). drop k (low ++ high)) (low_long ∙ ap first_data (sym long)));
     }
+
+same_long : {X : Type 0} (f : ℕ → Sector → X) (xs : List X) (ys : List Sector) → ((i : ℕ) → slice_get xs i ≡ option_map (f i) (slice_get ys i)) → length xs ≡ length ys
+same_long f [] [] each = refl
+same_long f [] (y ∷ ys) each = absurd (none-some (f 0 y) (each 0))
+same_long f (x ∷ xs) [] each = absurd (none-some x (sym (each 0)))
+same_long f (x ∷ xs) (y ∷ ys) each = ap suc (same_long (λ i. f (suc i)) xs ys (λ i. each (suc i)))
+
+-- there is a standing for each of its labels
+pub stand_each : (d : List Sector) (n : ℕ) (labels : List Label) (standings : List Standing) → HasLabels d n labels → AreStandings d standings → length standings ≡ length labels
+stand_each d n labels standings has are =
+    let long = same_long (standing d) standings (data_sectors d) are in
+    omega (arith, long, length-map (data_sectors d) (λ (s : Sector). s.0), ap length has.are)
 
 -- Triples.
 
@@ -173,6 +184,11 @@ listed_more first labels lost k old new x here within so_far pushed =
     ap (λ (o : Option Label). option_map_or (λ (l : Label). record { sector = x; id = l.id; page = l.page }) o (record { sector = x; id = 0; page = 0 })) there in
     pushed ∙ ap (λ (l : List Lost). l ++ record { sector = x; id = (slice_index_or labels (x - first) free_label).id; page = (slice_index_or labels (x - first) free_label).page } ∷ []) so_far ∙ ap (λ (e : Lost). map (labelled first labels) (take k lost) ++ e ∷ []) (sym is)
     ∙ sym (one_mapped (labelled first labels) lost k x here) ∙ ap (λ (m : ℕ). map (labelled first labels) (take m lost)) s
+
+-- what holds anyway
+pub ok_anyway : {T E : Type 0} {P : Type 0} (r : Result T E) → P → OnOk r P
+ok_anyway (Ok x) p = p
+ok_anyway (Err e) p = tt
 
 -- what follows from an Ok
 pub ok_then : {T E : Type 0} {P Q : Type 0} (r : Result T E) → OnOk r P → (P → Q) → OnOk r Q
