@@ -1,0 +1,101 @@
+//! The disk that an image word asks for, and a command on it.
+
+use crate::reasons::{self, no_command};
+use crate::{NOTHING, command};
+use command_words::{Command, Refused, command_of};
+use image_disk::{Image, ImageDisk, image_of, new_image, open_image, remove_image};
+use labelled_disk::{Layout, MemoryDisk};
+use pilot_top::Status;
+use std::fs::File;
+use std::io;
+
+/// What a command on an image knows: the path of the file, the words, and the command that they mean.
+#[derive(Clone, Copy)]
+pub(crate) struct Task<'a> {
+    pub(crate) path: &'a str,
+    pub(crate) words: &'a [String],
+    pub(crate) meant: Command,
+}
+
+/// Carries out a command on a disk in memory.
+fn in_memory(rt: &HostRuntime, sectors: u32, task: Task<'_>) -> Status {
+    let Ok(mut disk) = MemoryDisk::new(rt.alloc(), sectors) else {
+        reasons::no_memory(rt, "the disk");
+        return Status::NoMemory;
+    };
+    let status = command(rt, &mut disk, task.words);
+    reasons::memory_stopped(rt, status, sectors, task.meant);
+    status
+}
+
+/// Carries out a command on a disk of no sector, since the image can't be had.
+fn on_none(rt: &HostRuntime, task: Task<'_>) -> Status {
+    command(rt, &mut ImageDisk::<File>::absent(), task.words)
+}
+
+/// Carries out a command on the disk in an image file.
+fn on_disk(rt: &HostRuntime, mut disk: ImageDisk<File>, task: Task<'_>) -> Status {
+    let status = command(rt, &mut disk, task.words);
+    reasons::image_stopped(rt, status, &mut disk, task);
+    status
+}
+
+/// Carries out a command on a new image file, which stays only where a volume was made in it. No
+/// file is made of a number of sectors that no volume has.
+fn on_new(rt: &HostRuntime, sectors: u32, task: Task<'_>) -> Status {
+    if Layout::of(sectors).is_err() {
+        return on_disk(rt, ImageDisk::without_file(sectors), task);
+    }
+    match new_image(rt, sectors, task.path) {
+        Ok(disk) => {
+            let status = on_disk(rt, disk, task);
+            if !matches!(status, Status::Done | Status::StreamFault) {
+                let _ = remove_image(rt, task.path);
+            }
+            status
+        }
+        Err(why) => {
+            reasons::no_image(rt, task.path, why);
+            on_none(rt, task)
+        }
+    }
+}
+
+/// Carries out a command on an image file that is there.
+fn on_file(rt: &HostRuntime, task: Task<'_>) -> Status {
+    match open_image(rt, task.path) {
+        Ok(disk) => on_disk(rt, disk, task),
+        Err(why) => {
+            reasons::no_image(rt, task.path, why);
+            on_none(rt, task)
+        }
+    }
+}
+
+/// Carries out a command on the disk that an image word asks for, once the words are known to mean
+/// one. No file is opened where a number of a standard stream may be free.
+pub(crate) fn on_image(
+    rt: &HostRuntime,
+    held: io::Result<()>,
+    image: &str,
+    words: &[String],
+) -> Status {
+    let meant = match command_of(rt.alloc(), words) {
+        Ok(meant) => meant,
+        Err(Refused::Usage) => return no_command(rt, words),
+        Err(Refused::NoMemory) => {
+            reasons::no_memory(rt, "the words");
+            return Status::NoMemory;
+        }
+    };
+    let task = |path| Task { path, words, meant };
+    match (image_of(image), held) {
+        (Image::Memory(sectors), _) => in_memory(rt, sectors, task(image)),
+        (Image::New { sectors, path }, Ok(())) => on_new(rt, sectors, task(path)),
+        (Image::File(path), Ok(())) => on_file(rt, task(path)),
+        (_, Err(why)) => {
+            reasons::no_image(rt, NOTHING, why.into());
+            on_none(rt, task(image))
+        }
+    }
+}
