@@ -1,5 +1,5 @@
-# Read by the scripts `pilot` and `look`, which set `root` (the repository's folder), `name` (their own name) and
-# `crate` (the program's crate): proves and builds the program where its sources have changed, keeps it, and runs it.
+# Read by the scripts `pilot` and `look`, which set `root` (the repository's folder), `name` (their own name),
+# `crate` (the program's crate) and `takes` (how long the first time takes): proves and builds the program where its sources have changed, keeps it, and runs it.
 # Then `run_kept "$@"` takes the program's words.
 
 out=$root/crates/$crate/out
@@ -84,7 +84,7 @@ prove_and_build() {
     crates=$(crates_of_program)
     count=$(printf '%s\n' "$crates" | grep -c .)
     say "$1: proving and building it, $count crates"
-    say "the first time takes an hour or more, a later one seconds to minutes (log: $log)"
+    say "the first time takes $takes, a later one seconds to minutes (log: $log)"
     begun=$(date +%s)
     : >"$built.$$"
     : >"$log"

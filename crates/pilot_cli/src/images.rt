@@ -74,11 +74,11 @@ fn on_file(rt: &HostRuntime, task: Task<'_>) -> Status {
 
 /// Carries out a command on the disk that an image word asks for, once the words are known to mean
 /// one. No file is opened where a number of a standard stream may be free.
-pub(crate) fn on_image(
+pub(crate) fn on_image<'a>(
     rt: &HostRuntime,
     held: io::Result<()>,
-    image: &str,
-    words: &[String],
+    image: &'a str,
+    words: &'a [String],
 ) -> Status {
     let meant = match command_of(rt.alloc(), words) {
         Ok(meant) => meant,
