@@ -20,11 +20,6 @@ pub enum NoImage {
     Short,
 }
 
-impl From<io::Error> for NoImage {
-    fn from(error: io::Error) -> Self {
-        NoImage::System(error)
-    }
-}
 
 /// The disk in a new file of so many zero sectors. There must be no file of that path. Where the
 /// file can't be locked or can't get its length, it is removed again.

@@ -3,7 +3,7 @@
 use crate::reasons::{self, no_command};
 use crate::{NOTHING, command};
 use command_words::{Command, Refused, command_of};
-use image_disk::{Image, ImageDisk, image_of, new_image, open_image, remove_image};
+use image_disk::{Image, ImageDisk, NoImage, image_of, new_image, open_image, remove_image};
 use labelled_disk::{Layout, MemoryDisk};
 use pilot_top::Status;
 use std::fs::File;
@@ -29,8 +29,9 @@ fn in_memory(rt: &HostRuntime, sectors: u32, task: Task<'_>) -> Status {
 }
 
 /// Carries out a command on a disk of no sector, since the image can't be had.
-fn on_none(rt: &HostRuntime, task: Task<'_>) -> Status {
-    command(rt, &mut ImageDisk::<File>::absent(), task.words)
+fn on_none(rt: &HostRuntime, path: &str, why: NoImage, words: &[String]) -> Status {
+    reasons::no_image(rt, path, why);
+    command(rt, &mut ImageDisk::<File>::absent(), words)
 }
 
 /// Carries out a command on the disk in an image file.
@@ -42,9 +43,12 @@ fn on_disk(rt: &HostRuntime, mut disk: ImageDisk<File>, task: Task<'_>) -> Statu
 
 /// Carries out a command on a new image file, which stays only where a volume was made in it. No
 /// file is made of a number of sectors that no volume has.
-fn on_new(rt: &HostRuntime, sectors: u32, task: Task<'_>) -> Status {
+fn on_new(rt: &HostRuntime, held: io::Result<()>, sectors: u32, task: Task<'_>) -> Status {
     if Layout::of(sectors).is_err() {
         return on_disk(rt, ImageDisk::without_file(sectors), task);
+    }
+    if let Err(why) = held {
+        return on_none(rt, NOTHING, NoImage::System(why), task.words);
     }
     match new_image(rt, sectors, task.path) {
         Ok(disk) => {
@@ -54,21 +58,18 @@ fn on_new(rt: &HostRuntime, sectors: u32, task: Task<'_>) -> Status {
             }
             status
         }
-        Err(why) => {
-            reasons::no_image(rt, task.path, why);
-            on_none(rt, task)
-        }
+        Err(why) => on_none(rt, task.path, why, task.words),
     }
 }
 
 /// Carries out a command on an image file that is there.
-fn on_file(rt: &HostRuntime, task: Task<'_>) -> Status {
+fn on_file(rt: &HostRuntime, held: io::Result<()>, task: Task<'_>) -> Status {
+    if let Err(why) = held {
+        return on_none(rt, NOTHING, NoImage::System(why), task.words);
+    }
     match open_image(rt, task.path) {
         Ok(disk) => on_disk(rt, disk, task),
-        Err(why) => {
-            reasons::no_image(rt, task.path, why);
-            on_none(rt, task)
-        }
+        Err(why) => on_none(rt, task.path, why, task.words),
     }
 }
 
@@ -88,14 +89,12 @@ pub(crate) fn on_image<'a>(
             return Status::NoMemory;
         }
     };
-    let task = |path| Task { path, words, meant };
-    match (image_of(image), held) {
-        (Image::Memory(sectors), _) => in_memory(rt, sectors, task(image)),
-        (Image::New { sectors, path }, Ok(())) => on_new(rt, sectors, task(path)),
-        (Image::File(path), Ok(())) => on_file(rt, task(path)),
-        (_, Err(why)) => {
-            reasons::no_image(rt, NOTHING, why.into());
-            on_none(rt, task(image))
+    match image_of(image) {
+        Image::Memory(sectors) => {
+            let path = image;
+            in_memory(rt, sectors, Task { path, words, meant })
         }
+        Image::New { sectors, path } => on_new(rt, held, sectors, Task { path, words, meant }),
+        Image::File(path) => on_file(rt, held, Task { path, words, meant }),
     }
 }

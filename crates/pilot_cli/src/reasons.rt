@@ -68,9 +68,7 @@ pub(crate) fn memory_stopped(rt: &HostRuntime, status: Status, sectors: u32, mea
             let _ = eprintln!(rt; "pilot: {fault}");
         }
         (Status::NotOpened, Ok(_)) => {
-            let _ = eprintln!(rt;
-                "pilot: a disk in memory has no volume until it is formatted"
-            );
+            let _ = eprintln!(rt; "pilot: a disk in memory has no volume until it is formatted");
         }
         (Status::NoMemory, _) => no_memory(rt, what_takes_memory(meant)),
         (Status::Long, _) => too_long(rt),
