@@ -1,5 +1,5 @@
 -- A file that is shortened or lengthened at its end stays whole.
-use Rattle.std.proofs.Common.{◌≡◌, ◌≢◌, ◌⊎◌, inl, inr, ℕ, zero, suc, ◌+◌, ◌<◌, ◌≤◌, Bool, true, false, List, [], ◌∷◌, ◌++◌, map, length, take, Option, Some, None, refl, sym, ◌∙◌, ap, subst, arith, ◌&&◌, ◌||◌, eqb}
+use Rattle.std.proofs.Common.{◌≡◌, ◌≢◌, ◌⊎◌, inl, inr, ℕ, suc, ◌+◌, ◌<◌, ◌≤◌, Bool, true, false, List, [], ◌∷◌, ◌++◌, map, length, take, Option, Some, None, refl, sym, ◌∙◌, ap, subst, arith, ◌&&◌, ◌||◌, eqb}
 use Rattle.std.specs.Prelude.{slice_get, slice_set, option_map}
 use Rattle.std.proofs.lemmas.Bool.{cases_eq, true≢false}
 use Rattle.std.proofs.lemmas.List.{length_push, length-take-le}
@@ -19,6 +19,7 @@ use Rattle.labelled_disk.proofs.WriteLemmas as laws
 use Rattle.label_laws.specs.Shape.{bare_file, BareFile}
 use Rattle.cut_laws.specs.ShapeLaws.{IsWholeOn}
 use Rattle.cut_laws.specs.SizeLaws.{RightIsWhole}
+use Rattle.cut_laws.proofs.MomentLemmas.{get_some}
 use Rattle.cut_laws.proofs.PairLemmas.{Pairs, Alike, alike_passes, alike_sym, alike_test}
 use Rattle.cut_laws.proofs.StayLemmas.{Of, shape_pairs}
 
@@ -68,11 +69,6 @@ whole_alike id xs ys pairs whole =
     there : (o : Option File) → file_among true ys id ≡ o → option_map bare_file (file_among true ys id) ≡ Some (bare_file whole.0) → (g : File) × (file_among true ys id ≡ Some g) × (bare_file g ≡ bare_file whole.0)
     there None e h = absurd (none-some (bare_file whole.0) (sym (ap (λ (o : Option File). option_map bare_file o) e) ∙ h))
     there (Some g) e h = (g, e, same_Some (bare_file g) (bare_file whole.0) (sym (ap (λ (o : Option File). option_map bare_file o) e) ∙ h))
-
-    get_some : {X : Type 0} (xs : List X) (i : ℕ) → i < length xs → (x : X) × (slice_get xs i ≡ Some x)
-    get_some [] i below = absurd (omega (arith, below))
-    get_some (x ∷ xs) zero below = (x, refl)
-    get_some (x ∷ xs) (suc i) below = get_some xs i (omega (arith, below))
 
     -- the sector that was there had the same label
     back : (i : ℕ) (t : Sector) → slice_get ys i ≡ Some t → is_of id t ≡ true → (s : Sector) × (slice_get xs i ≡ Some s) × (s.0 ≡ t.0) × (is_of id s ≡ true)
