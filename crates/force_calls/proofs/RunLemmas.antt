@@ -1,10 +1,10 @@
 -- Slots of which those with pages of a run change.
-use Rattle.std.specs.Prelude.{◌≡◌, ◌+◌, ◌<◌, ◌≤◌, ◌&&◌, ℕ, zero, suc, Bool, true, false, if◌then◌else◌, [], ◌∷◌, length, Option, Some, None, slice_get, slice_set}
+use Rattle.std.specs.Prelude.{◌≡◌, ◌↔◌, IfSome, ◌+◌, ◌-◌, ◌<◌, ◌≤◌, ◌&&◌, ℕ, zero, suc, Bool, true, false, if◌then◌else◌, [], ◌∷◌, length, Option, Some, None, slice_get, slice_set}
 use Rattle.std.proofs.Common.{refl, sym, ◌∙◌, ap, arith, inl, inr}
 use Rattle.std.proofs.lemmas.Bool.{cases_eq}
 use Rattle.std.proofs.lemmas.Bool.Decides.{nat_tests}
 use Rattle.std.proofs.lemmas.Option.{same_Some, none-some}
-use Rattle.frame_pool.specs.Frames.{Frame, Slots, Has, IsOutside, IsWithin, is_kept, frame_at, clean, cleaned_at}
+use Rattle.frame_pool.specs.Frames.{Frame, Slots, Has, HasDistinct, HasPage, IsNowhere, IsOutside, IsWithin, is_kept, frame_at, clean, cleaned_at}
 use Rattle.frame_pool.specs.FrameLaws.{has_set, has_below, has_of_frame, frame_of_has, cleaned_is, same_homes}
 use Rattle.frame_pool.specs.ListLaws.{get_same, get_other}
 use Rattle.force_calls.specs.Run.{dirty_within, is_dirty_in, dirty_count, OnlyRun, Stay}
@@ -111,3 +111,19 @@ dirty_some id first pages s i f has kept dirty = let fewer = cleaned_count id fi
 -- the slot's frame is clean where its one frame is
 pub same_frame : (s : Slots) (i : ℕ) (f g : Frame) → Has s i f → Has s i g → f.dirty ≡ false → g.dirty ≡ false
 same_frame s i f g has also clean = sym (ap (λ (x : Frame). x.dirty) (same_Some f g (same_Some (Some f) (Some g) (sym has.is ∙ also.is)))) ∙ clean
+
+-- what the look at a slot tells of a frame of the run
+pub told_within : (id first pages : ℕ) (s : Slots) (i : ℕ) (f : Frame) → Has s i f → IsWithin id first pages f.home → dirty_within id first pages (frame_at s i) ≡ Some f.dirty
+told_within id first pages s i f has within =
+    ap (dirty_within id first pages) (frame_of_has s i f has) ∙ ap (λ (x : Bool). if x then Some f.dirty else None) (within_kept id first pages f within)
+
+-- a search for the page of this look finds the frame's slot
+pub found_look : (id first pages look : ℕ) (s : Slots) (result : Option ℕ) → HasDistinct s → IfSome result (λ slot. HasPage s slot id (first + look)) → (result ≡ None ↔ IsNowhere s id (first + look))
+    → (i : ℕ) (f : Frame) → Has s i f → IsWithin id first pages f.home → f.home.page - first ≡ look → result ≡ Some i
+found_look id first pages look s (Some slot) distinct found nowhere i f has within looked =
+    let page = within.1 in
+    let same : found.0.home.page ≡ f.home.page = found.2.1 ∙ omega (arith, page, looked) in
+    ap (λ (n : ℕ). Some n) (distinct slot i found.0 f found.1 has (found.2.0 ∙ sym within.0) same)
+found_look id first pages look s None distinct found nowhere i f has within looked =
+    let page = within.1 in
+    absurd (nowhere.0 refl i f has within.0 (omega (arith, page, looked)))

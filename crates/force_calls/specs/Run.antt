@@ -1,6 +1,7 @@
 -- Frames of a run of a file's pages.
-use Rattle.std.specs.Prelude.{◌≡◌, ◌+◌, ◌&&◌, ℕ, Bool, false, if◌then◌else◌, [], ◌∷◌, Option, Some, None, slice_get}
+use Rattle.std.specs.Prelude.{◌≡◌, ◌+◌, ◌-◌, ◌&&◌, ℕ, Bool, false, if◌then◌else◌, [], ◌∷◌, Option, Some, None, slice_get}
 use Rattle.labelled_disk.specs.State.{DiskState}
+use Rattle.frame_pool.specs.declared.home.Home.{Home}
 use Rattle.frame_pool.specs.Frames.{Frame, Slots, Has, IsOutside, IsWithin, is_kept}
 use Rattle.swapper_kernel.specs.Homes.{no_home}
 use Rattle.swapper_kernel.specs.Steps.{Steps}
@@ -19,6 +20,14 @@ is_dirty_in id first pages (Some f) = f.dirty && is_kept id first pages (Some f)
 abbrev pub dirty_count : ℕ → ℕ → ℕ → Slots → ℕ
 dirty_count id first pages [] = 0
 dirty_count id first pages (x ∷ s) = (if is_dirty_in id first pages x then 1 else 0) + dirty_count id first pages s
+
+-- how many looks find all frames of so many pages: one at each page, or one at each slot
+abbrev pub looks_of : Bool → ℕ → ℕ → ℕ
+looks_of by_page pages slots = if by_page then pages else slots
+
+-- the look that finds the frame in this slot, among those for a run from the first page on
+abbrev pub look_at : Bool → ℕ → ℕ → Home → ℕ
+look_at by_page first slot home = if by_page then home.page - first else slot
 
 -- each slot without a page of the run has what it had, and each frame the home and bytes of one that was there
 pub record OnlyRun (id first pages : ℕ) (before after : Slots) : Type 0 where

@@ -1,4 +1,4 @@
-//! The calls: each looks at every slot once.
+//! The calls: each looks at each page of the run, or at each slot, whichever are fewer.
 ghost use Rattle.std.specs.Prelude.{◌≡◌, ◌≤◌, ◌+◌, ℕ, false, List, [], IfErr, OnErr, OnOk};
 ghost use Rattle.labelled_disk.specs.declared.evidence.Halt.TheVariants as halt;
 ghost use Rattle.labelled_disk.specs.Sectors.{Sector};
@@ -35,8 +35,10 @@ pub fn force<D: Disk, A: Allocator>(
     ensures cost { (D.state swapper.new.under).transfers ≤ (D.state swapper.old.under).transfers + dirty_count id first pages swapper.old.pool }
 {
     let run = Run { id, first, pages };
-    for slot in 0..swapper.frames().frames() {
-        if let Some(dirty) = run.held_in(swapper.frames(), slot) {
+    let slots = swapper.frames().frames();
+    let by_page = run.is_short(slots);
+    for look in 0..run.looks(by_page, slots) {
+        if let Some((slot, dirty)) = run.held_at(swapper.frames(), by_page, look) {
             if dirty {
                 swapper.write_out(slot)?;
             }
@@ -85,8 +87,10 @@ pub fn forget<D: Disk, A: Allocator>(
     ensures layout { swapper.new.layout ≡ swapper.old.layout }
 {
     let run = Run { id, first, pages };
-    for slot in 0..swapper.frames().frames() {
-        if let Some(_dirty) = run.held_in(swapper.frames(), slot) {
+    let slots = swapper.frames().frames();
+    let by_page = run.is_short(slots);
+    for look in 0..run.looks(by_page, slots) {
+        if let Some((slot, _dirty)) = run.held_at(swapper.frames(), by_page, look) {
             swapper.clear(slot);
         }
     }

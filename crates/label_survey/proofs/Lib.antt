@@ -1,13 +1,13 @@
-mod ScanLemmas
+pub mod ScanLemmas
 mod PlaceLemmas
 mod StandingLemmas
 mod WalkLemmas
 mod ClaimLemmas
 mod EntryLemmas
-mod TallyLemmas
-mod OnceLemmas
-mod SortLemmas
-mod TripleLemmas
+pub mod TallyLemmas
+pub mod OnceLemmas
+pub mod SortLemmas
+pub mod TripleLemmas
 mod CounterLemmas
 mod RunLemmas
 mod LawLemmas

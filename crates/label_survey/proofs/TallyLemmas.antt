@@ -1,5 +1,5 @@
 -- Standings that are counted and listed.
-use Rattle.std.proofs.Common.{◌≡◌, ℕ, zero, suc, ◌+◌, ◌-◌, ◌≤◌, Bool, true, false, not, ◌&&◌, cond, List, [], ◌∷◌, ◌++◌, length, take, Some, refl, sym, ◌∙◌, ap, arith, eqb}
+use Rattle.std.proofs.Common.{◌≡◌, ℕ, zero, suc, ◌+◌, ◌-◌, ◌≤◌, Bool, true, false, not, ◌&&◌, cond, List, [], ◌∷◌, ◌++◌, length, take, Some, refl, sym, ◌∙◌, ap, subst, arith, eqb}
 use Rattle.std.specs.Prelude.{slice_get, option_map}
 use Rattle.std.specs.Option.{option_map_or}
 use Rattle.std.proofs.lemmas.Option.{same_Some, none-some}
@@ -14,7 +14,7 @@ use Rattle.label_survey.specs.declared.standing.Standing.{Standing}
 use Rattle.label_survey.specs.declared.standing.Standing.TheVariants.{Free, Stray, Lost, Leader, Page}
 use Rattle.label_survey.specs.declared.tally.Tally.{Tally}
 use Rattle.label_survey.specs.Standings.{standing, AreStandings}
-use Rattle.label_survey.specs.Survey.{is_leader, is_kept_page, is_freed, is_lost, places_by, IsTally, counted, Tells}
+use Rattle.label_survey.specs.Survey.{is_leader, is_kept_page, is_freed, is_lost, places_by, IsTally, Tallies, counted, Tells}
 use Rattle.label_survey.proofs.StandingLemmas.{file_not_free}
 
 -- One more.
@@ -119,6 +119,28 @@ few_counted xs k t is = (
   (let l = length_most is_freed 0 k xs in omega (arith, l, is.freed 0)),
 )
 
+take_whole : (k : ℕ) (xs : List Standing) → length xs ≤ k → take k xs ≡ xs
+take_whole zero [] long = refl
+take_whole zero (x ∷ xs) long = absurd (omega (arith, long))
+take_whole (suc k) [] long = refl
+take_whole (suc k) (x ∷ xs) long = ap (λ (l : List Standing). x ∷ l) (take_whole k xs (omega (arith, long)))
+
+-- all are counted
+pub all_counted : (xs : List Standing) (k : ℕ) (t : Tally) → length xs ≤ k → IsTally (take k xs) t → IsTally xs t
+all_counted xs k t long is = subst (λ (l : List Standing). IsTally l t) (take_whole k xs long) is
+
+-- each sector is counted once at most
+pub each_once : (n : ℕ) (xs : List Standing) → length (places_by is_leader n xs) + length (places_by is_kept_page n xs) + length (places_by is_freed n xs) ≤ length xs
+each_once n [] = omega arith
+each_once n (Leader ∷ xs) = let rest = each_once (n + 1) xs in omega (arith, rest)
+each_once n (Page ∷ xs) = let rest = each_once (n + 1) xs in omega (arith, rest)
+each_once n (Free ∷ xs) = let rest = each_once (n + 1) xs in omega (arith, rest)
+each_once n (Lost ∷ xs) = let rest = each_once (n + 1) xs in omega (arith, rest)
+each_once n (Stray ∷ xs) = let rest = each_once (n + 1) xs in omega (arith, rest)
+
+pub within : (xs : List Standing) (t : Tally) → IsTally xs t → t.files + t.pages + t.freed ≤ length xs
+within xs t is = let once = each_once 0 xs in omega (arith, once, is.files 0, is.pages 0, is.freed 0)
+
 -- What they count.
 
 leader_stands : (n l f o : Bool) → is_leader (cond n (cond l Leader Page) (cond f Free (cond o Lost Stray))) ≡ (n && l)
@@ -173,12 +195,17 @@ module _ (d : List Sector) (standings : List Standing) (are : AreStandings d sta
       (λ m s. lost_stands (needs_place false d m) (eqb s.0.page leader_page) (is_free s.0) (is_of_some_file false d s)
       (λ some. file_not_free d s.0 (and_parts (is_file s.0) (option_map_or (λ f. true) (disk_file false d s.0.id) false) some).0))
 
-  pub tells : (tally : Tally) (first : ℕ) (found : List ℕ) → IsTally standings tally → first ≡ first_data (length d) → found ≡ places_by is_lost first standings → Tells d standings tally found
-  tells tally first found is at listed = record {
-    standings = are;
+  pub tallies : (tally : Tally) → IsTally standings tally → Tallies d tally
+  tallies tally is = record {
     files = is.files (first_data (length d)) ∙ ap (λ (l : List ℕ). length l) leaders ∙ (count_laws false).files d;
     pages = is.pages (first_data (length d)) ∙ ap (λ (l : List ℕ). length l) pages ∙ (count_laws false).pages d;
     freed = is.freed (first_data (length d)) ∙ ap (λ (l : List ℕ). length l) freed;
+  }
+
+  pub tells : (tally : Tally) (first : ℕ) (found : List ℕ) → Tallies d tally → first ≡ first_data (length d) → found ≡ places_by is_lost first standings → Tells d standings tally found
+  tells tally first found counts at listed = record {
+    standings = are;
+    tallies = counts;
     lost = listed ∙ ap (λ (n : ℕ). places_by is_lost n standings) at ∙ lost;
   }
 

@@ -65,10 +65,14 @@ counted Free t = t
 counted Lost t = record t { freed = t.freed + 1 }
 counted Stray t = record t { freed = t.freed + 1 }
 
--- of a disk with these files: what each data sector is, the counts, and the freed sectors of files that stay, rising
-pub record Tells (d : List Sector) (each : List Standing) (tally : Tally) (places : List ℕ) : Type 0 where
-  pub standings : AreStandings d each
+-- as many as the files of a disk, as their pages, and as the sectors that are freed
+pub record Tallies (d : List Sector) (tally : Tally) : Type 0 where
   pub files : tally.files ≡ length (files_on d)
   pub pages : tally.pages ≡ total_pages (files_on d)
   pub freed : tally.freed ≡ length (unneeded_sectors false d)
+
+-- of a disk with these files: what each data sector is, the counts, and the freed sectors of files that stay, rising
+pub record Tells (d : List Sector) (each : List Standing) (tally : Tally) (places : List ℕ) : Type 0 where
+  pub standings : AreStandings d each
+  pub tallies : Tallies d tally
   pub lost : places ≡ lost_sectors false d

@@ -18,6 +18,6 @@ pub use reading::{SurveyFault, read_labels};
 pub use runs::{Run, runs_of};
 pub use standing::Standing;
 pub use survey::{Survey, survey_labels};
-pub use tally::Tally;
+pub use tally::{Tally, tally_sectors};
 pub use triples::{Triple, needed_triples};
 pub use walk::find_standings;

@@ -1,6 +1,8 @@
 //! How many sectors are what.
-ghost use Rattle.std.specs.Prelude.{◌≡◌, ◌+◌, ◌<◌, ◌^◌, length, IfOk};
-ghost use Rattle.label_survey.specs.Survey.{IsTally, counted, is_lost, places_by};
+ghost use Rattle.std.specs.Prelude.{◌≡◌, ◌+◌, ◌≤◌, ◌<◌, ◌^◌, List, length, IfOk};
+ghost use Rattle.labelled_disk.specs.Sectors.{Sector};
+ghost use Rattle.label_survey.specs.Standings.{AreStandings};
+ghost use Rattle.label_survey.specs.Survey.{IsTally, Tallies, counted, is_lost, places_by};
 
 use crate::standing::Standing;
 use std::alloc::{AllocError, Allocator};
@@ -32,9 +34,12 @@ impl Tally {
     }
 }
 
-pub(crate) fn tally_sectors(standings: &[Standing]) -> Tally
+/// The counts of data sectors that are these.
+pub fn tally_sectors(standings: &[Standing]) -> Tally
     requires few { length standings.now + 1 < 2 ^ 32 }
-    ensures { IsTally standings.now result }
+    ensures tally { IsTally standings.now result }
+    ensures tallies { (d : List Sector) → AreStandings d standings.now → Tallies d result }
+    ensures within { result.files + result.pages + result.freed ≤ length standings.now }
 {
     let mut tally = Tally {
         files: 0,

@@ -1,12 +1,14 @@
 pub mod FileMapLemmas
 mod Filling
 pub mod FlagLemmas
+mod JudgeLemmas
 pub mod MappedLemmas
 mod NewSectors
 pub mod NewVolume
-mod NoCount
+mod OldLemmas
 pub mod RootLemmas
 mod RowLemmas
+mod TestLemmas
 pub mod ThreeFilesLemmas
 mod ThreeFilesBits
 mod ThreeFilesLabels

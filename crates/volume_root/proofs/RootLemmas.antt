@@ -1,6 +1,6 @@
 -- A valid root passes each test, and passes no other.
 use Rattle.std.proofs.Common.{◌≡◌, ℕ, zero, suc, ◌+◌, ◌≤◌, Bool, true, false, not, List, [], ◌∷◌, drop, Option, Some, None, Ok, Err, refl, sym, ap, arith, eqb}
-use Rattle.std.specs.Prelude.{All, codes, slice_range, option_map, nat_lt, if◌then◌else◌}
+use Rattle.std.specs.Prelude.{All, Result, codes, slice_range, option_map, nat_lt, if◌then◌else◌}
 use Rattle.std.specs.Bool.{then_some}
 use Rattle.std.specs.Option.{option_map_or}
 use Rattle.std.proofs.lemmas.Bool.{eq-eqb, eqb-true, ne_eqb, ltb-true, ltb-false, true≢false, false≢true}
@@ -14,14 +14,14 @@ use Rattle.labelled_disk.specs.Sectors.{Sector}
 use Rattle.labelled_disk.specs.Layout.{IsCount}
 use Rattle.labelled_disk.specs.Root.{IsRoot, short_at, number_at}
 use Rattle.volume_root.specs.declared.root.Root.{Root}
-use Rattle.volume_root.specs.RootPage.{Test, first_of, tests, judged, root_in, has_magic, first_from, first_rest}
+use Rattle.volume_root.specs.RootPage.{Test, first_of, is_version, tests, tests_by, judged, judged_by, root_in, has_magic, first_from, first_rest}
 
 -- a test passes where its condition doesn't hold
 none_of : {T : Type 0} (b : Bool) (x : T) → b ≡ false → then_some b x ≡ None
 none_of true x e = absurd (true≢false e)
 none_of false x e = refl
 
-of_none : {T : Type 0} (b : Bool) (x : T) → then_some b x ≡ None → b ≡ false
+pub of_none : {T : Type 0} (b : Bool) (x : T) → then_some b x ≡ None → b ≡ false
 of_none true x e = absurd (none-some x (sym e))
 of_none false x e = refl
 
@@ -29,12 +29,12 @@ not_false : (b : Bool) → b ≡ true → not b ≡ false
 not_false true e = refl
 not_false false e = absurd (false≢true e)
 
-false_not : (b : Bool) → not b ≡ false → b ≡ true
+pub false_not : (b : Bool) → not b ≡ false → b ≡ true
 false_not true e = refl
 false_not false e = absurd (true≢false e)
 
 -- no test fails
-abbrev AllPass : List Test → Type 0
+abbrev pub AllPass : List Test → Type 0
 AllPass [] = Unit {0}
 AllPass (test ∷ tests) = (test ≡ None) × AllPass tests
 
@@ -47,6 +47,22 @@ none_first : (tests : List Test) → first_of tests ≡ None → AllPass tests
 none_first [] e = tt
 none_first (Some why ∷ tests) e = absurd (none-some why (sym e))
 none_first (None ∷ tests) e = (refl, none_first tests e)
+
+pub some_of : (k : ℕ) → eqb k 0 ≡ false → 1 ≤ k
+some_of zero e = absurd (true≢false e)
+some_of (suc k) e = omega arith
+
+-- where a root is taken, each test passes, and the root is the page's
+pub passed : (version : Test) (clean_only : Bool) (n : ℕ) (s : Sector) (root : Root) → judged_by version clean_only n s ≡ Ok root → AllPass (tests_by version clean_only n s.0 s.1) × (root ≡ root_in s.1)
+passed version clean_only n s root is = let found = either (first_of (tests_by version clean_only n s.0 s.1)) is in (none_first (tests_by version clean_only n s.0 s.1) found.0, found.1)
+  where
+    root_of : Result Root RootFault → Root
+    root_of (Ok r) = r
+    root_of (Err why) = root
+
+    either : (o : Test) → option_map_or (λ (why : RootFault). Err why) o (Ok (root_in s.1)) ≡ Ok root → (o ≡ None) × (root ≡ root_in s.1)
+    either None e = (refl, sym (ap root_of e))
+    either (Some why) e = absurd (cc e)
 
 zeros : (i : ℕ) (bs : List ℕ) → All (λ b. b ≡ 0) bs → first_from i bs ≡ None
 zeros i [] all = refl
@@ -107,17 +123,13 @@ valid n s count root is = record {
   version = eqb-true (short_at s.1 8) 3 (false_not (eqb (short_at s.1 8) 3) (of_none _ _ all.1.1.0));
   flag = low (nat_lt 1 (short_at s.1 10)) refl (of_none _ _ all.1.1.1.1.1.1.0);
   count = eqb-true (number_at s.1 12) n (false_not (eqb (number_at s.1 12) n) (of_none _ _ all.1.1.1.0));
-  serial = some (number_at s.1 16) (of_none _ _ all.1.1.1.1.0);
-  counter = some (number_at s.1 20) (of_none _ _ all.1.1.1.1.1.0);
+  serial = some_of (number_at s.1 16) (of_none _ _ all.1.1.1.1.0);
+  counter = some_of (number_at s.1 20) (of_none _ _ all.1.1.1.1.1.0);
   rest = all_zero 24 (drop 24 s.1) (unmapped (first_rest s.1) all.1.1.1.1.1.1.1.0);
 }
   where
-    ok_none : (o : Test) → option_map_or (λ (why : RootFault). Err why) o (Ok (root_in s.1)) ≡ Ok root → o ≡ None
-    ok_none None e = refl
-    ok_none (Some why) e = absurd (cc e)
-
     all : AllPass (tests false n s.0 s.1)
-    all = none_first (tests false n s.0 s.1) (ok_none (first_of (tests false n s.0 s.1)) is)
+    all = (passed (is_version s.1) false n s root is).0
 
     unmapped : (o : Option ℕ) → option_map (λ i. fault.NotVolume (difference.Rest i)) o ≡ None → o ≡ None
     unmapped None e = refl
@@ -125,7 +137,3 @@ valid n s count root is = record {
 
     low : (b : Bool) → nat_lt 1 (short_at s.1 10) ≡ b → nat_lt 1 (short_at s.1 10) ≡ false → short_at s.1 10 ≤ 1
     low b e fails = ltb-false 1 (short_at s.1 10) fails
-
-    some : (k : ℕ) → eqb k 0 ≡ false → 1 ≤ k
-    some zero e = absurd (true≢false e)
-    some (suc k) e = omega arith

@@ -3,6 +3,7 @@ pub mod Format
 pub mod FormatLaws
 pub mod Later
 pub mod Mapped
+pub mod OldRoot
 pub mod RootLaws
 pub mod RootPage
 pub mod Sound

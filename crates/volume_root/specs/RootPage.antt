@@ -85,14 +85,21 @@ is_rest page = option_map (λ i. fault.NotVolume (difference.Rest i)) (first_res
 abbrev pub is_closed : Bool → List ℕ → Test
 is_closed clean_only page = then_some (clean_only && short_at page 10 == 0) fault.Unclean
 
--- the tests of a root on a disk of n sectors, in order
-abbrev pub tests : Bool → ℕ → Label → List ℕ → List Test
-tests clean_only n label page =
-    is_labelled label ∷ is_magic page ∷ is_version page ∷ is_counted n page ∷ has_serial page ∷ has_counter page ∷ is_flagged page ∷ is_rest page ∷ is_closed clean_only page ∷ []
+-- the tests of a root on a disk of n sectors, in order, among them this one of its version
+abbrev pub tests_by : Test → Bool → ℕ → Label → List ℕ → List Test
+tests_by version clean_only n label page =
+    is_labelled label ∷ is_magic page ∷ version ∷ is_counted n page ∷ has_serial page ∷ has_counter page ∷ is_flagged page ∷ is_rest page ∷ is_closed clean_only page ∷ []
 
--- the root that a sector 0 has, or why it has none
+-- the root that a sector 0 has by these tests, or why it has none
+abbrev pub judged_by : Test → Bool → ℕ → Sector → Result Root RootFault
+judged_by version clean_only n s = option_map_or Err (first_of (tests_by version clean_only n s.0 s.1)) (Ok (root_in s.1))
+
+-- a root of version 3
+abbrev pub tests : Bool → ℕ → Label → List ℕ → List Test
+tests clean_only n label page = tests_by (is_version page) clean_only n label page
+
 abbrev pub judged : Bool → ℕ → Sector → Result Root RootFault
-judged clean_only n s = option_map_or Err (first_of (tests clean_only n s.0 s.1)) (Ok (root_in s.1))
+judged clean_only n s = judged_by (is_version s.1) clean_only n s
 
 -- the answer is this one, unless the disk failed
 abbrev pub IsUnlessFault : Result Root RootFault → Result Root RootFault → Type 0

@@ -4,6 +4,7 @@ ghost use Rattle.labelled_disk.specs.Sectors.{Sector};
 ghost use Rattle.volume_root.specs.Flag.{FlagKeepsVolume, SoundIsOpened};
 ghost use Rattle.volume_root.specs.FormatLaws.{NewIsEmpty};
 ghost use Rattle.volume_root.specs.Mapped.{SoundAreMapped};
+ghost use Rattle.volume_root.specs.OldRoot.{IsOldOrNew};
 ghost use Rattle.volume_root.specs.RootLaws.{ValidIsJudged, WrittenIsRead};
 ghost use Rattle.volume_root.specs.ThreeFiles.{ThreeFilesAreSound};
 
@@ -15,6 +16,12 @@ pub fn valid_roots_pass()
 /// A root that is written is the one that is read.
 pub fn written_root_is_read()
     ensures { WrittenIsRead }
+{}
+
+/// A root that `read_old_root` takes is refused by `read_root` for its version, and the other way
+/// round.
+pub fn old_roots_are_not_new()
+    ensures { (n : ℕ) (s : Sector) → IsOldOrNew n s }
 {}
 
 /// A volume that was just made is sound, and has no file.

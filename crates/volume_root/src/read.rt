@@ -3,7 +3,7 @@ ghost use Rattle.std.specs.Prelude.{◌≡◌, ℕ, List, Some, Err, length, sli
 ghost use Rattle.labelled_disk.specs.Calls.{OnlyReads, ReadsAtMost, Rose};
 ghost use Rattle.labelled_disk.specs.Layout.{IsCount};
 ghost use Rattle.labelled_disk.specs.Sectors.{Sector};
-ghost use Rattle.volume_root.specs.RootPage.{judged, first_of, is_labelled, is_magic, is_version, is_counted, has_serial, has_counter, is_flagged, is_rest, is_closed, root_in, IsUnlessFault, IsValidRoot};
+ghost use Rattle.volume_root.specs.RootPage.{judged, judged_by, first_of, is_labelled, is_magic, is_version, is_counted, has_serial, has_counter, is_flagged, is_rest, is_closed, root_in, IsUnlessFault, IsValidRoot};
 
 use crate::page::{first_rest, has_magic, number_at, short_at};
 use crate::{Difference, Layout, Root, RootFault};
@@ -102,14 +102,22 @@ fn root_in(page: &[u8]) -> Root
     }
 }
 
-fn judge(clean_only: bool, sectors: u32, label: &Label, page: &[u8]) -> Result<Root, RootFault>
+/// The root of a disk of so many sectors whose first one has this label and page; `version` is the
+/// test of its version.
+pub(crate) fn judge(
+    version: Option<RootFault>,
+    clean_only: bool,
+    sectors: u32,
+    label: &Label,
+    page: &[u8],
+) -> Result<Root, RootFault>
     requires { length page.now ≡ 512 }
-    ensures { result ≡ judged clean_only sectors (label.now, page.now) }
+    ensures { result ≡ judged_by version clean_only sectors (label.now, page.now) }
 {
     let tests = [
         is_labelled(label),
         is_magic(page),
-        is_version(page),
+        version,
         is_counted(sectors, page),
         has_serial(page),
         has_counter(page),
@@ -143,5 +151,5 @@ pub fn read_root<D: Disk>(disk: &mut D, clean_only: bool) -> Result<Root, RootFa
     let Ok(label) = disk.read(0, &mut page) else {
         return Err(RootFault::Disk);
     };
-    judge(clean_only, sectors, &label, &page)
+    judge(is_version(&page), clean_only, sectors, &label, &page)
 }
