@@ -1,10 +1,10 @@
 -- What is planned from labels is right for each disk that has them.
-use Rattle.std.proofs.Common.{◌≡◌, ◌⊎◌, inl, inr, ℕ, zero, suc, ◌+◌, ◌-◌, ◌<◌, ◌≤◌, ◌^◌, Bool, true, false, ◌&&◌, ◌||◌, List, [], ◌∷◌, ◌++◌, length, map, take, drop, replicate, Option, Some, None, refl, sym, ◌∙◌, ap, subst, arith, eqb, leb, length-append, Result, Ok, Err, slice_index_or}
+use Rattle.std.proofs.Common.{◌≡◌, inl, inr, ℕ, zero, suc, ◌+◌, ◌-◌, ◌<◌, ◌≤◌, Bool, true, false, ◌&&◌, ◌||◌, List, [], ◌∷◌, ◌++◌, length, map, take, drop, replicate, Option, Some, None, refl, sym, ◌∙◌, ap, subst, arith, eqb, length-append, Result, Ok, Err, slice_index_or}
 use Rattle.std.specs.Prelude.{slice_get, nat_lt, nat_le, option_map, OnOk}
 use Rattle.std.specs.List.{AllByRecursion}
 use Rattle.std.specs.Option.{option_map_or}
 use Rattle.std.proofs.Math.Seq.{drop-append_seam}
-use Rattle.std.proofs.lemmas.Bool.{cases_lt, and_parts, and_from, eqb-true, eq-eqb, leb-true, le-leb, lt-ltb, lt-leb, false≢true}
+use Rattle.std.proofs.lemmas.Bool.{cases_lt, and_parts, and_from, eqb-true, eq-eqb, leb-true, le-leb, lt-ltb, false≢true}
 use Rattle.std.proofs.lemmas.List.{length-replicate, length-map}
 use Rattle.std.proofs.lemmas.Option.{same_Some, none-some, slice_get-map, slice_get-get_or, slice_get_within}
 use Rattle.labelled_disk.specs.declared.label.Label.{Label}
@@ -14,7 +14,6 @@ use Rattle.labelled_disk.specs.declared.layout.RootFault.{RootFault}
 use Rattle.labelled_disk.specs.Sectors.{Sector, zero_sector, free_label}
 use Rattle.volume_root.specs.declared.root.Root.{Root}
 use Rattle.volume_root.specs.RootPage.{first_of, judged, root_in, tests}
-use Rattle.labelled_disk.specs.WriteLaws.{HasData}
 use Rattle.labelled_disk.proofs.WriteLemmas as writes
 use Rattle.label_laws.specs.Counts.{IsLost, needs_place, lost_sectors}
 use Rattle.label_laws.proofs.CountLemmas.{list_laws}
@@ -23,7 +22,7 @@ use Rattle.label_survey.specs.declared.triples.Triple.{Triple}
 use Rattle.label_survey.specs.Laws.{KeptAreNeeded, NeededAreFiles}
 use Rattle.label_survey.specs.Standings.{standing, AreStandings}
 use Rattle.label_survey.specs.Survey.{is_kept}
-use Rattle.label_survey.specs.Triples.{AreNeeded, triple_of}
+use Rattle.label_survey.specs.Triples.{AreNeeded}
 use Rattle.scavenger.specs.declared.report.Lost.{Lost}
 use Rattle.scavenger.specs.Marks.{marks}
 use Rattle.scavenger.specs.Naming.{among, AreTriples}

@@ -1,4 +1,4 @@
-use Rattle.std.proofs.Common.{◌≡◌, ℕ, ◌+◌, ◌*◌, ◌-◌, ◌<◌, ◌^◌, List, length, rules, sym, ◌∙◌, ap, subst, arith}
+use Rattle.std.proofs.Common.{ℕ, ◌*◌, ◌<◌, ◌^◌, List, length, rules, sym, ◌∙◌, ap, subst, arith}
 use Rattle.flat_mem.specs.Vec.{vec_mem_bytes}
 use Rattle.labelled_disk.specs.Layout.{first_data, vam}
 use Rattle.volume_root.specs.declared.root.Root.{Root}

@@ -1,4 +1,4 @@
-use Rattle.std.proofs.Common.{◌≡◌, ℕ, ◌+◌, List, map, length, sym, ◌∙◌, ap, arith}
+use Rattle.std.proofs.Common.{ℕ, ◌+◌, List, map, length, sym, ◌∙◌, ap, arith}
 use Rattle.std.specs.Prelude.{slice_get}
 use Rattle.scavenger.specs.Reported.{labelled}
 use Rattle.scavenger.proofs.PlanLemmas.{imagined, imagined_has, lost_within, all_lost, ok_then}
