@@ -1,0 +1,13 @@
+pub mod Cut
+pub mod CutLaws
+pub mod Example
+pub mod Mixes
+pub mod OwnBytes
+pub mod ResizeLaws
+pub mod Restored
+pub mod Roots
+pub mod Settles
+pub mod ShapeLaws
+pub mod SizeLaws
+pub mod StayLaws
+pub mod Windows
