@@ -55,7 +55,7 @@ low_too d e long (Whole i label page ∷ writes) low = ((low.0.0, subst (λ (n :
 low_too d e long (LabelOnly i label ∷ writes) low = absurd low.0
 low_too d e long (Page i wanted page ∷ writes) low = absurd low.0
 
-module _ (restores : RestoresEach) (d : List Sector) (c : Conversion) (is : IsConversionOf d c) where
+module _ (d : List Sector) (c : Conversion) (is : IsConversionOf d c) where
   long_g : length (after_writes c.settle d) ≡ length d
   long_g = ap (λ (l : List Sector). length l) (sym (moment-end d c.settle)) ∙ (spare_moments d c.settle is.spare (length c.settle)).sectors
 
@@ -74,7 +74,7 @@ module _ (restores : RestoresEach) (d : List Sector) (c : Conversion) (is : IsCo
   data_here : data_sectors (settled_disk d c) ≡ data_sectors (after_writes c.settle d)
   data_here = laws.data_past false 0 0 (after_writes c.settle d) 0 (root_label, root_bytes (today c.root)) (laws.first_positive false 0 0 (length (after_writes c.settle d)))
 
-  none_unneeded : unneeded_sectors false (settled_disk d c) ≡ []
+  pub none_unneeded : unneeded_sectors false (settled_disk d c) ≡ []
   none_unneeded = places_none (λ i s. not (is_free s.0) && not (needs_place false (settled_disk d c) i)) (first_data (length (settled_disk d c))) (data_sectors (settled_disk d c))
       (λ i s at. by i s (ap (λ (l : List Sector). slice_get l i) (sym data_here) ∙ at) (is_file s.0) refl)
     where
@@ -113,8 +113,8 @@ module _ (restores : RestoresEach) (d : List Sector) (c : Conversion) (is : IsCo
   has_root = subst (λ (s : Option Sector). IsRoot (length (settled_disk d c)) s) (sym root_here)
       (subst (λ (n : ℕ). IsRoot n (Some (root_label, root_bytes (today c.root)))) (sym long) (is_root (length d) (today c.root) valid is.serial.1 is.counter.1))
 
-  restored : IsRestored (settled_disk d c) (after_writes (scavenge_writes o) (settled_disk d c))
-  restored = (restores (settled_disk d c) o is.sectors has_root for_it).restored
+  restored : RestoresEach → IsRestored (settled_disk d c) (after_writes (scavenge_writes o) (settled_disk d c))
+  restored restores = (restores (settled_disk d c) o is.sectors has_root for_it).restored
 
   -- the same writes
   same_end : after_writes (scavenge_writes o) (settled_disk d c) ≡ after_writes (convert_writes c) d
@@ -130,12 +130,12 @@ module _ (restores : RestoresEach) (d : List Sector) (c : Conversion) (is : IsCo
   pub same_files : files_on (settled_disk d c) ≡ files_old d
   same_files = ap (λ (l : List Sector). files_by false l l) data_here ∙ settled_has_files d (after_writes c.settle d) long_g is.settled
 
-  converted : IsConverted d c (after_writes (convert_writes c) d)
-  converted = subst (λ (h : List Sector). IsConverted d c h) same_end (record {
-    sound = restored.sound.1 (subst (λ (fs : List File). total_room fs ≤ capacity (length (settled_disk d c))) (sym same_files) (subst (λ (n : ℕ). total_room (files_old d) ≤ capacity n) (sym long) is.room));
-    files = restored.files ∙ same_files;
-    has_serial = restored.has_serial ∙ serial_here;
-    has_counter = subst (λ (n : ℕ). IsRaised (settled_disk d c) n c.root.counter (counter_of (after_writes (scavenge_writes o) (settled_disk d c)))) serial_here (subst (λ (n : ℕ). IsRaised (settled_disk d c) (serial_of (settled_disk d c)) n (counter_of (after_writes (scavenge_writes o) (settled_disk d c)))) counter_here restored.has_counter);
+  converted : RestoresEach → IsConverted d c (after_writes (convert_writes c) d)
+  converted restores = subst (λ (h : List Sector). IsConverted d c h) same_end (record {
+    sound = (restored restores).sound.1 (subst (λ (fs : List File). total_room fs ≤ capacity (length (settled_disk d c))) (sym same_files) (subst (λ (n : ℕ). total_room (files_old d) ≤ capacity n) (sym long) is.room));
+    files = (restored restores).files ∙ same_files;
+    has_serial = (restored restores).has_serial ∙ serial_here;
+    has_counter = subst (λ (n : ℕ). IsRaised (settled_disk d c) n c.root.counter (counter_of (after_writes (scavenge_writes o) (settled_disk d c)))) serial_here (subst (λ (n : ℕ). IsRaised (settled_disk d c) (serial_of (settled_disk d c)) n (counter_of (after_writes (scavenge_writes o) (settled_disk d c)))) counter_here (restored restores).has_counter);
   })
 
   ends : (k : ℕ) → length (c.settle ++ both_maps c) < k → moment d (convert_writes c) k ≡ after_writes (convert_writes c) d
@@ -148,4 +148,4 @@ module _ (restores : RestoresEach) (d : List Sector) (c : Conversion) (is : IsCo
       (cases_lt (length (c.settle ++ both_maps c)) k)
 
 pub converting_converts : ConvertingConverts
-converting_converts restores d c is = record { converted = converted restores d c is; moments = moments restores d c is }
+converting_converts restores d c is = record { converted = converted d c is restores; moments = moments d c is }

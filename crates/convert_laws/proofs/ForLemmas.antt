@@ -112,6 +112,13 @@ map_low : (d : List Sector) (id first : ℕ) (bytes : List ℕ) (pages : ℕ) �
 map_low d id first bytes pages some within =
     each_made (IsMapWrite d) (λ i. Whole (first + i) (page_label id 0 i) (page_at bytes i)) 0 pages (λ i from below. (omega (arith, some), omega (arith, within, below)))
 
+-- the label of a leader is that of a file's page 0 but for the page
+pub leader_file : (d : List Sector) (l : Label) (k : ℕ) → slice_get (old_leaders d) k ≡ Some l → (s : Sector) × (i : ℕ) × (slice_get (data_sectors d) i ≡ Some s) × (is_file s.0 ≡ true) × (l ≡ as_leader s.0)
+leader_file d l k at =
+    let e = (old_leaders_are d).each k l at in
+    let f = found_at (heads_file l.id) (data_sectors d) e.0 e.1 in
+    (e.0, f.0, f.1, (head_is l.id e.0 f.2).0, e.2)
+
 -- A disk whose files have room.
 
 module _ (d : List Sector) (accepted : IsCount (length d)) (small : length d ≤ 65536) (room : total_room (files_old d) ≤ capacity (length d)) where
@@ -155,13 +162,6 @@ module _ (d : List Sector) (accepted : IsCount (length d)) (small : length d ≤
       (spare_freed d (old_unneeded d) (places_are (IsSpare d) (λ i s. not (is_free s.0) && not (needs_old d i)) (first_data (length d)) xs (λ j s at passes. spare_place j s at (no_need (not (is_free s.0)) (needs_old d (first_data (length d) + j)) passes))))
       (spare_led d (old_spare d) (old_leaders d) (places_are (IsSpare d) (λ i s. not (needs_old d i)) (first_data (length d)) xs (λ j s at passes. spare_place j s at (not_true (needs_old d (first_data (length d) + j)) passes))) (leader_pages (files_old d)))
 
-  -- the label of a leader is that of a file's page 0 but for the page
-  leader_file : (l : Label) → (k : ℕ) → slice_get (old_leaders d) k ≡ Some l → (s : Sector) × (i : ℕ) × (slice_get xs i ≡ Some s) × (is_file s.0 ≡ true) × (l ≡ as_leader s.0)
-  leader_file l k at =
-      let e = (old_leaders_are d).each k l at in
-      let f = found_at (heads_file l.id) xs e.0 e.1 in
-      (e.0, f.0, f.1, (head_is l.id e.0 f.2).0, e.2)
-
   -- what is no file's is free
   pub rest_is_free : (i : ℕ) (s : Sector) → slice_get (data_sectors (after_writes (first_writes d) d)) i ≡ Some s → is_file s.0 ≡ false → is_free s.0 ≡ true
   rest_is_free i s at none = by (is_old_needed xs i) refl
@@ -169,14 +169,14 @@ module _ (d : List Sector) (accepted : IsCount (length d)) (small : length d ≤
       by : (b : Bool) → is_old_needed xs i ≡ b → is_free s.0 ≡ true
       by true e = absurd (true≢false (sym (needed_is_file xs i s (sym (placed.kept i e) ∙ at) e) ∙ none))
       by false e = elim (placed.gaps i s e at) [
-        | inl leads ↦ let f = leader_file s.0 (spare_below xs i) leads in absurd (true≢false (sym f.3 ∙ sym (ap is_file f.4) ∙ none))
+        | inl leads ↦ let f = leader_file d s.0 (spare_below xs i) leads in absurd (true≢false (sym f.3 ∙ sym (ap is_file f.4) ∙ none))
         | inr free ↦ free.1
       ]
 
   module _ (are : AreSectors d) where
     pub form : AllByRecursion IsWriteInForm (first_writes d)
     form = all_append IsWriteInForm (freeing (old_unneeded d)) (leader_writes (old_spare d) (old_leaders d)) (free_form (old_unneeded d))
-        (lead_form (old_spare d) (old_leaders d) (all_by (λ l. IsSector (l, replicate 512 0)) (old_leaders d) (λ k l at. one l (leader_file l k at))))
+        (lead_form (old_spare d) (old_leaders d) (all_by (λ l. IsSector (l, replicate 512 0)) (old_leaders d) (λ k l at. one l (leader_file d l k at))))
       where
         one : (l : Label) → (s : Sector) × (i : ℕ) × (slice_get xs i ≡ Some s) × (is_file s.0 ≡ true) × (l ≡ as_leader s.0) → IsSector (l, replicate 512 0)
         one l f =
@@ -269,7 +269,7 @@ conversions_convert restores d c are valid room is =
         }
       where
         settled_files : IsConversionOf d c → files_on (settled_disk d c) ≡ files_old d
-        settled_files conversion = same_files restores d c conversion
+        settled_files conversion = same_files d c conversion
 
 pub left_is_taken_again : LeftIsTakenAgain
 left_is_taken_again d e still = record {
