@@ -20,7 +20,6 @@ pub enum NoImage {
     Short,
 }
 
-
 /// The disk in a new file of so many zero sectors. There must be no file of that path. Where the
 /// file can't be locked or can't get its length, it is removed again.
 pub fn new_image(rt: &HostRuntime, sectors: u32, path: &str) -> Result<ImageDisk<File>, NoImage> {
