@@ -8,7 +8,7 @@ use labelled_disk::{Layout, RootFault};
 use pilot_top::Status;
 use std::fs::File;
 use std::io;
-use volume_root::{Root, read_old_root, read_root};
+use volume_root::read_root;
 
 /// The words mean no command: which words, and how the program is called.
 pub(crate) fn no_command(rt: &HostRuntime, words: &[String]) -> Status {
@@ -50,7 +50,7 @@ pub(crate) fn stream_failed(rt: &HostRuntime, source: Option<io::Error>, sink: O
 fn what_takes_memory(meant: Command) -> &'static str {
     match meant {
         Command::Run { .. } | Command::Trial { .. } => "the frames",
-        Command::Scavenge | Command::Convert => "labels and maps",
+        Command::Scavenge => "labels and maps",
         _ => "the words",
     }
 }
@@ -81,37 +81,14 @@ fn remedy(rt: &HostRuntime, path: &str, why: &str) {
     let _ = eprintln!(rt; "pilot: {path:?}: {why}; to restore it: pilot {path:?} scavenge");
 }
 
-/// Reads the root once more, as the command that refused it did.
-fn judged(disk: &mut ImageDisk<File>, meant: Command) -> Result<Root, RootFault> {
-    match meant {
-        Command::Convert => read_old_root(disk),
-        _ => read_root(disk, true),
-    }
-}
-
-/// The volume was refused: the first test of its root that fails is told.
-fn not_opened(rt: &HostRuntime, disk: &mut ImageDisk<File>, task: Task<'_>) {
-    let path = task.path;
-    match judged(disk, task.meant) {
+/// The volume was refused: its root is read once more, and the first test of it that fails is told.
+fn not_opened(rt: &HostRuntime, path: &str, disk: &mut ImageDisk<File>) {
+    match read_root(disk, true) {
         Err(RootFault::Unclean) => remedy(rt, path, "the volume was not closed"),
         Err(fault) => {
-            let _ = if is_old(fault) && task.meant != Command::Convert {
-                eprintln!(rt;
-                    "pilot: {path:?}: {fault}; to bring it to version 3: pilot {path:?} convert"
-                )
-            } else {
-                eprintln!(rt; "pilot: {path:?}: {fault}")
-            };
+            let _ = eprintln!(rt; "pilot: {path:?}: {fault}");
         }
         Ok(_) => {}
-    }
-}
-
-/// Whether the volume is of a version that `convert` takes.
-fn is_old(fault: RootFault) -> bool {
-    match fault {
-        RootFault::Version(version) => version == 1 || version == 2,
-        _ => false,
     }
 }
 
@@ -126,18 +103,10 @@ pub(crate) fn image_stopped(
         (Status::DiskFault, Some(trouble)) => {
             let _ = eprintln!(rt; "pilot: {:?}: {trouble}", task.path);
         }
-        (Status::NotOpened, _) => not_opened(rt, disk, task),
-        (Status::Unfit, _) => unfit(rt, task.path),
+        (Status::NotOpened, _) => not_opened(rt, task.path, disk),
         (Status::NoMemory, _) => no_memory(rt, what_takes_memory(task.meant)),
         (Status::Long, _) => too_long(rt),
         (Status::Damaged, _) => remedy(rt, task.path, "the volume is damaged"),
         _ => {}
     }
-}
-
-/// The files of an old volume have no room in a volume of today.
-fn unfit(rt: &HostRuntime, path: &str) {
-    let _ = eprintln!(rt;
-        "pilot: {path:?}: files and pages together are more than a volume of today has room for"
-    );
 }
