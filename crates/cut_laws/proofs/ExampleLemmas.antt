@@ -1,17 +1,24 @@
 -- Disks that are written out.
-use Rattle.std.proofs.Common.{◌≡◌, inl, inr, ℕ, zero, suc, ◌*◌, ◌≤◌, List, [], ◌∷◌, ◌++◌, length, take, replicate, Some, refl, sym, ◌∙◌, ap, subst, arith}
+use Rattle.std.proofs.Common.{◌≡◌, inl, inr, ℕ, zero, suc, ◌*◌, ◌≤◌, List, [], ◌∷◌, ◌++◌, length, take, replicate, Some, refl, sym, ◌∙◌, ap, subst, arith, ◌⊎◌, ◌<◌, true, false}
 use Rattle.std.specs.Prelude.{slice_get, slice_index}
 use Rattle.std.proofs.lemmas.List.{drop_all}
+use Rattle.std.proofs.lemmas.Bool.{true≢false}
 use Rattle.std.proofs.lemmas.Option.{same_Some, none-some}
+use Rattle.labelled_disk.specs.declared.disk.DiskWrite.{DiskWrite}
 use Rattle.labelled_disk.specs.declared.disk.DiskWrite.TheVariants as kind
-use Rattle.labelled_disk.specs.Label.{root_label, page_label}
-use Rattle.labelled_disk.specs.Layout.{first_data}
+use Rattle.labelled_disk.specs.FilesOn.{is_of, pages_from}
+use Rattle.label_laws.specs.Mixed.{gives_label}
+use Rattle.cut_laws.specs.ResizeLaws.{IsResized}
+use Rattle.cut_laws.specs.ShapeLaws.{IsWholeOn}
+use Rattle.cut_laws.proofs.OwnRunLemmas.{own_run_laws}
+use Rattle.labelled_disk.specs.Label.{leader_page, root_label, page_label}
+use Rattle.labelled_disk.specs.Layout.{data_sectors, first_data}
 use Rattle.labelled_disk.specs.Moment.{moment}
-use Rattle.labelled_disk.specs.Runs.{zero_bytes}
+use Rattle.labelled_disk.specs.Runs.{growth, sector_of, zero_bytes}
 use Rattle.labelled_disk.specs.Sectors.{Sector, free_label}
 use Rattle.label_laws.specs.LawfulRuns.{AreLawful}
 use Rattle.cut_laws.specs.Cut.{unit, AtSome, HasLabelAt, HasUnitAt, IsCutSince}
-use Rattle.cut_laws.specs.Example.{ExampleCuts, ForeignBytes, UnitIsWhole, closed_root, given_on, mixed_up, open_root, torn_root, two_files}
+use Rattle.cut_laws.specs.Example.{ExampleCuts, ForeignBytes, UnitIsWhole, closed_root, given_on, mixed_up, one_file, open_root, torn_root, two_files}
 
 -- behind the last unit there is none
 past_end : (u : ℕ) (page : List ℕ) → length page ≤ 16 * u → unit u page ≡ []
@@ -77,10 +84,63 @@ module _ (bytes : List ℕ) where
   unfolding first_data
   foreign_bytes = record { lawful = lawful; cut = record { sectors = refl; labels = label; units = part }; foreign = refl }
 
+-- a file that can be lengthened
+grows_lawful : AreLawful one_file (growth 16 0 0 (5 ∷ []))
+unfolding first_data zero_bytes
+grows_lawful =
+    (inr (record { old = ((free_label, replicate 512 0), record { is_data = omega arith; here = refl }, refl); of_file = inr refl; no_flags = refl; zero_page = refl }), tt)
+
+whole : IsWholeOn one_file 16
+unfolding first_data pages_from
+whole = (
+  record { id = 16; kind = 0; permanent = false; immutable = false; pages = [] },
+  refl,
+  record {
+    no_other = λ i s at of. number i s at of;
+    once = λ i j s t at there of also same. first i s at of ∙ sym (first j t there also);
+  },
+)
+  where
+    number : (i : ℕ) (s : Sector) → slice_get (data_sectors one_file) i ≡ Some s → is_of 16 s ≡ true → (s.0.page ≡ leader_page) ⊎ (s.0.page < 0)
+    number zero s at of = inl (ap (λ (v : Sector). v.0.page) (sym (same_Some (page_label 16 0 leader_page, []) s at)))
+    number (suc zero) s at of = absurd (true≢false (sym of ∙ ap (is_of 16) (sym (same_Some (free_label, zero_bytes) s at))))
+    number (suc (suc i)) s at of = absurd (none-some s at)
+
+    first : (i : ℕ) (s : Sector) → slice_get (data_sectors one_file) i ≡ Some s → is_of 16 s ≡ true → i ≡ 0
+    first zero s at of = refl
+    first (suc zero) s at of = absurd (true≢false (sym of ∙ ap (is_of 16) (sym (same_Some (free_label, zero_bytes) s at))))
+    first (suc (suc i)) s at of = absurd (none-some s at)
+
+grows_resized : IsResized one_file (growth 16 0 0 (5 ∷ [])) 16
+unfolding whole
+grows_resized = record {
+  whole = whole;
+  at_end = (own_run_laws 16).lengthened one_file (growth 16 0 0 (5 ∷ [])) whole 0 (5 ∷ []) grows_lawful (let room : 1 < leader_page = omega arith in room) refl;
+  one_label = λ k l write other here of there gives on. only k write here l other there;
+  zeros = λ k write s here of at free. zeros k write s here at;
+  free_unwritten = λ k write here none. absurd (no_page k write here none);
+}
+  where
+    only : (k : ℕ) (write : DiskWrite) → slice_get (growth 16 0 0 (5 ∷ [])) k ≡ Some write → (l : ℕ) (other : DiskWrite) → slice_get (growth 16 0 0 (5 ∷ [])) l ≡ Some other → l ≡ k
+    only zero write here zero other there = refl
+    only (suc k) write here l other there = absurd (none-some write here)
+    only zero write here (suc l) other there = absurd (none-some other there)
+
+    zeros : (k : ℕ) (write : DiskWrite) (s : Sector) → slice_get (growth 16 0 0 (5 ∷ [])) k ≡ Some write → slice_get one_file (sector_of write) ≡ Some s → s.1 ≡ zero_bytes
+    zeros zero write s here at =
+        let on : sector_of write ≡ 5 = ap sector_of (sym (same_Some (kind.Whole 5 (page_label 16 0 0) zero_bytes) write here)) in
+        ap (λ (v : Sector). v.1) (same_Some s (free_label, zero_bytes) (sym at ∙ ap (λ (n : ℕ). slice_get one_file n) on))
+    zeros (suc k) write s here at = absurd (none-some write here)
+
+    no_page : (k : ℕ) (write : DiskWrite) → slice_get (growth 16 0 0 (5 ∷ [])) k ≡ Some write → gives_label write ≡ false → ⊥
+    no_page zero write here none = true≢false (ap gives_label (same_Some (kind.Whole 5 (page_label 16 0 0) zero_bytes) write here) ∙ none)
+    no_page (suc k) write here none = absurd (none-some write here)
+
 pub example_cuts : ExampleCuts
 unfolding first_data
 example_cuts = record {
   torn_root = record { cut = root_cut; flag = refl; counter = refl; flag_before = refl; counter_after = refl };
   unit_is_whole = unit_is_whole;
   foreign_bytes = foreign_bytes;
+  one_page_more = record { lawful = grows_lawful; resized = grows_resized };
 }

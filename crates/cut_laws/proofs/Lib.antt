@@ -17,3 +17,5 @@ mod WholeWriteLemmas
 mod ResizeLemmas
 mod MixLemmas
 mod ExampleLemmas
+pub mod OwnRunLemmas
+mod RootWriteLemmas

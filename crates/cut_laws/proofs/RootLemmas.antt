@@ -247,7 +247,7 @@ module _ (i u : ℕ) (d : List Sector) (write : DiskWrite) (e : List Sector) (ap
         | inr new ↦ inr (is_after (λ s v at there. ap (λ (w : Sector). unit u w.1) (same_Some v t (sym there ∙ f)) ∙ sym new.2 ∙ ap (λ (w : Sector). unit u w.1) (same_Some new.0 s (sym new.1 ∙ at))))
       ]
 
-one_root : (d : List Sector) (old new : List ℕ) (e : List Sector) → slice_get d 0 ≡ Some (root_label, old) → drop 16 new ≡ drop 16 old → IsCutSince d (kind.Whole 0 root_label new ∷ []) e
+pub one_root : (d : List Sector) (old new : List ℕ) (e : List Sector) → slice_get d 0 ≡ Some (root_label, old) → drop 16 new ≡ drop 16 old → IsCutSince d (kind.Whole 0 root_label new ∷ []) e
     → (e ≡ d) ⊎ (e ≡ written (kind.Whole 0 root_label new) d)
 one_root d old new e here rest = one_unit 0 0 d (kind.Whole 0 root_label new) e (record {
   sectors = written_long d (kind.Whole 0 root_label new);

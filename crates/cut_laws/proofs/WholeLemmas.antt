@@ -1,5 +1,5 @@
 -- A file that is shortened or lengthened at its end stays whole.
-use Rattle.std.proofs.Common.{◌≡◌, ◌≢◌, ◌⊎◌, inl, inr, ℕ, zero, suc, ◌+◌, ◌<◌, ◌≤◌, Bool, true, false, List, [], ◌∷◌, ◌++◌, map, length, take, Option, Some, None, refl, sym, ◌∙◌, ap, subst, arith, ◌&&◌, ◌||◌, eqb}
+use Rattle.std.proofs.Common.{◌≡◌, ◌≢◌, ◌⊎◌, inl, inr, ℕ, suc, ◌+◌, ◌<◌, ◌≤◌, Bool, true, false, List, [], ◌∷◌, ◌++◌, map, length, take, Option, Some, None, refl, sym, ◌∙◌, ap, subst, arith, ◌&&◌, ◌||◌, eqb}
 use Rattle.std.specs.Prelude.{slice_get, slice_set, option_map}
 use Rattle.std.proofs.lemmas.Bool.{cases_eq, true≢false}
 use Rattle.std.proofs.lemmas.List.{length_push, length-take-le}
@@ -19,6 +19,7 @@ use Rattle.labelled_disk.proofs.WriteLemmas as laws
 use Rattle.label_laws.specs.Shape.{bare_file, BareFile}
 use Rattle.cut_laws.specs.ShapeLaws.{IsWholeOn}
 use Rattle.cut_laws.specs.SizeLaws.{RightIsWhole}
+use Rattle.cut_laws.proofs.MomentLemmas.{get_some}
 use Rattle.cut_laws.proofs.PairLemmas.{Pairs, Alike, alike_passes, alike_sym, alike_test}
 use Rattle.cut_laws.proofs.StayLemmas.{Of, shape_pairs}
 
@@ -26,43 +27,48 @@ use Rattle.cut_laws.proofs.StayLemmas.{Of, shape_pairs}
 abbrev pub IsWholeAmong : List Sector → ℕ → Type 0
 IsWholeAmong xs id = (f : File) × (file_among true xs id ≡ Some f) × (f.id ≡ id) × IsWhole xs f
 
+-- and it has so many pages
+abbrev pub IsSizedAmong : List Sector → ℕ → ℕ → Type 0
+IsSizedAmong xs id n = (whole : IsWholeAmong xs id) × (size whole.0 ≡ n)
+
 abbrev pub whole_among : (d : List Sector) (id : ℕ) → IsWholeOn d id → IsWholeAmong (data_sectors d) id
 whole_among d id whole = (whole.0, whole.1, ((lowest.files_are_as_told true d).told id whole.0 whole.1).1, whole.2)
 
-pub whole_on : (d : List Sector) (id : ℕ) → IsWholeAmong (data_sectors d) id → IsWholeOn d id
-whole_on d id whole = (whole.0, whole.1, whole.3)
+abbrev pub IsSizedOn : List Sector → ℕ → ℕ → Type 0
+IsSizedOn d id n = (whole : IsWholeOn d id) × (size whole.0 ≡ n)
+
+pub whole_on : (d : List Sector) (id n : ℕ) → IsSizedAmong (data_sectors d) id n → IsSizedOn d id n
+whole_on d id n sized = ((sized.0.0, sized.0.1, sized.0.3), sized.1)
 
 -- by the labels of the file
-pub whole_alike : (id : ℕ) (xs ys : List Sector) → Pairs (λ s t. Alike (Of id) s.0 t.0) xs ys → IsWholeAmong xs id → IsWholeAmong ys id
+pub whole_alike : (id : ℕ) (xs ys : List Sector) → Pairs (λ s t. Alike (Of id) s.0 t.0) xs ys → (whole : IsWholeAmong xs id) → IsSizedAmong ys id (size whole.0)
 whole_alike id xs ys pairs whole =
     let g = there (file_among true ys id) refl (shape_pairs true id xs ys pairs ∙ ap (λ (o : Option File). option_map bare_file o) whole.1) in
     let ids : g.0.id ≡ id = ap (λ (b : BareFile). b.id) g.2 ∙ whole.2 in (
-      g.0,
-      g.1,
-      ids,
-      record {
-        no_other = λ i t at of.
-            let s = back i t at (ap (λ (n : ℕ). is_of n t) (sym ids) ∙ of) in
-            elim (whole.3.no_other i s.0 s.1 (ap (λ (n : ℕ). is_of n s.0) whole.2 ∙ s.3)) [
-              | inl lead ↦ inl (ap (λ (l : Label). l.page) (sym s.2) ∙ lead)
-              | inr less ↦ inr (omega (arith, less, ap (λ (l : Label). l.page) s.2, ap (λ (b : BareFile). b.pages) g.2))
-            ];
-        once = λ i j t u at there of also same.
-            let s = back i t at (ap (λ (n : ℕ). is_of n t) (sym ids) ∙ of) in
-            let v = back j u there (ap (λ (n : ℕ). is_of n u) (sym ids) ∙ also) in
-            whole.3.once i j s.0 v.0 s.1 v.1 (ap (λ (n : ℕ). is_of n s.0) whole.2 ∙ s.3) (ap (λ (n : ℕ). is_of n v.0) whole.2 ∙ v.3)
-            (ap (λ (l : Label). l.page) s.2 ∙ same ∙ ap (λ (l : Label). l.page) (sym v.2));
-      },
+      (
+        g.0,
+        g.1,
+        ids,
+        record {
+          no_other = λ i t at of.
+              let s = back i t at (ap (λ (n : ℕ). is_of n t) (sym ids) ∙ of) in
+              elim (whole.3.no_other i s.0 s.1 (ap (λ (n : ℕ). is_of n s.0) whole.2 ∙ s.3)) [
+                | inl lead ↦ inl (ap (λ (l : Label). l.page) (sym s.2) ∙ lead)
+                | inr less ↦ inr (omega (arith, less, ap (λ (l : Label). l.page) s.2, ap (λ (b : BareFile). b.pages) g.2))
+              ];
+          once = λ i j t u at there of also same.
+              let s = back i t at (ap (λ (n : ℕ). is_of n t) (sym ids) ∙ of) in
+              let v = back j u there (ap (λ (n : ℕ). is_of n u) (sym ids) ∙ also) in
+              whole.3.once i j s.0 v.0 s.1 v.1 (ap (λ (n : ℕ). is_of n s.0) whole.2 ∙ s.3) (ap (λ (n : ℕ). is_of n v.0) whole.2 ∙ v.3)
+              (ap (λ (l : Label). l.page) s.2 ∙ same ∙ ap (λ (l : Label). l.page) (sym v.2));
+        },
+      ),
+      ap (λ (b : BareFile). b.pages) g.2,
     )
   where
     there : (o : Option File) → file_among true ys id ≡ o → option_map bare_file (file_among true ys id) ≡ Some (bare_file whole.0) → (g : File) × (file_among true ys id ≡ Some g) × (bare_file g ≡ bare_file whole.0)
     there None e h = absurd (none-some (bare_file whole.0) (sym (ap (λ (o : Option File). option_map bare_file o) e) ∙ h))
     there (Some g) e h = (g, e, same_Some (bare_file g) (bare_file whole.0) (sym (ap (λ (o : Option File). option_map bare_file o) e) ∙ h))
-
-    get_some : {X : Type 0} (xs : List X) (i : ℕ) → i < length xs → (x : X) × (slice_get xs i ≡ Some x)
-    get_some [] i below = absurd (omega (arith, below))
-    get_some (x ∷ xs) zero below = (x, refl)
-    get_some (x ∷ xs) (suc i) below = get_some xs i (omega (arith, below))
 
     -- the sector that was there had the same label
     back : (i : ℕ) (t : Sector) → slice_get ys i ≡ Some t → is_of id t ≡ true → (s : Sector) × (slice_get xs i ≡ Some s) × (s.0 ≡ t.0) × (is_of id s ≡ true)
@@ -92,30 +98,33 @@ module _ (id : ℕ) (xs : List Sector) (i : ℕ) (s t : Sector) (here : slice_ge
       (w.page_number true id p u passes ∙ sym (w.page_number true id p s is))
 
   -- the last page is freed
-  pub whole_shorter : (p : ℕ) → size whole.0 ≡ suc p → is_page id p s ≡ true → is_of id t ≡ false → IsWholeAmong (slice_set xs i t) id
+  pub whole_shorter : (p : ℕ) → size whole.0 ≡ suc p → is_page id p s ≡ true → is_of id t ≡ false → IsSizedAmong (slice_set xs i t) id p
   whole_shorter p count is new =
       let numbered : size whole.0 ≤ leader_page = omega (arith, many) in
       let less : p ≤ length whole.0.pages = omega (arith, count) in
       let long : length (take p whole.0.pages) ≡ p = length-take-le p whole.0.pages less in (
-        record whole.0 { pages = take p whole.0.pages },
-        w.cut true xs i s t here id p is (alone p is) (omega (arith, count, many)) new ∙ ap (λ (o : Option File). option_map (λ (f : File). record f { pages = take p f.pages }) o) whole.1,
-        whole.2,
-        record {
-          no_other = λ j u at of. elim (after j u at) [
-            | inl e ↦ absurd (true≢false (sym (mine u of) ∙ ap (λ (v : Sector). is_of id v) e.1 ∙ new))
-            | inr old ↦ elim (whole.3.no_other j u old.1 of) [
-              | inl lead ↦ inl lead
-              | inr low ↦ inr (omega (arith, low, count, long, other j u old.0 old.1 of))
-            ]
-          ];
-          once = λ j k u v at there of also same. elim (after j u at) [
-            | inl e ↦ absurd (true≢false (sym (mine u of) ∙ ap (λ (v : Sector). is_of id v) e.1 ∙ new))
-            | inr old ↦ elim (after k v there) [
-              | inl e ↦ absurd (true≢false (sym (mine v also) ∙ ap (λ (v : Sector). is_of id v) e.1 ∙ new))
-              | inr too ↦ whole.3.once j k u v old.1 too.1 of also same
-            ]
-          ];
-        },
+        (
+          record whole.0 { pages = take p whole.0.pages },
+          w.cut true xs i s t here id p is (alone p is) (omega (arith, count, many)) new ∙ ap (λ (o : Option File). option_map (λ (f : File). record f { pages = take p f.pages }) o) whole.1,
+          whole.2,
+          record {
+            no_other = λ j u at of. elim (after j u at) [
+              | inl e ↦ absurd (true≢false (sym (mine u of) ∙ ap (λ (v : Sector). is_of id v) e.1 ∙ new))
+              | inr old ↦ elim (whole.3.no_other j u old.1 of) [
+                | inl lead ↦ inl lead
+                | inr low ↦ inr (omega (arith, low, count, long, other j u old.0 old.1 of))
+              ]
+            ];
+            once = λ j k u v at there of also same. elim (after j u at) [
+              | inl e ↦ absurd (true≢false (sym (mine u of) ∙ ap (λ (v : Sector). is_of id v) e.1 ∙ new))
+              | inr old ↦ elim (after k v there) [
+                | inl e ↦ absurd (true≢false (sym (mine v also) ∙ ap (λ (v : Sector). is_of id v) e.1 ∙ new))
+                | inr too ↦ whole.3.once j k u v old.1 too.1 of also same
+              ]
+            ];
+          },
+        ),
+        long,
       )
     where
       many : size whole.0 ≤ leader_page
@@ -127,21 +136,24 @@ module _ (id : ℕ) (xs : List Sector) (i : ℕ) (s t : Sector) (here : slice_ge
           off (whole.3.once j i u s at here of (ap (λ (n : ℕ). is_of n s) whole.2 ∙ w.page_of true id p s is) (e ∙ sym (w.page_number true id p s is)))
 
   -- a page behind the last one
-  pub whole_longer : is_of id s ≡ false → is_page id (size whole.0) t ≡ true → suc (size whole.0) < leader_page → IsWholeAmong (slice_set xs i t) id
+  pub whole_longer : is_of id s ≡ false → is_page id (size whole.0) t ≡ true → suc (size whole.0) < leader_page → IsSizedAmong (slice_set xs i t) id (suc (size whole.0))
   whole_longer old is room = (
-    record whole.0 { pages = whole.0.pages ++ map byte t.1 ∷ [] },
-    w.grown true xs i s t here id whole.0 whole.1 old is (none (size whole.0) (omega arith) (omega (arith, room))) (none (size whole.0 + 1) (omega arith) (omega (arith, room))) (omega (arith, room)),
-    whole.2,
-    record {
-      no_other = λ j u at of. elim (after j u at) [
-        | inl e ↦ inr (omega (arith, length_push whole.0.pages (map byte t.1), ap (λ (v : Sector). v.0.page) e.1, number))
-        | inr before ↦ elim (whole.3.no_other j u before.1 of) [
-          | inl lead ↦ inl lead
-          | inr low ↦ inr (omega (arith, low, length_push whole.0.pages (map byte t.1)))
-        ]
-      ];
-      once = λ j k u v at there of also same. one j k u v of also same (after j u at) (after k v there);
-    },
+    (
+      record whole.0 { pages = whole.0.pages ++ map byte t.1 ∷ [] },
+      w.grown true xs i s t here id whole.0 whole.1 old is (none (size whole.0) (omega arith) (omega (arith, room))) (none (size whole.0 + 1) (omega arith) (omega (arith, room))) (omega (arith, room)),
+      whole.2,
+      record {
+        no_other = λ j u at of. elim (after j u at) [
+          | inl e ↦ inr (omega (arith, length_push whole.0.pages (map byte t.1), ap (λ (v : Sector). v.0.page) e.1, number))
+          | inr before ↦ elim (whole.3.no_other j u before.1 of) [
+            | inl lead ↦ inl lead
+            | inr low ↦ inr (omega (arith, low, length_push whole.0.pages (map byte t.1)))
+          ]
+        ];
+        once = λ j k u v at there of also same. one j k u v of also same (after j u at) (after k v there);
+      },
+    ),
+    let long : length (whole.0.pages ++ map byte t.1 ∷ []) ≡ suc (size whole.0) = omega (arith, length_push whole.0.pages (map byte t.1)) in long,
   )
     where
       number : t.0.page ≡ size whole.0

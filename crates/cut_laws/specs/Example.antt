@@ -5,10 +5,11 @@ use Rattle.labelled_disk.specs.declared.disk.DiskWrite.TheVariants.{Whole, Label
 use Rattle.labelled_disk.specs.File.{byte}
 use Rattle.labelled_disk.specs.Label.{leader_page, page_label, root_label}
 use Rattle.labelled_disk.specs.Root.{counter_of}
-use Rattle.labelled_disk.specs.Runs.{zero_bytes}
+use Rattle.labelled_disk.specs.Runs.{growth, zero_bytes}
 use Rattle.labelled_disk.specs.Sectors.{Sector, free_label}
 use Rattle.label_laws.specs.LawfulRuns.{AreLawful}
 use Rattle.cut_laws.specs.Cut.{IsCutSince}
+use Rattle.cut_laws.specs.ResizeLaws.{IsResized}
 use Rattle.cut_laws.specs.Roots.{flag_of}
 use Rattle.cut_laws.specs.Windows.{disk_page}
 
@@ -50,7 +51,17 @@ pub record ForeignBytes (bytes : List ℕ) : Type 0 where
   pub cut : IsCutSince (two_files bytes) given_on (mixed_up bytes)
   pub foreign : disk_page (mixed_up bytes) 16 0 ≡ Some (map byte bytes)
 
+-- file 16 has no page, and a free sector has zeros; that sector becomes its page 0
+abbrev pub one_file : List Sector
+one_file = (free_label, []) ∷ (free_label, []) ∷ (free_label, []) ∷ (free_label, []) ∷ (page_label 16 0 leader_page, []) ∷ (free_label, zero_bytes) ∷ []
+
+-- what a law asks of a file that is lengthened can be met
+pub record OnePageMore : Type 0 where
+  pub lawful : AreLawful one_file (growth 16 0 0 (5 ∷ []))
+  pub resized : IsResized one_file (growth 16 0 0 (5 ∷ [])) 16
+
 pub record ExampleCuts : Type 0 where
   pub torn_root : TornRoot
   pub unit_is_whole : UnitIsWhole
   pub foreign_bytes : (bytes : List ℕ) → ForeignBytes bytes
+  pub one_page_more : OnePageMore

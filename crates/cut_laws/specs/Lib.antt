@@ -3,8 +3,10 @@ pub mod CutLaws
 pub mod Example
 pub mod Mixes
 pub mod OwnBytes
+pub mod OwnRuns
 pub mod ResizeLaws
 pub mod Restored
+pub mod RootWrites
 pub mod Roots
 pub mod Settles
 pub mod ShapeLaws

@@ -12,6 +12,7 @@ use Rattle.label_laws.specs.Mixed.{gives_label}
 use Rattle.label_laws.specs.OneFile.{id_of}
 use Rattle.cut_laws.specs.Cut.{unit, AtSome}
 
+-- P of each write, on the moment before it
 abbrev pub EachWrite : (List Sector → DiskWrite → Type 0) → List Sector → List DiskWrite → Type 0
 EachWrite P d writes = (k : ℕ) (write : DiskWrite) → slice_get writes k ≡ Some write → P (moment d writes k) write
 
@@ -19,6 +20,7 @@ EachWrite P d writes = (k : ℕ) (write : DiskWrite) → slice_get writes k ≡ 
 abbrev pub IsLabelWriteOf : ℕ → List Sector → DiskWrite → Type 0
 IsLabelWriteOf id now write = (gives_label write ≡ true) × (id_of now write ≡ id)
 
+-- none is
 abbrev pub NoLabelOf : ℕ → List Sector → List DiskWrite → Type 0
 NoLabelOf id = EachWrite (λ now write. IsLabelWriteOf id now write → ⊥)
 
@@ -28,6 +30,7 @@ IsPageWriteOf id p (Whole sector label page) = ⊥
 IsPageWriteOf id p (LabelOnly sector label) = ⊥
 IsPageWriteOf id p (Page sector wanted page) = (wanted.id ≡ id) × (wanted.page ≡ p)
 
+-- none is
 abbrev pub IsUnwritten : ℕ → ℕ → List Sector → List DiskWrite → Type 0
 IsUnwritten id p = EachWrite (λ now write. IsPageWriteOf id p write → ⊥)
 

@@ -5,8 +5,10 @@ ghost use Rattle.cut_laws.specs.CutLaws.{CutLaws, WindowLaws};
 ghost use Rattle.cut_laws.specs.Example.{ExampleCuts};
 ghost use Rattle.cut_laws.specs.Mixes.{MixLaws};
 ghost use Rattle.cut_laws.specs.OwnBytes.{OwnBytes};
+ghost use Rattle.cut_laws.specs.OwnRuns.{OwnRunLaws};
 ghost use Rattle.cut_laws.specs.ResizeLaws.{ResizedHasSizeBetween};
 ghost use Rattle.cut_laws.specs.Restored.{RestoredKeepsFiles};
+ghost use Rattle.cut_laws.specs.RootWrites.{RootIsWhole};
 ghost use Rattle.cut_laws.specs.Roots.{FlagLaws};
 ghost use Rattle.cut_laws.specs.Settles.{SettleLaws};
 ghost use Rattle.cut_laws.specs.ShapeLaws.{LeaderFreed, LeaderWritten, NoLabelWritten, ShapesOfOneMoment};
@@ -43,7 +45,8 @@ pub fn restored_keep_files_in_cuts()
 
 /// The root, and its clean flag, in a cut.
 pub fn root_in_cuts()
-    ensures { FlagLaws }
+    ensures laws { FlagLaws }
+    ensures written { RootIsWhole }
 {}
 
 /// A file has bytes of its own in a cut, where its sectors were no other's since the last settle.
@@ -62,4 +65,9 @@ pub fn sizes_in_cuts()
 /// Cuts of disks that are written out: a root with the new flag and the old counter, and bytes of another file.
 pub fn example_cuts()
     ensures { ExampleCuts }
+{}
+
+/// The label writes of one file among writes of all: its runs, said of each write.
+pub fn runs_of_one_file()
+    ensures { (id : ℕ) → OwnRunLaws id }
 {}

@@ -106,7 +106,7 @@ impl<A: Allocator + Clone> Conversion<A> {
             → root.now ≡ root_in (root_page d)
             → IsPlannedFor d root.now layout.now.first conversion) }
     {
-        let heads = heads_of(alloc.clone()?, &labels, &standings)?;
+        let heads = heads_of(alloc.clone()?, &labels, &standings, told.files as usize)?;
         let settled = settled_standings(alloc.clone()?, &standings, heads.len())?;
         let relabelled = settled_labels(alloc.clone()?, &labels, &standings, &heads)?;
         drop(labels);

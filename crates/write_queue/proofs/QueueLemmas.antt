@@ -1,6 +1,6 @@
 -- A queue as a disk: what one call of it comes to.
 use Rattle.std.proofs.Common.{◌≡◌, ◌⊎◌, inl, inr, ℕ, ◌+◌, ◌-◌, ◌^◌, ◌<◌, ◌≤◌, min, List, [], ◌∷◌, ◌++◌, length, get_or, Option, Some, None, refl, sym, ◌∙◌, ap, subst, arith, true, false, eqb-true, Result, Ok, Err}
-use Rattle.std.specs.Prelude.{slice_get, slice_set, ◌==◌, if◌then◌else◌, option_map, IfOk, OnErr, is_err, ◌&&◌, Bool}
+use Rattle.std.specs.Prelude.{slice_get, slice_set, ◌==◌, if◌then◌else◌, option_map, IfOk, OnErr, ◌&&◌, Bool}
 use Rattle.labelled_disk.specs.declared.label.Label.{Label}
 use Rattle.labelled_disk.specs.declared.label.Wanted.{Wanted}
 use Rattle.labelled_disk.specs.declared.disk.DiskError.{DiskError}
@@ -9,15 +9,15 @@ use Rattle.labelled_disk.specs.declared.disk.DiskWrite.{DiskWrite}
 use Rattle.labelled_disk.specs.declared.disk.DiskWrite.TheVariants.{Page}
 use Rattle.labelled_disk.proofs.CallLemmas.{tells_write_later, tells_same_then, rose_earlier}
 use Rattle.labelled_disk.specs.Label.{names}
-use Rattle.labelled_disk.specs.Moment.{written}
-use Rattle.labelled_disk.specs.Calls.{Moved, Moves, Rose, Settles, TellsSame, TellsWrite, Reads, Writes, WritesData}
+use Rattle.labelled_disk.specs.Calls.{Moved, Moves, Rose, TellsSame, TellsWrite, Reads, Writes, WritesData}
 use Rattle.labelled_disk.specs.Sectors.{Sector, IsSector}
 use Rattle.labelled_disk.specs.State.{DiskState, Holds, NamesThere}
 use Rattle.write_queue.specs.declared.entry.Entry.{Entry}
 use Rattle.write_queue.specs.Entries.{AreWaiting, IsOnce, Waits, waiting_at, laid}
 use Rattle.write_queue.specs.Inside.{LabelsStay, MakesRoom}
-use Rattle.write_queue.specs.Queue.{queued}
+use Rattle.write_queue.specs.Queue.{StandsBeneath, queued}
 use Rattle.write_queue.specs.QueueLaws.{told_before}
+use Rattle.write_queue.specs.View.{View}
 use Rattle.write_queue.proofs.LaidLemmas.{labels-laid, laid-none}
 use Rattle.write_queue.proofs.WaitLemmas.{told_put, told_waiting, told_beneath, told_through, waits_again}
 use Rattle.write_queue.proofs.ListLemmas.{stands_waiting, waiting-set, waiting-added}
@@ -113,17 +113,6 @@ module _ (old mid new : DiskState) (same : TellsSame old mid) (sectors : mid.sec
       either : TellsSame mid new ⊎ TellsWrite w mid new → TellsSame old new ⊎ TellsWrite w old new
       either (inl s) = inl (tells_same_then same s)
       either (inr t) = inr (tells_write_later w same t)
-
--- nothing came of the call but a fault
-module _ (old new : DiskState) (same : TellsSame old new) (sectors : new.sectors ≡ old.sectors) (lent : new.lent ≡ old.lent) (moved : Moved old.transfers new.transfers) (faults : old.faults ≤ new.faults) (rose : Rose old.faults new.faults) where
-  moves-failed : Moves old new
-  moves-failed = record { sectors = sectors; lent = lent; transfers = moved; faults = faults }
-
-  pub data_failed : (n : ℕ) (wanted : Wanted) (page : List ℕ) → WritesData n wanted page old (Err err.Failed) new
-  data_failed n wanted page = record { written = tt; named = tt; wrong = tt; whole_or_absent = inl same; cause = rose; moves = moves-failed }
-
-  pub writes_failed : (w : DiskWrite) → Writes w old (Err err.Failed) new
-  writes_failed w = record { written = tt; whole_or_absent = inl same; moves = moves-failed; fails = record { failed = refl; cause = rose } }
 
 -- the same, by the place where it waits
 pub data_wrong_at : (under : DiskState) (es : List Entry) (transfers own place : ℕ) (e f : Entry) (wanted : Wanted) (page : List ℕ) → AreWaiting under es → slice_get es place ≡ Some e → slice_get es place ≡ Some f
@@ -268,32 +257,16 @@ data_later u v es fs t own counted later more n wanted page r moved same w =
     (record { later = omega (arith, moved.later, same); by_one = omega (arith, moved.by_one, same) }) (omega arith) n wanted page r w
 
 -- where the queue is synced nothing waits, and what it tells is what stands beneath
-pub synced_beneath : (u : DiskState) (es : List Entry) (t own : ℕ) → (queued u es t own).synced ≡ true → (es ≡ []) × (u.synced ≡ true) × ((queued u es t own).contents ≡ u.contents)
-synced_beneath u es t own is =
-    let b = both (length es == 0) u.synced is in
-    let none : es ≡ [] = empty es (eqb-true (length es) 0 b.0) in
-    (none, b.1, ap (λ (l : List Entry). option_map (laid l) u.contents) none ∙ same u.contents)
+pub synced_beneath : (v : View) (t : ℕ) → (queued v.under v.waiting t v.own).synced ≡ true → StandsBeneath (queued v.under v.waiting t v.own) v
+synced_beneath v t is =
+    let b = both (length v.waiting == 0) v.under.synced is in
+    let none : v.waiting ≡ [] = empty v.waiting (eqb-true (length v.waiting) 0 b.0) in
+    record { waiting = none; contents = sym (ap (λ (l : List Entry). option_map (laid l) v.under.contents) none ∙ same v.under.contents); synced = b.1 }
   where
     empty : (l : List Entry) → length l ≡ 0 → l ≡ []
     empty [] is = refl
     empty (e ∷ l) is = absurd (omega (arith, is))
 
-    same : (o : Option (List Sector)) → option_map (laid []) o ≡ o
-    same None = refl
-    same (Some d) = ap (λ (x : List Sector). Some x) (laid-none d)
-
--- a write that was answered Ok, and then a settling that was: it stands beneath
-pub settled_beneath : (u v : DiskState) (es : List Entry) (t own : ℕ) (p q : DiskState) (w : DiskWrite) (a r : Result (Unit {0}) DiskError) → p.contents ≡ u.contents → Writes w p a q → is_err a ≡ false
-    → Settles q r (queued v es t own) → r ≡ Ok tt → (v.contents ≡ option_map (written w) u.contents) × (v.synced ≡ true)
-settled_beneath u v es t own p q w (Ok x) r before made done settles is =
-    let s = subst (λ (r : Result (Unit {0}) DiskError). Settles q r (queued v es t own)) is settles in
-    let b = synced_beneath v es t own s.synced in
-    (sym b.2 ∙ s.same.contents ∙ made.written.contents ∙ ap (option_map (written w)) before, b.1)
-settled_beneath u v es t own p q w (Err e) r before made done settles is = absurd (cc done)
-
-pub told_empty : (u : DiskState) (es : List Entry) → es ≡ [] → option_map (laid es) u.contents ≡ u.contents
-told_empty u es none = ap (λ (l : List Entry). option_map (laid l) u.contents) none ∙ same u.contents
-  where
     same : (o : Option (List Sector)) → option_map (laid []) o ≡ o
     same None = refl
     same (Some d) = ap (λ (x : List Sector). Some x) (laid-none d)

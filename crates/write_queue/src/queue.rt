@@ -1,5 +1,5 @@
 //! Pages that wait in front of a disk.
-ghost use Rattle.std.specs.Prelude.{◌≡◌, ◌≤◌, length, map, List, [], Some, None, false, IfOk, IfErr, IfSome, IsSome, vec_capacity};
+ghost use Rattle.std.specs.Prelude.{◌≡◌, ◌≤◌, length, map, List, [], Some, None, false, true, IfOk, IfErr, IfSome, IsSome, vec_capacity};
 ghost use Rattle.std.specs.Option.{ForSome};
 ghost use Rattle.labelled_disk.specs.Label.{names};
 ghost use Rattle.write_queue.specs.Entries.{AreWaiting};
@@ -116,12 +116,15 @@ impl<'d, D: Disk, A: Allocator + Clone> QueueOver<&'d mut D, A> {
 }
 
 impl<D: Disk, A: Allocator> QueueOver<D, A> {
-    ghost use Rattle.write_queue.specs.Queue.{disk_of, view_of, tally_of};
+    ghost use Rattle.write_queue.specs.Queue.{disk_of, state_of, view_of, tally_of, StandsBeneath};
     ghost use Rattle.write_queue.specs.View.{IsPaid};
 
-    /// Gives the pages that wait up, and the disk back.
+    /// Gives the pages that wait up, and the disk back. After an Ok of `settle` none wait, and the
+    /// disk holds what the queue told.
     pub fn into_disk(self) -> D
-        ensures { result ≡ disk_of self }
+        ensures disk { result ≡ disk_of self }
+        ensures synced { (state_of self).synced ≡ true → StandsBeneath (state_of self)
+            (view_of self) }
     {
         let QueueOver {
             under,
