@@ -12,7 +12,7 @@ use Rattle.labelled_disk.specs.Layout.{IsCount, capacity}
 use Rattle.labelled_disk.specs.Sectors.{Sector}
 use Rattle.labelled_disk.specs.State.{DiskState}
 use Rattle.trace_io.specs.Stream.{IsFrontOf}
-use Rattle.command_words.specs.Meaning.{IsNoCommand, Means}
+use Rattle.command_words.specs.Meaning.{Means}
 use Rattle.command_words.specs.declared.words.Command.TheVariants as command
 use Rattle.volume_root.specs.declared.root.Root.{Root}
 use Rattle.volume_root.specs.Later.{IsLater}
