@@ -1,15 +1,15 @@
-mod RowLemmas
+pub mod RowLemmas
 mod MomentLemmas
-mod LowLemmas
+pub mod LowLemmas
 mod FreedLemmas
 mod FoundLemmas
 mod RestoreLemmas
 mod AmongLemmas
 mod NamingLemmas
 mod MarkLemmas
-mod CarryLemmas
-mod LayoutLemmas
-mod PlanLemmas
+pub mod CarryLemmas
+pub mod LayoutLemmas
+pub mod PlanLemmas
 mod OrderLemmas
-mod TopLemmas
+pub mod TopLemmas
 pub mod BetweenLemmas

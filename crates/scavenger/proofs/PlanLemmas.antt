@@ -55,6 +55,18 @@ imagined_has n labels all =
           ∙ ap (λ (k : ℕ). drop k (low ++ high)) (low_long ∙ ap first_data (sym long)));
     }
 
+same_long : {X : Type 0} (f : ℕ → Sector → X) (xs : List X) (ys : List Sector) → ((i : ℕ) → slice_get xs i ≡ option_map (f i) (slice_get ys i)) → length xs ≡ length ys
+same_long f [] [] each = refl
+same_long f [] (y ∷ ys) each = absurd (none-some (f 0 y) (each 0))
+same_long f (x ∷ xs) [] each = absurd (none-some x (sym (each 0)))
+same_long f (x ∷ xs) (y ∷ ys) each = ap suc (same_long (λ i. f (suc i)) xs ys (λ i. each (suc i)))
+
+-- there is a standing for each of its labels
+pub stand_each : (d : List Sector) (n : ℕ) (labels : List Label) (standings : List Standing) → HasLabels d n labels → AreStandings d standings → length standings ≡ length labels
+stand_each d n labels standings has are =
+    let long = same_long (standing d) standings (data_sectors d) are in
+    omega (arith, long, length-map (data_sectors d) (λ (s : Sector). s.0), ap length has.are)
+
 -- Triples.
 
 pub are_triples : NeededAreFiles → (d : List Sector) (n : ℕ) (triples : List Triple) → length d ≡ n → AreNeeded d triples → AreTriples n triples
@@ -173,6 +185,11 @@ listed_more first labels lost k old new x here within so_far pushed =
     ap (λ (o : Option Label). option_map_or (λ (l : Label). record { sector = x; id = l.id; page = l.page }) o (record { sector = x; id = 0; page = 0 })) there in
     pushed ∙ ap (λ (l : List Lost). l ++ record { sector = x; id = (slice_index_or labels (x - first) free_label).id; page = (slice_index_or labels (x - first) free_label).page } ∷ []) so_far ∙ ap (λ (e : Lost). map (labelled first labels) (take k lost) ++ e ∷ []) (sym is)
     ∙ sym (one_mapped (labelled first labels) lost k x here) ∙ ap (λ (m : ℕ). map (labelled first labels) (take m lost)) s
+
+-- what holds anyway
+pub ok_anyway : {T E : Type 0} {P : Type 0} (r : Result T E) → P → OnOk r P
+ok_anyway (Ok x) p = p
+ok_anyway (Err e) p = tt
 
 -- what follows from an Ok
 pub ok_then : {T E : Type 0} {P Q : Type 0} (r : Result T E) → OnOk r P → (P → Q) → OnOk r Q

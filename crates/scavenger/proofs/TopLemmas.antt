@@ -1,10 +1,9 @@
--- The orders of a plan are those for the disk that it was made from, and what they leave.
-use Rattle.std.proofs.Common.{◌≡◌, ℕ, ◌<◌, ◌^◌, List, ◌++◌, length, take, Option, Some, Result, Ok, Err, refl, sym, ◌∙◌, ap, subst}
+-- What the writes of a restoration leave, behind calls that wrote nothing.
+use Rattle.std.proofs.Common.{◌≡◌, List, ◌++◌, length, take, Some, Result, Ok, Err, sym, ◌∙◌, ap, subst}
 use Rattle.std.specs.Prelude.{slice_get, option_map, IfErr, OnErr}
 use Rattle.labelled_disk.specs.declared.disk.DiskWrite.{DiskWrite}
 use Rattle.labelled_disk.specs.Calls.{OnlyReads}
-use Rattle.labelled_disk.specs.Layout.{first_data}
-use Rattle.labelled_disk.specs.Root.{IsRoot, root_page}
+use Rattle.labelled_disk.specs.Root.{IsRoot}
 use Rattle.labelled_disk.specs.Sectors.{Sector, AreSectors}
 use Rattle.labelled_disk.specs.State.{DiskState}
 use Rattle.labelled_disk.specs.WriteRuns.{Appended, after_writes}
@@ -14,27 +13,8 @@ use Rattle.volume_root.specs.Format.{PartMade}
 use Rattle.scavenger.specs.declared.fault.ScavengeFault.{ScavengeFault}
 use Rattle.scavenger.specs.declared.fault.ScavengeFault.TheVariants.{Disk}
 use Rattle.scavenger.specs.Opening.{Accords}
-use Rattle.volume_root.specs.RootPage.{root_in}
-use Rattle.label_survey.specs.Counter.{IsRaised}
-use Rattle.label_survey.specs.Laws.{FreedAreUnneeded}
-use Rattle.label_survey.specs.Survey.{is_freed, places_by}
-use Rattle.scavenger.specs.declared.plan.Plan.{Plan}
 use Rattle.scavenger.specs.Orders.{Orders, AreFor, scavenge_writes}
-use Rattle.scavenger.specs.Plan.{orders, IsPlanOf}
 use Rattle.scavenger.specs.Restored.{IsRestored, RestoresEach}
-
--- the orders of a plan
-pub are_for : {A : Type 0} → FreedAreUnneeded → (g : List Sector) (root : Root) (first : ℕ) (plan : Plan A) → first ≡ first_data (length g) → root ≡ root_in (root_page g)
-    → root.serial < 2 ^ 32 → plan.counter < 2 ^ 32 → IsPlanOf g root plan → AreFor g (orders root first plan)
-are_for freed g root first plan at is serial counter planned = record {
-  root = is;
-  freed = ap (λ (k : ℕ). places_by is_freed k plan.standings.items) at ∙ freed g plan.standings.items planned.standings;
-  bits = planned.bits;
-  names = planned.names;
-  counter = subst (λ (r : Root). IsRaised g r.serial r.counter plan.counter) is planned.counter;
-  serial_fits = serial;
-  counter_fits = counter;
-}
 
 -- writes after calls that wrote nothing
 pub appended_behind : (ws : List DiskWrite) (a b c : DiskState) → OnlyReads a b → Appended ws b c → Appended ws a c

@@ -1,15 +1,11 @@
 -- What is to be written, as it is kept in memory.
-use Rattle.std.specs.Prelude.{◌≡◌, ℕ, ◌-◌, ◌*◌, ◌≤◌, List, length}
+use Rattle.std.specs.Prelude.{◌≡◌, ℕ, ◌-◌, ◌*◌, length}
 use Rattle.flat_mem.specs.Vec.{vec_mem_bytes}
 use Rattle.labelled_disk.specs.Layout.{vam, vfm, first_data}
-use Rattle.labelled_disk.specs.Sectors.{Sector}
 use Rattle.volume_root.specs.declared.root.Root.{Root}
-use Rattle.label_survey.specs.Counter.{IsRaised}
-use Rattle.label_survey.specs.Standings.{AreStandings}
 use Rattle.label_survey.specs.Survey.{is_freed, places_by}
 use Rattle.scavenger.specs.declared.plan.Plan.{Plan}
 use Rattle.scavenger.specs.Orders.{Orders}
-use Rattle.scavenger.specs.Stays.{AreBits, AreNames}
 
 module _ {A : Type 0} where
   -- the orders of a plan, the first data sector being sector `first`
@@ -27,10 +23,3 @@ module _ {A : Type 0} where
     pub standings : length plan.standings.items ≡ n - first_data n
     pub bits : length (vec_mem_bytes plan.bits) ≡ 512 * vam n
     pub names : length (vec_mem_bytes plan.names) ≡ 512 * vfm n
-
-  -- it is that of this disk
-  pub record IsPlanOf (d : List Sector) (root : Root) (plan : Plan A) : Type 0 where
-    pub standings : AreStandings d plan.standings.items
-    pub bits : AreBits d (vec_mem_bytes plan.bits)
-    pub names : AreNames d (vec_mem_bytes plan.names)
-    pub counter : IsRaised d root.serial root.counter plan.counter

@@ -13,5 +13,7 @@ mod writing;
 
 pub use fault::ScavengeFault;
 pub use laws::scavenging_restores;
+pub use plan::Plan;
 pub use report::{Lost, Report};
 pub use restoring::scavenge;
+pub use writing::free_sectors;

@@ -1,27 +1,26 @@
 //! What is to be written, made in memory before the first write.
-ghost use Rattle.std.specs.Prelude.{◌≡◌, ◌+◌, ◌-◌, ◌≤◌, List, [], length, IfOk, OnOk};
+ghost use Rattle.std.specs.Prelude.{◌≡◌, ◌-◌, ◌≤◌, List, length, IfOk};
 ghost use Rattle.labelled_disk.specs.Layout.{IsCount, layout_of, first_data};
+ghost use Rattle.labelled_disk.specs.Root.{root_page};
 ghost use Rattle.labelled_disk.specs.Sectors.{Sector};
-ghost use Rattle.volume_root.specs.RootPage.{IsValidRoot};
+ghost use Rattle.volume_root.specs.RootPage.{IsValidRoot, root_in};
+ghost use Rattle.label_survey.specs.Standings.{AreStandings};
 ghost use Rattle.scavenger.specs.Carries.{Carries};
-ghost use Rattle.scavenger.specs.Orders.{scavenge_writes};
+ghost use Rattle.scavenger.specs.Orders.{AreFor, scavenge_writes};
 ghost use Rattle.scavenger.specs.Stays.{HasLabels};
 
-use crate::Report;
 use crate::bits::make_bits;
 use crate::names::make_names;
 use crate::writing::{close_root, free_sectors, open_root, write_map};
 use flat_mem::VecMem;
-use label_survey::{
-    Standing, Survey, needed_triples, raise_counter, standings_tell, survey_labels,
-};
+use label_survey::{Standing, needed_triples, raise_counter, standings_tell};
 use labelled_disk::{Disk, DiskError, Label, Layout, NoMemory};
 use std::alloc::Allocator;
 use volume_root::Root;
 
-/// What is to be written, beside the root that was read.
+/// What is to be written on a volume, beside its root.
 #[derive(Drop)]
-pub(crate) struct Plan<A: Allocator> {
+pub struct Plan<A: Allocator> {
     standings: Vec<Standing, A>,
     bits: VecMem<A>,
     names: VecMem<A>,
@@ -29,32 +28,29 @@ pub(crate) struct Plan<A: Allocator> {
 }
 
 impl<A: Allocator + Clone> Plan<A> {
-    ghost use Rattle.scavenger.specs.Plan.{orders, IsSized, IsPlanOf};
-    ghost use Rattle.scavenger.specs.Reported.{lost_in, Reports};
+    ghost use Rattle.scavenger.specs.Plan.{orders, IsSized};
 
-    /// The plan for a disk with these labels and this root; the report is made with it.
-    pub(crate) fn of(
+    /// The plan for a volume with this root and these labels, each data sector being what its
+    /// standing says.
+    pub fn of(
         alloc: A,
         layout: &Layout,
         root: &Root,
         labels: Vec<Label, A>,
-        report: &mut Report<A>,
+        standings: Vec<Standing, A>,
     ) -> Result<Plan<A>, NoMemory>
         requires counted { IsCount layout.now.sectors }
         requires layout { layout.now ≡ layout_of layout.now.sectors }
         requires all { length labels.items ≡ layout.now.sectors - first_data layout.now.sectors }
-        requires empty { lost_in report.old ≡ [] }
+        requires standings { (d : List Sector) → HasLabels d layout.now.sectors labels.items
+            → AreStandings d standings.items }
         ensures sized { IfOk result (IsSized layout.now.sectors) }
         ensures counter { IfOk result (λ plan. root.now.counter ≤ plan.counter) }
         ensures plan { IfOk result (λ plan. (d : List Sector)
-            → HasLabels d layout.now.sectors labels.items → IsPlanOf d root.now plan) }
-        ensures report { OnOk result ((d : List Sector)
-            → HasLabels d layout.now.sectors labels.items → Reports d report.new) }
+            → HasLabels d layout.now.sectors labels.items → root.now ≡ root_in (root_page d)
+            → AreFor d (orders root.now layout.now.first plan)) }
     {
         standings_tell();
-        let survey = survey_labels(alloc.clone()?, layout.first, &labels)?;
-        report.fill(layout.first, &labels, &survey)?;
-        let Survey { standings, .. } = survey;
         let triples = needed_triples(alloc.clone()?, layout.first, &labels, &standings)?;
         drop(labels);
         let counter = raise_counter(root.serial, root.counter, &triples);
@@ -68,8 +64,9 @@ impl<A: Allocator + Clone> Plan<A> {
         })
     }
 
-    /// Makes all its writes on a volume with this root.
-    pub(crate) fn carry_out<D: Disk>(
+    /// Makes all its writes on a volume with this root: where that is open, and no sector is freed,
+    /// these are both maps, and the root closed.
+    pub fn carry_out<D: Disk>(
         self,
         disk: &mut D,
         layout: &Layout,

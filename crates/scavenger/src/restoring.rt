@@ -3,26 +3,54 @@ ghost use Rattle.std.specs.Prelude.{◌≡◌, ◌⊎◌, ℕ, ◌-◌, ◌≤�
 ghost use Rattle.labelled_disk.specs.Calls.{OnlyReads, ReadsAtMost, Rose, TellsSame};
 ghost use Rattle.labelled_disk.specs.Layout.{IsCount, layout_of, first_data};
 ghost use Rattle.labelled_disk.specs.Moment.{moment};
+ghost use Rattle.labelled_disk.specs.Root.{root_page};
 ghost use Rattle.labelled_disk.specs.Sectors.{Sector};
 ghost use Rattle.labelled_disk.specs.WriteRuns.{Appended};
 ghost use Rattle.volume_root.specs.Format.{PartMade};
 ghost use Rattle.volume_root.specs.Later.{IsLater};
-ghost use Rattle.volume_root.specs.RootPage.{judged, IsValidRoot};
+ghost use Rattle.volume_root.specs.RootPage.{judged, root_in, IsValidRoot};
 ghost use Rattle.scavenger.specs.Opening.{Accords, IsDiskOrMemory};
 ghost use Rattle.scavenger.specs.Carries.{Carries};
-ghost use Rattle.scavenger.specs.Plan.{orders, IsSized, IsPlanOf};
+ghost use Rattle.scavenger.specs.Plan.{orders, IsSized};
 ghost use Rattle.scavenger.specs.Orders.{Orders, AreFor, scavenge_writes};
 ghost use Rattle.scavenger.specs.Reported.{lost_in, Reports};
 ghost use Rattle.scavenger.specs.Restored.{IsBetween, IsRestored};
+ghost use Rattle.scavenger.specs.Stays.{HasLabels};
 
 use crate::laws::scavenging_restores;
 use crate::opening::read_any_root;
 use crate::plan::Plan;
 use crate::{Report, ScavengeFault};
-use label_survey::{SurveyFault, read_labels, standings_tell};
-use labelled_disk::{Disk, DiskWrite, Layout};
+use label_survey::{Survey, SurveyFault, read_labels, survey_labels};
+use labelled_disk::{Disk, DiskWrite, Label, Layout, NoMemory};
 use std::alloc::Allocator;
 use volume_root::{Root, RootFault};
+
+// The plan for a volume with this root and these labels; the report is made with it.
+fn plan_of<A: Allocator + Clone>(
+    alloc: A,
+    layout: &Layout,
+    root: &Root,
+    labels: Vec<Label, A>,
+    report: &mut Report<A>,
+) -> Result<Plan<A>, NoMemory>
+    requires counted { IsCount layout.now.sectors }
+    requires layout { layout.now ≡ layout_of layout.now.sectors }
+    requires all { length labels.items ≡ layout.now.sectors - first_data layout.now.sectors }
+    requires empty { lost_in report.old ≡ [] }
+    ensures sized { IfOk result (IsSized layout.now.sectors) }
+    ensures counter { IfOk result (λ plan. root.now.counter ≤ plan.counter) }
+    ensures plan { IfOk result (λ plan. (g : List Sector)
+        → HasLabels g layout.now.sectors labels.items → root.now ≡ root_in (root_page g)
+        → AreFor g (orders root.now layout.now.first plan)) }
+    ensures report { OnOk result ((g : List Sector)
+        → HasLabels g layout.now.sectors labels.items → Reports g report.new) }
+{
+    let survey = survey_labels(alloc.clone()?, layout.first, &labels)?;
+    report.fill(layout.first, &labels, &survey)?;
+    let Survey { standings, .. } = survey;
+    Plan::of(alloc, layout, root, labels, standings)
+}
 
 // Reads all labels, and plans.
 fn make_plan<A: Allocator + Clone, D: Disk>(
@@ -38,7 +66,7 @@ fn make_plan<A: Allocator + Clone, D: Disk>(
     ensures sized { IfOk result (IsSized (D.state disk.old).sectors) }
     ensures counter { IfOk result (λ plan. root.now.counter ≤ plan.counter) }
     ensures plan { IfOk result (λ plan. (g : List Sector) → (D.state disk.old).contents ≡ Some g
-        → IsPlanOf g root.now plan) }
+        → root.now ≡ root_in (root_page g) → AreFor g (orders root.now layout.now.first plan)) }
     ensures report { OnOk result ((g : List Sector) → (D.state disk.old).contents ≡ Some g
         → Reports g report.new) }
     ensures err { IfErr result IsDiskOrMemory }
@@ -55,7 +83,7 @@ fn make_plan<A: Allocator + Clone, D: Disk>(
         Err(SurveyFault::Disk) => return Err(ScavengeFault::Disk),
         Err(SurveyFault::NoMemory) => return Err(ScavengeFault::NoMemory),
     };
-    match Plan::of(alloc, layout, root, labels, report) {
+    match plan_of(alloc, layout, root, labels, report) {
         Ok(plan) => Ok(plan),
         Err(_) => Err(ScavengeFault::NoMemory),
     }
@@ -142,7 +170,6 @@ pub fn scavenge<A: Allocator + Clone, D: Disk>(
     ensures later { IsLater (D.state disk.old) (D.state disk.new) }
 {
     scavenging_restores();
-    standings_tell();
     let root = read_any_root(disk)?;
     let Ok(layout) = Layout::of(root.sectors) else {
         unreachable!();

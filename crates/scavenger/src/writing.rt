@@ -56,7 +56,7 @@ pub(crate) fn close_root<D: Disk>(disk: &mut D, root: &Root, counter: u32) -> Re
 
 /// Writes a free label over each sector that is freed, rising; the first of them all is sector
 /// `first`.
-pub(crate) fn free_sectors<D: Disk>(
+pub fn free_sectors<D: Disk>(
     disk: &mut D,
     first: u32,
     standings: &[Standing],

@@ -1,25 +1,17 @@
-use Rattle.std.proofs.Common.{◌≡◌, inr, ◌<◌, ◌^◌, List, Some, length, rules, sym, ◌∙◌, ap}
-use Rattle.labelled_disk.specs.Layout.{first_data}
+use Rattle.std.proofs.Common.{◌≡◌, inr, List, Some, ◌∙◌}
 use Rattle.labelled_disk.specs.Sectors.{Sector}
 use Rattle.labelled_disk.proofs.CallLemmas.{only_reads_then}
 use Rattle.scavenger.specs.Orders.{AreFor}
 use Rattle.scavenger.specs.Plan.{orders}
 use Rattle.scavenger.proofs.BetweenLemmas.{moments_of_carried, moments_of_none, reads_same}
-use Rattle.scavenger.proofs.LayoutLemmas.{of_layout}
 use Rattle.scavenger.proofs.PlanLemmas.{ok_then}
-use Rattle.scavenger.proofs.TopLemmas.{are_for, appended_behind, part_behind, restored_by, on_err, accords_by}
+use Rattle.scavenger.proofs.TopLemmas.{appended_behind, part_behind, restored_by, on_err, accords_by}
 use Rattle.scavenger.proofs.restoring.scavenge.Given as given
 use Rattle.scavenger.proofs.restoring.scavenge.Goals as goal
 
 -- the orders that were carried out are those for the disk
 is_for : (g : given.Over) (c : goal.After-finish g) (d : List Sector) → (g.D.Disk.state c.args.disk.now).contents ≡ Some d → AreFor d (orders c.in_ok-root.root c.in-Ok.layout.first c.in_ok-plan.plan)
-is_for g c d told =
-    let same : c.in_ok-root.root.sectors ≡ length d = c.in_ok-root.ensures.valid.count ∙ sym (g.met.D.Disk.whole c.args.disk.now d told) in
-    let parts = of_layout c.in-Ok.layout c.in_ok-root.root.sectors c.in-Ok.ensures.layout.1 in
-    let serial : c.in_ok-root.root.serial < 2 ^ 32 = search rules in
-    let counter : c.in_ok-plan.plan.counter < 2 ^ 32 = search rules in
-    are_for c.standings_tell.ensures.freed d c.in_ok-root.root c.in-Ok.layout.first c.in_ok-plan.plan (parts.first ∙ ap first_data same) (c.in_ok-root.ensures.root d told).0 serial counter
-    (c.in_ok-plan.ensures.plan d (c.in_ok-root.ensures.cost.only.contents ∙ told))
+is_for g c d told = c.in_ok-plan.ensures.plan d (c.in_ok-root.ensures.cost.only.contents ∙ told) (c.in_ok-root.ensures.root d told).0
 
 pub returns-clause-restored : goal.returns-clause-restored
 returns-clause-restored g c = ok_then c.finish.result c.finish.ensures.carries.all (λ made d told.

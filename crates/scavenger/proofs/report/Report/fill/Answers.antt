@@ -16,9 +16,9 @@ pub returns : goal.returns
 returns g c = ok_then c.list.result c.list.ensures.listed (λ listed d has.
     let told = c.requires.tells d has in
     record {
-      files = c.list.ensures.files ∙ told.files;
-      pages = c.list.ensures.pages ∙ told.pages;
-      freed = c.list.ensures.freed ∙ told.freed;
+      files = c.list.ensures.files ∙ told.tallies.files;
+      pages = c.list.ensures.pages ∙ told.tallies.pages;
+      freed = c.list.ensures.freed ∙ told.tallies.freed;
       lost =
           listed ∙ ap (map (labelled c.args.first c.args.labels.now)) (c.deref.ensures.value ∙ told.lost)
           ∙ all_lost d (c.args.first + length c.args.labels.now) c.args.first c.args.labels.now has c.requires.first;
