@@ -1,42 +1,62 @@
-use Rattle.std.proofs.Common.{rules, ◌≡◌, ℕ, ◌+◌, ◌*◌, ◌≤◌, List, Option, Some, None, refl, sym, ◌∙◌, ap, arith}
+use Rattle.std.proofs.Common.{◌≡◌, ℕ, List, refl, sym, ◌∙◌, arith}
 use Rattle.std.proofs.lemmas.Nat.{mul-le}
+use Rattle.std.proofs.lemmas.Option.{same_Some, none-some}
+use Rattle.space_tables.specs.Form.{slot_page}
 use Rattle.space_tables.specs.Scan.{passes}
-use Rattle.space_tables.proofs.Passes.{still_hold, found_here, found_later, none_left, paid_more, paid_all}
+use Rattle.space_tables.proofs.Pages.{next_on}
+use Rattle.space_tables.proofs.Passes.{found_here, found_later, none_left, paid_more, paid_all}
+use Rattle.space_tables.proofs.scan.find_space.Given as given
 use Rattle.space_tables.proofs.scan.find_space.Goals as goal
+use Rattle.space_tables.proofs.scan.find_space.Goals.{In_ok-look_at}
 
 pub scan-init : goal.scan-init
 scan-init g c = record {
   within = omega arith;
+  read = λ b h inner. absurd (inner refl);
   rest = λ slots xs h ok. refl;
   unchanged = λ b h. h;
   kept = g.met.M.FlatMem.beside_itself c.args.mem.now;
   cost = omega arith;
 }
 
-pub returns-in_err-space-clause-found : goal.returns-in_err-space-clause-found
-returns-in_err-space-clause-found g c = λ slots xs h ok.
-    let m = c.in_err-space.ensures.found slots xs (still_hold g.M.FlatMem.tells c.args.mem.now c.scan.mem c.scan.invariant.unchanged slots xs h) ok in search (rules, m)
+-- the page at hand has the record of the handle
+at_hand : (g : given.Over) (c : In_ok-look_at g) (b : List ℕ) → g.M.FlatMem.tells c.args.mem.now b → c.look_at.new.page ≡ slot_page b c.scan.handle
+at_hand g c b told = c.in_ok-look_at.ensures.read b (c.scan.invariant.unchanged b told) (λ inner. c.scan.invariant.read b told inner)
 
-pub returns-in_err-space-clause-cost : goal.returns-in_err-space-clause-cost
-returns-in_err-space-clause-cost g c = paid_all c.scan.handle 512 g.M.FlatMem.cost _ _ _ c.scan.invariant.cost c.passing.ensures.cost (omega (arith, c.scan-test.true))
+pub returns-in_err-look_at-clause-cost : goal.returns-in_err-look_at-clause-cost
+returns-in_err-look_at-clause-cost g c = paid_all c.scan.handle 512 g.M.FlatMem.cost _ _ _ c.scan.invariant.cost c.look_at.ensures.cost (omega (arith, c.scan-test.true))
 
-pub returns-in-Some-clause-found : goal.returns-in-Some-clause-found
-returns-in-Some-clause-found g c = λ slots xs h ok.
-    let at = c.in_ok-space.ensures.found slots xs (still_hold g.M.FlatMem.tells c.args.mem.now c.scan.mem c.scan.invariant.unchanged slots xs h) ok in
-    found_here (passes c.args.test.now) slots c.scan.handle at.0 c.in-Some.space at.1 (sym c.in-Some.is ∙ at.2) ∙ sym (c.scan.invariant.rest slots xs h ok)
+pub returns-in_default-clause-found : goal.returns-in_default-clause-found
+returns-in_default-clause-found g c = λ slots xs h ok.
+    let page = at_hand g (goal.at.returns-in_default-clause-found g c).In_ok-look_at h.bytes h.told in
+    let at = c.passing.ensures.found h.bytes slots xs page h.are ok in
+    none-some _ (sym c.in_default.is ∙ at.2)
 
-pub returns-in-Some-clause-cost : goal.returns-in-Some-clause-cost
-returns-in-Some-clause-cost g c = paid_all c.scan.handle 512 g.M.FlatMem.cost _ _ _ c.scan.invariant.cost c.passing.ensures.cost (omega (arith, c.scan-test.true))
+pub returns-in_default-clause-malformed : goal.returns-in_default-clause-malformed
+returns-in_default-clause-malformed g c = λ b told.
+    let page = at_hand g (goal.at.returns-in_default-clause-malformed g c).In_ok-look_at b told in
+    (c.scan.handle, c.passing.ensures.malformed b page c.in_default.is)
+
+pub returns-in_default-clause-cost : goal.returns-in_default-clause-cost
+returns-in_default-clause-cost g c = paid_all c.scan.handle 512 g.M.FlatMem.cost _ _ _ c.scan.invariant.cost c.look_at.ensures.cost (omega (arith, c.scan-test.true))
+
+pub returns-in-Some-found-clause-found : goal.returns-in-Some-found-clause-found
+returns-in-Some-found-clause-found g c = λ slots xs h ok.
+    let page = at_hand g (goal.at.returns-in-Some-found-clause-found g c).In_ok-look_at h.bytes h.told in
+    let at = c.passing.ensures.found h.bytes slots xs page h.are ok in
+    found_here (passes c.args.test.now) slots c.scan.handle at.0 c.in-Some-found.space at.1 (sym c.in-Some-found.is ∙ same_Some _ _ (sym c.in-Some.is ∙ at.2)) ∙ sym (c.scan.invariant.rest slots xs h ok)
 
 pub scan-preserved : goal.scan-preserved
 scan-preserved g c = record {
   within = omega (arith, c.scan-test.true);
+  read = λ b h inner. next_on b c.scan.handle c.look_at.new.page (at_hand g (goal.at.scan-preserved g c).In_ok-look_at b h) inner;
   rest = λ slots xs h ok.
-      let at = c.in_ok-space.ensures.found slots xs (still_hold g.M.FlatMem.tells c.args.mem.now c.scan.mem c.scan.invariant.unchanged slots xs h) ok in
-      c.scan.invariant.rest slots xs h ok ∙ found_later (passes c.args.test.now) slots c.scan.handle at.0 at.1 (sym c.in_default.is ∙ at.2);
-  unchanged = λ b h. c.passing.ensures.unchanged b (c.scan.invariant.unchanged b h);
-  kept = g.met.M.FlatMem.beside_through _ _ _ c.scan.invariant.kept c.passing.ensures.kept;
-  cost = paid_more c.scan.handle g.M.FlatMem.cost _ _ _ c.scan.invariant.cost c.passing.ensures.cost;
+      let page = at_hand g (goal.at.scan-preserved g c).In_ok-look_at h.bytes h.told in
+      let at = c.passing.ensures.found h.bytes slots xs page h.are ok in
+      c.scan.invariant.rest slots xs h ok ∙ found_later (passes c.args.test.now) slots c.scan.handle at.0 at.1 (sym c.in_default-found.is ∙ same_Some _ _ (sym c.in-Some.is ∙ at.2));
+  unchanged = λ b h. c.look_at.ensures.unchanged b (c.scan.invariant.unchanged b h);
+  kept = g.met.M.FlatMem.beside_through _ _ _ c.scan.invariant.kept c.look_at.ensures.kept;
+  cost = paid_more c.scan.handle g.M.FlatMem.cost _ _ _ c.scan.invariant.cost c.look_at.ensures.cost;
 }
 
 pub returns-clause-found : goal.returns-clause-found

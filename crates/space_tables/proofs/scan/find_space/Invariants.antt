@@ -1,15 +1,17 @@
-use Rattle.std.proofs.Common.{◌≡◌, ℕ, ◌+◌, ◌-◌, ◌*◌, ◌≤◌, List, drop, Option}
+use Rattle.std.proofs.Common.{◌≡◌, ◌≢◌, ℕ, ◌+◌, ◌-◌, ◌*◌, ◌%◌, ◌≤◌, List, drop, Option}
 use Rattle.std.specs.Prelude.{find}
 use Rattle.flat_machine.specs.declared.space.Space.{Space}
 use Rattle.projection_laws.specs.Sight.{Interval}
 use Rattle.projection_laws.specs.Slots.{listed}
 use Rattle.space_tables.specs.Stored.{HoldTables, AreReadable}
+use Rattle.space_tables.specs.Form.{slot_page}
 use Rattle.space_tables.specs.Scan.{passes}
 use Rattle.space_tables.proofs.scan.find_space.Given as goal
 
 abbrev pub invariant-scan : goal.invariant-scan
 invariant-scan g l = record {
   within : l.handle ≤ 512;
+  read : (b : List ℕ) → g.M.FlatMem.tells l.initial.mem b → l.handle % 16 ≢ 0 → l.page ≡ slot_page b l.handle;
   rest : (slots : List (Option Space)) (xs : List Interval) → HoldTables (g.M.FlatMem.tells l.initial.mem) slots xs → AreReadable slots xs
       → find (passes l.test) (listed slots) ≡ find (passes l.test) (listed (drop l.handle slots));
   unchanged : (b : List ℕ) → g.M.FlatMem.tells l.initial.mem b → g.M.FlatMem.tells l.mem b;

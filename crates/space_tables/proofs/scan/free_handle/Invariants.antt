@@ -1,7 +1,8 @@
-use Rattle.std.proofs.Common.{ℕ, ◌+◌, ◌-◌, ◌*◌, ◌≤◌, List, Option}
+use Rattle.std.proofs.Common.{◌≡◌, ◌≢◌, ℕ, ◌+◌, ◌-◌, ◌*◌, ◌/◌, ◌%◌, ◌≤◌, List, Option}
 use Rattle.flat_machine.specs.declared.space.Space.{Space}
 use Rattle.projection_laws.specs.Sight.{Interval}
 use Rattle.space_tables.specs.Stored.{HoldTables, AreReadable}
+use Rattle.space_tables.specs.Form.{slot_page}
 use Rattle.space_tables.specs.Scan.{AreTaken}
 use Rattle.space_tables.proofs.scan.free_handle.Given as goal
 
@@ -9,10 +10,11 @@ abbrev pub invariant-scan : goal.invariant-scan
 invariant-scan g l = record {
   above : 1 ≤ l.handle;
   within : l.handle ≤ 512;
-  taken : (slots : List (Option Space)) (xs : List Interval) → HoldTables (g.M.FlatMem.tells l.initial.mem) slots xs → AreReadable slots xs → AreTaken slots l.handle;
-  unchanged : (b : List ℕ) → g.M.FlatMem.tells l.initial.mem b → g.M.FlatMem.tells l.mem b;
-  kept : g.M.FlatMem.beside l.initial.mem l.mem;
-  cost : g.M.FlatMem.spent l.mem ≤ g.M.FlatMem.spent l.initial.mem + (l.handle - 1) * g.M.FlatMem.cost;
+  taken : (slots : List (Option Space)) (xs : List Interval) → HoldTables (g.M.FlatMem.tells l.fn.mem) slots xs → AreReadable slots xs → AreTaken slots l.handle;
+  read : (b : List ℕ) → g.M.FlatMem.tells l.fn.mem b → l.handle % 16 ≢ 0 → l.page ≡ slot_page b l.handle;
+  unchanged : (b : List ℕ) → g.M.FlatMem.tells l.fn.mem b → g.M.FlatMem.tells l.mem b;
+  kept : g.M.FlatMem.beside l.fn.mem l.mem;
+  cost : g.M.FlatMem.spent l.mem ≤ g.M.FlatMem.spent l.fn.mem + ((l.handle - 1) / 16 + 1) * g.M.FlatMem.cost;
 }
 
 abbrev pub decreases-scan : goal.decreases-scan
