@@ -82,6 +82,10 @@ pub fn find_space<M: FlatMem>(
     let mut handle = 0;
     'scan: while handle < 512 {
         look_at(mem, handle, &mut page)?;
+        if !has_space_on(&page, handle) {
+            handle += 1;
+            continue 'scan;
+        }
         let Some(found) = passing(&page, handle, test) else {
             return Err(SpaceError::Malformed { page: handle / 16 });
         };

@@ -1,4 +1,4 @@
-use Rattle.std.proofs.Common.{◌≡◌, ℕ, List, refl, sym, ◌∙◌, arith}
+use Rattle.std.proofs.Common.{◌≡◌, ℕ, List, refl, sym, ◌∙◌, None, arith}
 use Rattle.std.proofs.lemmas.Nat.{mul-le}
 use Rattle.std.proofs.lemmas.Option.{same_Some, none-some}
 use Rattle.space_tables.specs.Form.{slot_page}
@@ -45,6 +45,19 @@ returns-in-Some-found-clause-found g c = λ slots xs h ok.
     let page = at_hand g (goal.at.returns-in-Some-found-clause-found g c).In_ok-look_at h.bytes h.told in
     let at = c.passing.ensures.found h.bytes slots xs page h.are ok in
     found_here (passes c.args.test.now) slots c.scan.handle at.0 c.in-Some-found.space at.1 (sym c.in-Some-found.is ∙ same_Some _ _ (sym c.in-Some.is ∙ at.2)) ∙ sym (c.scan.invariant.rest slots xs h ok)
+
+pub scan-preserved-then-not-has_space_on : goal.scan-preserved-then-not-has_space_on
+scan-preserved-then-not-has_space_on g c = record {
+  within = omega (arith, c.scan-test.true);
+  read = λ b h inner. next_on b c.scan.handle c.look_at.new.page (at_hand g (goal.at.scan-preserved-then-not-has_space_on g c).In_ok-look_at b h) inner;
+  rest = λ slots xs h ok.
+      let page = at_hand g (goal.at.scan-preserved-then-not-has_space_on g c).In_ok-look_at h.bytes h.told in
+      let none = (c.has_space_on.ensures.space h.bytes slots xs page h.are).0 c.if-not-has_space_on.true in
+      c.scan.invariant.rest slots xs h ok ∙ found_later (passes c.args.test.now) slots c.scan.handle None none refl;
+  unchanged = λ b h. c.look_at.ensures.unchanged b (c.scan.invariant.unchanged b h);
+  kept = g.met.M.FlatMem.beside_through _ _ _ c.scan.invariant.kept c.look_at.ensures.kept;
+  cost = paid_more c.scan.handle g.M.FlatMem.cost _ _ _ c.scan.invariant.cost c.look_at.ensures.cost;
+}
 
 pub scan-preserved : goal.scan-preserved
 scan-preserved g c = record {
