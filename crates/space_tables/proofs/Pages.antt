@@ -1,8 +1,7 @@
 -- The records of a page of the hierarchy.
-use Rattle.std.proofs.Common.{◌≡◌, ◌≢◌, inl, inr, ℕ, zero, suc, ◌+◌, ◌-◌, ◌*◌, ◌/◌, ◌%◌, ◌<◌, ◌≤◌, List, [], ◌∷◌, get_or, Option, Some, None, refl, sym, ◌∙◌, ap, subst, arith}
+use Rattle.std.proofs.Common.{◌≡◌, ℕ, zero, suc, ◌+◌, ◌-◌, ◌*◌, ◌/◌, ◌%◌, ◌<◌, ◌≤◌, List, [], ◌∷◌, get_or, Option, Some, None, refl, sym, ◌∙◌, ap, arith}
 use Rattle.std.specs.Prelude.{slice_get, if◌then◌else◌}
-use Rattle.std.proofs.lemmas.Bool.{eq-eqb, cases_eq}
-use Rattle.std.proofs.lemmas.Nat.{mul-le}
+use Rattle.std.proofs.lemmas.Bool.{eq-eqb}
 use Rattle.std.proofs.lemmas.Option.{same_Some, none-some}
 use Rattle.flat_mem.specs.Memory.{part}
 use Rattle.flat_mem.specs.Parts.{part-part}
@@ -12,7 +11,6 @@ use Rattle.projection_laws.specs.Stored.{slot_in}
 use Rattle.projection_laws.specs.Sight.{Interval}
 use Rattle.space_tables.specs.Form.{slot_record, slot_page, is_slot_record}
 use Rattle.space_tables.specs.Stored.{AreTables, AreReadable}
-use Rattle.space_tables.proofs.Passes.{paid_more}
 use Rattle.space_tables.proofs.ReadBack.{get_or_at, slot_read}
 
 -- the record of a handle stands in the page that has it
@@ -41,9 +39,9 @@ pub told_at : (b : List ℕ) (slots : List (Option Space)) (xs : List Interval) 
     → o ≡ (if is_slot_record (slot_record b h) then Some (slot_in h (slot_record b h)) else None) → o ≡ slice_get slots h
 told_at b slots xs are ok h below o is = is ∙ slot_read b slots xs are ok h (slot_record b h) below refl
 
--- the page that is at hand has the next handle's record too, where that one is not the first of a page
-pub next_on : (b : List ℕ) (h : ℕ) (page : List ℕ) → page ≡ slot_page b h → (h + 1) % 16 ≢ 0 → page ≡ slot_page b (h + 1)
-next_on b h page is inner = let same : h / 16 ≡ (h + 1) / 16 = omega (arith, inner) in is ∙ ap (λ (n : ℕ). part b (512 * n) 512) same
+-- handles of one page have that page
+pub same_page : (b : List ℕ) (from h : ℕ) (page : List ℕ) → page ≡ slot_page b from → from ≤ h → h < from - from % 16 + 16 → page ≡ slot_page b h
+same_page b from h page is above below = let same : from / 16 ≡ h / 16 = omega (arith, above, below) in is ∙ ap (λ (n : ℕ). part b (512 * n) 512) same
 
 -- a record's first byte is 0 exactly where no space stands at the handle
 pub first_tells : (b : List ℕ) (slots : List (Option Space)) (xs : List Interval) (h : ℕ) (page : List ℕ) → page ≡ slot_page b h → AreTables b slots xs → h < 512
@@ -59,14 +57,3 @@ first_tells b slots xs h page is are below = by (get_or_at slots h (omega (arith
           λ none. absurd (omega (arith, none, sym (first_byte page (h % 16 * 32)), ap (field 1 0) (record_on b h page is), one_there)),
           λ none. absurd (none-some s (same_Some None (Some s) (sym none ∙ e))),
         )
-
--- one page more was read, or none
-pub page_paid : (h k s t u : ℕ) → 1 ≤ h → s ≤ t + ((h - 1) / 16 + 1) * k → u ≤ s + k → (h % 16 ≢ 0 → u ≤ s) → u ≤ t + (h / 16 + 1) * k
-page_paid h k s t u above cost step idle = elim (cases_eq (h % 16) 0) [
-  | inl first ↦ let n : (h - 1) / 16 + 1 + 1 ≡ h / 16 + 1 = omega (arith, first, above) in let p = paid_more ((h - 1) / 16 + 1) k t s u cost step in subst (λ (m : ℕ). u ≤ t + m * k) n p
-  | inr inner ↦ let n : (h - 1) / 16 + 1 ≡ h / 16 + 1 = omega (arith, inner, above) in let same = idle inner in subst (λ (m : ℕ). u ≤ t + m * k) n (omega (arith, same, cost))
-]
-
--- so it is for all of them
-pub pages_paid : (h k t u : ℕ) → h < 512 → u ≤ t + (h / 16 + 1) * k → u ≤ t + 511 * k
-pages_paid h k t u below cost = let more = mul-le (h / 16 + 1) k 511 k (omega (arith, below)) (omega arith) in omega (arith, more, cost)

@@ -1,5 +1,5 @@
 //! Records of the tables in a memory, read and written by their index.
-ghost use Rattle.std.specs.Prelude.{◌≡◌, ◌≢◌, ℕ, ◌+◌, ◌*◌, ◌-◌, ◌%◌, if◌then◌else◌, ◌<◌, ◌≤◌, ◌↔◌, true, false, List, length, Option, Some, None, IfOk, IfErr, IfSome, OnOk, OnErr, MatchResult, slice_get, slice_set, insert, remove};
+ghost use Rattle.std.specs.Prelude.{◌≡◌, ℕ, ◌+◌, ◌*◌, ◌-◌, if◌then◌else◌, ◌<◌, ◌≤◌, ◌↔◌, true, false, List, length, Option, Some, None, IfOk, IfErr, IfSome, OnOk, OnErr, MatchResult, slice_get, slice_set, insert, remove};
 ghost use Rattle.flat_machine.specs.declared.space.Space.{Space};
 ghost use Rattle.flat_mem.specs.Memory.{part, overwritten};
 ghost use Rattle.projection_laws.specs.Sight.{Interval};
@@ -78,27 +78,22 @@ pub fn slot<M: FlatMem>(mem: &mut M, handle: u32) -> Result<Option<Space>, Space
 /// The bytes of a page of the hierarchy: the records of 16 handles.
 pub type Page = [u8; 512];
 
-/// Reads the page of the hierarchy that has the record of this handle, where it is the first there. Else the page is at
-/// hand, and stays.
-pub fn look_at<M: FlatMem>(
+/// Reads the page of the hierarchy that has the record of this handle.
+pub fn load_page<M: FlatMem>(
     mem: &mut M,
     handle: u32,
     page: &mut Page,
 ) -> Result<(), SpaceError<M::Error>>
     requires size { 49152 ≤ M.size mem.old }
     requires inside { handle < 512 }
-    ensures read { (b : List ℕ) → M.tells mem.old b → (handle % 16 ≢ 0 → page.old ≡ slot_page b handle) → OnOk result (page.new ≡ slot_page b handle) }
+    ensures read { (b : List ℕ) → M.tells mem.old b → OnOk result (page.new ≡ slot_page b handle) }
     ensures memory { IfErr result FromMemory }
     ensures refused { IfErr result NotRefused }
     ensures unchanged { (b : List ℕ) → M.tells mem.old b → M.tells mem.new b }
     ensures kept { M.beside mem.old mem.new }
     ensures cause { IfErr result (IfMem (M.accounted mem.old mem.new)) }
     ensures cost { M.spent mem.new ≤ M.spent mem.old + M.cost }
-    ensures idle { handle % 16 ≢ 0 → M.spent mem.new ≤ M.spent mem.old }
 {
-    if handle % 16 != 0 {
-        return Ok(());
-    }
     match mem.read(512 * u64::from(handle / 16), page) {
         Ok(()) => Ok(()),
         Err(error) => Err(SpaceError::Mem(error)),

@@ -1,5 +1,5 @@
 //! Passes over the hierarchy.
-ghost use Rattle.std.specs.Prelude.{◌≡◌, ◌≢◌, ℕ, ◌+◌, ◌*◌, ◌/◌, ◌<◌, ◌≤◌, true, List, Option, Some, None, IfOk, IfErr, IfSome, MatchResult, slice_get, find};
+ghost use Rattle.std.specs.Prelude.{◌≡◌, ℕ, ◌+◌, ◌*◌, ◌/◌, ◌%◌, ◌<◌, ◌≤◌, true, List, Option, Some, None, IfOk, IfErr, IfSome, MatchResult, slice_get, find};
 ghost use Rattle.flat_machine.specs.declared.space.Space.{Space};
 ghost use Rattle.projection_laws.specs.Sight.{Interval};
 ghost use Rattle.projection_laws.specs.Slots.{listed};
@@ -7,10 +7,10 @@ ghost use Rattle.projection_laws.specs.Stored.{slot_in};
 ghost use Rattle.space_tables.specs.Form.{slot_record, slot_page, space_in_form, BreaksSlot, BreaksHierarchy};
 ghost use Rattle.space_tables.specs.Answer.{FromMemory, NotRefused, IfMem, IfMalformed};
 ghost use Rattle.space_tables.specs.Stored.{AreTables, HoldTables, AreReadable};
-ghost use Rattle.space_tables.specs.Scan.{passes, kept, IsLowestFree};
+ghost use Rattle.space_tables.specs.Scan.{passes, kept, end_on, IsFirstOn, IsLowestFrom, IsLowestFree};
 
 use crate::SpaceError;
-use crate::records::{Page, has_space_on, look_at, slot_on};
+use crate::records::{Page, has_space_on, load_page, slot_on};
 use flat_machine::{Space, Window};
 use flat_mem::FlatMem;
 use labelled_disk::FileId;
@@ -61,6 +61,31 @@ fn passing(page: &Page, handle: u32, test: &Test) -> Option<Option<Space>>
     }
 }
 
+// The first space that passes the test among the 16 handles from `first` on, by the page that has their records. The outer
+// None means that a record breaks its form.
+fn first_on(page: &Page, first: u32, test: &Test) -> Option<Option<Space>>
+    requires whole { first % 16 ≡ 0 }
+    requires inside { first < 512 }
+    ensures found { (b : List ℕ) (slots : List (Option Space)) (xs : List Interval) → page.now ≡ slot_page b first → AreTables b slots xs → AreReadable slots xs
+        → (o : Option Space) × (result ≡ Some o) × IsFirstOn (passes test.now) slots first o }
+    ensures read { (b : List ℕ) → page.now ≡ slot_page b first → IfSome result (λ o. IfSome o (λ s. slot_in s.handle (slot_record b s.handle) ≡ Some s)) }
+    ensures form { IfSome result (λ o. IfSome o (λ s. (space_in_form s ≡ true) × (passes test.now s ≡ true) × (s.handle < 512))) }
+    ensures malformed { (b : List ℕ) → page.now ≡ slot_page b first → result ≡ None → BreaksHierarchy b (first / 16) }
+{
+    let mut handle = first;
+    'scan: while handle < first + 16 {
+        if !has_space_on(page, handle) {
+            handle += 1;
+            continue 'scan;
+        }
+        if let Some(space) = passing(page, handle, test)? {
+            return Some(Some(space));
+        }
+        handle += 1;
+    }
+    Some(None)
+}
+
 /// The first space, in rising handles, that passes the test.
 pub fn find_space<M: FlatMem>(
     mem: &mut M,
@@ -79,22 +104,36 @@ pub fn find_space<M: FlatMem>(
     ensures cost { M.spent mem.new ≤ M.spent mem.old + 512 * M.cost }
 {
     let mut page = [0; 512];
-    let mut handle = 0;
-    'scan: while handle < 512 {
-        look_at(mem, handle, &mut page)?;
-        if !has_space_on(&page, handle) {
-            handle += 1;
-            continue 'scan;
-        }
-        let Some(found) = passing(&page, handle, test) else {
-            return Err(SpaceError::Malformed { page: handle / 16 });
+    let mut first = 0;
+    'scan: while first < 512 {
+        load_page(mem, first, &mut page)?;
+        let Some(found) = first_on(&page, first, test) else {
+            return Err(SpaceError::Malformed { page: first / 16 });
         };
         if let Some(space) = found {
             return Ok(Some(space));
         }
-        handle += 1;
+        first += 16;
     }
     Ok(None)
+}
+
+// The lowest handle from `from` on that no space has, among those whose records the page has.
+fn free_on(page: &Page, from: u32) -> Option<u32>
+    requires inside { from < 512 }
+    ensures free { (b : List ℕ) (slots : List (Option Space)) (xs : List Interval) → page.now ≡ slot_page b from → AreTables b slots xs
+        → IsLowestFrom slots from (end_on from) result }
+    ensures form { IfSome result (λ h. (from ≤ h) × (h < 512)) }
+{
+    let end = from - from % 16 + 16;
+    let mut handle = from;
+    'scan: while handle < end {
+        if !has_space_on(page, handle) {
+            return Some(handle);
+        }
+        handle += 1;
+    }
+    None
 }
 
 /// The lowest handle from 1 on that no space has.
@@ -111,14 +150,13 @@ pub fn free_handle<M: FlatMem>(mem: &mut M) -> Result<Option<u32>, SpaceError<M:
     ensures cost { M.spent mem.new ≤ M.spent mem.old + 511 * M.cost }
 {
     let mut page = [0; 512];
-    look_at(mem, 0, &mut page)?;
-    let mut handle = 1;
-    'scan: while handle < 512 {
-        look_at(mem, handle, &mut page)?;
-        if !has_space_on(&page, handle) {
+    let mut from = 1;
+    'scan: while from < 512 {
+        load_page(mem, from, &mut page)?;
+        if let Some(handle) = free_on(&page, from) {
             return Ok(Some(handle));
         }
-        handle += 1;
+        from = from - from % 16 + 16;
     }
     Ok(None)
 }

@@ -1,47 +1,46 @@
-use Rattle.std.proofs.Common.{◌≡◌, ℕ, ◌+◌, ◌-◌, ◌*◌, ◌/◌, ◌≤◌, List, sym, ◌∙◌, subst, arith}
-use Rattle.std.proofs.lemmas.Bool.{true≢false}
+use Rattle.std.proofs.Common.{◌≡◌, ◌≤◌, ℕ, ◌+◌, ◌-◌, ◌*◌, ◌%◌, List, Option, subst, arith}
+use Rattle.std.proofs.lemmas.Nat.{mul-le}
 use Rattle.space_tables.specs.Form.{slot_page}
-use Rattle.space_tables.proofs.Pages.{next_on, page_paid, pages_paid}
-use Rattle.space_tables.proofs.Passes.{one_taken}
+use Rattle.space_tables.specs.Scan.{end_on, IsLowestFrom}
+use Rattle.space_tables.proofs.Passes.{both_taken}
 use Rattle.space_tables.proofs.scan.free_handle.Given as given
 use Rattle.space_tables.proofs.scan.free_handle.Goals as goal
-use Rattle.space_tables.proofs.scan.free_handle.Goals.{In_ok-look_at-2, After-look_at-in-scan}
+use Rattle.space_tables.proofs.scan.free_handle.Goals.{In_ok-load_page}
 
--- the page at hand has the record of the handle
-at_hand : (g : given.Over) (c : In_ok-look_at-2 g) (b : List ℕ) → g.M.FlatMem.tells c.args.mem.now b → c.look_at-in-scan.new.page ≡ slot_page b c.scan.handle
-at_hand g c b told = c.in_ok-look_at-2.ensures.read b (c.scan.invariant.unchanged b told) (λ inner. c.scan.invariant.read b told inner)
+-- the page that was read is that of the handles
+at_hand : (g : given.Over) (c : In_ok-load_page g) (b : List ℕ) → g.M.FlatMem.tells c.args.mem.now b → c.load_page.new.page ≡ slot_page b c.scan.from
+at_hand g c b told = c.in_ok-load_page.ensures.read b (c.scan.invariant.unchanged b told)
 
--- what was paid for it
-paid : (g : given.Over) (c : After-look_at-in-scan g) → g.M.FlatMem.spent c.look_at-in-scan.new.mem ≤ g.M.FlatMem.spent c.args.mem.now + (c.scan.handle / 16 + 1) * g.M.FlatMem.cost
-paid g c = page_paid c.scan.handle g.M.FlatMem.cost _ _ _ c.scan.invariant.above c.scan.invariant.cost c.look_at-in-scan.ensures.cost c.look_at-in-scan.ensures.idle
+more : (n m k s t u : ℕ) → s ≤ t + n * k → u ≤ s + k → n + 1 ≤ m → u ≤ t + m * k
+more n m k s t u cost step few = let p = mul-le (n + 1) k m k few (omega arith) in omega (arith, p, cost, step)
 
-pub returns-in_err-look_at-2-clause-cost : goal.returns-in_err-look_at-2-clause-cost
-returns-in_err-look_at-2-clause-cost g c = pages_paid c.scan.handle g.M.FlatMem.cost _ _ (omega (arith, c.scan-test.true)) (paid g (goal.at.returns-in_err-look_at-2-clause-cost g c).After-look_at-in-scan)
+pub returns-in_err-load_page-clause-cost : goal.returns-in_err-load_page-clause-cost
+returns-in_err-load_page-clause-cost g c = more (c.scan.from - 1) 511 g.M.FlatMem.cost _ _ _ c.scan.invariant.cost c.load_page.ensures.cost (omega (arith, c.scan-test.true, c.scan.invariant.above))
 
-pub returns-then-not-has_space_on-clause-free : goal.returns-then-not-has_space_on-clause-free
-returns-then-not-has_space_on-clause-free g c = λ slots xs h ok.
-    let page = at_hand g (goal.at.returns-then-not-has_space_on-clause-free g c).In_ok-look_at-2 h.bytes h.told in
-    let here = c.has_space_on.ensures.space h.bytes slots xs page h.are in
-    (c.scan.invariant.above, here.0 c.if-not-has_space_on.true, c.scan.invariant.taken slots xs h ok)
+pub returns-in-Some-clause-free : goal.returns-in-Some-clause-free
+returns-in-Some-clause-free g c = λ slots xs h ok.
+    let page = at_hand g (goal.at.returns-in-Some-clause-free g c).In_ok-load_page h.bytes h.told in
+    let at = subst (λ (o : Option ℕ). IsLowestFrom slots c.scan.from (end_on c.scan.from) o) c.in-Some.is (c.free_on.ensures.free h.bytes slots xs page h.are) in
+    (omega (arith, at.0, c.scan.invariant.above), at.2, both_taken slots 1 c.scan.from c.in-Some.handle (c.scan.invariant.taken slots xs h ok) at.3)
 
-pub returns-then-not-has_space_on-clause-cost : goal.returns-then-not-has_space_on-clause-cost
-returns-then-not-has_space_on-clause-cost g c = pages_paid c.scan.handle g.M.FlatMem.cost _ _ (omega (arith, c.scan-test.true)) (paid g (goal.at.returns-then-not-has_space_on-clause-cost g c).After-look_at-in-scan)
+pub returns-in-Some-clause-cost : goal.returns-in-Some-clause-cost
+returns-in-Some-clause-cost g c = more (c.scan.from - 1) 511 g.M.FlatMem.cost _ _ _ c.scan.invariant.cost c.load_page.ensures.cost (omega (arith, c.scan-test.true, c.scan.invariant.above))
 
 pub scan-preserved : goal.scan-preserved
 scan-preserved g c = record {
-  above = omega arith;
+  above = omega (arith, c.scan.invariant.above);
   within = omega (arith, c.scan-test.true);
   taken = λ slots xs h ok.
-      let page = at_hand g (goal.at.scan-preserved g c).In_ok-look_at-2 h.bytes h.told in
-      let here = c.has_space_on.ensures.space h.bytes slots xs page h.are in
-      one_taken slots c.scan.handle (c.scan.invariant.taken slots xs h ok) (λ free. true≢false (sym c.if-not-has_space_on.false ∙ here.1 free));
-  read = λ b h inner. next_on b c.scan.handle c.look_at-in-scan.new.page (at_hand g (goal.at.scan-preserved g c).In_ok-look_at-2 b h) inner;
-  unchanged = λ b h. c.look_at-in-scan.ensures.unchanged b (c.scan.invariant.unchanged b h);
-  kept = g.met.M.FlatMem.beside_through _ _ _ c.scan.invariant.kept c.look_at-in-scan.ensures.kept;
-  cost =
-      let same : c.scan.handle ≡ c.scan.handle + 1 - 1 = omega arith in
-      subst (λ (n : ℕ). g.M.FlatMem.spent c.look_at-in-scan.new.mem ≤ g.M.FlatMem.spent c.args.mem.now + (n / 16 + 1) * g.M.FlatMem.cost) same (paid g (goal.at.scan-preserved g c).After-look_at-in-scan);
+      let page = at_hand g (goal.at.scan-preserved g c).In_ok-load_page h.bytes h.told in
+      let none = subst (λ (o : Option ℕ). IsLowestFrom slots c.scan.from (end_on c.scan.from) o) c.in_default.is (c.free_on.ensures.free h.bytes slots xs page h.are) in
+      both_taken slots 1 c.scan.from (end_on c.scan.from) (c.scan.invariant.taken slots xs h ok) none;
+  unchanged = λ b h. c.load_page.ensures.unchanged b (c.scan.invariant.unchanged b h);
+  kept = g.met.M.FlatMem.beside_through _ _ _ c.scan.invariant.kept c.load_page.ensures.kept;
+  cost = more (c.scan.from - 1) (c.scan.from - c.scan.from % 16 + 16 - 1) g.M.FlatMem.cost _ _ _ c.scan.invariant.cost c.load_page.ensures.cost (omega (arith, c.scan.invariant.above));
 }
 
 pub returns-clause-free : goal.returns-clause-free
 returns-clause-free g c = λ slots xs h ok j low below. c.scan.invariant.taken slots xs h ok j low (omega (arith, below, c.scan-test.false))
+
+pub returns-clause-cost : goal.returns-clause-cost
+returns-clause-cost g c = let p = mul-le (c.scan.from - 1) g.M.FlatMem.cost 511 g.M.FlatMem.cost (omega (arith, c.scan.invariant.within)) (omega arith) in omega (arith, p, c.scan.invariant.cost)

@@ -1,21 +1,19 @@
-use Rattle.std.proofs.Common.{◌≡◌, ◌≢◌, ℕ, ◌+◌, ◌-◌, ◌*◌, ◌/◌, ◌%◌, ◌≤◌, List, Option}
+use Rattle.std.proofs.Common.{ℕ, ◌+◌, ◌-◌, ◌*◌, ◌≤◌, List, Option}
 use Rattle.flat_machine.specs.declared.space.Space.{Space}
 use Rattle.projection_laws.specs.Sight.{Interval}
 use Rattle.space_tables.specs.Stored.{HoldTables, AreReadable}
-use Rattle.space_tables.specs.Form.{slot_page}
 use Rattle.space_tables.specs.Scan.{AreTaken}
 use Rattle.space_tables.proofs.scan.free_handle.Given as goal
 
 abbrev pub invariant-scan : goal.invariant-scan
 invariant-scan g l = record {
-  above : 1 ≤ l.handle;
-  within : l.handle ≤ 512;
-  taken : (slots : List (Option Space)) (xs : List Interval) → HoldTables (g.M.FlatMem.tells l.fn.mem) slots xs → AreReadable slots xs → AreTaken slots l.handle;
-  read : (b : List ℕ) → g.M.FlatMem.tells l.fn.mem b → l.handle % 16 ≢ 0 → l.page ≡ slot_page b l.handle;
+  above : 1 ≤ l.from;
+  within : l.from ≤ 512;
+  taken : (slots : List (Option Space)) (xs : List Interval) → HoldTables (g.M.FlatMem.tells l.fn.mem) slots xs → AreReadable slots xs → AreTaken slots l.from;
   unchanged : (b : List ℕ) → g.M.FlatMem.tells l.fn.mem b → g.M.FlatMem.tells l.mem b;
   kept : g.M.FlatMem.beside l.fn.mem l.mem;
-  cost : g.M.FlatMem.spent l.mem ≤ g.M.FlatMem.spent l.fn.mem + ((l.handle - 1) / 16 + 1) * g.M.FlatMem.cost;
+  cost : g.M.FlatMem.spent l.mem ≤ g.M.FlatMem.spent l.fn.mem + (l.from - 1) * g.M.FlatMem.cost;
 }
 
 abbrev pub decreases-scan : goal.decreases-scan
-decreases-scan g l = 512 - l.handle
+decreases-scan g l = 512 - l.from
