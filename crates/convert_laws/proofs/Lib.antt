@@ -1,0 +1,5 @@
+pub mod WriteLemmas
+pub mod RereadCounts
+mod RootForm
+pub mod ConvertedLemmas
+pub mod ForLemmas

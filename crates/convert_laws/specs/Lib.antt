@@ -1,0 +1,3 @@
+pub mod Converted
+pub mod Orders
+pub mod Conversions

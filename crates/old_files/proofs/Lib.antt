@@ -1,0 +1,9 @@
+pub mod OldLemmas
+pub mod StayLemmas
+pub mod RereadLemmas
+pub mod MomentLemmas
+pub mod SettleLemmas
+pub mod NeedLemmas
+pub mod ConversionLemmas
+pub mod PlacingLemmas
+pub mod LeaderLemmas

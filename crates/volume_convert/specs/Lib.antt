@@ -1,0 +1,5 @@
+pub mod Answers
+pub mod Leaves
+pub mod Heads
+pub mod Settled
+pub mod Planned

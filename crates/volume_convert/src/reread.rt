@@ -1,0 +1,58 @@
+//! Old labels, read as those of today: page 0 stands where the leader does, and each page where
+//! the one before does.
+ghost use Rattle.std.specs.Prelude.{◌≡◌, ◌<◌, ◌^◌, List, length, map, IfOk};
+ghost use Rattle.labelled_disk.specs.Layout.{data_sectors};
+ghost use Rattle.labelled_disk.specs.Sectors.{Sector};
+ghost use Rattle.label_survey.specs.Standings.{AreStandings};
+ghost use Rattle.old_files.specs.Reread.{all_reread, label_before, page_before};
+
+use label_survey::{Standing, find_standings};
+use labelled_disk::{Label, NoMemory};
+use std::alloc::{AllocError, Allocator};
+
+/// The page number of a leader.
+pub(crate) const LEADER: u32 = 0xffff_ffff;
+
+fn page_before(page: u32) -> u32
+    ensures { result ≡ page_before page }
+{
+    if page == 0 {
+        return LEADER;
+    }
+    page - 1
+}
+
+fn label_before(label: &Label) -> Label
+    ensures { result ≡ label_before label.now }
+{
+    Label {
+        page: page_before(label.page),
+        ..*label
+    }
+}
+
+fn reread_labels<A: Allocator>(alloc: A, labels: &[Label]) -> Result<Vec<Label, A>, AllocError>
+    ensures { IfOk result (λ reread. reread.items ≡ map label_before labels.now) }
+{
+    let mut reread = Vec::with_capacity(alloc, labels.len())?;
+    for i in 0..labels.len() {
+        reread.push(label_before(&labels[i]))?;
+    }
+    Ok(reread)
+}
+
+/// What each data sector of an old volume is, by the labels of them all: page 0 of a file is told
+/// as its leader.
+pub(crate) fn find_old_standings<A: Allocator + Clone>(
+    alloc: A,
+    labels: &[Label],
+) -> Result<Vec<Standing, A>, NoMemory>
+    requires few { length labels.now < 2 ^ 32 }
+    ensures standings { IfOk result (λ standings. (d : List Sector)
+        → labels.now ≡ map (λ s. s.0) (data_sectors d)
+        → AreStandings (all_reread d) standings.items) }
+    ensures len { IfOk result (λ standings. length standings.items ≡ length labels.now) }
+{
+    let reread = reread_labels(alloc.clone()?, labels)?;
+    find_standings(alloc, &reread)
+}
