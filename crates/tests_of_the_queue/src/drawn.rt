@@ -1,7 +1,8 @@
 //! Calls in a fixed pseudo-random order over a queue, beside the same calls over a plain disk.
 
 use crate::disks::{SECTORS, label, labelled, wanted};
-use labelled_disk::{Disk, DiskError, Label, Page};
+use labelled_disk::{Disk, DiskError, Label, NoMemory, Page};
+use std::alloc::Allocator;
 use std::test::Fail;
 use write_queue::QueueOver;
 
@@ -33,24 +34,33 @@ fn answer<D: Disk>(disk: &mut D, number: u32) -> (Result<Label, DiskError>, Page
     (done.map(|_| label), found)
 }
 
-#[test]
-fn a_queue_answers_as_the_disk_beneath(rt: HostRuntime) -> Result<(), Fail> {
-    let mut plain = labelled(rt.alloc(), &[], 40_000)?;
-    let disk = labelled(rt.alloc(), &[], 40_000)?;
-    let Ok(mut queue) = QueueOver::over(rt.alloc(), disk, 8) else {
-        return Err(Fail::from("no memory"));
-    };
+// The first of 20,000 turns at which a queue over the disk answers other than the plain one, or None. The queue is settled.
+fn first_difference<D: Disk, E: Disk, A: Allocator + Clone>(
+    alloc: A,
+    disk: &mut D,
+    plain: &mut E,
+) -> Result<Option<u32>, NoMemory> {
+    let mut queue = QueueOver::with_room(alloc, disk, 8)?;
+    let mut difference = None;
     let mut number = 7;
     for turn in 0..20_000u32 {
         number = next(number);
-        assert_eq!(rt;
-            answer(&mut queue, number),
-            answer(&mut plain, number),
-            "turn {turn}"
-        );
+        if answer(&mut queue, number) != answer(plain, number) && difference.is_none() {
+            difference = Some(turn);
+        }
     }
-    assert!(rt; queue.settle().is_ok());
-    let mut disk = queue.into_disk();
+    if queue.settle().is_err() || queue.waiting() > 0 {
+        difference = Some(20_000);
+    }
+    let _ = queue.into_disk();
+    Ok(difference)
+}
+
+#[test]
+fn a_queue_answers_as_the_disk_beneath(rt: HostRuntime) -> Result<(), Fail> {
+    let mut plain = labelled(rt.alloc(), &[], 40_000)?;
+    let mut disk = labelled(rt.alloc(), &[], 40_000)?;
+    assert_eq!(rt; first_difference(rt.alloc(), &mut disk, &mut plain)?, None);
     assert!(rt; disk.written().len() < plain.written().len());
     for sector in 0..SECTORS {
         let read = 28 * 0x400_0000 + sector * 0x1_0000;

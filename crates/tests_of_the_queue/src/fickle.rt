@@ -78,5 +78,6 @@ fn a_changed_label_is_told(rt: HostRuntime) -> Result<(), Fail> {
     assert_eq!(rt; queue.changed(), Some((40, wanted(40), Label::FREE)));
     assert_eq!(rt; queue.faults(), 1);
     assert_eq!(rt; queue.waiting(), 2);
+    assert_eq!(rt; queue.moved_beneath(), 68);
     Ok(())
 }
