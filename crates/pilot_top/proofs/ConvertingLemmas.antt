@@ -152,6 +152,7 @@ module _ (result : Result Converted ConvertFault) (old new : DiskState) (all : I
         no_volume_unwritten = λ d f told none. absurd (volume_is_old d told f none);
         unfit = λ d told unfit. absurd (cc unfit);
         unfit_refused = λ d told volume none. absurd (has_room found is d told none);
+        no_room_unwritten = λ d told none. absurd (has_room found is d told none);
         complete = λ d told volume room disk_held sink_held. inl refl;
       }
 
@@ -173,6 +174,7 @@ module _ (result : Result Converted ConvertFault) (old new : DiskState) (all : I
         no_volume_unwritten = λ d f told none. absurd (volume_is_old d told f none);
         unfit = λ d told unfit. absurd (cc unfit);
         unfit_refused = λ d told volume none. absurd (has_room found is d told none);
+        no_room_unwritten = λ d told none. absurd (has_room found is d told none);
         complete = λ d told volume room disk_held sink_held. absurd (sink_held rose);
       }
 
@@ -205,6 +207,7 @@ module _ (result : Result Converted ConvertFault) (old new : DiskState) (all : I
         no_volume_unwritten = λ d g told none. reads;
         unfit = λ d told unfit. absurd (cc unfit);
         unfit_refused = λ d told volume none. absurd (volume f (no_volume d told f is));
+        no_room_unwritten = λ d told none. reads;
         complete = λ d told volume room disk_held sink_held. absurd (volume f (no_volume d told f is));
       }
 
@@ -247,6 +250,7 @@ module _ (result : Result Converted ConvertFault) (old new : DiskState) (all : I
               subst (λ (k : ℕ). Puts (Rose m n) t u (last_line (cause.Unfit (total_room (files_old d)) k))) (room_is d told) wants,
             );
         unfit_refused = λ d told volume none. inl refl;
+        no_room_unwritten = λ d told none. all.unwritten (why.Unfit wanted room) is (λ e. cc e);
         complete = λ d told volume fits disk_held sink_held. absurd (fits (too_many d told));
       }
         where
@@ -298,6 +302,7 @@ module _ (result : Result Converted ConvertFault) (old new : DiskState) (all : I
       no_volume_unwritten = λ d f told none. all.others d told (inl (f, none));
       unfit = λ d told unfit. absurd (cc unfit);
       unfit_refused = λ d told volume none. inr (inl refl);
+      no_room_unwritten = λ d told none. all.others d told (inr none);
       complete = λ d told volume room disk_held sink_held. absurd (disk_held (all.cause is));
     }
 
@@ -320,5 +325,6 @@ module _ (result : Result Converted ConvertFault) (old new : DiskState) (all : I
       no_volume_unwritten = λ d f told none. all.unwritten why.NoMemory is (λ e. cc e);
       unfit = λ d told unfit. absurd (cc unfit);
       unfit_refused = λ d told volume none. inr (inr refl);
+      no_room_unwritten = λ d told none. all.unwritten why.NoMemory is (λ e. cc e);
       complete = λ d told volume room disk_held sink_held. inr refl;
     }

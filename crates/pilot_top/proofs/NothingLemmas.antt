@@ -102,6 +102,7 @@ module _ (w : World) where
     no_volume_unwritten = λ d why told refused. only_reads_itself w.disk;
     unfit = λ d told unfit. absurd (cc unfit);
     unfit_refused = λ d told volume none. inr (inr refl);
+    no_room_unwritten = λ d told none. only_reads_itself w.disk;
     complete = λ d told volume room disk_held sink_held. inr refl;
   }
 

@@ -59,6 +59,7 @@ pub record ConvertedBy (s : Status) (before after : World) : Type 0 where
   pub unfit : (d : List Sector) → Holds before d → s ≡ status.Unfit
       → IsOldVolume d × HasNoRoom d × StaysUnwritten before after × WritesLast before after (cause.Unfit (total_room (files_old d)) (capacity (length d)))
   pub unfit_refused : (d : List Sector) → Holds before d → IsOldVolume d → HasNoRoom d → s ≡ status.Unfit ⊎ s ≡ status.DiskFault ⊎ s ≡ status.NoMemory
+  pub no_room_unwritten : (d : List Sector) → Holds before d → HasNoRoom d → StaysUnwritten before after
   -- An old volume whose files have room is converted, where nothing failed.
   pub complete : (d : List Sector) → Holds before d → IsOldVolume d → ¬ HasNoRoom d → ¬ DiskFailed before after → ¬ SinkFailed before after
       → (s ≡ status.Done) ⊎ (s ≡ status.NoMemory)
