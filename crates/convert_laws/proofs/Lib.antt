@@ -3,3 +3,4 @@ pub mod RereadCounts
 mod RootForm
 pub mod ConvertedLemmas
 pub mod ForLemmas
+mod ExampleLemmas

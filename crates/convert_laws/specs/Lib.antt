@@ -1,3 +1,4 @@
 pub mod Converted
 pub mod Orders
 pub mod Conversions
+pub mod Example

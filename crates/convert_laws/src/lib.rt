@@ -3,4 +3,4 @@
 
 mod laws;
 
-pub use laws::{conversions_convert, first_writes_place, left_is_taken_again};
+pub use laws::{conversions_convert, example_old_files, first_writes_place, left_is_taken_again};
