@@ -8,7 +8,7 @@ use labelled_disk::{Layout, RootFault};
 use pilot_top::Status;
 use std::fs::File;
 use std::io;
-use volume_root::read_root;
+use volume_root::{read_old_root, read_root};
 
 /// The words mean no command: which words, and how the program is called.
 pub(crate) fn no_command(rt: &HostRuntime, words: &[String]) -> Status {
@@ -50,7 +50,7 @@ pub(crate) fn stream_failed(rt: &HostRuntime, source: Option<io::Error>, sink: O
 fn what_takes_memory(meant: Command) -> &'static str {
     match meant {
         Command::Run { .. } | Command::Trial { .. } => "the frames",
-        Command::Scavenge => "labels and maps",
+        Command::Scavenge | Command::Convert => "labels and maps",
         _ => "the words",
     }
 }
@@ -81,15 +81,34 @@ fn remedy(rt: &HostRuntime, path: &str, why: &str) {
     let _ = eprintln!(rt; "pilot: {path:?}: {why}; to restore it: pilot {path:?} scavenge");
 }
 
+/// What makes a volume of today of an old one.
+fn renewal(rt: &HostRuntime, path: &str, version: u16) {
+    let _ = eprintln!(rt;
+        "pilot: {path:?}: the volume has version {version}; to bring it to version 3: pilot {path:?} convert"
+    );
+}
+
 /// The volume was refused: its root is read once more, and the first test of it that fails is told.
-fn not_opened(rt: &HostRuntime, path: &str, disk: &mut ImageDisk<File>) {
-    match read_root(disk, true) {
-        Err(RootFault::Unclean) => remedy(rt, path, "the volume was not closed"),
+fn not_opened(rt: &HostRuntime, task: Task<'_>, disk: &mut ImageDisk<File>) {
+    let root = match task.meant {
+        Command::Convert => read_old_root(disk),
+        _ => read_root(disk, true),
+    };
+    match root {
+        Err(RootFault::Unclean) => remedy(rt, task.path, "the volume was not closed"),
+        Err(RootFault::Version(version @ (1 | 2))) => renewal(rt, task.path, version),
         Err(fault) => {
-            let _ = eprintln!(rt; "pilot: {path:?}: {fault}");
+            let _ = eprintln!(rt; "pilot: {:?}: {fault}", task.path);
         }
         Ok(_) => {}
     }
+}
+
+/// The files of an old volume have no room.
+fn unfit(rt: &HostRuntime, path: &str) {
+    let _ = eprintln!(rt;
+        "pilot: {path:?}: there are not sectors enough for the files and a leader of each"
+    );
 }
 
 /// A command on an image file did not do its work.
@@ -103,10 +122,11 @@ pub(crate) fn image_stopped(
         (Status::DiskFault, Some(trouble)) => {
             let _ = eprintln!(rt; "pilot: {:?}: {trouble}", task.path);
         }
-        (Status::NotOpened, _) => not_opened(rt, task.path, disk),
+        (Status::NotOpened, _) => not_opened(rt, task, disk),
         (Status::NoMemory, _) => no_memory(rt, what_takes_memory(task.meant)),
         (Status::Long, _) => too_long(rt),
         (Status::Damaged, _) => remedy(rt, task.path, "the volume is damaged"),
+        (Status::Unfit, _) => unfit(rt, task.path),
         _ => {}
     }
 }
