@@ -88,6 +88,13 @@ free_in_used b from (suc n) all =
     let rest = free_in_used b (from + 1) n (λ s above below. all s (omega (arith, above)) (omega (arith, below))) in
     omega (arith, free_in-suc b from n, first, rest)
 
+pub free_in_free : (b : List ℕ) (from n : ℕ) → AreAll false b from (from + n) → free_in b from n ≡ n
+free_in_free b from zero all = free_in-zero b from
+free_in_free b from (suc n) all =
+    let first = bit_free b from (all from (omega arith) (omega arith)) in
+    let rest = free_in_free b (from + 1) n (λ s above below. all s (omega (arith, above)) (omega (arith, below))) in
+    omega (arith, free_in-suc b from n, first, rest)
+
 pub free_in_one : (b : List ℕ) (at : ℕ) → is_used b at ≡ false → free_in b at 1 ≡ 1
 free_in_one b at free = omega (arith, free_in-suc b at 0, bit_free b at free, free_in-zero b (at + 1))
 

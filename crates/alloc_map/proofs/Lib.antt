@@ -1,3 +1,4 @@
 mod BitLemmas
 mod PageLemmas
 mod Spending
+mod WordLemmas

@@ -1,5 +1,5 @@
 //! The sectors of one page of the map, a bit each, the highest bit of a byte first.
-ghost use Rattle.std.specs.Prelude.{◌≡◌, ℕ, ◌+◌, ◌-◌, ◌*◌, ◌≤◌, ◌<◌, Bool, true, false, not, List};
+ghost use Rattle.std.specs.Prelude.{◌≡◌, ℕ, ◌+◌, ◌-◌, ◌*◌, ◌%◌, ◌^◌, ◌≤◌, ◌<◌, Bool, true, false, not, List};
 ghost use Rattle.alloc_map.specs.Bits.{is_used as is_used_in, AreAll, IsMarked, free_in};
 
 /// The bytes of a page of the map.
@@ -13,6 +13,34 @@ pub fn is_used(page: &Page, sector: u32) -> bool
     (page[(sector / 8) as usize] >> (7 - sector % 8)) & 1 == 1
 }
 
+// The 64 sectors from this one on, the first of them in the highest bit.
+fn word_at(page: &Page, sector: u32) -> u64
+    requires whole { sector % 64 ≡ 0 }
+    requires inside { sector < 4096 }
+    ensures used { result ≡ 2 ^ 64 - 1 → AreAll true page.now sector (sector + 64) }
+    ensures free { result ≡ 0 → AreAll false page.now sector (sector + 64) }
+{
+    let first = (sector / 8) as usize;
+    u64::from_be_bytes([
+        page[first],
+        page[first + 1],
+        page[first + 2],
+        page[first + 3],
+        page[first + 4],
+        page[first + 5],
+        page[first + 6],
+        page[first + 7],
+    ])
+}
+
+// Whether none of 64 sectors is used, or none is free.
+fn is_passed(word: u64, used: bool) -> bool
+    ensures free { used ≡ true → result ≡ true → word ≡ 0 }
+    ensures used { used ≡ false → result ≡ true → word ≡ 2 ^ 64 - 1 }
+{
+    word == if used { 0 } else { u64::MAX }
+}
+
 /// The first sector from `from` on that is used, or is free, or `end` where there is none below it.
 pub fn find(page: &Page, from: u32, end: u32, used: bool) -> u32
     requires order { from ≤ end }
@@ -24,7 +52,9 @@ pub fn find(page: &Page, from: u32, end: u32, used: bool) -> u32
     let passed = if used { 0 } else { 255 };
     let mut at = from;
     'search: while at < end {
-        if page[(at / 8) as usize] == passed {
+        if at % 64 == 0 && is_passed(word_at(page, at), used) {
+            at += 64;
+        } else if page[(at / 8) as usize] == passed {
             at = at - at % 8 + 8;
         } else if is_used(page, at) == used {
             return at;
@@ -44,7 +74,12 @@ pub fn count_free(page: &Page, from: u32, end: u32) -> u32
     let mut count = 0;
     let mut at = from;
     'counting: while at < end {
-        if page[(at / 8) as usize] == 255 {
+        if at % 64 == 0 && at + 64 <= end && word_at(page, at) == 0 {
+            count += 64;
+            at += 64;
+        } else if at % 64 == 0 && word_at(page, at) == u64::MAX {
+            at = end.min(at + 64);
+        } else if page[(at / 8) as usize] == 255 {
             at = end.min(at - at % 8 + 8);
         } else {
             if !is_used(page, at) {

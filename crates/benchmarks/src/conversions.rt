@@ -2,9 +2,19 @@
 ghost use Rattle.std.specs.Prelude.{◌≤◌};
 
 use labelled_disk::{Disk, FileId, Label, Layout, MemoryDisk, NoMemory, Page};
+use scavenger::{Report, scavenge};
 use std::alloc::Global;
+use std::io;
+use std::time::Instant;
+use volume_convert::convert;
 
-pub const SECTORS: u32 = 65_536;
+const SECTORS: u32 = 65_536;
+
+// The files and the pages of each on the volumes that are converted.
+const VOLUMES: [(u32, u32); 3] = [(10, 5_700), (1_000, 56), (28_000, 1)];
+
+// How often each volume is converted; the least time tells.
+const TURNS: u32 = 5;
 
 const FIRST_FILE: FileId = 0x7_0000_0001;
 
@@ -19,8 +29,8 @@ fn root_page() -> Page {
     page
 }
 
-/// An old volume with so many files of so many pages, one file behind the other.
-pub fn old_volume(alloc: Global, files: u32, pages: u32) -> Result<MemoryDisk<Global>, NoMemory>
+// An old volume with so many files of so many pages, one file behind the other.
+fn old_volume(alloc: Global, files: u32, pages: u32) -> Result<MemoryDisk<Global>, NoMemory>
     requires some { 1 ≤ pages }
 {
     let mut disk = MemoryDisk::new(alloc, SECTORS)?;
@@ -47,4 +57,45 @@ pub fn old_volume(alloc: Global, files: u32, pages: u32) -> Result<MemoryDisk<Gl
         }
     }
     Ok(disk)
+}
+
+// Converts an old volume with so many files of so many pages, and restores what it became.
+fn time_both(rt: &HostRuntime, files: u32, pages: u32) -> io::Result<()>
+    requires some { 1 ≤ pages }
+{
+    let Ok(mut disk) = old_volume(rt.alloc(), files, pages) else {
+        return println!(rt; "no memory");
+    };
+    let Ok(mut found) = Report::with_room(rt.alloc(), SECTORS) else {
+        return println!(rt; "no memory");
+    };
+    let made = disk.transfers();
+    let start = Instant::now(rt)?;
+    let Ok(told) = convert(rt.alloc(), &mut disk) else {
+        return println!(rt; "not converted");
+    };
+    let converted = Instant::now(rt)?;
+    let moved = disk.transfers().saturating_sub(made);
+    let Ok(()) = scavenge(rt.alloc(), &mut disk, &mut found) else {
+        return println!(rt; "not restored");
+    };
+    let restored = Instant::now(rt)?;
+    let first = converted.saturating_duration_since(start).as_micros();
+    let second = restored.saturating_duration_since(converted).as_micros();
+    let again = disk.transfers().saturating_sub(made).saturating_sub(moved);
+    println!(rt;
+        "{} files, {} pages: convert {first} us, {moved} sectors; scavenge {second} us, {again} sectors",
+        told.files, told.pages
+    )
+}
+
+/// Prints how long conversions and restorations take, in microseconds, and how many sectors they
+/// move.
+pub fn report(rt: &HostRuntime) -> io::Result<()> {
+    for (files, pages) in VOLUMES {
+        for _ in 0..TURNS {
+            time_both(rt, files, pages)?;
+        }
+    }
+    Ok(())
 }

@@ -1,17 +1,15 @@
-//! Times of pieces of work: `benchmarks frames`, `benchmarks convert`. Without a word it prints
-//! nothing.
+//! Times of pieces of work: `benchmarks frames`, `benchmarks queue`, `benchmarks convert`. Without
+//! such a word it prints nothing.
 #![tactic(auto)]
 
 mod conversions;
 mod frames;
+mod queue;
 
 ghost use Rattle.std.specs.Prelude.{◌≤◌};
 
-use labelled_disk::Disk;
-use scavenger::{Report, scavenge};
 use std::time::Instant;
 use std::{env, io};
-use volume_convert::convert;
 
 /// How many look-ups are timed.
 const TIMES: u32 = 10_000_000;
@@ -32,40 +30,26 @@ fn report(rt: &HostRuntime, frames: u32) -> io::Result<()>
     println!(rt; "{frames} frames, {TIMES} look-ups: {micros} us ({sum})")
 }
 
-// The files and the pages of each on the volumes that are converted.
-const VOLUMES: [(u32, u32); 3] = [(10, 5_700), (1_000, 56), (28_000, 1)];
+/// How many calls of a queue are timed.
+const CALLS: u32 = 1_000_000;
 
-// How often each volume is converted; the least time tells.
-const TURNS: u32 = 5;
-
-/// Prints how long it takes to convert an old volume with so many files of so many pages, and then to
-/// restore it, in microseconds, and how many sectors are moved.
-fn report_conversion(rt: &HostRuntime, files: u32, pages: u32) -> io::Result<()>
-    requires some { 1 ≤ pages }
+/// Prints how long reads of waiting pages and stores in a full queue of so many pages take, in microseconds.
+fn report_queue(rt: &HostRuntime, room: u32) -> io::Result<()>
+    requires least { 1 ≤ room }
+    requires most { room ≤ 256 }
 {
-    let Ok(mut disk) = conversions::old_volume(rt.alloc(), files, pages) else {
+    let Ok(mut waiting) = queue::filled(rt.alloc(), room) else {
         return println!(rt; "no memory");
     };
-    let Ok(mut found) = Report::with_room(rt.alloc(), conversions::SECTORS) else {
-        return println!(rt; "no memory");
-    };
-    let made = disk.transfers();
     let start = Instant::now(rt)?;
-    let Ok(told) = convert(rt.alloc(), &mut disk) else {
-        return println!(rt; "not converted");
-    };
-    let converted = Instant::now(rt)?;
-    let moved = disk.transfers().saturating_sub(made);
-    let Ok(()) = scavenge(rt.alloc(), &mut disk, &mut found) else {
-        return println!(rt; "not restored");
-    };
-    let restored = Instant::now(rt)?;
-    let first = converted.saturating_duration_since(start).as_micros();
-    let second = restored.saturating_duration_since(converted).as_micros();
-    let again = disk.transfers().saturating_sub(made).saturating_sub(moved);
+    let answered = queue::read(&mut waiting, room, CALLS);
+    let middle = Instant::now(rt)?;
+    let stored = queue::store_round(&mut waiting, CALLS);
+    let end = Instant::now(rt)?;
+    let reads = middle.saturating_duration_since(start).as_micros();
+    let stores = end.saturating_duration_since(middle).as_micros();
     println!(rt;
-        "{} files, {} pages: convert {first} us, {moved} sectors; scavenge {second} us, {again} sectors",
-        told.files, told.pages
+        "{room} pages wait, {CALLS} calls each: reads {reads} us ({answered}), stores {stores} us ({stored})"
     )
 }
 
@@ -77,10 +61,11 @@ fn main(rt: HostRuntime) -> io::Result<()> {
             }
         }
         if word.as_str() == "convert" {
-            for (files, pages) in VOLUMES {
-                for _ in 0..TURNS {
-                    report_conversion(&rt, files, pages)?;
-                }
+            conversions::report(&rt)?;
+        }
+        if word.as_str() == "queue" {
+            for room in [1u32, 256] {
+                report_queue(&rt, room)?;
             }
         }
     }

@@ -37,6 +37,7 @@ pub one_meaning : (texts : List Text) (c d : Command) → AreMeant texts c → A
 one_meaning texts (command.Run n) (command.Run m) a b = let e : n ∷ [] ≡ m ∷ [] = a.numbers ∙ sym b.numbers in cc
 one_meaning texts (command.Format s k) (command.Format t l) a b = let e : s ∷ k ∷ [] ≡ t ∷ l ∷ [] = a.numbers ∙ sym b.numbers in cc
 one_meaning texts command.Scavenge command.Scavenge a b = refl
+one_meaning texts command.Convert command.Convert a b = refl
 one_meaning texts (command.Trial s n f) (command.Trial t m g) a b = let e : s ∷ n ∷ f ∷ [] ≡ t ∷ m ∷ g ∷ [] = a.numbers ∙ sym b.numbers in cc
 one_meaning texts c d a b = let e = ap length (same_name texts (name_of c) (name_of d) a.named.0 b.named.0 a.named.1 b.named.1) in absurd (omega (arith, e))
 
@@ -58,6 +59,7 @@ meant_in_range texts (command.Format s k) meant =
     let b = number_in_range (codes "format") (serial ∷ counter ∷ []) counter app counter_of_format texts meant.taken in
     subst (AreInRange (serial ∷ counter ∷ [])) (sym meant.numbers) (a.0, a.1, (b.0, b.1, tt))
 meant_in_range texts command.Scavenge meant = tt
+meant_in_range texts command.Convert meant = tt
 meant_in_range texts (command.Trial s n f) meant =
     let app = (has_options (command.Trial s n f)).plain in
     let options = seed ∷ calls ∷ frames ∷ [] in

@@ -47,6 +47,14 @@ scavenge_is_plain : IsPlainApp (parser_with (codes "scavenge") [])
 unfolding clap_on_literals
 scavenge_is_plain = record { simple = refl; leaf = refl; named = refl; defaults_pass = refl; no_defaults = refl; valid = λ rows. refl }
 
+convert_is_free : is_simple_and_free (parser_with (codes "convert") []) ≡ true
+unfolding clap_on_literals
+convert_is_free = refl
+
+convert_is_plain : IsPlainApp (parser_with (codes "convert") [])
+unfolding clap_on_literals
+convert_is_plain = record { simple = refl; leaf = refl; named = refl; defaults_pass = refl; no_defaults = refl; valid = λ rows. refl }
+
 trial_is_free : is_simple_and_free (parser_with (codes "trial") (seed ∷ calls ∷ frames ∷ [])) ≡ true
 unfolding clap_on_literals
 trial_is_free = refl
@@ -72,6 +80,7 @@ pub has_options : (c : Command) → HasOptions (name_of c) (options_of c)
 has_options (command.Run n) = record { plain = run_is_plain; free = run_is_free; each = (run_frames, lit< tt, tt) }
 has_options (command.Format s k) = record { plain = format_is_plain; free = format_is_free; each = (format_serial, lit< tt, (format_counter, lit< tt, tt)) }
 has_options command.Scavenge = record { plain = scavenge_is_plain; free = scavenge_is_free; each = tt }
+has_options command.Convert = record { plain = convert_is_plain; free = convert_is_free; each = tt }
 has_options (command.Trial s n f) = record { plain = trial_is_plain; free = trial_is_free; each = (trial_seed, lit< tt, (trial_calls, lit< tt, (trial_frames, lit< tt, tt))) }
 
 -- two texts with other first letters

@@ -60,6 +60,7 @@ same_parser : (c d : Command) → name_of c ≡ name_of d → parser_of c ≡ pa
 same_parser (command.Run n) (command.Run m) e = refl
 same_parser (command.Format s k) (command.Format t l) e = refl
 same_parser command.Scavenge command.Scavenge e = refl
+same_parser command.Convert command.Convert e = refl
 same_parser (command.Trial s n f) (command.Trial t m g) e = refl
 same_parser c d e = let l = ap length e in absurd (omega (arith, l))
 

@@ -40,6 +40,7 @@ abbrev pub name_of : Command → Text
 name_of (command.Run n) = codes "run"
 name_of (command.Format s c) = codes "format"
 name_of command.Scavenge = codes "scavenge"
+name_of command.Convert = codes "convert"
 name_of (command.Trial s n f) = codes "trial"
 
 -- its options
@@ -47,6 +48,7 @@ abbrev pub options_of : Command → List NumberOption
 options_of (command.Run n) = frames ∷ []
 options_of (command.Format s c) = serial ∷ counter ∷ []
 options_of command.Scavenge = []
+options_of command.Convert = []
 options_of (command.Trial s n f) = seed ∷ calls ∷ frames ∷ []
 
 -- the number that it has for each of them
@@ -54,6 +56,7 @@ abbrev pub numbers_of : Command → List ℕ
 numbers_of (command.Run n) = n ∷ []
 numbers_of (command.Format s c) = s ∷ c ∷ []
 numbers_of command.Scavenge = []
+numbers_of command.Convert = []
 numbers_of (command.Trial s n f) = s ∷ n ∷ f ∷ []
 
 -- each number is one that its option may have

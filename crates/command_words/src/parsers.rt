@@ -56,6 +56,13 @@ pub(crate) fn scavenge_parser<'a>(alloc: Global) -> Command<'a>
     Command::new(alloc, "scavenge").disable_help_flag(true)
 }
 
+/// The options of `convert`: none.
+pub(crate) fn convert_parser<'a>(alloc: Global) -> Command<'a>
+    ensures { app_of result ≡ parser_with (codes "convert") [] }
+{
+    Command::new(alloc, "convert").disable_help_flag(true)
+}
+
 /// The options of `trial`.
 pub(crate) fn trial_parser<'a>(alloc: Global) -> Result<Command<'a>, AllocError>
     ensures { IfOk result (λ c. app_of c ≡ parser_with (codes "trial") (seed ∷ calls ∷ frames ∷ [])) }

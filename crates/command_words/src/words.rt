@@ -5,7 +5,9 @@ ghost use Rattle.clap.specs.Words.{Text};
 ghost use Rattle.command_words.specs.Meaning.{IsNoCommand, Means, Names};
 ghost use Rattle.command_words.specs.Options.{IsInRange};
 
-use crate::parsers::{format_parser, number_or, read, run_parser, scavenge_parser, trial_parser};
+use crate::parsers::{
+    convert_parser, format_parser, number_or, read, run_parser, scavenge_parser, trial_parser,
+};
 use crate::refusal::Refused;
 use std::alloc::Global;
 
@@ -18,6 +20,8 @@ pub enum Command {
     Format { serial: u32, counter: u32 },
     /// Restores a volume from its labels.
     Scavenge,
+    /// Brings an old volume to the version of today.
+    Convert,
     /// Makes a volume, and drawn calls on it.
     Trial { seed: u32, calls: u32, frames: u32 },
 }
@@ -61,6 +65,18 @@ fn scavenge_of(alloc: Global, words: &[String]) -> Result<Command, Refused>
     Ok(Command::Scavenge)
 }
 
+// The command `convert` with these words.
+fn convert_of(alloc: Global, words: &[String]) -> Result<Command, Refused>
+    requires named { (rest : List Text) × (map string_bytes words.now ≡ codes "convert" ∷ rest) }
+    ensures meant { IfOk result (Means words.now) }
+    ensures range { IfOk result IsInRange }
+    ensures refused { result ≡ Err Refused.Usage → IsNoCommand words.now }
+{
+    let parser = convert_parser(alloc);
+    let _matches = read(parser, words)?;
+    Ok(Command::Convert)
+}
+
 // The command `trial` with these words.
 fn trial_of(alloc: Global, words: &[String]) -> Result<Command, Refused>
     requires named { (rest : List Text) × (map string_bytes words.now ≡ codes "trial" ∷ rest) }
@@ -95,6 +111,7 @@ pub fn command_of(machine: Global, words: &[String]) -> Result<Command, Refused>
         "run" => run_of(machine, words),
         "format" => format_of(machine, words),
         "scavenge" => scavenge_of(machine, words),
+        "convert" => convert_of(machine, words),
         "trial" => trial_of(machine, words),
         _ => Err(Refused::Usage),
     }

@@ -2,9 +2,11 @@
 #![tactic(auto)]
 
 mod copy;
+mod settled;
 #[cfg(test)]
 mod tests;
 mod through;
 
 pub use copy::copy_page;
+pub use settled::settle_label;
 pub use through::through_memory;

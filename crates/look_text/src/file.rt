@@ -1,6 +1,5 @@
 //! A file: its runs of sectors.
-use crate::listing::LEADER;
-use label_survey::Run;
+use crate::rows::write_run;
 use labelled_disk::FileId;
 use std::alloc::{AllocError, Global};
 use volume_view::{FileLine, View};
@@ -20,18 +19,6 @@ fn find_file(files: &[FileLine], id: FileId) -> Option<FileLine> {
         }
     }
     None
-}
-
-fn write_run(out: &mut String, run: &Run) -> Result<(), AllocError> {
-    let first = run.first;
-    let last = u64::from(first) + u64::from(run.pages.saturating_sub(1));
-    let sector = run.sector;
-    let end = u64::from(sector) + u64::from(run.pages.saturating_sub(1));
-    if first == LEADER {
-        writeln!(out, "leader in sector {sector}")
-    } else {
-        writeln!(out, "pages {first} to {last} in sectors {sector} to {end}")
-    }
 }
 
 /// Writes the attributes of a permanent file and its runs of sectors.
@@ -57,6 +44,7 @@ pub fn write_file(
     for run in &view.found.runs {
         if run.id == id {
             write_run(out, run)?;
+            writeln!(out)?;
         }
     }
     Ok(FileText::Written)

@@ -1,194 +1,197 @@
-//! The listing as JSON.
+//! The listing as JSON: a line for each file and each run.
+use crate::fields::{begin_item, flag, identifier, next_flag, next_number, number, text};
 use crate::listing::{next_identifier, page_runs, used_sectors};
-use crate::maps::{map_word, state_of};
-use label_survey::{Run, Triple};
-use labelled_disk::{FileId, Label, Layout};
-use serde_json::{Value, json};
+use label_survey::Run;
+use labelled_disk::Label;
 use std::alloc::{AllocError, Global};
-use volume_view::{BitDifference, FileLine, Found, NameDifference, Names, View};
+use volume_root::{Root, RootFault};
+use volume_view::{BitRun, Condition, FileLine, Found, Names, View};
 
-fn id_text(alloc: Global, id: FileId) -> Result<String, AllocError> {
-    format!(in alloc; "{id:016x}")
+fn write_root(out: &mut String, root: &Root) -> Result<(), AllocError> {
+    let version = u32::from(root.version);
+    next_number(out, "version", version)?;
+    next_flag(out, "clean", root.clean)?;
+    next_number(out, "serial", root.serial)?;
+    out.push(',')?;
+    identifier(out, "next", next_identifier(root))
 }
 
-fn volume_value(alloc: Global, view: &View<Global>) -> Result<Value, AllocError> {
-    let used = used_sectors(&view.labels);
-    let sectors = view.layout.sectors;
-    let first = view.layout.first;
-    let capacity = view.layout.capacity;
+fn write_refusal(alloc: Global, out: &mut String, why: RootFault) -> Result<(), AllocError> {
+    let why = format!(in alloc; "{why}")?;
+    out.push(',')?;
+    text(out, "refused", why.as_str())
+}
+
+fn condition_word(condition: Condition) -> &'static str {
+    match condition {
+        Condition::Sound => "sound",
+        Condition::NotClosed => "not closed",
+        Condition::Damaged => "damaged",
+        Condition::Refused => "refused",
+    }
+}
+
+// How the volume stands, and what is asked of a sound one beside files and maps.
+fn write_condition(out: &mut String, view: &View<Global>) -> Result<(), AllocError> {
+    out.push(',')?;
+    text(out, "condition", condition_word(view.condition()))?;
+    next_flag(out, "maps_labelled", view.maps_labelled)?;
+    next_flag(out, "has_room", view.has_room())?;
+    next_flag(out, "ids_given", view.has_given_ids())
+}
+
+fn write_volume(alloc: Global, out: &mut String, view: &View<Global>) -> Result<(), AllocError> {
+    out.push('{')?;
+    number(out, "sectors", view.layout.sectors)?;
+    next_number(out, "first_data", view.layout.first)?;
+    next_number(out, "capacity", view.layout.capacity)?;
+    next_number(out, "used", used_sectors(&view.labels))?;
     match &view.root {
-        Ok(root) => {
-            let next = id_text(alloc, next_identifier(root))?;
-            let version = root.version;
-            let clean = root.clean;
-            let serial = root.serial;
-            json!(in alloc; {
-                "version": version, "clean": clean, "sectors": sectors, "first_data": first, "capacity": capacity,
-                "used": used, "serial": serial, "next": next.as_str()
-            })
-        }
-        Err(why) => {
-            let why = *why;
-            let refused = format!(in alloc; "{why}")?;
-            json!(in alloc; {
-                "refused": refused.as_str(), "sectors": sectors, "first_data": first, "capacity": capacity, "used": used
-            })
-        }
+        Ok(root) => write_root(out, root)?,
+        Err(why) => write_refusal(alloc, out, *why)?,
     }
+    write_condition(out, view)?;
+    out.push('}')
 }
 
-fn run_value(alloc: Global, run: &Run) -> Result<Value, AllocError> {
-    let first = run.first;
-    let pages = run.pages;
-    let sector = run.sector;
-    json!(in alloc; {"first": first, "pages": pages, "sector": sector})
+// The pages and the sectors of a run.
+fn write_pages(out: &mut String, run: &Run) -> Result<(), AllocError> {
+    number(out, "first", run.first)?;
+    next_number(out, "pages", run.pages)?;
+    next_number(out, "sector", run.sector)?;
+    out.push('}')
 }
 
-fn runs_value(alloc: Global, runs: &[Run]) -> Result<Value, AllocError> {
-    let mut values = Vec::new(alloc);
-    for run in runs {
-        values.push(run_value(alloc, run)?)?;
+fn write_runs(out: &mut String, runs: &[Run]) -> Result<(), AllocError> {
+    for i in 0..runs.len() {
+        out.push_str(if i == 0 { "{" } else { ",{" })?;
+        write_pages(out, &runs[i])?;
     }
-    Ok(Value::Array(values))
+    Ok(())
 }
 
-fn file_value(alloc: Global, file: &FileLine, runs: &[Run]) -> Result<Value, AllocError> {
-    let id = id_text(alloc, file.id)?;
-    let pages = file.pages;
-    let kind = file.kind;
-    let immutable = file.immutable;
-    let leader = file.leader;
-    let runs = runs_value(alloc, runs)?;
-    json!(in alloc; {
-        "id": id.as_str(), "pages": pages, "type": kind, "immutable": immutable, "leader": leader, "runs": runs
-    })
+fn write_file(out: &mut String, file: &FileLine, runs: &[Run]) -> Result<(), AllocError> {
+    identifier(out, "id", file.id)?;
+    next_number(out, "pages", file.pages)?;
+    next_number(out, "type", u32::from(file.kind))?;
+    next_flag(out, "immutable", file.immutable)?;
+    next_number(out, "leader", file.leader)?;
+    out.push_str(",\"runs\":[")?;
+    write_runs(out, runs)?;
+    out.push_str("]}")
 }
 
 // The files, each with the runs of its pages.
-fn files_value(alloc: Global, files: &[FileLine], runs: &[Run]) -> Result<Value, AllocError> {
-    let mut values = Vec::new(alloc);
+fn write_files(out: &mut String, files: &[FileLine], runs: &[Run]) -> Result<(), AllocError> {
     let mut rest = runs;
-    for file in files {
-        let count = page_runs(rest, file.id);
-        values.push(file_value(alloc, file, rest.get(..count).unwrap_or(&[]))?)?;
+    for i in 0..files.len() {
+        let count = page_runs(rest, files[i].id);
+        begin_item(out, i)?;
+        write_file(out, &files[i], rest.get(..count).unwrap_or(&[]))?;
         rest = rest.get(count.saturating_add(1)..).unwrap_or(&[]);
     }
-    Ok(Value::Array(values))
+    Ok(())
 }
 
-fn bits_value(
-    alloc: Global,
-    layout: &Layout,
-    differences: &[BitDifference],
-) -> Result<Value, AllocError> {
-    let mut values = Vec::new(alloc);
-    for difference in differences {
-        let sector = difference.sector;
-        let map = map_word(difference);
-        let state = state_of(layout, difference);
-        values.push(json!(in alloc; {"sector": sector, "map": map, "state": state})?)?;
+// Runs, each with the identifier of its file.
+fn write_named_runs(out: &mut String, runs: &[Run]) -> Result<(), AllocError> {
+    for i in 0..runs.len() {
+        begin_item(out, i)?;
+        identifier(out, "id", runs[i].id)?;
+        out.push(',')?;
+        write_pages(out, &runs[i])?;
     }
-    let agrees = differences.is_empty();
-    let listed = Value::Array(values);
-    json!(in alloc; {"agrees": agrees, "differences": listed})
+    Ok(())
 }
 
-fn triple_value(alloc: Global, triple: &Triple) -> Result<Value, AllocError> {
-    let id = id_text(alloc, triple.id)?;
-    let page = triple.page;
-    let sector = triple.sector;
-    json!(in alloc; {"sector": sector, "id": id.as_str(), "page": page})
+fn write_bit_run(out: &mut String, run: &BitRun) -> Result<(), AllocError> {
+    number(out, "sector", run.first)?;
+    next_number(out, "sectors", run.sectors)?;
+    out.push(',')?;
+    text(out, "map", if run.used { "used" } else { "free" })?;
+    out.push('}')
 }
 
-fn difference_value(alloc: Global, difference: &NameDifference) -> Result<Value, AllocError> {
-    match difference {
-        NameDifference::OnlyLabelled(triple) => {
-            let page = triple_value(alloc, triple)?;
-            json!(in alloc; {"only_labelled": page})
-        }
-        NameDifference::OnlyMapped(triple) => {
-            let page = triple_value(alloc, triple)?;
-            json!(in alloc; {"only_mapped": page})
-        }
+fn write_bits(out: &mut String, runs: &[BitRun]) -> Result<(), AllocError> {
+    out.push('{')?;
+    flag(out, "agrees", runs.is_empty())?;
+    out.push_str(",\"differences\":[")?;
+    for i in 0..runs.len() {
+        begin_item(out, i)?;
+        write_bit_run(out, &runs[i])?;
     }
+    out.push_str("]}")
 }
 
-fn names_value(alloc: Global, names: &Names<Global>) -> Result<Value, AllocError> {
+fn write_names(out: &mut String, names: &Names<Global>) -> Result<(), AllocError> {
+    out.push('{')?;
     match names {
         Names::Malformed { page } => {
-            let page = *page;
-            json!(in alloc; {"agrees": false, "alike": false, "malformed": page})
+            flag(out, "agrees", false)?;
+            next_flag(out, "alike", false)?;
+            next_number(out, "malformed", *page)?;
+            out.push('}')
         }
         Names::Read {
             in_form,
             differences,
         } => {
-            let in_form = *in_form;
-            let mut values = Vec::new(alloc);
-            for difference in differences {
-                values.push(difference_value(alloc, difference)?)?;
-            }
             let alike = differences.is_empty();
-            let listed = Value::Array(values);
-            let agrees = alike && in_form;
-            json!(in alloc; {"agrees": agrees, "alike": alike, "differences": listed, "in_form": in_form})
+            flag(out, "agrees", alike && *in_form)?;
+            next_flag(out, "alike", alike)?;
+            next_flag(out, "in_form", *in_form)?;
+            out.push_str(",\"only_labelled\":[")?;
+            write_named_runs(out, &differences.unmapped)?;
+            out.push_str("],\"only_mapped\":[")?;
+            write_named_runs(out, &differences.unlabelled)?;
+            out.push_str("]}")
         }
     }
 }
 
-fn leftovers_value(alloc: Global, leftovers: &[Triple]) -> Result<Value, AllocError> {
-    let mut values = Vec::new(alloc);
-    for triple in leftovers {
-        values.push(triple_value(alloc, triple)?)?;
-    }
-    Ok(Value::Array(values))
+fn write_lost(out: &mut String, sector: u32, label: &Label) -> Result<(), AllocError> {
+    identifier(out, "id", label.id)?;
+    next_number(out, "page", label.page)?;
+    next_number(out, "sector", sector)?;
+    out.push('}')
 }
 
-fn lost_value(
-    alloc: Global,
-    first: u32,
-    labels: &[Label],
-    lost: &[u32],
-) -> Result<Value, AllocError> {
-    let mut values = Vec::new(alloc);
-    for sector in lost {
-        let sector = *sector;
-        if let Some(label) = labels.get(sector.saturating_sub(first) as usize) {
-            let triple = Triple {
-                id: label.id,
-                page: label.page,
-                sector,
-            };
-            values.push(triple_value(alloc, &triple)?)?;
-        }
-    }
-    Ok(Value::Array(values))
-}
-
-fn scavenge_value(
-    alloc: Global,
+fn write_scavenge(
+    out: &mut String,
     first: u32,
     labels: &[Label],
     found: &Found<Global>,
-) -> Result<Value, AllocError> {
-    let files = found.survey.tally.files;
-    let pages = found.survey.tally.pages;
-    let freed = found.survey.tally.freed;
-    let lost = lost_value(alloc, first, labels, &found.survey.lost)?;
-    json!(in alloc; {"files": files, "pages": pages, "freed": freed, "lost": lost})
+) -> Result<(), AllocError> {
+    out.push('{')?;
+    number(out, "files", found.survey.tally.files)?;
+    next_number(out, "pages", found.survey.tally.pages)?;
+    next_number(out, "freed", found.survey.tally.freed)?;
+    out.push_str(",\"lost\":[")?;
+    for i in 0..found.survey.lost.len() {
+        let sector = found.survey.lost[i];
+        if let Some(label) = labels.get(sector.saturating_sub(first) as usize) {
+            begin_item(out, i)?;
+            write_lost(out, sector, label)?;
+        }
+    }
+    out.push_str("]}")
 }
 
 /// The listing of a volume as JSON.
 pub fn json_of(alloc: Global, view: &View<Global>) -> Result<String, AllocError> {
-    let volume = volume_value(alloc, view)?;
-    let files = files_value(alloc, &view.found.files, &view.found.runs)?;
-    let bits = bits_value(alloc, &view.layout, &view.bits)?;
-    let names = names_value(alloc, &view.names)?;
-    let leftovers = leftovers_value(alloc, &view.found.leftovers)?;
-    let scavenge = scavenge_value(alloc, view.layout.first, &view.labels, &view.found)?;
-    let whole = json!(in alloc; {
-        "volume": volume, "files": files, "allocation_map": bits, "file_map": names, "leftovers": leftovers,
-        "scavenge": scavenge
-    })?;
-    whole.to_string_pretty(alloc)
+    let mut out = String::new(alloc);
+    out.push_str("{\"volume\":")?;
+    write_volume(alloc, &mut out, view)?;
+    out.push_str(",\n\"files\":[")?;
+    write_files(&mut out, &view.found.files, &view.found.runs)?;
+    out.push_str("],\n\"allocation_map\":")?;
+    write_bits(&mut out, &view.bits)?;
+    out.push_str(",\n\"file_map\":")?;
+    write_names(&mut out, &view.names)?;
+    out.push_str(",\n\"leftovers\":[")?;
+    write_named_runs(&mut out, &view.found.leftovers)?;
+    out.push_str("],\n\"scavenge\":")?;
+    write_scavenge(&mut out, view.layout.first, &view.labels, &view.found)?;
+    out.push('}')?;
+    Ok(out)
 }

@@ -3,7 +3,7 @@ use crate::kinds::Kind;
 use std::alloc::AllocError;
 
 /// How many lines the legend has.
-pub(crate) const LINES: usize = 8;
+pub(crate) const LINES: usize = 9;
 
 /// The colour of a kind.
 pub(crate) fn colour_of(kind: Kind) -> &'static str {
@@ -12,6 +12,7 @@ pub(crate) fn colour_of(kind: Kind) -> &'static str {
         Kind::Root => "#000000",
         Kind::AllocationMap => "#7b1fa2",
         Kind::FileMap => "#ba68c8",
+        Kind::WrongMap => "#ec407a",
         Kind::Leader => "#0d3b66",
         Kind::Page(0) => "#1b9e77",
         Kind::Page(1) => "#4fa3e0",
@@ -30,11 +31,12 @@ pub(crate) fn line_of(kind: Kind) -> usize {
         Kind::Root => 0,
         Kind::AllocationMap => 1,
         Kind::FileMap => 2,
-        Kind::Leader => 3,
-        Kind::Page(_) => 4,
-        Kind::Free => 5,
-        Kind::Leftover => 6,
-        Kind::Lost => 7,
+        Kind::WrongMap => 3,
+        Kind::Leader => 4,
+        Kind::Page(_) => 5,
+        Kind::Free => 6,
+        Kind::Leftover => 7,
+        Kind::Lost => 8,
     }
 }
 
@@ -43,10 +45,11 @@ fn text_of(line: usize) -> &'static str {
         0 => "root",
         1 => "allocation map",
         2 => "file map",
-        3 => "leaders of files",
-        4 => "pages of files, the next colour for each file",
-        5 => "free",
-        6 => "left over: of no permanent file",
+        3 => "a map where it differs from the labels",
+        4 => "leaders of files",
+        5 => "pages of files, the next colour for each file",
+        6 => "free",
+        7 => "left over: of no permanent file",
         _ => "lost: of a permanent file that does not need it",
     }
 }
@@ -64,10 +67,11 @@ fn swatches(out: &mut String, y: u64, line: usize) -> Result<(), AllocError> {
         0 => swatch(out, 84, y, Kind::Root),
         1 => swatch(out, 84, y, Kind::AllocationMap),
         2 => swatch(out, 84, y, Kind::FileMap),
-        3 => swatch(out, 84, y, Kind::Leader),
-        5 => swatch(out, 84, y, Kind::Free),
-        6 => swatch(out, 84, y, Kind::Leftover),
-        7 => swatch(out, 84, y, Kind::Lost),
+        3 => swatch(out, 84, y, Kind::WrongMap),
+        4 => swatch(out, 84, y, Kind::Leader),
+        6 => swatch(out, 84, y, Kind::Free),
+        7 => swatch(out, 84, y, Kind::Leftover),
+        8 => swatch(out, 84, y, Kind::Lost),
         _ => {
             swatch(out, 84, y, Kind::Page(0))?;
             swatch(out, 98, y, Kind::Page(1))?;
@@ -83,7 +87,7 @@ fn swatches(out: &mut String, y: u64, line: usize) -> Result<(), AllocError> {
 pub(crate) fn write_legend(
     out: &mut String,
     top: u64,
-    counts: &[u32; 8],
+    counts: &[u32; LINES],
 ) -> Result<(), AllocError> {
     for line in 0..LINES {
         let y = top.saturating_add(20 * line as u64);

@@ -2,6 +2,7 @@
 #![tactic(auto)]
 
 mod dump;
+mod fields;
 mod file;
 mod json;
 mod kinds;
@@ -10,6 +11,8 @@ mod listing;
 mod maps;
 mod picture;
 mod request;
+mod rows;
+mod stopped;
 
 pub use dump::write_page;
 pub use file::{FileText, write_file};

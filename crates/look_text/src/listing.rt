@@ -1,6 +1,8 @@
 //! The listing: the root, a line for each file, both maps, leftovers, and what a restoration would do.
-use crate::maps::{write_bits, write_names};
-use label_survey::{Run, Triple};
+use crate::maps::write_maps;
+use crate::rows::{last_of, total_pages};
+use crate::stopped::TABLES;
+use label_survey::Run;
 use labelled_disk::{FileId, Label};
 use std::alloc::{AllocError, Global};
 use volume_root::Root;
@@ -106,7 +108,7 @@ fn write_files(out: &mut String, files: &[FileLine], runs: &[Run]) -> Result<(),
 }
 
 fn name_of(id: FileId, has_leader: bool) -> &'static str {
-    if id == 3 {
+    if id == TABLES {
         "space tables"
     } else if has_leader {
         "temporary file"
@@ -115,47 +117,44 @@ fn name_of(id: FileId, has_leader: bool) -> &'static str {
     }
 }
 
-fn write_leftover(
-    out: &mut String,
-    id: FileId,
-    sectors: u32,
-    first: u32,
-    has_leader: bool,
-) -> Result<(), AllocError> {
+// A line for the runs of one identifier, which are in the order of their pages, the leader last.
+fn write_leftover(out: &mut String, id: FileId, runs: &[Run]) -> Result<(), AllocError> {
+    let has_leader = match runs.last() {
+        Some(run) => last_of(run.first, run.pages) == LEADER,
+        None => false,
+    };
     let name = name_of(id, has_leader);
+    let sectors = total_pages(runs);
+    let count = runs.len();
+    let mut lowest = u32::MAX;
+    for run in runs {
+        lowest = lowest.min(run.sector);
+    }
     writeln!(
         out,
-        "  {id:016x}  {name}: sectors {sectors}, lowest {first}"
+        "  {id:016x}  {name}: sectors {sectors}, runs {count}, lowest {lowest}"
     )
 }
 
 // A line for each identifier.
-fn write_leftovers(out: &mut String, leftovers: &[Triple]) -> Result<(), AllocError> {
-    let Some(begin) = leftovers.first() else {
+fn write_leftovers(out: &mut String, leftovers: &[Run]) -> Result<(), AllocError> {
+    if leftovers.is_empty() {
         return writeln!(out, "leftovers        none");
-    };
-    let count = leftovers.len();
+    }
+    let sectors = total_pages(leftovers);
     writeln!(
         out,
-        "leftovers        {count} sectors of no permanent file:"
+        "leftovers        {sectors} sectors of no permanent file:"
     )?;
-    let mut id = begin.id;
-    let mut sectors = 0u32;
-    let mut first = begin.sector;
-    let mut has_leader = false;
-    for triple in leftovers {
-        if triple.id != id {
-            write_leftover(out, id, sectors, first, has_leader)?;
-            id = triple.id;
-            sectors = 0;
-            first = triple.sector;
-            has_leader = false;
+    let mut begin = 0;
+    for i in 1..=leftovers.len() {
+        let id = leftovers[i - 1].id;
+        if i == leftovers.len() || leftovers[i].id != id {
+            write_leftover(out, id, leftovers.get(begin..i).unwrap_or(&[]))?;
+            begin = i;
         }
-        first = first.min(triple.sector);
-        sectors = sectors.saturating_add(1);
-        has_leader |= triple.page == LEADER;
     }
-    write_leftover(out, id, sectors, first, has_leader)
+    Ok(())
 }
 
 // What a restoration would do, with a line for each sector that it would lose.
@@ -184,14 +183,37 @@ fn write_scavenge(
     Ok(())
 }
 
+// A line for each of the other things that a sound volume has, where this one lacks it.
+fn write_lacks(out: &mut String, view: &View<Global>) -> Result<(), AllocError> {
+    if !view.maps_labelled {
+        writeln!(
+            out,
+            "labels           a sector of the maps has the label of another page"
+        )?;
+    }
+    if !view.has_room() {
+        writeln!(
+            out,
+            "room             the files need more sectors than the capacity"
+        )?;
+    }
+    if !view.has_given_ids() {
+        writeln!(
+            out,
+            "identifiers      a file has one that is given out next or later"
+        )?;
+    }
+    Ok(())
+}
+
 /// Writes the listing of a volume.
 pub fn write_listing(out: &mut String, view: &View<Global>) -> Result<(), AllocError> {
     write_root(out, view)?;
     writeln!(out)?;
     write_files(out, &view.found.files, &view.found.runs)?;
     writeln!(out)?;
-    write_bits(out, &view.layout, &view.bits)?;
-    write_names(out, &view.names)?;
+    write_maps(out, view)?;
+    write_lacks(out, view)?;
     write_leftovers(out, &view.found.leftovers)?;
     write_scavenge(out, view.layout.first, &view.labels, &view.found)
 }

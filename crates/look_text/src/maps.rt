@@ -1,73 +1,101 @@
 //! Both maps beside the labels.
-use label_survey::Triple;
+use crate::rows::{last_of, write_run};
+use crate::stopped::missing_tables;
+use label_survey::Run;
 use labelled_disk::Layout;
 use std::alloc::{AllocError, Global};
-use volume_view::{BitDifference, NameDifference, Names};
+use volume_view::{BitRun, NameDifferences, Names, View};
 
-/// What is so of a sector, where the allocation map says the opposite.
-pub(crate) fn state_of(layout: &Layout, difference: &BitDifference) -> &'static str {
-    if difference.sector < layout.first {
-        "it is of root or maps"
-    } else if difference.sector >= layout.sectors {
-        "there is no such sector"
-    } else if difference.used {
-        "its label is free"
-    } else {
-        "its label is not free"
-    }
-}
-
-/// How many differences of a map are written.
+/// How many runs of a map are written.
 const FEW: usize = 16;
 
-// A line where there are more differences than were written.
-fn write_more(out: &mut String, count: usize) -> Result<(), AllocError> {
-    if count > FEW {
+// A line where there are more runs than were written.
+fn write_more(out: &mut String, runs: usize) -> Result<(), AllocError> {
+    if runs > FEW {
         writeln!(out, "  and more")?;
     }
     Ok(())
 }
 
-pub(crate) fn map_word(difference: &BitDifference) -> &'static str {
-    if difference.used { "used" } else { "free" }
+// Writes what is so of some sectors of a run.
+fn write_sectors(
+    out: &mut String,
+    first: u32,
+    sectors: u32,
+    state: &str,
+) -> Result<(), AllocError> {
+    if sectors == 0 {
+        return Ok(());
+    }
+    let last = last_of(first, sectors);
+    writeln!(out, "  sectors {first} to {last}: {state}")
 }
 
-/// Writes what the allocation map says beside the labels.
-pub(crate) fn write_bits(
+// Writes a run in two parts: what is below this sector, and the rest.
+fn write_parts(
     out: &mut String,
-    layout: &Layout,
-    differences: &[BitDifference],
+    run: &BitRun,
+    border: u32,
+    states: (&str, &str),
 ) -> Result<(), AllocError> {
-    if differences.is_empty() {
+    let (low_state, high_state) = states;
+    let low = border.saturating_sub(run.first).min(run.sectors);
+    let high = run.sectors.saturating_sub(low);
+    write_sectors(out, run.first, low, low_state)?;
+    write_sectors(out, run.first.saturating_add(low), high, high_state)
+}
+
+fn write_bit_run(out: &mut String, layout: &Layout, run: &BitRun) -> Result<(), AllocError> {
+    if run.used {
+        let states = (
+            "used in the map, free by label",
+            "used in the map, not there",
+        );
+        write_parts(out, run, layout.sectors, states)
+    } else {
+        let states = (
+            "free in the map, of root or maps",
+            "free in the map, used by label",
+        );
+        write_parts(out, run, layout.first, states)
+    }
+}
+
+// Writes what the allocation map says beside the labels.
+fn write_bits(out: &mut String, layout: &Layout, runs: &[BitRun]) -> Result<(), AllocError> {
+    if runs.is_empty() {
         return writeln!(out, "allocation map   agrees with the labels");
     }
     writeln!(out, "allocation map   differs from the labels, first here:")?;
-    for difference in differences.iter().take(FEW) {
-        let sector = difference.sector;
-        let map = map_word(difference);
-        let state = state_of(layout, difference);
-        writeln!(out, "  sector {sector}: the map says {map}, {state}")?;
+    for run in runs.iter().take(FEW) {
+        write_bit_run(out, layout, run)?;
     }
-    write_more(out, differences.len())
+    write_more(out, runs.len())
 }
 
-fn write_page(out: &mut String, triple: &Triple, text: &str) -> Result<(), AllocError> {
-    let Triple { id, page, sector } = *triple;
-    writeln!(out, "  sector {sector}: page {page} of {id:016x}, {text}")
+fn write_name_run(out: &mut String, run: &Run, who: &str) -> Result<(), AllocError> {
+    let id = run.id;
+    write!(out, "  {who}: {id:016x} ")?;
+    write_run(out, run)?;
+    writeln!(out)
 }
 
-fn write_differences(out: &mut String, differences: &[NameDifference]) -> Result<(), AllocError> {
-    for difference in differences.iter().take(FEW) {
-        match difference {
-            NameDifference::OnlyLabelled(triple) => {
-                write_page(out, triple, "by its label, but not in the map")?;
-            }
-            NameDifference::OnlyMapped(triple) => {
-                write_page(out, triple, "in the map, but not by its label")?;
-            }
-        }
+fn write_differences(
+    out: &mut String,
+    differences: &NameDifferences<Global>,
+) -> Result<(), AllocError> {
+    let unmapped = differences.unmapped.len();
+    for run in differences.unmapped.iter().take(FEW) {
+        write_name_run(out, run, "only by label")?;
     }
-    write_more(out, differences.len())
+    for run in differences
+        .unlabelled
+        .iter()
+        .take(FEW.saturating_sub(unmapped))
+    {
+        write_name_run(out, run, "only in the map")?;
+    }
+    write_more(out, unmapped.saturating_add(differences.unlabelled.len()))
 }
 
 // What is so of a file map that was read.
@@ -83,8 +111,8 @@ fn names_state(in_form: bool, alike: bool) -> &'static str {
     }
 }
 
-/// Writes what the file map says beside the labels.
-pub(crate) fn write_names(out: &mut String, names: &Names<Global>) -> Result<(), AllocError> {
+// Writes what the file map says beside the labels.
+fn write_names(out: &mut String, names: &Names<Global>) -> Result<(), AllocError> {
     match names {
         Names::Malformed { page } => {
             let page = *page;
@@ -99,4 +127,16 @@ pub(crate) fn write_names(out: &mut String, names: &Names<Global>) -> Result<(),
             write_differences(out, differences)
         }
     }
+}
+
+/// Writes what both maps say beside the labels.
+pub(crate) fn write_maps(out: &mut String, view: &View<Global>) -> Result<(), AllocError> {
+    if let Some(pages) = missing_tables(view) {
+        return writeln!(
+            out,
+            "both maps        as a stopped volume has: the space tables' {pages} pages are not in the maps"
+        );
+    }
+    write_bits(out, &view.layout, &view.bits)?;
+    write_names(out, &view.names)
 }

@@ -30,11 +30,33 @@ fn number_of(word: &str) -> Option<u32> {
     u32::from_str_radix(word, 10).ok()
 }
 
-fn file_request<'w>(id: &str, page: Option<&str>) -> Option<Request<'w>> {
+// An option's name and value, which are one word or two, and the words behind.
+fn first_option(words: &[String]) -> Option<(&str, &str, &[String])> {
+    let [word, rest @ ..] = words else {
+        return None;
+    };
+    if let Some((name, value)) = word.as_str().split_once('=') {
+        return Some((name, value, rest));
+    }
+    let [value, rest @ ..] = rest else {
+        return None;
+    };
+    Some((word.as_str(), value.as_str(), rest))
+}
+
+// The page that the words behind a file ask for.
+fn page_request(words: &[String]) -> Option<u32> {
+    match first_option(words)? {
+        ("--page", page, []) => number_of(page),
+        _ => None,
+    }
+}
+
+fn file_request<'w>(id: &str, rest: &[String]) -> Option<Request<'w>> {
     let id = id_of(id)?;
-    let page = match page {
-        Some(word) => Some(number_of(word)?),
-        None => None,
+    let page = match rest {
+        [] => None,
+        words => Some(page_request(words)?),
     };
     Some(Request::File { id, page })
 }
@@ -42,15 +64,13 @@ fn file_request<'w>(id: &str, page: Option<&str>) -> Option<Request<'w>> {
 /// What these words ask for, or none where they ask for nothing.
 pub fn request_of(words: &[String]) -> Option<Request<'_>> {
     match words {
-        [] => Some(Request::Listing),
-        [word] if word.as_str() == "--json" => Some(Request::Json),
-        [word, id] if word.as_str() == "--file" => file_request(id.as_str(), None),
-        [word, path] if word.as_str() == "--picture" => Some(Request::Picture {
-            path: path.as_str(),
-        }),
-        [word, id, option, page] if word.as_str() == "--file" && option.as_str() == "--page" => {
-            file_request(id.as_str(), Some(page.as_str()))
-        }
+        [] => return Some(Request::Listing),
+        [word] if word.as_str() == "--json" => return Some(Request::Json),
+        _ => {}
+    }
+    match first_option(words)? {
+        ("--picture", path, []) => Some(Request::Picture { path }),
+        ("--file", id, rest) => file_request(id, rest),
         _ => None,
     }
 }

@@ -36,7 +36,8 @@ pub fn load<M: FlatMem>(mem: &mut M, index: u32, page: &mut Page) -> Result<(), 
     }
 }
 
-/// How many of the first `count` keys are at most `key`, up to the first that is not.
+/// How many of the first `count` keys, which rise, are at most `key`. Over keys in any order: a place where one that is
+/// at most `key` ends and one that is not begins.
 /// The keys stand from byte 8 on, `step` bytes apart.
 pub fn count_at_most<const K: usize>(page: &Page, step: usize, count: usize, key: &[u8; K]) -> usize
     requires inside { 8 + step * count ≤ 512 }
@@ -46,12 +47,15 @@ pub fn count_at_most<const K: usize>(page: &Page, step: usize, count: usize, key
     ensures above { result < count → at_most (part page.now (8 + step * result) K) key.now ≡ false }
 {
     let mut found = 0;
-    'scan: while found < count {
-        let at = 8 + step * found;
-        if !is_at_most(&page[at..at + K], key) {
-            return found;
+    let mut end = count;
+    'search: while found < end {
+        let middle = found + (end - found) / 2;
+        let at = 8 + step * middle;
+        if is_at_most(&page[at..at + K], key) {
+            found = middle + 1;
+        } else {
+            end = middle;
         }
-        found += 1;
     }
     found
 }

@@ -6,9 +6,13 @@ ghost use Rattle.std.specs.Process.{exit_status};
 ghost use Rattle.pilot_top.specs.Status.{exit_of};
 
 mod about;
+mod images;
+mod reasons;
 
-use image_disk::{Image, ImageDisk, NoImage, image_of, new_image, open_image};
-use labelled_disk::{Disk, MemoryDisk};
+use crate::images::on_image;
+use crate::reasons::no_command;
+use image_disk::ImageDisk;
+use labelled_disk::Disk;
 use pilot_top::{Status, pilot};
 use std::fs::File;
 use std::process::ExitCode;
@@ -38,12 +42,13 @@ fn words_of(rt: &HostRuntime) -> Result<Vec<String>, Status> {
         .map_err(|_| Status::NoMemory)
 }
 
-/// Carries out a command on a disk, over the standard streams.
+/// Carries out a command on a disk, over the standard streams. Where one of these failed, standard
+/// error gets a line that says which and why.
 fn command<D: Disk>(rt: &HostRuntime, disk: &mut D, words: &[String]) -> Status {
     let mut other = ImageDisk::<File>::absent();
     let mut source = ReaderSource::over(rt.reader());
     let mut sink = WriterSink::over(io::writer(rt));
-    pilot(
+    let status = pilot(
         rt.alloc(),
         rt.alloc(),
         words,
@@ -51,71 +56,45 @@ fn command<D: Disk>(rt: &HostRuntime, disk: &mut D, words: &[String]) -> Status 
         &mut other,
         &mut source,
         &mut sink,
-    )
-}
-
-/// Carries out a command on a disk in memory.
-fn in_memory(rt: &HostRuntime, sectors: u32, words: &[String]) -> Status {
-    match MemoryDisk::new(rt.alloc(), sectors) {
-        Ok(mut disk) => command(rt, &mut disk, words),
-        Err(_) => Status::NoMemory,
+    );
+    if status == Status::StreamFault {
+        reasons::stream_failed(rt, source.trouble(), sink.trouble());
     }
-}
-
-/// The disk in an image file, or one of no sector, where standard error gets a line that says why.
-fn disk_or_none(
-    rt: &HostRuntime,
-    path: &str,
-    image: Result<ImageDisk<File>, NoImage>,
-) -> ImageDisk<File> {
-    match image {
-        Ok(disk) => disk,
-        Err(why) => {
-            let _ = eprintln!(rt; "pilot: {path:?}: {why}");
-            ImageDisk::absent()
-        }
-    }
-}
-
-/// Carries out a command on the disk that an image word asks for. No file is opened where a number
-/// of a standard stream may be free.
-fn on_image(rt: &HostRuntime, held: io::Result<()>, image: &str, words: &[String]) -> Status {
-    let mut disk = match image_of(image) {
-        Image::Memory(sectors) => return in_memory(rt, sectors, words),
-        Image::New { sectors, path } if held.is_ok() => {
-            disk_or_none(rt, path, new_image(rt, sectors, path))
-        }
-        Image::File(path) if held.is_ok() => disk_or_none(rt, path, open_image(rt, path)),
-        Image::New { .. } | Image::File(_) => {
-            let image = held.map(|()| ImageDisk::absent());
-            disk_or_none(rt, NOTHING, image.map_err(NoImage::System))
-        }
-    };
-    command(rt, &mut disk, words)
+    status
 }
 
 /// Writes a text of the program's own.
 fn tell(rt: &HostRuntime, text: &str) -> Status {
     match print!(rt; "{text}") {
         Ok(()) => Status::Done,
-        Err(_) => Status::StreamFault,
+        Err(error) => {
+            reasons::stream_failed(rt, None, Some(error));
+            Status::StreamFault
+        }
     }
+}
+
+fn asks_for_help(word: &str) -> bool {
+    matches!(word, "--help" | "-h" | "help")
 }
 
 fn run(rt: &HostRuntime, held: io::Result<()>) -> Status {
     let words = match words_of(rt) {
         Ok(words) => words,
+        Err(Status::Usage) => {
+            let _ = tell(rt, "stopped usage\n");
+            reasons::not_a_text(rt);
+            return Status::Usage;
+        }
         Err(status) => {
-            if status == Status::Usage {
-                let _ = tell(rt, "stopped usage\n");
-            }
+            reasons::no_memory(rt, "the words");
             return status;
         }
     };
     match words.as_slice() {
-        [word] if word.as_str() == "--help" => tell(rt, about::HELP),
+        [word] if asks_for_help(word.as_str()) => tell(rt, about::HELP),
         [word] if word.as_str() == "--version" => tell(rt, about::VERSION),
-        [] => command(rt, &mut ImageDisk::<File>::absent(), &[]),
+        [] => no_command(rt, &[]),
         [image, rest @ ..] => on_image(rt, held, image.as_str(), rest),
     }
 }

@@ -1,10 +1,18 @@
 -- A command for whose words there was no memory did what its record says.
-use Rattle.std.proofs.Common.{inl, inr, ℕ, [], refl, arith}
+use Rattle.std.proofs.Common.{◌≡◌, inl, inr, ℕ, zero, suc, List, [], ◌++◌, refl, sym, ◌∙◌, subst, append-nil, arith}
+use Rattle.std.proofs.lemmas.List.{append_cancel_left}
+use Rattle.std.proofs.lemmas.Option.{same_Some}
 use Rattle.labelled_disk.proofs.CallLemmas.{only_reads_itself}
+use Rattle.labelled_disk.specs.declared.disk.DiskWrite.{DiskWrite}
+use Rattle.labelled_disk.specs.Moment.{moment}
+use Rattle.labelled_disk.specs.Sectors.{Sector}
+use Rattle.labelled_disk.specs.State.{DiskState}
 use Rattle.labelled_disk.proofs.WriteRunLemmas.{appended_none}
 use Rattle.flat_machine.specs.Start.{start}
 use Rattle.trace_io.specs.Reading.{reading}
 use Rattle.scavenger.proofs.BetweenLemmas.{moments_of_none}
+use Rattle.volume_convert.specs.Leaves.{IsOldOrConverted, StaysConvertible}
+use Rattle.pilot_top.specs.Converting.{ConvertedBy}
 use Rattle.pilot_top.specs.Making.{Formatted}
 use Rattle.pilot_top.specs.Restoring.{Scavenged}
 use Rattle.pilot_top.specs.Running.{Ran}
@@ -13,6 +21,16 @@ use Rattle.pilot_top.specs.World.{World}
 use Rattle.pilot_top.specs.declared.status.Status.TheVariants as status
 use Rattle.pilot_top.proofs.LawfulRuns.{lawfully_none}
 use Rattle.pilot_top.proofs.StagedLemmas.{from_nothing, moments_before}
+
+-- a disk to which nothing was written
+old_still : (d : List Sector) (k : ℕ) → IsOldOrConverted d (moment d [] k)
+old_still d zero = inl (record { sectors = refl; root = refl; files = refl })
+old_still d (suc k) = inl (record { sectors = refl; root = refl; files = refl })
+
+never_written : (disk : DiskState) → StaysConvertible disk disk
+never_written disk d before writes told earlier later k =
+    let none : [] ≡ writes = append_cancel_left before [] writes (append-nil before ∙ same_Some before (before ++ writes) (sym earlier ∙ later)) in
+    subst (λ (ws : List DiskWrite). IsOldOrConverted d (moment d ws k)) none (old_still d k)
 
 module _ (w : World) where
   pub ran_nothing : Ran status.NoMemory w w
@@ -64,6 +82,27 @@ module _ (w : World) where
     no_volume_unwritten = λ g why told refused. only_reads_itself w.disk;
     complete = λ g told opened disk_held sink_held. inr refl;
     right_restored = λ g told right. inr (inr (inr refl));
+  }
+
+  pub converted_nothing : ConvertedBy status.NoMemory w w
+  converted_nothing = record {
+    restored = λ ends. absurd (elim ends [ inl done ↦ cc done | inr failed ↦ cc failed ]);
+    synced = λ ends. absurd (elim ends [ inl done ↦ cc done | inr failed ↦ cc failed ]);
+    line = λ done d told. absurd (cc done);
+    part_of_line = λ failed d told. absurd (cc failed);
+    some_line = λ done. absurd (cc done);
+    some_front = λ failed. absurd (cc failed);
+    by = λ ends. absurd (elim ends [ inl done ↦ cc done | inr failed ↦ cc failed ]);
+    part = λ failed. absurd (cc failed);
+    part_line = λ failed. absurd (cc failed);
+    moments = never_written w.disk;
+    count = λ none. inl refl;
+    no_volume = λ d told opened. absurd (cc opened);
+    no_volume_refused = λ d why told refused. inr (inr refl);
+    no_volume_unwritten = λ d why told refused. only_reads_itself w.disk;
+    unfit = λ d told unfit. absurd (cc unfit);
+    unfit_refused = λ d told volume none. inr (inr refl);
+    complete = λ d told volume room disk_held sink_held. inr refl;
   }
 
   pub tried_nothing : (seed calls : ℕ) → Tried seed calls status.NoMemory w w

@@ -1,9 +1,9 @@
 -- Why a command ends with its status, whatever it is.
-use Rattle.std.specs.Prelude.{◌≡◌, ◌≢◌, ◌⊎◌, ◌^◌, ℕ, List, String}
+use Rattle.std.specs.Prelude.{◌≡◌, ◌⊎◌, ◌^◌, ◌<◌, ℕ, List, String}
 use Rattle.std.specs.declared.alloc.Global.{Global}
 use Rattle.labelled_disk.specs.declared.layout.RootFault.{RootFault}
 use Rattle.labelled_disk.specs.declared.layout.RootFault.TheVariants as fault
-use Rattle.labelled_disk.specs.Layout.{IsCount}
+use Rattle.labelled_disk.specs.Layout.{IsCount, capacity}
 use Rattle.labelled_disk.specs.Sectors.{Sector}
 use Rattle.command_words.specs.Meaning.{IsNoCommand, Means, Names}
 use Rattle.command_words.specs.declared.words.Command.{Command}
@@ -38,7 +38,9 @@ pub record HasReason (words : List (String Global)) (s : Status) (before after :
   -- only a `run` ends so, and a `trial` on a disk that does not tell what it holds
   pub damaged : s ≡ status.Damaged
       → ((frames : ℕ) × Means words (command.Run frames)) ⊎ ((seed : ℕ) × (calls : ℕ) × (frames : ℕ) × Means words (command.Trial seed calls frames) × ((d : List Sector) → ¬ Holds before d))
-  pub no_other : s ≢ status.Unfit
+  -- only a `convert` ends so: nothing was written, and the line has how many sectors are wanted, and that there are fewer
+  pub unfit : s ≡ status.Unfit
+      → StaysUnwritten before after × Means words command.Convert × (wanted : ℕ) × (capacity before.disk.sectors < wanted) × WritesLast before after (cause.Unfit wanted (capacity before.disk.sectors))
 
 -- nothing is taken from the source: the command is another than `run`, or it was not begun, or the volume is refused
 abbrev pub TakesNothing : List (String Global) → Status → World → Type 0

@@ -44,6 +44,7 @@ last_line cause.Usage = codes "stopped usage\n"
 last_line cause.DiskFault = codes "stopped disk\n"
 last_line cause.Long = codes "stopped long\n"
 last_line (cause.Damaged e) = codes "stopped damaged " ++ evidence_words e ++ codes "\n"
+last_line (cause.Unfit wanted room) = codes "stopped unfit " ++ decimal wanted ++ codes " " ++ decimal room ++ codes "\n"
 last_line (cause.Root why) = codes "stopped " ++ root_words why ++ codes "\n"
 
 -- a sink took the text, or it failed, and took a front of it

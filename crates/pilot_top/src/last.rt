@@ -17,6 +17,8 @@ pub(crate) enum Cause {
     Long,
     /// The volume is damaged, as this shows.
     Damaged(Evidence),
+    /// The files of an old volume want more sectors than a new one has for files.
+    Unfit { wanted: u32, capacity: u32 },
     /// The volume can't be opened.
     Root(RootFault),
 }
@@ -63,6 +65,18 @@ fn root_line(why: RootFault) -> ArrayVec<u8, 32>
     }
 }
 
+fn unfit_line(wanted: u32, capacity: u32) -> ArrayVec<u8, 64>
+    ensures { result.items ≡ last_line (Cause.Unfit wanted capacity) }
+{
+    let mut line = ArrayVec::new();
+    let _ = line.try_extend_from_slice(b"stopped unfit ");
+    let _ = line.try_extend_from_slice(Buffer::new().format(wanted).as_bytes());
+    let _ = line.try_extend_from_slice(b" ");
+    let _ = line.try_extend_from_slice(Buffer::new().format(capacity).as_bytes());
+    let _ = line.try_extend_from_slice(b"\n");
+    line
+}
+
 /// Writes the last line. A sink that fails here changes nothing else.
 pub(crate) fn put_last<K: Sink>(sink: &mut K, cause: Cause)
     ensures put { Puts (Rose (K.faults sink.old) (K.faults sink.new)) (K.took sink.old)
@@ -74,6 +88,7 @@ pub(crate) fn put_last<K: Sink>(sink: &mut K, cause: Cause)
         Cause::DiskFault => sink.put(b"stopped disk\n"),
         Cause::Long => sink.put(b"stopped long\n"),
         Cause::Damaged(evidence) => sink.put(&damage_line(evidence)),
+        Cause::Unfit { wanted, capacity } => sink.put(&unfit_line(wanted, capacity)),
         Cause::Root(why) => sink.put(&root_line(why)),
     };
 }

@@ -39,7 +39,8 @@ pub(crate) fn open_root<D: Disk>(disk: &mut D, root: &Root) -> Result<(), DiskEr
     put_root(disk, &opened)
 }
 
-/// Writes the root, clean, with this counter.
+/// Waits until all that was written is on the medium, and writes the root, clean, with this counter: so no root that
+/// says that the volume is whole is on the medium before what it speaks of.
 pub(crate) fn close_root<D: Disk>(disk: &mut D, root: &Root, counter: u32) -> Result<(), DiskError>
     requires valid { IsValidRoot (D.state disk.old).sectors root.now }
     requires counter { 1 ≤ counter }
@@ -51,6 +52,7 @@ pub(crate) fn close_root<D: Disk>(disk: &mut D, root: &Root, counter: u32) -> Re
         counter,
         ..*root
     };
+    disk.settle()?;
     put_root(disk, &closed)
 }
 

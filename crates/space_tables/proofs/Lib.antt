@@ -12,3 +12,4 @@ pub mod Places
 pub mod Pieces
 pub mod Rejoined
 pub mod Removes
+mod Pages

@@ -2,12 +2,12 @@
 use Rattle.std.proofs.Common.{◌≡◌, ◌≢◌, ◌⊎◌, inl, inr, ℕ, zero, suc, ◌+◌, ◌*◌, ◌<◌, ◌≤◌, Bool, true, false, cond, List, [], ◌∷◌, drop, length, Option, Some, None, refl, sym, ◌∙◌, ap, arith}
 use Rattle.std.specs.Prelude.{slice_get, find, if◌then◌else◌}
 use Rattle.std.proofs.lemmas.Option.{same_Some, none-some}
-use Rattle.std.proofs.lemmas.Bool.{cases_eq}
+use Rattle.std.proofs.lemmas.Bool.{cases_eq, cases_lt}
 use Rattle.std.proofs.lemmas.Nat.{mul-le}
 use Rattle.flat_machine.specs.declared.space.Space.{Space}
 use Rattle.projection_laws.specs.Sight.{Interval}
 use Rattle.projection_laws.specs.Slots.{listed}
-use Rattle.space_tables.specs.Scan.{kept, AreTaken}
+use Rattle.space_tables.specs.Scan.{kept, AreTakenFrom}
 use Rattle.space_tables.specs.Stored.{HoldTables}
 
 pub kept_true : (test : Space → Bool) (s : Space) → true ≡ test s → kept test (Some s) ≡ Some s
@@ -58,17 +58,28 @@ pub none_left : (test : Space → Bool) (slots : List (Option Space)) (n : ℕ) 
 none_left test slots n l = ap (λ (os : List (Option Space)). find test (listed os)) (nothing_left n slots l)
 
 -- one handle more is taken
-pub one_taken : (slots : List (Option Space)) (h : ℕ) → AreTaken slots h → slice_get slots h ≢ Some None → AreTaken slots (h + 1)
-one_taken slots h taken here = λ j low below free. by j low below free (cases_eq j h)
+pub one_taken : (slots : List (Option Space)) (from h : ℕ) → AreTakenFrom slots from h → slice_get slots h ≢ Some None → AreTakenFrom slots from (h + 1)
+one_taken slots from h taken here = λ j low below free. by j low below free (cases_eq j h)
   where
-    by : (j : ℕ) → 1 ≤ j → j < h + 1 → slice_get slots j ≡ Some None → (j ≡ h) ⊎ (j ≢ h) → ⊥
+    by : (j : ℕ) → from ≤ j → j < h + 1 → slice_get slots j ≡ Some None → (j ≡ h) ⊎ (j ≢ h) → ⊥
     by j low below free (inl same) = here (ap (slice_get slots) (sym same) ∙ free)
     by j low below free (inr apart) = taken j low (omega (arith, below, apart)) free
+
+-- those of two parts are taken
+pub both_taken : (slots : List (Option Space)) (from mid end : ℕ) → AreTakenFrom slots from mid → AreTakenFrom slots mid end → AreTakenFrom slots from end
+both_taken slots from mid end first next = λ j low below. elim (cases_lt j mid) [
+  | inl early ↦ first j low early
+  | inr late ↦ next j (omega (arith, late)) below
+]
 
 -- ---- what is paid
 
 pub paid_more : (n k t s u : ℕ) → s ≤ t + n * k → u ≤ s + k → u ≤ t + (n + 1) * k
 paid_more n k t s u cost step = omega (arith, cost, step)
+
+-- a page was read for the next 16
+pub paid_page : (n k t s u : ℕ) → s ≤ t + n * k → u ≤ s + k → u ≤ t + (n + 16) * k
+paid_page n k t s u cost step = omega (arith, cost, step)
 
 pub paid_all : (n m k t s u : ℕ) → s ≤ t + n * k → u ≤ s + k → n + 1 ≤ m → u ≤ t + m * k
 paid_all n m k t s u cost step few = let p = mul-le (n + 1) k m k few (omega arith) in omega (arith, p, cost, step)

@@ -1,5 +1,5 @@
 -- The form of the records of the tables, and when a page breaks it.
-use Rattle.std.specs.Prelude.{◌≡◌, ◌⊎◌, ℕ, ◌+◌, ◌*◌, ◌/◌, ◌^◌, ◌<◌, ◌≤◌, Bool, true, false, ◌&&◌, ◌||◌, ◌==◌, nat_le, nat_lt, List, length, Option, None, Some}
+use Rattle.std.specs.Prelude.{◌≡◌, ◌⊎◌, ℕ, ◌+◌, ◌*◌, ◌/◌, ◌^◌, ◌<◌, ◌≤◌, Bool, true, false, ◌&&◌, ◌||◌, ◌==◌, nat_le, List, length, Option, None, Some}
 use Rattle.std.specs.Option.{option_map_or}
 use Rattle.flat_machine.specs.declared.space.Space.{Space}
 use Rattle.flat_machine.specs.declared.space.Window.{Window}
@@ -13,10 +13,15 @@ use Rattle.projection_laws.specs.Sight.{Interval, end_of}
 use Rattle.projection_laws.specs.Edits.{pieces}
 use Rattle.projection_laws.specs.Stored.{interval_in, space_in}
 
--- record h of the hierarchy, and record k of the projection
+-- record h of the hierarchy
 abbrev pub slot_record : List ℕ → ℕ → List ℕ
 slot_record b h = part b (32 * h) 32
 
+-- the page of the hierarchy that has record h
+abbrev pub slot_page : List ℕ → ℕ → List ℕ
+slot_page b h = part b (512 * (h / 16)) 512
+
+-- record k of the projection
 abbrev pub interval_record : List ℕ → ℕ → List ℕ
 interval_record b k = part b (32 * (512 + k)) 32
 

@@ -1,5 +1,6 @@
 -- What a pass over the tables finds.
-use Rattle.std.specs.Prelude.{◌≡◌, ◌≢◌, ℕ, ◌+◌, nat_le, ◌≤◌, ◌<◌, Bool, not, ◌&&◌, ◌||◌, ◌==◌, List, Option, Some, None, slice_get, find, if◌then◌else◌}
+use Rattle.std.specs.Prelude.{◌≡◌, ◌≢◌, ℕ, ◌+◌, ◌-◌, ◌%◌, nat_le, ◌≤◌, ◌<◌, Bool, not, ◌&&◌, ◌||◌, ◌==◌, List, Option, Some, None, slice_get, find, drop, if◌then◌else◌}
+use Rattle.projection_laws.specs.Slots.{listed}
 use Rattle.projection_laws.specs.Laws.{is_gap}
 use Rattle.projection_laws.specs.Sight.{Interval, end_of}
 use Rattle.flat_machine.specs.declared.space.Space.{Space}
@@ -19,9 +20,27 @@ abbrev pub kept : (Space → Bool) → Option Space → Option Space
 kept test None = None
 kept test (Some s) = if test s then Some s else None
 
+-- a space that was found is the first one that is looked for, from a handle on; else there is none among the next 16 handles
+abbrev pub IsFirstOn : (Space → Bool) → List (Option Space) → ℕ → Option Space → Type 0
+IsFirstOn test slots first (Some s) = Some s ≡ find test (listed (drop first slots))
+IsFirstOn test slots first None = find test (listed (drop first slots)) ≡ find test (listed (drop (first + 16) slots))
+
+-- the handle behind those whose records stand in one page with this one's
+abbrev pub end_on : ℕ → ℕ
+end_on handle = handle - handle % 16 + 16
+
+-- from one handle to the one before another a space stands at each
+abbrev pub AreTakenFrom : List (Option Space) → ℕ → ℕ → Type 0
+AreTakenFrom slots from end = (j : ℕ) → from ≤ j → j < end → slice_get slots j ≢ Some None
+
+-- the lowest handle from one on, before another, where no space stands, or none
+abbrev pub IsLowestFrom : List (Option Space) → ℕ → ℕ → Option ℕ → Type 0
+IsLowestFrom slots from end (Some h) = (from ≤ h) × (h < end) × (slice_get slots h ≡ Some None) × AreTakenFrom slots from h
+IsLowestFrom slots from end None = AreTakenFrom slots from end
+
 -- from handle 1 to the one before this a space stands at each
 abbrev pub AreTaken : List (Option Space) → ℕ → Type 0
-AreTaken slots end = (j : ℕ) → 1 ≤ j → j < end → slice_get slots j ≢ Some None
+AreTaken slots end = AreTakenFrom slots 1 end
 
 -- the lowest handle from 1 on where no space stands, or none
 abbrev pub IsLowestFree : List (Option Space) → Option ℕ → Type 0

@@ -1,12 +1,12 @@
 //! Records of the tables in a memory, read and written by their index.
-ghost use Rattle.std.specs.Prelude.{◌≡◌, ℕ, ◌+◌, ◌*◌, ◌-◌, ◌<◌, ◌≤◌, ◌↔◌, true, false, List, length, Option, Some, None, IfOk, IfErr, IfSome, OnOk, OnErr, MatchResult, slice_get, slice_set, insert, remove};
+ghost use Rattle.std.specs.Prelude.{◌≡◌, ℕ, ◌+◌, ◌*◌, ◌-◌, if◌then◌else◌, ◌<◌, ◌≤◌, ◌↔◌, true, false, List, length, Option, Some, None, IfOk, IfErr, IfSome, OnOk, OnErr, MatchResult, slice_get, slice_set, insert, remove};
 ghost use Rattle.flat_machine.specs.declared.space.Space.{Space};
 ghost use Rattle.flat_mem.specs.Memory.{part, overwritten};
 ghost use Rattle.projection_laws.specs.Sight.{Interval};
 ghost use Rattle.projection_laws.specs.Stored.{interval_in, slot_bytes, slot_in};
-ghost use Rattle.space_tables.specs.Form.{slot_record, interval_record, in_form, space_in_form, BreaksSlot, BreaksInterval};
+ghost use Rattle.space_tables.specs.Form.{slot_record, slot_page, interval_record, is_slot_record, in_form, space_in_form, BreaksSlot, BreaksInterval};
 ghost use Rattle.space_tables.specs.Answer.{FromMemory, NotRefused, IfMem, IfMalformed};
-ghost use Rattle.space_tables.specs.Stored.{HoldTables, AreReadable, IsReadable, TellsRest};
+ghost use Rattle.space_tables.specs.Stored.{AreTables, HoldTables, AreReadable, IsReadable, TellsRest};
 
 use crate::SpaceError;
 use crate::code::{Record, interval_bytes, read_interval, read_slot};
@@ -75,23 +75,54 @@ pub fn slot<M: FlatMem>(mem: &mut M, handle: u32) -> Result<Option<Space>, Space
     }
 }
 
-/// Whether a space stands at a handle: the first byte of its record is not 0.
-pub fn has_space<M: FlatMem>(mem: &mut M, handle: u32) -> Result<bool, SpaceError<M::Error>>
+/// The bytes of a page of the hierarchy: the records of 16 handles.
+pub type Page = [u8; 512];
+
+/// Reads the page of the hierarchy that has the record of this handle.
+pub fn load_page<M: FlatMem>(
+    mem: &mut M,
+    handle: u32,
+    page: &mut Page,
+) -> Result<(), SpaceError<M::Error>>
     requires size { 49152 ≤ M.size mem.old }
     requires inside { handle < 512 }
-    ensures space { (slots : List (Option Space)) (xs : List Interval) → HoldTables (M.tells mem.old) slots xs
-        → IfOk result (λ there. (there ≡ false) ↔ (slice_get slots handle ≡ Some None)) }
+    ensures read { (b : List ℕ) → M.tells mem.old b → OnOk result (page.new ≡ slot_page b handle) }
     ensures memory { IfErr result FromMemory }
+    ensures refused { IfErr result NotRefused }
     ensures unchanged { (b : List ℕ) → M.tells mem.old b → M.tells mem.new b }
     ensures kept { M.beside mem.old mem.new }
     ensures cause { IfErr result (IfMem (M.accounted mem.old mem.new)) }
     ensures cost { M.spent mem.new ≤ M.spent mem.old + M.cost }
 {
-    let mut first = [0; 1];
-    match mem.read(32 * u64::from(handle), &mut first) {
-        Ok(()) => Ok(first[0] != 0),
+    match mem.read(512 * u64::from(handle / 16), page) {
+        Ok(()) => Ok(()),
         Err(error) => Err(SpaceError::Mem(error)),
     }
+}
+
+/// The space of a handle, or none there, by the page that has its record. The outer None means that the record breaks its
+/// form.
+pub fn slot_on(page: &Page, handle: u32) -> Option<Option<Space>>
+    requires inside { handle < 512 }
+    ensures slot { (b : List ℕ) → page.now ≡ slot_page b handle → result ≡ (if is_slot_record (slot_record b handle) then Some (slot_in handle (slot_record b handle)) else None) }
+    ensures form { IfSome result (λ o. IfSome o (λ s. (space_in_form s ≡ true) × (s.handle ≡ handle))) }
+{
+    let at = (handle % 16 * 32) as usize;
+    if page[at] == 0 {
+        return Some(None);
+    }
+    let mut bytes = [0; 32];
+    bytes.copy_from_slice(&page[at..at + 32]);
+    read_slot(handle, &bytes)
+}
+
+/// Whether a space stands at a handle, by the page that has its record: the first byte of the record is not 0.
+pub fn has_space_on(page: &Page, handle: u32) -> bool
+    requires inside { handle < 512 }
+    ensures space { (b : List ℕ) (slots : List (Option Space)) (xs : List Interval) → page.now ≡ slot_page b handle → AreTables b slots xs
+        → (result ≡ false) ↔ (slice_get slots handle ≡ Some None) }
+{
+    page[(handle % 16 * 32) as usize] != 0
 }
 
 /// The interval at an index.

@@ -1,16 +1,16 @@
 //! Passes over the hierarchy.
-ghost use Rattle.std.specs.Prelude.{◌≡◌, ◌≢◌, ℕ, ◌+◌, ◌*◌, ◌<◌, ◌≤◌, true, List, Option, Some, None, IfOk, IfErr, IfSome, MatchResult, slice_get, find};
+ghost use Rattle.std.specs.Prelude.{◌≡◌, ℕ, ◌+◌, ◌*◌, ◌/◌, ◌%◌, ◌<◌, ◌≤◌, true, List, Option, Some, None, IfOk, IfErr, IfSome, MatchResult, slice_get, find};
 ghost use Rattle.flat_machine.specs.declared.space.Space.{Space};
 ghost use Rattle.projection_laws.specs.Sight.{Interval};
 ghost use Rattle.projection_laws.specs.Slots.{listed};
 ghost use Rattle.projection_laws.specs.Stored.{slot_in};
-ghost use Rattle.space_tables.specs.Form.{slot_record, space_in_form, BreaksSlot, BreaksHierarchy};
+ghost use Rattle.space_tables.specs.Form.{slot_record, slot_page, space_in_form, BreaksSlot, BreaksHierarchy};
 ghost use Rattle.space_tables.specs.Answer.{FromMemory, NotRefused, IfMem, IfMalformed};
-ghost use Rattle.space_tables.specs.Stored.{HoldTables, AreReadable};
-ghost use Rattle.space_tables.specs.Scan.{passes, kept, IsLowestFree};
+ghost use Rattle.space_tables.specs.Stored.{AreTables, HoldTables, AreReadable};
+ghost use Rattle.space_tables.specs.Scan.{passes, kept, end_on, IsFirstOn, IsLowestFrom, IsLowestFree};
 
 use crate::SpaceError;
-use crate::records::{has_space, slot};
+use crate::records::{Page, has_space_on, load_page, slot_on};
 use flat_machine::{Space, Window};
 use flat_mem::FlatMem;
 use labelled_disk::FileId;
@@ -39,35 +39,51 @@ fn passes(test: &Test, s: &Space) -> bool
     }
 }
 
-// The space of a handle, if it passes the test.
-fn passing<M: FlatMem>(
-    mem: &mut M,
-    handle: u32,
-    test: &Test,
-) -> Result<Option<Space>, SpaceError<M::Error>>
-    requires size { 49152 ≤ M.size mem.old }
+// The space of a handle, if it passes the test, by the page that has its record. The outer None means that the record
+// breaks its form.
+fn passing(page: &Page, handle: u32, test: &Test) -> Option<Option<Space>>
     requires inside { handle < 512 }
-    ensures found { (slots : List (Option Space)) (xs : List Interval) → HoldTables (M.tells mem.old) slots xs → AreReadable slots xs
-        → MatchResult result (λ o. (p : Option Space) × (slice_get slots handle ≡ Some p) × (o ≡ kept (passes test.now) p)) FromMemory }
-    ensures read { (b : List ℕ) → M.tells mem.old b → IfOk result (λ o. IfSome o (λ s. slot_in s.handle (slot_record b s.handle) ≡ Some s)) }
-    ensures form { IfOk result (λ o. IfSome o (λ s. (space_in_form s ≡ true) × (passes test.now s ≡ true) × (s.handle < 512))) }
-    ensures malformed { (b : List ℕ) → M.tells mem.old b → IfErr result (IfMalformed (λ page. BreaksSlot b page handle)) }
-    ensures refused { IfErr result NotRefused }
-    ensures unchanged { (b : List ℕ) → M.tells mem.old b → M.tells mem.new b }
-    ensures kept { M.beside mem.old mem.new }
-    ensures cause { IfErr result (IfMem (M.accounted mem.old mem.new)) }
-    ensures cost { M.spent mem.new ≤ M.spent mem.old + M.cost }
+    ensures found { (b : List ℕ) (slots : List (Option Space)) (xs : List Interval) → page.now ≡ slot_page b handle → AreTables b slots xs → AreReadable slots xs
+        → (p : Option Space) × (slice_get slots handle ≡ Some p) × (result ≡ Some (kept (passes test.now) p)) }
+    ensures read { (b : List ℕ) → page.now ≡ slot_page b handle → IfSome result (λ o. IfSome o (λ s. slot_in s.handle (slot_record b s.handle) ≡ Some s)) }
+    ensures form { IfSome result (λ o. IfSome o (λ s. (space_in_form s ≡ true) × (passes test.now s ≡ true) × (s.handle < 512))) }
+    ensures malformed { (b : List ℕ) → page.now ≡ slot_page b handle → result ≡ None → BreaksSlot b (handle / 16) handle }
 {
-    match slot(mem, handle)? {
+    match slot_on(page, handle)? {
         Some(space) => {
             if passes(test, &space) {
-                Ok(Some(space))
+                Some(Some(space))
             } else {
-                Ok(None)
+                Some(None)
             }
         }
-        None => Ok(None),
+        None => Some(None),
     }
+}
+
+// The first space that passes the test among the 16 handles from `first` on, by the page that has their records. The outer
+// None means that a record breaks its form.
+fn first_on(page: &Page, first: u32, test: &Test) -> Option<Option<Space>>
+    requires whole { first % 16 ≡ 0 }
+    requires inside { first < 512 }
+    ensures found { (b : List ℕ) (slots : List (Option Space)) (xs : List Interval) → page.now ≡ slot_page b first → AreTables b slots xs → AreReadable slots xs
+        → (o : Option Space) × (result ≡ Some o) × IsFirstOn (passes test.now) slots first o }
+    ensures read { (b : List ℕ) → page.now ≡ slot_page b first → IfSome result (λ o. IfSome o (λ s. slot_in s.handle (slot_record b s.handle) ≡ Some s)) }
+    ensures form { IfSome result (λ o. IfSome o (λ s. (space_in_form s ≡ true) × (passes test.now s ≡ true) × (s.handle < 512))) }
+    ensures malformed { (b : List ℕ) → page.now ≡ slot_page b first → result ≡ None → BreaksHierarchy b (first / 16) }
+{
+    let mut handle = first;
+    'scan: while handle < first + 16 {
+        if !has_space_on(page, handle) {
+            handle += 1;
+            continue 'scan;
+        }
+        if let Some(space) = passing(page, handle, test)? {
+            return Some(Some(space));
+        }
+        handle += 1;
+    }
+    Some(None)
 }
 
 /// The first space, in rising handles, that passes the test.
@@ -87,14 +103,37 @@ pub fn find_space<M: FlatMem>(
     ensures cause { IfErr result (IfMem (M.accounted mem.old mem.new)) }
     ensures cost { M.spent mem.new ≤ M.spent mem.old + 512 * M.cost }
 {
-    let mut handle = 0;
-    'scan: while handle < 512 {
-        if let Some(space) = passing(mem, handle, test)? {
+    let mut page = [0; 512];
+    let mut first = 0;
+    'scan: while first < 512 {
+        load_page(mem, first, &mut page)?;
+        let Some(found) = first_on(&page, first, test) else {
+            return Err(SpaceError::Malformed { page: first / 16 });
+        };
+        if let Some(space) = found {
             return Ok(Some(space));
+        }
+        first += 16;
+    }
+    Ok(None)
+}
+
+// The lowest handle from `from` on that no space has, among those whose records the page has.
+fn free_on(page: &Page, from: u32) -> Option<u32>
+    requires inside { from < 512 }
+    ensures free { (b : List ℕ) (slots : List (Option Space)) (xs : List Interval) → page.now ≡ slot_page b from → AreTables b slots xs
+        → IsLowestFrom slots from (end_on from) result }
+    ensures form { IfSome result (λ h. (from ≤ h) × (h < 512)) }
+{
+    let end = from - from % 16 + 16;
+    let mut handle = from;
+    'scan: while handle < end {
+        if !has_space_on(page, handle) {
+            return Some(handle);
         }
         handle += 1;
     }
-    Ok(None)
+    None
 }
 
 /// The lowest handle from 1 on that no space has.
@@ -110,12 +149,14 @@ pub fn free_handle<M: FlatMem>(mem: &mut M) -> Result<Option<u32>, SpaceError<M:
     ensures cause { IfErr result (IfMem (M.accounted mem.old mem.new)) }
     ensures cost { M.spent mem.new ≤ M.spent mem.old + 511 * M.cost }
 {
-    let mut handle = 1;
-    'scan: while handle < 512 {
-        if !has_space(mem, handle)? {
+    let mut page = [0; 512];
+    let mut from = 1;
+    'scan: while from < 512 {
+        load_page(mem, from, &mut page)?;
+        if let Some(handle) = free_on(&page, from) {
             return Ok(Some(handle));
         }
-        handle += 1;
+        from = from - from % 16 + 16;
     }
     Ok(None)
 }

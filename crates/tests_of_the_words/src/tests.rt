@@ -35,7 +35,7 @@ fn trial(seed: u32, calls: u32, frames: u32) -> Result<Command, Refused> {
 
 #[test]
 fn plain_words_mean_what_they_say(rt: HostRuntime) -> Result<(), Fail> {
-    let rows: [Row; 17] = [
+    let rows: [Row; 18] = [
         (&["run"], run(64)),
         (&["run", "--frames", "24"], run(24)),
         (&["run", "--frames", "4096"], run(4096)),
@@ -49,6 +49,7 @@ fn plain_words_mean_what_they_say(rt: HostRuntime) -> Result<(), Fail> {
             format(4_294_967_295, 1),
         ),
         (&["scavenge"], Ok(Command::Scavenge)),
+        (&["convert"], Ok(Command::Convert)),
         (&["trial"], trial(0, 1000, 64)),
         (
             &["trial", "--seed", "4294967295"],
@@ -87,12 +88,12 @@ fn other_words_that_are_taken(rt: HostRuntime) -> Result<(), Fail> {
 #[test]
 fn words_that_are_no_command(rt: HostRuntime) -> Result<(), Fail> {
     let usage = Err(Refused::Usage);
-    let rows: [Row; 32] = [
+    let rows: [Row; 33] = [
         (&[], usage),
         (&[""], usage),
         (&["Run"], usage),
         (&["--help"], usage),
-        (&["convert"], usage),
+        (&["Convert"], usage),
         (&["processes"], usage),
         (&["replicate"], usage),
         (&["--frames", "24", "run"], usage),
@@ -117,6 +118,7 @@ fn words_that_are_no_command(rt: HostRuntime) -> Result<(), Fail> {
         (&["format", "--serial", "4294967296"], usage),
         (&["format", "--frames", "24"], usage),
         (&["scavenge", "--frames", "24"], usage),
+        (&["convert", "--frames", "24"], usage),
         (&["trial", "--seed", "4294967296"], usage),
         (&["trial", "--calls", "1000001"], usage),
         (&["trial", "--serial", "7"], usage),

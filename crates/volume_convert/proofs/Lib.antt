@@ -6,3 +6,4 @@ mod LoopLemmas
 mod HeadLoops
 mod LeaderRuns
 mod ConvertLemmas
+mod PlaceLemmas

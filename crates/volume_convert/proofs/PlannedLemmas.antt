@@ -1,5 +1,5 @@
 -- What is planned from labels is the conversion of each disk that has them.
-use Rattle.std.proofs.Common.{◌≡◌, ℕ, ◌+◌, ◌-◌, ◌<◌, ◌≤◌, ◌^◌, false, List, [], ◌∷◌, ◌++◌, length, map, Result, Ok, Err, refl, sym, ◌∙◌, ap, subst, arith, append_assoc, length-set}
+use Rattle.std.proofs.Common.{◌≡◌, ℕ, ◌+◌, ◌-◌, ◌<◌, ◌≤◌, ◌^◌, false, List, [], ◌∷◌, ◌++◌, length, map, take, drop, Result, Ok, Err, refl, sym, ◌∙◌, ap, subst, arith, append_assoc, length-set}
 use Rattle.labelled_disk.specs.declared.disk.DiskError.{DiskError}
 use Rattle.labelled_disk.specs.declared.disk.DiskWrite.{DiskWrite}
 use Rattle.labelled_disk.specs.declared.label.Label.{Label}
@@ -23,6 +23,7 @@ use Rattle.volume_root.proofs.WrittenLemmas.{root_read}
 use Rattle.label_laws.specs.Counts.{total_pages}
 use Rattle.label_laws.proofs.CountLemmas.{rooms}
 use Rattle.label_survey.specs.declared.standing.Standing.{Standing}
+use Rattle.label_survey.proofs.SortLemmas.{refilled}
 use Rattle.label_survey.specs.Counter.{IsRaised}
 use Rattle.label_survey.specs.Standings.{AreStandings}
 use Rattle.label_survey.specs.Survey.{is_freed, places_by}
@@ -49,8 +50,8 @@ use Rattle.volume_convert.specs.declared.plan.Conversion.{Conversion}
 use Rattle.volume_convert.specs.Heads.{AreHeads, leaders_by}
 use Rattle.volume_convert.specs.Leaves.{IsTold}
 use Rattle.volume_convert.specs.Planned.{settling, orders_of, all_writes, IsPlannedFor}
-use Rattle.volume_convert.specs.Settled.{is_spare, settled_labels, settled_standings}
-use Rattle.volume_convert.proofs.SettledLemmas.{leaders, labels_then, settled_stand_all}
+use Rattle.volume_convert.specs.Settled.{is_spare, settled_label_at, settled_labels, settled_standings}
+use Rattle.volume_convert.proofs.SettledLemmas.{leaders, labels_then, made_long, settled_stand_all}
 use Rattle.volume_convert.proofs.StandLemmas.{unneeded_are, spare_are}
 
 -- there is room for what is told
@@ -219,3 +220,11 @@ unfolding wanted_in room_in
 unfit_is {T} r e wanted room v k is unfit same =
     let both : ◌≡◌ {A = Result T ConvertFault} (Err (why.Unfit wanted room)) (Err (why.Unfit v k)) = sym same ∙ is ∙ ap (λ (f : ConvertFault). Err f) unfit in
     (ap (λ (x : Result T ConvertFault). wanted_in x) both, ap (λ (x : Result T ConvertFault). room_in x) both)
+
+-- what a vector of labels holds that was settled in its place
+pub settled_items : (n : ℕ) (ls ms new : List Label) (xs ys : List Standing) (hs ks : List Head) → n ≡ length ms → ms ≡ ls → ys ≡ xs → ks ≡ hs → new ≡ settled_labels ms ys (leaders_by ks)
+    → take n (new ++ drop (length new) ls) ≡ settled_labels ls xs (leaders_by hs)
+settled_items n ls ms new xs ys hs ks full labels standings heads is =
+    let moved = relabelled_moved new ls ms xs ys hs ks labels standings heads is in
+    let long : length new ≡ length ls = ap (λ (l : List Label). length l) moved ∙ made_long (settled_label_at ls xs (leaders_by hs)) 0 (length ls) in
+    refilled n ls new (omega (arith, full, ap (λ (l : List Label). length l) labels)) long ∙ moved

@@ -57,6 +57,12 @@ past_none [] i l = refl
 past_none (x ∷ xs) zero l = absurd (omega (arith, l))
 past_none (x ∷ xs) (suc i) l = past_none xs i (omega (arith, l))
 
+-- what lies past the end
+pub past_end : {X : Type 0} (xs : List X) (i : ℕ) → slice_get xs i ≡ None → length xs ≤ i
+past_end [] i e = omega arith
+past_end (x ∷ xs) zero e = absurd (none-some x (sym e))
+past_end (x ∷ xs) (suc i) e = let more = past_end xs i e in omega (arith, more)
+
 -- sectors with these labels and the pages of those
 abbrev relabelled : List Label → List Sector → List Sector
 relabelled [] ss = []
@@ -200,23 +206,13 @@ module _ (n : ℕ) (labels : List Label) (standings : List Standing) (hs : List 
 
         here : (i : ℕ) → is_old_needed xs i ≡ true → (o : Option Sector) → slice_get ys i ≡ o → slice_get ys i ≡ slice_get xs i
         here i needs (Some y) e = e ∙ sym (kept i y e needs)
-        here i needs None e = e ∙ sym (past_none xs i (omega (arith, beyond ys i e, ys_long)))
-          where
-            beyond : (zs : List Sector) (i : ℕ) → slice_get zs i ≡ None → length zs ≤ i
-            beyond [] i e = omega arith
-            beyond (z ∷ zs) zero e = absurd (none-some z (sym e))
-            beyond (z ∷ zs) (suc i) e = let more = beyond zs i e in omega (arith, more)
-
-        past : (ls : List Label) (k : ℕ) → slice_get ls k ≡ None → length ls ≤ k
-        past [] k e = omega arith
-        past (l ∷ ls) zero e = absurd (none-some l (sym e))
-        past (l ∷ ls) (suc k) e = let more = past ls k e in omega (arith, more)
+        here i needs None e = e ∙ sym (past_none xs i (omega (arith, past_end ys i e, ys_long)))
 
         which : (i : ℕ) (y : Sector) → is_old_needed xs i ≡ false → (o : Option Label) → slice_get (old_leaders d) (spare_below xs i) ≡ o → (s : Sector)
             → y.0 ≡ option_map_or (λ h. h) (slice_get (old_leaders d) (spare_below xs i)) (if is_free s.0 then s.0 else free_label)
             → (slice_get (old_leaders d) (spare_below xs i) ≡ Some y.0) ⊎ ((length (old_leaders d) ≤ spare_below xs i) × (is_free y.0 ≡ true))
         which i y gap (Some h) e s is = inl (e ∙ ap (λ (l : Label). Some l) (sym (is ∙ ap (λ (o : Option Label). option_map_or (λ h. h) o (if is_free s.0 then s.0 else free_label)) e)))
-        which i y gap None e s is = inr (past (old_leaders d) (spare_below xs i) e, ap is_free (is ∙ ap (λ (o : Option Label). option_map_or (λ h. h) o (if is_free s.0 then s.0 else free_label)) e) ∙ free (is_free s.0) refl)
+        which i y gap None e s is = inr (past_end (old_leaders d) (spare_below xs i) e, ap is_free (is ∙ ap (λ (o : Option Label). option_map_or (λ h. h) o (if is_free s.0 then s.0 else free_label)) e) ∙ free (is_free s.0) refl)
           where
             free : (b : Bool) → is_free s.0 ≡ b → is_free (if b then s.0 else free_label) ≡ true
             free true f = f
@@ -263,12 +259,7 @@ module _ (n : ℕ) (labels : List Label) (standings : List Standing) (hs : List 
         by : (o : Option Sector) → slice_get ys i ≡ o → slice_get (settled_standings standings (length hs)) i ≡ option_map (standing d2 i) (slice_get ys i)
         by None e =
             let l = made_long (settled_standing_at standings (length hs)) 0 (length standings) in
-            past_none (settled_standings standings (length hs)) i (omega (arith, l, same, xs_long, ys_long, beyond ys i e)) ∙ sym (ap (option_map (standing d2 i)) e)
-          where
-            beyond : (zs : List Sector) (i : ℕ) → slice_get zs i ≡ None → length zs ≤ i
-            beyond [] i e = omega arith
-            beyond (z ∷ zs) zero e = absurd (none-some z (sym e))
-            beyond (z ∷ zs) (suc i) e = let more = beyond zs i e in omega (arith, more)
+            past_none (settled_standings standings (length hs)) i (omega (arith, l, same, xs_long, ys_long, past_end ys i e)) ∙ sym (ap (option_map (standing d2 i)) e)
         by (Some y) e =
             let s = (new_at i y e) in
             let within = slice_get_within ys i y e in
@@ -291,12 +282,7 @@ module _ (n : ℕ) (labels : List Label) (standings : List Standing) (hs : List 
       by : (i : ℕ) (o : Option Sector) → slice_get xs i ≡ o → option_map (λ (s : Sector). s.0) (option_map (then_at d within i) (slice_get xs i)) ≡ slice_get (settled_labels labels standings (leaders_by hs)) i
       by i None e =
           ap (λ (o : Option Sector). option_map (λ (s : Sector). s.0) (option_map (then_at d within i) o)) e
-          ∙ sym (past_none (settled_labels labels standings (leaders_by hs)) i (let l = made_long (settled_label_at labels standings (leaders_by hs)) 0 (length labels) in omega (arith, l, xs_long, beyond xs i e)))
-        where
-          beyond : (zs : List Sector) (i : ℕ) → slice_get zs i ≡ None → length zs ≤ i
-          beyond [] i e = omega arith
-          beyond (z ∷ zs) zero e = absurd (none-some z (sym e))
-          beyond (z ∷ zs) (suc i) e = let more = beyond zs i e in omega (arith, more)
+          ∙ sym (past_none (settled_labels labels standings (leaders_by hs)) i (let l = made_long (settled_label_at labels standings (leaders_by hs)) 0 (length labels) in omega (arith, l, xs_long, past_end xs i e)))
       by i (Some s) e =
           let l = slice_get_within xs i s e in
           let made = get_made (settled_label_at labels standings (leaders_by hs)) 0 (length labels) i (omega (arith, l, xs_long)) in

@@ -58,11 +58,12 @@ fn collect_heads<A: Allocator>(
     alloc: A,
     labels: &[Label],
     standings: &[Standing],
+    count: usize,
 ) -> Result<Vec<Head, A>, AllocError>
     requires same_length { length standings.now ≡ length labels.now }
     ensures { IfOk result (λ heads. heads.items ≡ heads_from labels.now standings.now) }
 {
-    let mut heads = Vec::new(alloc);
+    let mut heads = Vec::with_capacity(alloc, count)?;
     for i in 0..labels.len() {
         if is_leader(standings[i]) {
             heads.push(Head::of(&labels[i]))?;
@@ -78,16 +79,17 @@ fn sort_heads(heads: &mut [Head])
     heads.sort_unstable();
 }
 
-/// The files in rising identifiers: 16 bytes for each.
+/// The files, of which there are so many, in rising identifiers: 16 bytes for each.
 pub(crate) fn heads_of<A: Allocator>(
     alloc: A,
     labels: &[Label],
     standings: &[Standing],
+    count: usize,
 ) -> Result<Vec<Head, A>, NoMemory>
     requires same_length { length standings.now ≡ length labels.now }
     ensures { IfOk result (λ heads. AreHeads labels.now standings.now heads.items) }
 {
-    let mut heads = collect_heads(alloc, labels, standings)?;
+    let mut heads = collect_heads(alloc, labels, standings, count)?;
     sort_heads(&mut heads);
     Ok(heads)
 }

@@ -19,7 +19,7 @@ use crate::converting::Converted;
 use crate::heads::{Head, heads_of};
 use crate::leaders::write_leaders;
 use crate::reread::find_old_standings;
-use crate::settling::{settled_labels, settled_standings};
+use crate::settling::{settle_labels, settled_standings};
 use label_survey::{Standing, tally_sectors};
 use labelled_disk::{Disk, DiskError, Label, Layout, NoMemory};
 use scavenger::{Plan, free_sectors};
@@ -106,11 +106,11 @@ impl<A: Allocator + Clone> Conversion<A> {
             → root.now ≡ root_in (root_page d)
             → IsPlannedFor d root.now layout.now.first conversion) }
     {
-        let heads = heads_of(alloc.clone()?, &labels, &standings)?;
+        let heads = heads_of(alloc.clone()?, &labels, &standings, told.files as usize)?;
         let settled = settled_standings(alloc.clone()?, &standings, heads.len())?;
-        let relabelled = settled_labels(alloc.clone()?, &labels, &standings, &heads)?;
-        drop(labels);
-        let maps = Plan::of(alloc, layout, &today(root), relabelled, settled)?;
+        let mut labels = labels;
+        settle_labels(&mut labels, &standings, &heads);
+        let maps = Plan::of(alloc, layout, &today(root), labels, settled)?;
         Ok(Conversion {
             standings,
             heads,

@@ -31,13 +31,19 @@ fn label_before(label: &Label) -> Label
     }
 }
 
+fn step_back(labels: &mut [Label])
+    ensures { labels.new ≡ map label_before labels.old }
+{
+    for i in 0..labels.len() {
+        labels[i] = label_before(&labels[i]);
+    }
+}
+
 fn reread_labels<A: Allocator>(alloc: A, labels: &[Label]) -> Result<Vec<Label, A>, AllocError>
     ensures { IfOk result (λ reread. reread.items ≡ map label_before labels.now) }
 {
-    let mut reread = Vec::with_capacity(alloc, labels.len())?;
-    for i in 0..labels.len() {
-        reread.push(label_before(&labels[i]))?;
-    }
+    let mut reread = labels.to_vec(alloc)?;
+    step_back(&mut reread);
     Ok(reread)
 }
 

@@ -25,28 +25,19 @@ fn settled_label(head: Option<&Head>, standing: Standing, label: &Label) -> Labe
     *label
 }
 
-/// The label of each data sector.
-pub(crate) fn settled_labels<A: Allocator>(
-    alloc: A,
-    labels: &[Label],
-    standings: &[Standing],
-    heads: &[Head],
-) -> Result<Vec<Label, A>, AllocError>
-    requires same_length { length standings.now ≡ length labels.now }
-    requires few { length labels.now < 2 ^ 32 }
-    ensures { IfOk result (λ settled. settled.items
-        ≡ settled_labels labels.now standings.now (leaders_by heads.now)) }
+/// The labels as they will be, in the place of these.
+pub(crate) fn settle_labels(labels: &mut [Label], standings: &[Standing], heads: &[Head])
+    requires same_length { length standings.now ≡ length labels.old }
+    requires few { length labels.old < 2 ^ 32 }
+    ensures { labels.new ≡ settled_labels labels.old standings.now (leaders_by heads.now) }
 {
-    let mut settled = Vec::with_capacity(alloc, labels.len())?;
     let mut gaps = 0;
     for i in 0..labels.len() {
-        let label = settled_label(heads.get(gaps), standings[i], &labels[i]);
-        settled.push(label)?;
+        labels[i] = settled_label(heads.get(gaps), standings[i], &labels[i]);
         if !standings[i].is_kept() {
             gaps += 1;
         }
     }
-    Ok(settled)
 }
 
 fn settled_standing(led: bool, standing: Standing) -> Standing
@@ -61,6 +52,21 @@ fn settled_standing(led: bool, standing: Standing) -> Standing
     Standing::Free
 }
 
+// What the sectors will be, in the place of these, where there are so many files.
+fn settle_standings(standings: &mut [Standing], count: usize)
+    requires few { length standings.old < 2 ^ 32 }
+    ensures { standings.new ≡ settled_standings standings.old count }
+{
+    let mut gaps = 0;
+    for i in 0..standings.len() {
+        let standing = standings[i];
+        standings[i] = settled_standing(gaps < count, standing);
+        if !standing.is_kept() {
+            gaps += 1;
+        }
+    }
+}
+
 /// What each data sector is, where there are so many files.
 pub(crate) fn settled_standings<A: Allocator>(
     alloc: A,
@@ -70,13 +76,7 @@ pub(crate) fn settled_standings<A: Allocator>(
     requires few { length standings.now < 2 ^ 32 }
     ensures { IfOk result (λ settled. settled.items ≡ settled_standings standings.now count) }
 {
-    let mut settled = Vec::with_capacity(alloc, standings.len())?;
-    let mut gaps = 0;
-    for i in 0..standings.len() {
-        settled.push(settled_standing(gaps < count, standings[i]))?;
-        if !standings[i].is_kept() {
-            gaps += 1;
-        }
-    }
+    let mut settled = standings.to_vec(alloc)?;
+    settle_standings(&mut settled, count);
     Ok(settled)
 }

@@ -15,9 +15,10 @@ output    the root of the volume, its permanent files, both maps beside the
 --json    the same as JSON
 --picture a map of all sectors, as SVG, in a new file
 --file    the runs of sectors of the file with this identifier, 16 hexadecimal
-          digits; with --page the bytes of a page
-exit      0 done, 2 usage, 3 the image can't be read, 4 the output can't be
-          written, 5 no image, or none of a volume's size, 6 no such file or
-          page, 7 no memory
+          digits; with --page the bytes of a page; --file=ID is taken too
+exit      0 sound, or done; 2 usage, 3 the image can't be read, 4 the output
+          can't be written, 5 no image, or none of a volume's size, 6 no such
+          file or page, 7 no memory; of the listing and of --json also 8 not
+          closed, 9 not sound, 10 root refused
 manual    docs/LOOK.md in the repository
 ";

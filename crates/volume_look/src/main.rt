@@ -2,15 +2,16 @@
 #![tactic(auto)]
 
 mod about;
+mod image;
 mod output;
 mod status;
 
+use crate::image::{NoImage, open_image};
 use crate::output::{answer, tell};
 use crate::status::Status;
 use image_disk::ImageDisk;
-use labelled_disk::Disk;
 use look_text::{Request, request_of};
-use std::fs::{File, OpenOptions};
+use std::fs::File;
 use std::process::ExitCode;
 use std::{env, io};
 use volume_view::{LookFault, look};
@@ -63,18 +64,11 @@ fn on_disk(
 
 /// Opens the image, and answers.
 fn on_image(rt: &HostRuntime, held: io::Result<()>, path: &str, request: Request<'_>) -> Status {
-    let opened = held.and_then(|()| OpenOptions::new().read(true).open(rt, path));
+    let opened = held
+        .map_err(NoImage::System)
+        .and_then(|()| open_image(rt, path));
     match opened {
-        Ok(file) => {
-            let mut disk = ImageDisk::over(file);
-            if disk.sectors() == 0 {
-                let _ = eprintln!(rt;
-                    "look: {path:?}: no image: shorter than a sector of 528 bytes"
-                );
-                return Status::NoImage;
-            }
-            on_disk(rt, path, &mut disk, request)
-        }
+        Ok(mut disk) => on_disk(rt, path, &mut disk, request),
         Err(why) => {
             let _ = eprintln!(rt; "look: {path:?}: {why}");
             Status::NoImage

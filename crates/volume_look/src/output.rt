@@ -4,7 +4,7 @@ use image_disk::ImageDisk;
 use labelled_disk::{Disk, FileId, Page};
 use look_text::{FileText, Request, json_of, write_file, write_listing, write_page, write_picture};
 use std::alloc::{AllocError, Global};
-use std::fs::{File, OpenOptions};
+use std::fs::{File, OpenOptions, remove_file};
 use std::io::{self, Write};
 use volume_view::{LookFault, View, read_page, sector_of};
 
@@ -24,10 +24,14 @@ fn no_memory(rt: &HostRuntime) -> Status {
     Status::NoMemory
 }
 
-fn tell_text(rt: &HostRuntime, text: Result<String, AllocError>) -> Status {
-    match text {
-        Ok(text) => tell(rt, text.as_str()),
-        Err(_) => no_memory(rt),
+/// Writes what a look at the whole volume found; how that stands is how the program ends.
+fn tell_view(rt: &HostRuntime, view: &View<Global>, text: Result<String, AllocError>) -> Status {
+    let Ok(text) = text else {
+        return no_memory(rt);
+    };
+    match tell(rt, text.as_str()) {
+        Status::Done => view.condition().into(),
+        status => status,
     }
 }
 
@@ -49,12 +53,21 @@ fn picture(alloc: Global, view: &View<Global>) -> Result<String, AllocError> {
     Ok(text)
 }
 
-fn put_text(rt: &HostRuntime, path: &str, text: &str) -> io::Result<()> {
-    let mut file = OpenOptions::new()
+fn new_file(rt: &HostRuntime, path: &str) -> io::Result<File> {
+    OpenOptions::new()
         .write(true)
         .create_new(true)
-        .open(rt, path)?;
-    file.write_all(text.as_bytes())
+        .open(rt, path)
+}
+
+/// Writes a text into a new file, and leaves none where it could not be written.
+fn put_text(rt: &HostRuntime, path: &str, text: &str) -> io::Result<()> {
+    let mut file = new_file(rt, path)?;
+    let written = file.write_all(text.as_bytes());
+    if written.is_err() {
+        let _ = remove_file(rt, path);
+    }
+    written
 }
 
 /// Writes the picture into a new file.
@@ -142,8 +155,8 @@ pub(crate) fn answer(
     request: Request<'_>,
 ) -> Status {
     match request {
-        Request::Listing => tell_text(rt, listing(rt.alloc(), view)),
-        Request::Json => tell_text(rt, json(rt.alloc(), view)),
+        Request::Listing => tell_view(rt, view, listing(rt.alloc(), view)),
+        Request::Json => tell_view(rt, view, json(rt.alloc(), view)),
         Request::Picture { path } => put_picture(rt, path, view),
         Request::File { id, page } => tell_file(rt, image, disk, view, id, page),
     }

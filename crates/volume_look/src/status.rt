@@ -1,4 +1,5 @@
 //! How the program ends.
+use volume_view::Condition;
 
 /// How the program ends.
 #[derive(Clone, Copy, Debug, PartialEq, Eq)]
@@ -10,6 +11,9 @@ pub(crate) enum Status {
     NoImage,
     NoFile,
     NoMemory,
+    NotClosed,
+    Damaged,
+    Refused,
 }
 
 impl Status {
@@ -23,6 +27,20 @@ impl Status {
             Status::NoImage => 5,
             Status::NoFile => 6,
             Status::NoMemory => 7,
+            Status::NotClosed => 8,
+            Status::Damaged => 9,
+            Status::Refused => 10,
+        }
+    }
+}
+
+impl From<Condition> for Status {
+    fn from(condition: Condition) -> Status {
+        match condition {
+            Condition::Sound => Status::Done,
+            Condition::NotClosed => Status::NotClosed,
+            Condition::Damaged => Status::Damaged,
+            Condition::Refused => Status::Refused,
         }
     }
 }

@@ -1,6 +1,7 @@
 -- The sectors of a new volume, part by part.
-use Rattle.std.proofs.Common.{◌≡◌, ◌≢◌, ℕ, ◌-◌, ◌<◌, ◌≤◌, arith, List, refl, replicate}
+use Rattle.std.proofs.Common.{◌≡◌, ◌≢◌, ℕ, ◌-◌, ◌<◌, ◌≤◌, arith, List, refl, replicate, sym, ◌∙◌, ap}
 use Rattle.std.proofs.lemmas.Bool.{eq-eqb, ne_eqb, le-leb, lt-leb, lt-ltb, le-ltb}
+use Rattle.labelled_disk.specs.declared.disk.DiskWrite.TheVariants.{Whole}
 use Rattle.labelled_disk.specs.Label.{page_label}
 use Rattle.labelled_disk.specs.declared.label.Label.{Label}
 use Rattle.labelled_disk.specs.declared.layout.Layout.{Layout}
@@ -26,3 +27,7 @@ module _ (layout : Layout) (i : ℕ) where
 
 pub same_sector : (l m : Label) (p q : List ℕ) (s : Sector) → l ≡ m → p ≡ q → s ≡ (m, q) → (l, p) ≡ s
 same_sector l m p q s e f g = cc
+
+-- the write of a free sector
+pub bare_write : (layout : Layout) (i : ℕ) (zeros : List ℕ) → new_sector layout i ≡ zero_sector → zeros ≡ replicate 512 0 → Whole i zero_sector.0 zeros ≡ Whole i (new_sector layout i).0 (new_sector layout i).1
+bare_write layout i zeros bare none = ap (λ (p : List ℕ). Whole i zero_sector.0 p) none ∙ ap (λ (s : Sector). Whole i s.0 s.1) (sym bare)

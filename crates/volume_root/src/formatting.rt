@@ -1,9 +1,9 @@
 //! A new volume.
-ghost use Rattle.std.specs.Prelude.{◌≡◌, ◌≤◌, ◌<◌, ℕ, List, Some, Err, true, length};
+ghost use Rattle.std.specs.Prelude.{◌≡◌, ◌≤◌, ◌<◌, ℕ, List, Some, Err, true, length, replicate};
 ghost use Rattle.std.specs.Prelude.{IfOk, IfErr, OnOk, OnErr};
-ghost use Rattle.labelled_disk.specs.Calls.{OnlyReads, Rose};
+ghost use Rattle.labelled_disk.specs.Calls.{OnlyReads, Rose, Writes};
 ghost use Rattle.labelled_disk.specs.Layout.{IsCount, layout_of};
-ghost use Rattle.labelled_disk.specs.Sectors.{Sector};
+ghost use Rattle.labelled_disk.specs.Sectors.{Sector, zero_sector};
 ghost use Rattle.labelled_disk.specs.WriteRuns.{Appended};
 ghost use Rattle.volume_root.specs.Format.{format_writes, formatted, IsFormatFault, PartMade};
 ghost use Rattle.volume_root.specs.Format.{new_sector, new_sectors, new_writes};
@@ -12,7 +12,7 @@ ghost use Rattle.volume_root.specs.Later.{IsLater};
 
 use crate::read::VERSION;
 use crate::{Layout, Root, RootFault, write_root};
-use labelled_disk::{Disk, Label, Page};
+use labelled_disk::{Disk, DiskError, DiskWrite, Label, Page};
 
 // The bytes whose first bits are set: none, one, and so on.
 const HIGH_BITS: [u8; 9] = [0, 128, 192, 224, 240, 248, 252, 254, 255];
@@ -54,6 +54,33 @@ fn new_sector(layout: &Layout, sector: u32) -> (Label, Page)
     }
 }
 
+// Whether the sector is free and has zeros: sector 0, as long as there is no root, and the data sectors.
+fn is_bare(layout: &Layout, sector: u32) -> bool
+    ensures { result ≡ true → new_sector layout.now sector ≡ zero_sector }
+{
+    sector == 0 || sector > layout.vam && sector >= layout.first
+}
+
+// Writes a sector as a new volume has it before its root. The zeros are made once for all sectors.
+fn write_sector<D: Disk>(
+    disk: &mut D,
+    layout: &Layout,
+    sector: u32,
+    zeros: &Page,
+) -> Result<(), DiskError>
+    requires inside { sector < (D.state disk.old).sectors }
+    requires vam { layout.now.vam ≤ 256 }
+    requires zeros { zeros.now ≡ replicate 512 0 }
+    ensures { Writes (DiskWrite.Whole sector (new_sector layout.now sector).0 (new_sector layout.now sector).1)
+        (D.state disk.old) result (D.state disk.new) }
+{
+    if is_bare(layout, sector) {
+        return disk.write(sector, &Label::FREE, zeros);
+    }
+    let (label, page) = new_sector(layout, sector);
+    disk.write(sector, &label, &page)
+}
+
 // Writes each sector, rising, as a new volume has it before its root.
 fn write_sectors<D: Disk>(disk: &mut D, layout: &Layout) -> Result<(), RootFault>
     requires sectors { layout.now.sectors ≡ (D.state disk.old).sectors }
@@ -68,9 +95,9 @@ fn write_sectors<D: Disk>(disk: &mut D, layout: &Layout) -> Result<(), RootFault
     ensures err_disk { IfErr result (λ fault. fault ≡ RootFault.Disk) }
     ensures later { IsLater (D.state disk.old) (D.state disk.new) }
 {
+    let zeros = [0; 512];
     for sector in 0..layout.sectors {
-        let (label, page) = new_sector(layout, sector);
-        let Ok(()) = disk.write(sector, &label, &page) else {
+        let Ok(()) = write_sector(disk, layout, sector, &zeros) else {
             return Err(RootFault::Disk);
         };
     }

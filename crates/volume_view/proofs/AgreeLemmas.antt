@@ -1,20 +1,20 @@
 -- A map that is in form and names what the labels name is that of a sound volume, and the other way round.
-use Rattle.std.proofs.Common.{◌≡◌, ℕ, Bool, true, false, List, [], length, refl, sym, subst}
+use Rattle.std.proofs.Common.{◌≡◌, ℕ, Bool, true, false, List, length, refl, sym, subst}
 use Rattle.std.specs.Prelude.{◌↔◌}
 use Rattle.labelled_disk.specs.Sectors.{Sector}
 use Rattle.file_map.specs.FileMap.{Triples, names_triple}
 use Rattle.file_map.specs.InSectors.{MapNames, label_triples, map_bytes}
 use Rattle.volume_root.specs.Sound.{HasFileMap}
-use Rattle.volume_view.specs.declared.names.NameDifference.{NameDifference}
+use Rattle.volume_view.specs.declared.differences.NameDifferences.{NameDifferences}
 use Rattle.volume_view.specs.Form.{HasForm}
-use Rattle.volume_view.specs.Names.{IsComparison}
+use Rattle.volume_view.specs.Names.{AreNone, IsComparison}
 
 yes_or_no : (b : Bool) → (b ≡ false → ⊥) → b ≡ true
 yes_or_no true never = refl
 yes_or_no false never = absurd (never refl)
 
-pub agrees_as_told : (d : List Sector) (n : ℕ) (bytes : List ℕ) (in_form : Bool) (differences : List NameDifference) → n ≡ length d → bytes ≡ map_bytes d → (in_form ≡ true → HasForm n bytes) → (in_form ≡ false → HasForm n bytes → ⊥)
-    → ((named : Triples) → MapNames d named → IsComparison named (label_triples d) differences) → ((in_form ≡ true) × (differences ≡ [])) ↔ HasFileMap d
+pub agrees_as_told : {A : Type 0} (d : List Sector) (n : ℕ) (bytes : List ℕ) (in_form : Bool) (differences : NameDifferences A) → n ≡ length d → bytes ≡ map_bytes d → (in_form ≡ true → HasForm n bytes) → (in_form ≡ false → HasForm n bytes → ⊥)
+    → ((named : Triples) → MapNames d named → IsComparison (length d) named (label_triples d) differences) → ((in_form ≡ true) × AreNone differences) ↔ HasFileMap d
 agrees_as_told d n bytes in_form differences long same right wrong told = (
   λ says.
       let form = on_disk (right says.0) in

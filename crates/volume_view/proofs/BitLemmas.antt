@@ -1,9 +1,9 @@
 -- The bits of an allocation map beside labels.
-use Rattle.std.proofs.Common.{◌≡◌, ◌≢◌, inl, inr, ℕ, ◌+◌, ◌-◌, ◌*◌, ◌/◌, ◌%◌, ◌<◌, ◌≤◌, Bool, true, false, not, ◌||◌, List, [], ◌∷◌, ◌++◌, length, map, Option, Some, None, refl, sym, ◌∙◌, ap, subst, arith, eqb}
+use Rattle.std.proofs.Common.{◌≡◌, ◌≢◌, inl, inr, ℕ, ◌+◌, ◌-◌, ◌*◌, ◌/◌, ◌%◌, ◌<◌, ◌≤◌, Bool, true, false, not, ◌||◌, List, [], ◌∷◌, length, map, Option, Some, None, refl, sym, ◌∙◌, ap, arith, eqb}
 use Rattle.std.specs.Prelude.{slice_get, nat_lt, get_or, option_map}
 use Rattle.std.specs.Int.{bit_at}
 use Rattle.std.specs.Option.{option_map_or}
-use Rattle.std.proofs.lemmas.Bool.{cases_lt, cases_eq, lt-ltb, le-ltb, true≢false}
+use Rattle.std.proofs.lemmas.Bool.{cases_lt, lt-ltb, le-ltb, true≢false}
 use Rattle.std.proofs.lemmas.List.{get_or_past}
 use Rattle.std.proofs.lemmas.Nat.Bits.{bit_at-zero}
 use Rattle.std.proofs.lemmas.Option.{none-some, slice_get-get_or, slice_get-map, slice_get_past}
@@ -13,39 +13,10 @@ use Rattle.labelled_disk.specs.Sectors.{Sector, zero_sector}
 use Rattle.labelled_disk.specs.Layout.{first_data, data_sectors}
 use Rattle.alloc_map.specs.Bits.{is_used}
 use Rattle.volume_root.specs.Sound.{map_bytes, HasBits}
-use Rattle.volume_view.specs.declared.bits.BitDifference.{BitDifference}
-use Rattle.volume_view.specs.Bits.{taken, is_taken, IsWrong, AreCompared, AreWrongBits}
-use Rattle.volume_view.proofs.ListLemmas.{dropped, in_pushed, pushed_front, pushed_last}
-
--- ---- one sector more
-
-module _ (bytes : List ℕ) (right : ℕ → Bool) where
-  pub compared_none : AreCompared bytes right 0 []
-  compared_none = record { each = λ k x at. absurd (none-some x at); all = λ i below. absurd (omega (arith, below)) }
-
-  module _ (n : ℕ) (ds : List BitDifference) (so_far : AreCompared bytes right n ds) where
-    pub compared_same : is_used bytes n ≡ right n → AreCompared bytes right (n + 1) ds
-    compared_same same = record {
-      each = so_far.each;
-      all = λ i below other. elim (cases_eq i n) [
-        | inl here ↦ absurd (other (ap (is_used bytes) here ∙ same ∙ ap right (sym here)))
-        | inr apart ↦ so_far.all i (omega (arith, below, apart)) other
-      ];
-    }
-
-    pub compared_wrong : (x : BitDifference) (new : List BitDifference) → x.sector ≡ n → x.used ≡ is_used bytes n → right n ≢ x.used → new ≡ ds ++ x ∷ [] → AreCompared bytes right (n + 1) new
-    compared_wrong x new at is other pushed = record {
-      each = λ k y here. elim (in_pushed ds x k y (ap (λ (l : List BitDifference). slice_get l k) (sym pushed) ∙ here)) [
-        | inl old ↦ so_far.each k y old
-        | inr last ↦ subst (IsWrong bytes right) last record { map_says = ap (is_used bytes) at ∙ sym is; other = λ same. other (ap right (sym at) ∙ same) }
-      ];
-      all = λ i below wrong. elim (cases_eq i n) [
-        | inl here ↦ (length ds, x, ap (λ (l : List BitDifference). slice_get l (length ds)) pushed ∙ pushed_last ds x, at ∙ sym here)
-        | inr apart ↦
-            let old = so_far.all i (omega (arith, below, apart)) wrong in
-            (old.0, old.1, ap (λ (l : List BitDifference). slice_get l old.0) pushed ∙ pushed_front ds x old.0 old.1 old.2, old.3)
-      ];
-    }
+use Rattle.volume_view.specs.declared.bit_runs.BitRun.{BitRun}
+use Rattle.volume_view.specs.BitRuns.{IsInSome, IsWrongRun, AreCompared}
+use Rattle.volume_view.specs.Bits.{taken, is_taken, AreWrongBits}
+use Rattle.volume_view.proofs.ListLemmas.{dropped}
 
 -- ---- the map of a disk
 
@@ -118,27 +89,35 @@ module _ (d : List Sector) where
     }
 
     -- what a comparison of all bits found
-    pub wrong_bits : (bytes : List ℕ) (right : ℕ → Bool) (n : ℕ) (ds : List BitDifference) → bytes ≡ map_bytes d → ((i : ℕ) → right i ≡ is_taken d i) → length bytes * 8 ≤ n → length d ≤ n → AreCompared bytes right n ds
-        → AreWrongBits d ds
-    wrong_bits bytes right n ds same right_is size all compared = record {
+    pub wrong_bits : (bytes : List ℕ) (right : ℕ → Bool) (n : ℕ) (runs : List BitRun) → bytes ≡ map_bytes d → ((i : ℕ) → right i ≡ is_taken d i) → length bytes * 8 ≤ n → length d ≤ n → AreCompared (is_used bytes) right n runs
+        → AreWrongBits d runs
+    wrong_bits bytes right n runs same right_is size all compared = record {
       each = each;
-      agrees = (λ none. are_bits (λ i. agree i none), λ has. empty ds refl has);
+      all = every;
+      apart = compared.apart;
+      agrees = (λ none. are_bits (λ i. not_other (is_used (map_bytes d) i) (is_taken d i) (λ other. let found = every i other in none-some found.1 (ap (λ (l : List BitRun). slice_get l found.0) (sym none) ∙ found.2))), λ has. empty runs refl has);
     }
       where
-        each : (k : ℕ) (x : BitDifference) → slice_get ds k ≡ Some x → IsWrong (map_bytes d) (is_taken d) x
-        each k x at =
-            let wrong = compared.each k x at in
-            record { map_says = ap (λ (b : List ℕ). is_used b x.sector) (sym same) ∙ wrong.map_says; other = λ equal. wrong.other (right_is x.sector ∙ equal) }
+        says : (i : ℕ) → is_used bytes i ≡ is_used (map_bytes d) i
+        says i = ap (λ (b : List ℕ). is_used b i) same
 
-        agree : (i : ℕ) → ds ≡ [] → is_used (map_bytes d) i ≡ is_taken d i
-        agree i none = elim (cases_lt i n) [
-          | inl below ↦
-              ap (λ (b : List ℕ). is_used b i) (sym same)
-              ∙ not_other (is_used bytes i) (right i) (λ other. let found = compared.all i below other in none-some found.1 (ap (λ (l : List BitDifference). slice_get l found.0) (sym none) ∙ found.2))
-              ∙ right_is i
-          | inr past ↦ ap (λ (b : List ℕ). is_used b i) (sym same) ∙ past_free bytes i (omega (arith, size, past)) ∙ sym (past_taken i (omega (arith, within, all, past)) (omega (arith, all, past)))
+        each : (k : ℕ) (r : BitRun) → slice_get runs k ≡ Some r → IsWrongRun (is_used (map_bytes d)) (is_taken d) r
+        each k r at =
+            let wrong = compared.each k r at in
+            record {
+              some = wrong.some;
+              each = λ i in_it. let one = wrong.each i in_it in record { map_says = sym (says i) ∙ one.map_says; other = λ equal. one.other (right_is i ∙ equal) };
+            }
+
+        every : (i : ℕ) → is_used (map_bytes d) i ≢ is_taken d i → IsInSome runs i
+        every i other = elim (cases_lt i n) [
+          | inl below ↦ compared.all i below (λ equal. other (sym (says i) ∙ equal ∙ right_is i))
+          | inr past ↦ absurd (other (sym (says i) ∙ past_free bytes i (omega (arith, size, past)) ∙ sym (past_taken i (omega (arith, within, all, past)) (omega (arith, all, past)))))
         ]
 
-        empty : (l : List BitDifference) → l ≡ ds → HasBits d → ds ≡ []
+        empty : (l : List BitRun) → l ≡ runs → HasBits d → runs ≡ []
         empty [] is has = sym is
-        empty (x ∷ l) is has = let wrong = each 0 x (ap (λ (m : List BitDifference). slice_get m 0) (sym is)) in absurd (wrong.other (sym (bits_are has x.sector) ∙ wrong.map_says))
+        empty (r ∷ l) is has =
+            let wrong = each 0 r (ap (λ (m : List BitRun). slice_get m 0) (sym is)) in
+            let one = wrong.each r.first (omega arith, omega (arith, wrong.some)) in
+            absurd (one.other (sym (bits_are has r.first) ∙ one.map_says))

@@ -2,7 +2,7 @@
 use Rattle.std.proofs.Common.{◌≡◌, ℕ, ◌+◌, ◌*◌, ◌≤◌, min, refl, ap, arith}
 use Rattle.std.specs.Prelude.{◌/◌, ◌%◌}
 use Rattle.labelled_disk.specs.declared.layout.Layout.{Layout}
-use Rattle.labelled_disk.specs.Layout.{IsCount, layout_of, first_data, vam, vfm}
+use Rattle.labelled_disk.specs.Layout.{IsCount, layout_of, first_data, vam, vfm, capacity}
 
 -- its parts
 pub record IsLayout (l : Layout) (n : ℕ) : Type 0 where
@@ -10,6 +10,7 @@ pub record IsLayout (l : Layout) (n : ℕ) : Type 0 where
   pub first : l.first ≡ first_data n
   pub bits : l.vam ≡ vam n
   pub names : l.vfm ≡ vfm n
+  pub capacity : l.capacity ≡ capacity n
 
 pub of_layout : (l : Layout) (n : ℕ) → l ≡ layout_of n → IsLayout l n
 unfolding first_data
@@ -18,6 +19,7 @@ of_layout l n is = record {
   first = ap (λ (k : Layout). k.first) is;
   bits = ap (λ (k : Layout). k.vam) is;
   names = ap (λ (k : Layout). k.vfm) is;
+  capacity = ap (λ (k : Layout). k.capacity) is;
 }
 
 ceil_small : (n : ℕ) → n / 4096 + min 1 (n % 4096) ≤ n / 4096 + 1

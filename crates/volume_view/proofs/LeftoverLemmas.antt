@@ -20,7 +20,7 @@ use Rattle.label_survey.specs.declared.standing.Standing.TheVariants.{Free, Stra
 use Rattle.label_survey.specs.declared.triples.Triple.{Triple}
 use Rattle.label_survey.specs.Standings.{standing, AreStandings}
 use Rattle.label_survey.specs.Triples.{triple_of}
-use Rattle.volume_view.specs.Leftovers.{is_stray, IsLeft, AreLeftovers}
+use Rattle.volume_view.specs.Leftovers.{is_stray, IsLeft, AreLeft}
 use Rattle.volume_view.specs.Strays.{IsStrayAt, AreStrays}
 use Rattle.volume_view.proofs.ListLemmas.{dropped, in_pushed, pushed_front, pushed_last}
 
@@ -106,6 +106,12 @@ stray_moved first labels standings k ts us moved is = record {
     given : All Of ts
     given j u below = is.each j (slice_index_or ts j u) (slice_get-get_or ts j u below)
 
+-- each stands in one of the first k sectors
+pub strays_low : (first : ℕ) (labels : List Label) (standings : List Standing) (k : ℕ) (ts : List Triple) → AreStrays first labels standings k ts → (j : ℕ) (t : Triple) → j < length ts → (slice_index_or ts j t).sector < first + k
+strays_low first labels standings k ts strays j t below =
+    let one = strays.each j (slice_index_or ts j t) (slice_get-get_or ts j t below) in
+    omega (arith, one.2, ap (λ (u : Triple). u.sector) one.4)
+
 -- what a vector holds whose elements were moved
 pub refilled : {E : Type 0} (n : ℕ) (old new : List E) → n ≡ length old → length new ≡ length old → take n (new ++ drop (length new) old) ≡ new
 refilled n old new full long = ap (λ es. take n (new ++ es)) (drop_all (length new) old (omega (arith, long))) ∙ ap (take n) (append-nil new) ∙ take_all n new (omega (arith, full, long))
@@ -132,7 +138,7 @@ stands_stray false l false true h i j = absurd (true≢false j)
 stands_stray false l false false h i j = refl
 
 module _ (d : List Sector) (labels : List Label) (standings : List Standing) (labelled : labels ≡ map (λ s. s.0) (data_sectors d)) (are : AreStandings d standings) where
-  pub are_leftovers : (first k : ℕ) (ts : List Triple) → first ≡ first_data (length d) → length labels ≤ k → AreStrays first labels standings k ts → AreLeftovers d ts
+  pub are_leftovers : (first k : ℕ) (ts : List Triple) → first ≡ first_data (length d) → length labels ≤ k → AreStrays first labels standings k ts → AreLeft d ts
   are_leftovers first k ts at all strays = record {
     each = λ j t here. let o = strays.each j t here in left t o.0 o.1 o.3 o.4;
     all = λ i s has left.

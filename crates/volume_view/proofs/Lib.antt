@@ -1,6 +1,8 @@
 mod ListLemmas
 mod PageLemmas
 mod LayoutLemmas
+mod RowLemmas
+mod BitRunLemmas
 mod BitLemmas
 mod RecordLemmas
 mod WalkLemmas
@@ -18,3 +20,4 @@ mod RecordedLemmas
 mod LeftoverLemmas
 mod FileLemmas
 mod LookLemmas
+mod OrderLemmas

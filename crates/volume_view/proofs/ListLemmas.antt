@@ -1,5 +1,5 @@
 -- Lists with one element more.
-use Rattle.std.proofs.Common.{◌≡◌, ◌⊎◌, inl, inr, ℕ, zero, suc, ◌+◌, List, [], ◌∷◌, ◌++◌, length, take, drop, Some, Result, Ok, Err, IfOk, refl, sym, ◌∙◌, ap, arith}
+use Rattle.std.proofs.Common.{◌≡◌, ◌⊎◌, inl, inr, ℕ, zero, suc, ◌+◌, ◌<◌, List, [], ◌∷◌, ◌++◌, length, take, drop, Some, Result, Ok, Err, IfOk, refl, sym, ◌∙◌, ap, arith}
 use Rattle.std.specs.Prelude.{slice_get}
 use Rattle.std.proofs.lemmas.Option.{same_Some, none-some}
 
@@ -20,6 +20,12 @@ pub pushed_front : {X : Type 0} (xs : List X) (x : X) (k : ℕ) (y : X) → slic
 pushed_front [] x k y at = absurd (none-some y at)
 pushed_front (z ∷ xs) x zero y at = at
 pushed_front (z ∷ xs) x (suc k) y at = pushed_front xs x k y at
+
+-- an element of the longer list that isn't the last
+pub pushed_below : {X : Type 0} (xs : List X) (x : X) (k : ℕ) (y : X) → k < length xs → slice_get (xs ++ x ∷ []) k ≡ Some y → slice_get xs k ≡ Some y
+pushed_below [] x k y below at = absurd (omega (arith, below))
+pushed_below (z ∷ xs) x zero y below at = at
+pushed_below (z ∷ xs) x (suc k) y below at = pushed_below xs x k y (omega (arith, below)) at
 
 pub pushed_last : {X : Type 0} (xs : List X) (x : X) → slice_get (xs ++ x ∷ []) (length xs) ≡ Some x
 pushed_last [] x = refl

@@ -3,13 +3,14 @@ use Rattle.std.proofs.Common.{◌≡◌, ◌≢◌, ◌⊎◌, inl, inr, ℕ, ze
 use Rattle.std.specs.Prelude.{slice_get, nat_le, option_map, ◌==◌}
 use Rattle.std.specs.Option.{option_map_or}
 use Rattle.std.proofs.lemmas.Bool.{cases_lt, cases_eq, le-leb, leb-true, true≢false, false≢true, eqb-true, eq-eqb}
+use Rattle.std.proofs.lemmas.List.{length-append}
 use Rattle.std.proofs.lemmas.Option.{same_Some, none-some, slice_get-map, slice_get_within}
 use Rattle.labelled_disk.specs.declared.label.Label.{Label}
 use Rattle.labelled_disk.specs.Label.{is_free}
 use Rattle.labelled_disk.specs.Sectors.{Sector}
 use Rattle.labelled_disk.specs.Layout.{first_data, data_sectors, vfm}
 use Rattle.page_tree.specs.Tells.{TellsTree}
-use Rattle.file_map.specs.declared.run.Run.{Run}
+use Rattle.file_map.specs.declared.run.Run.{Run as MapRun}
 use Rattle.file_map.specs.Run.{holds, sector_at}
 use Rattle.file_map.specs.FileMap.{Triples, AreNamed, IsFound, IsNowhere, names_triple, run_names, run_at}
 use Rattle.file_map.specs.InSectors.{label_triples, map_bytes, MapNames}
@@ -18,14 +19,16 @@ use Rattle.file_map.specs.declared.error.MapError.{MapError}
 use Rattle.file_map.specs.declared.error.MapError.TheVariants.{Malformed}
 use Rattle.file_map.proofs.Runs.{has_page, and_parts}
 use Rattle.file_map.proofs.Searches.{named_by}
+use Rattle.label_survey.specs.declared.runs.Run.{Run}
 use Rattle.label_survey.specs.declared.triples.Triple.{Triple}
-use Rattle.volume_view.specs.declared.names.NameDifference.{NameDifference}
-use Rattle.volume_view.specs.declared.names.NameDifference.TheVariants.{OnlyLabelled, OnlyMapped}
-use Rattle.volume_view.specs.Names.{labelled, NamesIn, IsDifferenceAt, Differs, AllDiffer, Covers, AreAlike, IsUnmapped, AddsUnlabelled, IsComparison}
+use Rattle.label_survey.specs.Runs.{triples_in_row, all_triples}
+use Rattle.volume_view.specs.declared.differences.NameDifferences.{NameDifferences}
+use Rattle.volume_view.specs.Names.{labelled, NamesIn, IsDifferenceAt, IsOnlyIn, AllOnlyIn, IsListed, Covers, IsUnmapped, IsUnlabelled, AddsUnlabelled, IsComparison}
+use Rattle.volume_view.specs.Rows.{AreJoined}
 use Rattle.volume_view.specs.Records.{IsNoMemory}
 use Rattle.volume_view.specs.declared.stop.Stop.{Stop}
 use Rattle.volume_view.specs.declared.stop.Stop.TheVariants.{Broken}
-use Rattle.volume_view.proofs.ListLemmas.{dropped, in_pushed, pushed_some, one_more}
+use Rattle.volume_view.proofs.ListLemmas.{dropped, in_pushed, pushed_front, pushed_last, pushed_below, one_more}
 
 -- ---- what a map in form names
 
@@ -39,7 +42,7 @@ module _ (n : ℕ) (lists : List (List ℕ) → Type 0) (named : Triples) (is : 
       x.place ∙ ap (λ (j : ℕ). sector_at (run_at is.runs j) page) same ∙ sym y.place
 
   -- a run that was found tells whether the page stands in this sector
-  pub found_tells : (id page sector : ℕ) (r : Run) (answer : Bool) → IsFound named id page (Some r) → (answer ≡ true → sector_at r page ≡ sector) → (answer ≡ false → sector_at r page ≢ sector) → answer ≡ named id page sector
+  pub found_tells : (id page sector : ℕ) (r : MapRun) (answer : Bool) → IsFound named id page (Some r) → (answer ≡ true → sector_at r page ≡ sector) → (answer ≡ false → sector_at r page ≢ sector) → answer ≡ named id page sector
   found_tells id page sector r true found hit miss = sym (ap (named id page) (sym (hit refl)) ∙ found.1 page found.0)
   found_tells id page sector r false found hit miss = either (named id page sector) refl
     where
@@ -47,22 +50,44 @@ module _ (n : ℕ) (lists : List (List ℕ) → Type 0) (named : Triples) (is : 
       either false e = refl
       either true e = absurd (miss refl (named_once id page (sector_at r page) sector (found.1 page found.0) e))
 
--- ---- labels without a page in the map
+-- ---- pages that only one of two names
 
-module _ (named said : Triples) where
-  differ_none : AllDiffer named said []
-  differ_none k x at = absurd (none-some x at)
+module _ (one other : Triples) where
+  pub only_none : AllOnlyIn one other []
+  only_none k t at = absurd (none-some t at)
 
-  pub differ_more : (ds new : List NameDifference) (x : NameDifference) → AllDiffer named said ds → Differs named said x → new ≡ ds ++ x ∷ [] → AllDiffer named said new
-  differ_more ds new x so_far is pushed k y at = elim (in_pushed ds x k y (ap (λ (l : List NameDifference). slice_get l k) (sym pushed) ∙ at)) [
-    | inl old ↦ so_far k y old
-    | inr last ↦ subst (Differs named said) last is
+  pub only_more : (ts new : List Triple) (t : Triple) → AllOnlyIn one other ts → IsOnlyIn one other t → new ≡ ts ++ t ∷ [] → AllOnlyIn one other new
+  only_more ts new t so_far is pushed k u at = elim (in_pushed ts t k u (ap (λ (l : List Triple). slice_get l k) (sym pushed) ∙ at)) [
+    | inl old ↦ so_far k u old
+    | inr last ↦ subst (IsOnlyIn one other) last is
   ]
 
+module _ (ts new : List Triple) (t : Triple) (pushed : new ≡ ts ++ t ∷ []) where
+  pub listed_more : (u : Triple) → IsListed ts u → IsListed new u
+  listed_more u old = (old.0, ap (λ (l : List Triple). slice_get l old.0) pushed ∙ pushed_front ts t old.0 u old.1)
+
+  pub listed_last : IsListed new t
+  listed_last = (length ts, ap (λ (l : List Triple). slice_get l (length ts)) pushed ∙ pushed_last ts t)
+
+abbrev AreRising : List Triple → Type 0
+AreRising ts = (j k : ℕ) (a b : Triple) → j < k → slice_get ts j ≡ Some a → slice_get ts k ≡ Some b → a.sector < b.sector
+
+rising_more : (ts new : List Triple) (t : Triple) → AreRising ts → ((j : ℕ) (u : Triple) → slice_get ts j ≡ Some u → u.sector < t.sector) → new ≡ ts ++ t ∷ [] → AreRising new
+rising_more ts new t so_far above pushed j k a b before at_j at_k =
+    let there = ap (λ (l : List Triple). slice_get l k) (sym pushed) ∙ at_k in
+    let within = slice_get_within (ts ++ t ∷ []) k b there in
+    let low = pushed_below ts t j a (omega (arith, before, within, length-append ts (t ∷ []))) (ap (λ (l : List Triple). slice_get l j) (sym pushed) ∙ at_j) in
+    elim (in_pushed ts t k b there) [
+      | inl old ↦ so_far j k a b before low old
+      | inr last ↦ subst (λ (u : Triple). a.sector < u.sector) last (above j a low)
+    ]
+
 -- the first k labels, of which each names its own page in its own sector, if any
-pub record IsUnmappedTo (first : ℕ) (labels : List Label) (k : ℕ) (named : Triples) (ds : List NameDifference) : Type 0 where
-  pub differ : AllDiffer named (labelled first labels) ds
-  pub covers : ds ≡ [] → (i : ℕ) (l : Label) → i < k → slice_get labels i ≡ Some l → is_free l ≡ false → named l.id l.page (first + i) ≡ true
+pub record IsUnmappedTo (first : ℕ) (labels : List Label) (k : ℕ) (named : Triples) (ts : List Triple) : Type 0 where
+  pub each : AllOnlyIn (labelled first labels) named ts
+  pub all : (i : ℕ) (l : Label) → i < k → slice_get labels i ≡ Some l → is_free l ≡ false → named l.id l.page (first + i) ≡ false → IsListed ts (record { id = l.id; page = l.page; sector = first + i })
+  pub rising : AreRising ts
+  pub below : (j : ℕ) (t : Triple) → slice_get ts j ≡ Some t → t.sector < first + k
 
 and_true : (a b : Bool) → a ≡ true → b ≡ true → (a && b) ≡ true
 and_true true b h k = k
@@ -110,63 +135,88 @@ is_labelled first labels id page sector h =
 
 module _ (first : ℕ) (labels : List Label) where
   pub unmapped_none : (named : Triples) → IsUnmappedTo first labels 0 named []
-  unmapped_none named = record { differ = differ_none named (labelled first labels); covers = λ none i l below. absurd (omega (arith, below)) }
+  unmapped_none named = record {
+    each = only_none (labelled first labels) named;
+    all = λ i l below. absurd (omega (arith, below));
+    rising = λ j k a b before at. absurd (none-some a at);
+    below = λ j t at. absurd (none-some t at);
+  }
 
-  module _ (named : Triples) (k : ℕ) (l : Label) (here : slice_get labels k ≡ Some l) (ds : List NameDifference) (so_far : IsUnmappedTo first labels k named ds) where
+  module _ (named : Triples) (k : ℕ) (l : Label) (here : slice_get labels k ≡ Some l) (ts : List Triple) (so_far : IsUnmappedTo first labels k named ts) where
     -- the label is free, or the map names its page
-    pub unmapped_same : (is_free l ≡ true) ⊎ (named l.id l.page (first + k) ≡ true) → IsUnmappedTo first labels (k + 1) named ds
+    unmapped_same : (is_free l ≡ true) ⊎ (named l.id l.page (first + k) ≡ true) → IsUnmappedTo first labels (k + 1) named ts
     unmapped_same fine = record {
-      differ = so_far.differ;
-      covers = λ none i m below at used. elim (cases_eq i k) [
+      each = so_far.each;
+      all = λ i m below at used missing. elim (cases_eq i k) [
         | inl same ↦
             let it : l ≡ m = same_Some l m (sym here ∙ ap (slice_get labels) (sym same) ∙ at) in
             elim fine [
               | inl free ↦ absurd (true≢false (sym free ∙ ap is_free it ∙ used))
-              | inr there ↦ ap (λ (q : Label). named q.id q.page (first + i)) (sym it) ∙ ap (λ (j : ℕ). named l.id l.page (first + j)) same ∙ there
+              | inr there ↦ absurd (true≢false (sym (ap (λ (q : Label). named q.id q.page (first + i)) (sym it) ∙ ap (λ (j : ℕ). named l.id l.page (first + j)) same ∙ there) ∙ missing))
             ]
-        | inr apart ↦ so_far.covers none i m (omega (arith, below, apart)) at used
+        | inr apart ↦ so_far.all i m (omega (arith, below, apart)) at used missing
       ];
+      rising = so_far.rising;
+      below = λ j t at. omega (arith, so_far.below j t at);
     }
 
-    pub unmapped_more : (t : Triple) (new : List NameDifference) → t ≡ record { id = l.id; page = l.page; sector = first + k } → is_free l ≡ false → named l.id l.page (first + k) ≡ false → new ≡ ds ++ OnlyLabelled t ∷ [] → IsUnmappedTo first labels (k + 1) named new
-    unmapped_more t new is used missing pushed = record {
-      differ = differ_more named (labelled first labels) ds new (OnlyLabelled t) so_far.differ
-          (ap (λ (q : Triple). labelled first labels q.id q.page q.sector) is ∙ labelled_own first labels k l here used, ap (λ (q : Triple). named q.id q.page q.sector) is ∙ missing) pushed;
-      covers = λ none. absurd (pushed_some ds (OnlyLabelled t) (sym pushed ∙ none));
-    }
+    unmapped_more : (t : Triple) (new : List Triple) → t ≡ record { id = l.id; page = l.page; sector = first + k } → is_free l ≡ false → named l.id l.page (first + k) ≡ false → new ≡ ts ++ t ∷ [] → IsUnmappedTo first labels (k + 1) named new
+    unmapped_more t new is used missing pushed =
+        let at_sector : t.sector ≡ first + k = ap (λ (q : Triple). q.sector) is in
+        record {
+          each = only_more (labelled first labels) named ts new t so_far.each
+              (ap (λ (q : Triple). labelled first labels q.id q.page q.sector) is ∙ labelled_own first labels k l here used, ap (λ (q : Triple). named q.id q.page q.sector) is ∙ missing) pushed;
+          all = λ i m below at free absent. elim (cases_eq i k) [
+            | inl same ↦
+                let it : l ≡ m = same_Some l m (sym here ∙ ap (slice_get labels) (sym same) ∙ at) in
+                let page : t ≡ record { id = m.id; page = m.page; sector = first + i } = is ∙ ap (λ (q : Label). record { id = q.id; page = q.page; sector = first + k }) it ∙ ap (λ (j : ℕ). record { id = m.id; page = m.page; sector = first + j }) (sym same) in
+                subst (IsListed new) page (listed_last ts new t pushed)
+            | inr apart ↦ listed_more ts new t pushed _ (so_far.all i m (omega (arith, below, apart)) at free absent)
+          ];
+          rising = rising_more ts new t so_far.rising (λ j u at. omega (arith, so_far.below j u at, at_sector)) pushed;
+          below = λ j u at. elim (in_pushed ts t j u (ap (λ (q : List Triple). slice_get q j) (sym pushed) ∙ at)) [
+            | inl old ↦ omega (arith, so_far.below j u old)
+            | inr last ↦ omega (arith, at_sector, ap (λ (q : Triple). q.sector) last)
+          ];
+        }
 
     -- the answer for a label, as it stands in the list
-    pub unmapped_at : (sector : ℕ) (x : NameDifference) (new : List NameDifference) → sector ≡ first + k → IsDifferenceAt named l sector (Some x) → new ≡ ds ++ x ∷ [] → IsUnmappedTo first labels (k + 1) named new
-    unmapped_at sector x new at is pushed =
-        unmapped_more (record { id = l.id; page = l.page; sector = first + k }) new refl is.0 (ap (named l.id l.page) (sym at) ∙ is.1)
-        (pushed ∙ ap (λ (y : NameDifference). ds ++ y ∷ []) (is.2 ∙ ap (λ (i : ℕ). OnlyLabelled (record { id = l.id; page = l.page; sector = i })) at))
+    pub unmapped_at : (sector : ℕ) (t : Triple) (new : List Triple) → sector ≡ first + k → IsDifferenceAt named l sector (Some t) → new ≡ ts ++ t ∷ [] → IsUnmappedTo first labels (k + 1) named new
+    unmapped_at sector t new at is pushed =
+        unmapped_more t new (is.2 ∙ ap (λ (i : ℕ). record { id = l.id; page = l.page; sector = i }) at) is.0 (ap (named l.id l.page) (sym at) ∙ is.1) pushed
 
-    pub unmapped_not : (sector : ℕ) → sector ≡ first + k → IsDifferenceAt named l sector None → IsUnmappedTo first labels (k + 1) named ds
+    pub unmapped_not : (sector : ℕ) → sector ≡ first + k → IsDifferenceAt named l sector None → IsUnmappedTo first labels (k + 1) named ts
     unmapped_not sector at is = unmapped_same (elim is [ inl free ↦ inl free | inr there ↦ inr (ap (named l.id l.page) (sym at) ∙ there) ])
 
-  pub unmapped_all : (named : Triples) (k : ℕ) (ds : List NameDifference) → length labels ≤ k → IsUnmappedTo first labels k named ds → IsUnmapped named (labelled first labels) ds
-  unmapped_all named k ds all so_far = record {
-    differ = so_far.differ;
-    covers = λ none id page sector h.
-        let at = is_labelled first labels id page sector h in
-        let place : first + (sector - first) ≡ sector = omega (arith, at.from) in
-        let there = so_far.covers none (sector - first) at.l (omega (arith, all, slice_get_within labels (sector - first) at.l at.here)) at.here at.used in
-        ap (λ (i : ℕ). named i page sector) (sym at.same_id) ∙ ap (λ (p : ℕ). named at.l.id p sector) (sym at.same_page) ∙ ap (named at.l.id at.l.page) (sym place) ∙ there;
+  pub unmapped_all : (named : Triples) (k : ℕ) (runs : List Run) → length labels ≤ k → AreJoined runs → IsUnmappedTo first labels k named (all_triples runs) → IsUnmapped named (labelled first labels) runs
+  unmapped_all named k runs all joined so_far = record {
+    joined = joined;
+    each = so_far.each;
+    all = λ t only.
+        let at = is_labelled first labels t.id t.page t.sector only.0 in
+        let place : first + (t.sector - first) ≡ t.sector = omega (arith, at.from) in
+        let missing : named at.l.id at.l.page (first + (t.sector - first)) ≡ false =
+        ap (λ (i : ℕ). named i at.l.page (first + (t.sector - first))) at.same_id ∙ ap (λ (p : ℕ). named t.id p (first + (t.sector - first))) at.same_page ∙ ap (named t.id t.page) place ∙ only.1 in
+        let page : record { id = at.l.id; page = at.l.page; sector = first + (t.sector - first) } ≡ t = λ x. record { id = at.same_id x; page = at.same_page x; sector = place x } in
+        subst (IsListed (all_triples runs)) page (so_far.all (t.sector - first) at.l (omega (arith, all, slice_get_within labels (t.sector - first) at.l at.here)) at.here at.used missing);
+    rising = so_far.rising;
   }
 
 -- ---- pages of the map without a label
 
--- the pages of a run before page k of it
-pub record IsAddedTo (r : Run) (said : Triples) (k : ℕ) (old now : List NameDifference) : Type 0 where
-  pub differ : (named : Triples) → Covers named (names_triple (r ∷ [])) → AllDiffer named said old → AllDiffer named said now
-  pub before : now ≡ [] → old ≡ []
-  pub covers : now ≡ [] → (m : ℕ) → m < k → said r.id (r.first + m) (r.sector + m) ≡ true
+-- of the pages of a run before page k of it
+pub record IsAddedTo (r : MapRun) (said : Triples) (k left now : ℕ) (old new : List Triple) : Type 0 where
+  pub differ : (named : Triples) → Covers named (names_triple (r ∷ [])) → AllOnlyIn named said old → AllOnlyIn named said new
+  pub counted : now + length new ≡ left + length old
+  pub fewer : now ≤ left
+  pub kept : (t : Triple) → IsListed old t → IsListed new t
+  pub all : (m : ℕ) → m < k → said r.id (r.first + m) (r.sector + m) ≡ false → IsListed new (record { id = r.id; page = r.first + m; sector = r.sector + m })
 
 or_first : (a b : Bool) → a ≡ true → (a || b) ≡ true
 or_first true b h = refl
 or_first false b h = absurd (false≢true h)
 
-run_names_own : (r : Run) (m : ℕ) → m < r.pages → names_triple (r ∷ []) r.id (r.first + m) (r.sector + m) ≡ true
+run_names_own : (r : MapRun) (m : ℕ) → m < r.pages → names_triple (r ∷ []) r.id (r.first + m) (r.sector + m) ≡ true
 run_names_own r m below =
     let place : r.sector + m ≡ sector_at r (r.first + m) = omega arith in
     or_first (run_names r r.id (r.first + m) (r.sector + m)) false
@@ -174,49 +224,68 @@ run_names_own r m below =
     (and_true (r.id == r.id) _ (eqb_itself r.id) (and_true (nat_le r.first (r.first + m)) _ (le-leb r.first (r.first + m) (omega arith)) (le-leb (suc (r.first + m)) (r.first + r.pages) (omega (arith, below)))))
     (ap (eqb (r.sector + m)) (sym place) ∙ eqb_itself (r.sector + m)))
 
-module _ (r : Run) (said : Triples) where
-  pub added_none : (old : List NameDifference) → IsAddedTo r said 0 old old
-  added_none old = record { differ = λ named covers h. h; before = λ e. e; covers = λ none m below. absurd (omega (arith, below)) }
+module _ (r : MapRun) (said : Triples) where
+  pub added_none : (left : ℕ) (old : List Triple) → IsAddedTo r said 0 left left old old
+  added_none left old = record { differ = λ named covers h. h; counted = refl; fewer = omega arith; kept = λ t h. h; all = λ m below. absurd (omega (arith, below)) }
 
-  module _ (k : ℕ) (old ds : List NameDifference) (so_far : IsAddedTo r said k old ds) where
-    pub added_same : said r.id (r.first + k) (r.sector + k) ≡ true → IsAddedTo r said (k + 1) old ds
+  module _ (k left now : ℕ) (old ts : List Triple) (so_far : IsAddedTo r said k left now old ts) where
+    pub added_same : said r.id (r.first + k) (r.sector + k) ≡ true → IsAddedTo r said (k + 1) left now old ts
     added_same there = record {
       differ = so_far.differ;
-      before = so_far.before;
-      covers = λ none m below. elim (cases_eq m k) [
-        | inl same ↦ ap (λ (j : ℕ). said r.id (r.first + j) (r.sector + j)) same ∙ there
-        | inr apart ↦ so_far.covers none m (omega (arith, below, apart))
+      counted = so_far.counted;
+      fewer = so_far.fewer;
+      kept = so_far.kept;
+      all = λ m below missing. elim (cases_eq m k) [
+        | inl same ↦ absurd (false≢true (sym missing ∙ ap (λ (j : ℕ). said r.id (r.first + j) (r.sector + j)) same ∙ there))
+        | inr apart ↦ so_far.all m (omega (arith, below, apart)) missing
       ];
     }
 
-    pub added_more : (t : Triple) (new : List NameDifference) → t ≡ record { id = r.id; page = r.first + k; sector = r.sector + k } → k < r.pages → said r.id (r.first + k) (r.sector + k) ≡ false → new ≡ ds ++ OnlyMapped t ∷ [] → IsAddedTo r said (k + 1) old new
-    added_more t new is below missing pushed = record {
-      differ = λ named covers h. differ_more named said ds new (OnlyMapped t) (so_far.differ named covers h)
-          (ap (λ (q : Triple). named q.id q.page q.sector) is ∙ covers r.id (r.first + k) (r.sector + k) (run_names_own r k below), ap (λ (q : Triple). said q.id q.page q.sector) is ∙ missing) pushed;
-      before = λ none. absurd (pushed_some ds (OnlyMapped t) (sym pushed ∙ none));
-      covers = λ none. absurd (pushed_some ds (OnlyMapped t) (sym pushed ∙ none));
+    pub added_more : (after : ℕ) (new : List Triple) → after + 1 ≡ now → k < r.pages → said r.id (r.first + k) (r.sector + k) ≡ false → new ≡ ts ++ record { id = r.id; page = r.first + k; sector = r.sector + k } ∷ []
+        → IsAddedTo r said (k + 1) left after old new
+    added_more after new one_less below missing pushed =
+        let t : Triple = record { id = r.id; page = r.first + k; sector = r.sector + k } in
+        record {
+          differ = λ named covers h. only_more named said ts new t (so_far.differ named covers h) (covers r.id (r.first + k) (r.sector + k) (run_names_own r k below), missing) pushed;
+          counted = omega (arith, so_far.counted, one_less, ap (λ (l : List Triple). length l) pushed, length-append ts (t ∷ []));
+          fewer = omega (arith, so_far.fewer, one_less);
+          kept = λ u h. listed_more ts new t pushed u (so_far.kept u h);
+          all = λ m before absent. elim (cases_eq m k) [
+            | inl same ↦ subst (λ (j : ℕ). IsListed new (record { id = r.id; page = r.first + j; sector = r.sector + j })) (sym same) (listed_last ts new t pushed)
+            | inr apart ↦ listed_more ts new t pushed _ (so_far.all m (omega (arith, before, apart)) absent)
+          ];
+        }
+
+    -- no more may come
+    pub added_enough : now ≡ 0 → AddsUnlabelled (r ∷ []) said left 0 old ts
+    added_enough none = record {
+      differ = so_far.differ;
+      counted = omega (arith, so_far.counted, none);
+      fewer = omega arith;
+      kept = so_far.kept;
+      all = λ some. absurd (omega (arith, some));
     }
 
-    -- there are differences already
-    pub added_enough : (ds ≡ [] → ⊥) → AddsUnlabelled (r ∷ []) said old ds
-    added_enough some = record { differ = so_far.differ; before = so_far.before; covers = λ none. absurd (some none) }
-
-    pub added_all : r.pages ≤ k → AddsUnlabelled (r ∷ []) said old ds
+    pub added_all : r.pages ≤ k → AddsUnlabelled (r ∷ []) said left now old ts
     added_all all = record {
       differ = so_far.differ;
-      before = so_far.before;
-      covers = λ none id page sector h.
-          let by = named_by (r ∷ []) id page sector h in
-          let at : run_at (r ∷ []) by.index ≡ r = only by.index by.below in
-          let has = has_page r id page (subst (λ (q : Run). holds q id page ≡ true) at by.held) in
-          let place : sector ≡ sector_at r page = by.place ∙ ap (λ (q : Run). sector_at q page) at in
-          let p : r.first + (page - r.first) ≡ page = omega (arith, has.from) in
-          ap (λ (i : ℕ). said i page sector) (sym has.same) ∙ ap (λ (q : ℕ). said r.id q sector) (sym p) ∙ ap (said r.id (r.first + (page - r.first))) place ∙ so_far.covers none (page - r.first) (omega (arith, all, has.from, has.below));
+      counted = so_far.counted;
+      fewer = so_far.fewer;
+      kept = so_far.kept;
+      all = λ some t only.
+          let by = named_by (r ∷ []) t.id t.page t.sector only.0 in
+          let at : run_at (r ∷ []) by.index ≡ r = one by.index by.below in
+          let has = has_page r t.id t.page (subst (λ (q : MapRun). holds q t.id t.page ≡ true) at by.held) in
+          let page : r.first + (t.page - r.first) ≡ t.page = omega (arith, has.from) in
+          let sector : r.sector + (t.page - r.first) ≡ t.sector = sym (by.place ∙ ap (λ (q : MapRun). sector_at q t.page) at) in
+          let is : record { id = r.id; page = r.first + (t.page - r.first); sector = r.sector + (t.page - r.first) } ≡ t = λ x. record { id = has.same x; page = page x; sector = sector x } in
+          let missing : said r.id (r.first + (t.page - r.first)) (r.sector + (t.page - r.first)) ≡ false = ap (λ (q : Triple). said q.id q.page q.sector) is ∙ only.1 in
+          subst (IsListed ts) is (so_far.all (t.page - r.first) (omega (arith, all, has.from, has.below)) missing);
     }
       where
-        only : (j : ℕ) → j < length (r ∷ []) → run_at (r ∷ []) j ≡ r
-        only zero below = refl
-        only (suc j) below = absurd (omega (arith, below))
+        one : (j : ℕ) → j < length (r ∷ []) → run_at (r ∷ []) j ≡ r
+        one zero below = refl
+        one (suc j) below = absurd (omega (arith, below))
 
 or_split : (a b : Bool) → (a || b) ≡ true → (a ≡ true) ⊎ (b ≡ true)
 or_split true b h = inl refl
@@ -226,7 +295,7 @@ or_second : (a b : Bool) → b ≡ true → (a || b) ≡ true
 or_second true b h = refl
 or_second false b h = h
 
-names_split : (xs : List Run) (r : Run) (id page sector : ℕ) → names_triple (xs ++ r ∷ []) id page sector ≡ true → (names_triple xs id page sector ≡ true) ⊎ (names_triple (r ∷ []) id page sector ≡ true)
+names_split : (xs : List MapRun) (r : MapRun) (id page sector : ℕ) → names_triple (xs ++ r ∷ []) id page sector ≡ true → (names_triple xs id page sector ≡ true) ⊎ (names_triple (r ∷ []) id page sector ≡ true)
 names_split [] r id page sector h = inr h
 names_split (x ∷ xs) r id page sector h = elim (or_split (run_names x id page sector) _ h) [
   | inl here ↦ inl (or_first (run_names x id page sector) _ here)
@@ -236,61 +305,127 @@ names_split (x ∷ xs) r id page sector h = elim (or_split (run_names x id page 
   ]
 ]
 
-names_front : (xs : List Run) (r : Run) (id page sector : ℕ) → names_triple xs id page sector ≡ true → names_triple (xs ++ r ∷ []) id page sector ≡ true
+names_front : (xs : List MapRun) (r : MapRun) (id page sector : ℕ) → names_triple xs id page sector ≡ true → names_triple (xs ++ r ∷ []) id page sector ≡ true
 names_front [] r id page sector h = absurd (false≢true h)
 names_front (x ∷ xs) r id page sector h = elim (or_split (run_names x id page sector) _ h) [
   | inl here ↦ or_first (run_names x id page sector) _ here
   | inr there ↦ or_second (run_names x id page sector) _ (names_front xs r id page sector there)
 ]
 
-names_last : (xs : List Run) (r : Run) (id page sector : ℕ) → names_triple (r ∷ []) id page sector ≡ true → names_triple (xs ++ r ∷ []) id page sector ≡ true
+names_last : (xs : List MapRun) (r : MapRun) (id page sector : ℕ) → names_triple (r ∷ []) id page sector ≡ true → names_triple (xs ++ r ∷ []) id page sector ≡ true
 names_last [] r id page sector h = h
 names_last (x ∷ xs) r id page sector h = or_second (run_names x id page sector) _ (names_last xs r id page sector h)
 
-pub unlabelled_none : (said : Triples) (old : List NameDifference) → AddsUnlabelled [] said old old
-unlabelled_none said old = record { differ = λ named covers h. h; before = λ e. e; covers = λ none id page sector h. absurd (false≢true h) }
+pub unlabelled_none : (said : Triples) (left : ℕ) → AddsUnlabelled [] said left left [] []
+unlabelled_none said left = record { differ = λ named covers h. h; counted = refl; fewer = omega arith; kept = λ t h. h; all = λ some t only. absurd (false≢true only.0) }
 
 -- a run more
-pub unlabelled_more : (runs : List Run) (j : ℕ) (r : Run) (said : Triples) (a b c : List NameDifference) → slice_get runs j ≡ Some r → AddsUnlabelled (take j runs) said a b → AddsUnlabelled (r ∷ []) said b c → AddsUnlabelled (take (j + 1) runs) said a c
-unlabelled_more runs j r said a b c here front last =
+pub unlabelled_more : (runs : List MapRun) (j : ℕ) (r : MapRun) (said : Triples) (left then_left now : ℕ) (a b c : List Triple) → slice_get runs j ≡ Some r → AddsUnlabelled (take j runs) said left then_left a b
+    → AddsUnlabelled (r ∷ []) said then_left now b c → AddsUnlabelled (take (j + 1) runs) said left now a c
+unlabelled_more runs j r said left then_left now a b c here front last =
     let s : j + 1 ≡ suc j = omega arith in
     let longer : take (j + 1) runs ≡ take j runs ++ r ∷ [] = ap (λ (m : ℕ). take m runs) s ∙ one_more runs j r here in
-    subst (λ (l : List Run). AddsUnlabelled l said a c) (sym longer) record {
+    subst (λ (l : List MapRun). AddsUnlabelled l said left now a c) (sym longer) record {
       differ = λ named covers h. last.differ named (λ id page sector k. covers id page sector (names_last (take j runs) r id page sector k)) (front.differ named (λ id page sector k. covers id page sector (names_front (take j runs) r id page sector k)) h);
-      before = λ none. front.before (last.before none);
-      covers = λ none id page sector h. elim (names_split (take j runs) r id page sector h) [
-        | inl k ↦ front.covers (last.before none) id page sector k
-        | inr k ↦ last.covers none id page sector k
+      counted = omega (arith, front.counted, last.counted);
+      fewer = omega (arith, front.fewer, last.fewer);
+      kept = λ t h. last.kept t (front.kept t h);
+      all = λ some t only. elim (names_split (take j runs) r t.id t.page t.sector only.0) [
+        | inl k ↦ last.kept t (front.all (omega (arith, some, last.fewer)) t (k, only.1))
+        | inr k ↦ last.all some t (k, only.1)
       ];
     }
 
+pub unlabelled_all : (n now : ℕ) (map_runs : List MapRun) (said : Triples) (runs : List Run) → AreJoined runs → AddsUnlabelled map_runs said n now [] (all_triples runs) → IsUnlabelled n (names_triple map_runs) said runs
+unlabelled_all n now map_runs said runs joined adds = record {
+  joined = joined;
+  each = adds.differ (names_triple map_runs) (λ id page sector h. h) (only_none (names_triple map_runs) said);
+  all = λ few t only. adds.all (omega (arith, few, adds.counted)) t only;
+}
+
 -- ---- both
+
+-- no page stands in no run
+no_page : (t : Triple) → IsListed [] t → ⊥
+no_page t listed = none-some t listed.1
+
+row_first : (id page sector n : ℕ) (rest : List Triple) → 1 ≤ n → slice_get (triples_in_row id page sector n ++ rest) 0 ≡ Some (record { id = id; page = page; sector = sector })
+row_first id page sector zero rest some = absurd (omega (arith, some))
+row_first id page sector (suc n) rest some = refl
+
+no_runs : (runs : List Run) → AreJoined runs → ((t : Triple) → IsListed (all_triples runs) t → ⊥) → runs ≡ []
+no_runs [] joined never = refl
+no_runs (r ∷ runs) joined never = absurd (never (record { id = r.id; page = r.first; sector = r.sector }) (0, row_first r.id r.first r.sector r.pages (all_triples runs) joined.long.0))
+
+true_or_false : (a : Bool) → (a ≡ true) ⊎ (a ≡ false)
+true_or_false true = inl refl
+true_or_false false = inr refl
 
 both_same : (a b : Bool) → (a ≡ true → b ≡ true) → (b ≡ true → a ≡ true) → a ≡ b
 both_same true b h k = sym (h refl)
 both_same false true h k = k refl
 both_same false false h k = refl
 
-pub compared : (n : ℕ) (lists : List (List ℕ) → Type 0) (named said : Triples) (is : AreNamed n lists named) (old ds : List NameDifference) → IsUnmapped named said old → AddsUnlabelled is.runs said old ds → IsComparison named said ds
-compared n lists named said is old ds first then_all = record {
-  differ = differ;
-  agrees = (
-    λ none id page sector.
-        both_same (named id page sector) (said id page sector) (λ h. then_all.covers none id page sector (sym (is.are id page sector) ∙ h)) (λ h. first.covers (then_all.before none) id page sector h),
-    λ alike. empty ds refl alike,
-  );
-}
-  where
-    differ : AllDiffer named said ds
-    differ = then_all.differ named (λ id page sector h. is.are id page sector ∙ h) first.differ
+-- where no page is only in the first, the second covers it
+pub none_only : (one other : Triples) → ((t : Triple) → IsOnlyIn one other t → ⊥) → Covers other one
+none_only one other never id page sector h = elim (true_or_false (other id page sector)) [
+  | inl there ↦ there
+  | inr missing ↦ absurd (never (record { id = id; page = page; sector = sector }) (h, missing))
+]
 
-    never : (x : NameDifference) → AreAlike named said → Differs named said x → ⊥
-    never (OnlyLabelled t) alike h = true≢false (sym h.0 ∙ sym (alike t.id t.page t.sector) ∙ h.1)
-    never (OnlyMapped t) alike h = true≢false (sym h.0 ∙ alike t.id t.page t.sector ∙ h.1)
+-- nothing is unlabelled: the labels name all that the map names
+pub unlabelled_covers : (n : ℕ) (named said : Triples) (runs : List Run) → 1 ≤ n → IsUnlabelled n named said runs → runs ≡ [] → Covers said named
+unlabelled_covers n named said runs some is none =
+    let empty : all_triples runs ≡ [] = ap all_triples none in
+    none_only named said (λ t only. no_page t (subst (λ (l : List Triple). IsListed l t) empty (is.all (omega (arith, some, ap (λ (l : List Triple). length l) empty)) t only)))
 
-    empty : (l : List NameDifference) → l ≡ ds → AreAlike named said → ds ≡ []
-    empty [] e alike = sym e
-    empty (x ∷ l) e alike = absurd (never x alike (differ 0 x (ap (λ (m : List NameDifference). slice_get m 0) (sym e))))
+pub unmapped_covers : (named said : Triples) (runs : List Run) → IsUnmapped named said runs → runs ≡ [] → Covers named said
+unmapped_covers named said runs is none = none_only said named (λ t only. no_page t (subst (λ (l : List Triple). IsListed l t) (ap all_triples none) (is.all t only)))
+
+module _ {A : Type 0} (n : ℕ) (some : 1 ≤ n) (named said : Triples) (ds : NameDifferences A) where
+  pub compared : IsUnmapped named said ds.unmapped.items → IsUnlabelled n named said ds.unlabelled.items → IsComparison n named said ds
+  compared first second = record {
+    unmapped = first;
+    unlabelled = second;
+    agrees = (
+      λ none id page sector.
+          both_same (named id page sector) (said id page sector) (unlabelled_covers n named said ds.unlabelled.items some second none.1 id page sector) (unmapped_covers named said ds.unmapped.items first none.0 id page sector),
+      λ alike. (
+        no_runs ds.unmapped.items first.joined (λ t listed. let only = first.each listed.0 t listed.1 in true≢false (sym only.0 ∙ sym (alike t.id t.page t.sector) ∙ only.1)),
+        no_runs ds.unlabelled.items second.joined (λ t listed. let only = second.each listed.0 t listed.1 in true≢false (sym only.0 ∙ alike t.id t.page t.sector ∙ only.1)),
+      ),
+    );
+  }
+
+module _ (named other : Triples) (same : (id page sector : ℕ) → named id page sector ≡ other id page sector) where
+  only_first : (said : Triples) (t : Triple) → IsOnlyIn named said t → IsOnlyIn other said t
+  only_first said t only = (sym (same t.id t.page t.sector) ∙ only.0, only.1)
+
+  back_first : (said : Triples) (t : Triple) → IsOnlyIn other said t → IsOnlyIn named said t
+  back_first said t only = (same t.id t.page t.sector ∙ only.0, only.1)
+
+  only_second : (said : Triples) (t : Triple) → IsOnlyIn said named t → IsOnlyIn said other t
+  only_second said t only = (only.0, sym (same t.id t.page t.sector) ∙ only.1)
+
+  back_second : (said : Triples) (t : Triple) → IsOnlyIn said other t → IsOnlyIn said named t
+  back_second said t only = (only.0, same t.id t.page t.sector ∙ only.1)
+
+  -- the same, said of what names the same
+  pub unlabelled_named : (n : ℕ) (said : Triples) (runs : List Run) → IsUnlabelled n named said runs → IsUnlabelled n other said runs
+  unlabelled_named n said runs is = record { joined = is.joined; each = λ k t at. only_first said t (is.each k t at); all = λ few t only. is.all few t (back_first said t only) }
+
+  unlabelled_said : (n : ℕ) (map_names : Triples) (runs : List Run) → IsUnlabelled n map_names named runs → IsUnlabelled n map_names other runs
+  unlabelled_said n map_names runs is = record { joined = is.joined; each = λ k t at. only_second map_names t (is.each k t at); all = λ few t only. is.all few t (back_second map_names t only) }
+
+  unmapped_said : (map_names : Triples) (runs : List Run) → IsUnmapped map_names named runs → IsUnmapped map_names other runs
+  unmapped_said map_names runs is = record { joined = is.joined; each = λ k t at. only_first map_names t (is.each k t at); all = λ t only. is.all t (back_first map_names t only); rising = is.rising }
+
+  pub comparison_alike : {A : Type 0} (n : ℕ) (map_names : Triples) (ds : NameDifferences A) → IsComparison n map_names named ds → IsComparison n map_names other ds
+  comparison_alike n map_names ds is = record {
+    unmapped = unmapped_said map_names ds.unmapped.items is.unmapped;
+    unlabelled = unlabelled_said n map_names ds.unlabelled.items is.unlabelled;
+    agrees = (λ none id page sector. is.agrees.0 none id page sector ∙ same id page sector, λ alike. is.agrees.1 (λ id page sector. alike id page sector ∙ sym (same id page sector)));
+  }
 
 -- the labels of a disk name what the disk says
 pub labels_say : (d : List Sector) (labels : List Label) (n : ℕ) → n ≡ first_data (length d) → labels ≡ map (λ s. s.0) (data_sectors d) → (id page sector : ℕ) → labelled n labels id page sector ≡ label_triples d id page sector
@@ -318,16 +453,6 @@ labels_say d labels n from are id page sector = ap (λ (m : ℕ). labelled m lab
     through None = refl
     through (Some s) = refl
 
-pub comparison_alike : (named said other : Triples) (ds : List NameDifference) → ((id page sector : ℕ) → said id page sector ≡ other id page sector) → IsComparison named said ds → IsComparison named other ds
-comparison_alike named said other ds same is = record {
-  differ = λ k x at. moved x (is.differ k x at);
-  agrees = (λ none id page sector. is.agrees.0 none id page sector ∙ same id page sector, λ alike. is.agrees.1 (λ id page sector. alike id page sector ∙ sym (same id page sector)));
-}
-  where
-    moved : (x : NameDifference) → Differs named said x → Differs named other x
-    moved (OnlyLabelled t) h = (sym (same t.id t.page t.sector) ∙ h.0, h.1)
-    moved (OnlyMapped t) h = (h.0, sym (same t.id t.page t.sector) ∙ h.1)
-
 -- ---- the map as a memory tells it
 
 pub to_map : (n m : ℕ) (bytes c : List ℕ) (named : Triples) → m ≡ n → c ≡ bytes → length c ≡ 512 * vfm n → NamesIn n bytes named → AreNamed m (TellsTree 24 12 (length c / 512) (λ b. b ≡ c)) named
@@ -337,10 +462,10 @@ to_map n m bytes c named same_count same size is =
     (subst (λ (k : ℕ). AreNamed n (TellsTree 24 12 k (λ b. b ≡ c)) named) pages
     (subst (λ (x : List ℕ). AreNamed n (TellsTree 24 12 (vfm n) (λ b. b ≡ x)) named) (sym same) is))
 
-pub found_some : (named : Triples) (id page : ℕ) (o : Option Run) (r : Run) → o ≡ Some r → IsFound named id page o → IsFound named id page (Some r)
+pub found_some : (named : Triples) (id page : ℕ) (o : Option MapRun) (r : MapRun) → o ≡ Some r → IsFound named id page o → IsFound named id page (Some r)
 found_some named id page o r is found = subst (IsFound named id page) is found
 
-pub found_none : (named : Triples) (id page : ℕ) (o : Option Run) → o ≡ None → IsFound named id page o → IsNowhere named id page
+pub found_none : (named : Triples) (id page : ℕ) (o : Option MapRun) → o ≡ None → IsFound named id page o → IsNowhere named id page
 found_none named id page o is found = subst (IsFound named id page) is found
 
 pub never_broken : {X : Type 0} (e : MapError X) (page : ℕ) → e ≡ Malformed page → FromMemory e → ⊥

@@ -1,13 +1,17 @@
 -- Pages that are laid one behind the other.
-use Rattle.std.proofs.Common.{◌≡◌, ℕ, zero, suc, ◌+◌, ◌-◌, ◌*◌, ◌<◌, List, [], ◌∷◌, ◌++◌, length, take, drop, replicate, Some, refl, sym, ◌∙◌, ap, arith}
-use Rattle.std.specs.Prelude.{slice_get}
+use Rattle.std.proofs.Common.{◌≡◌, inl, inr, Bool, true, false, ◌&&◌, Option, subst, ℕ, zero, suc, ◌+◌, ◌-◌, ◌*◌, ◌<◌, List, [], ◌∷◌, ◌++◌, length, take, drop, replicate, Some, refl, sym, ◌∙◌, ap, arith}
+use Rattle.std.specs.Prelude.{◌↔◌, slice_get, IsSomeAnd, IsTrue}
+use Rattle.std.proofs.lemmas.Bool.{cases_eq, and_parts, false≢true}
+use Rattle.labelled_disk.specs.Label.{names}
+use Rattle.labelled_disk.specs.Layout.{vam, vfm}
+use Rattle.labelled_disk.specs.Root.{HasMaps}
 use Rattle.std.specs.List.{flat_map}
 use Rattle.std.proofs.lemmas.Grind.{flat_map-append}
 use Rattle.std.proofs.lemmas.List.{length-append, length-replicate}
 use Rattle.labelled_disk.specs.declared.label.Label.{Label}
 use Rattle.labelled_disk.specs.Sectors.{Sector}
 use Rattle.flat_mem.specs.Memory.{overwritten}
-use Rattle.volume_view.specs.Pages.{bytes_of}
+use Rattle.volume_view.specs.Pages.{bytes_of, SaysNamed}
 use Rattle.volume_view.proofs.ListLemmas.{dropped, one_more, nothing_more}
 
 -- one page more
@@ -67,3 +71,45 @@ laid_all d first n k bytes all is =
 
 pub laid_none : (d : List Sector) (first n : ℕ) (bytes : List ℕ) → bytes ≡ zeros (512 * n) → bytes ≡ bytes_of d first 0 ++ zeros (512 * (n - 0))
 laid_none d first n bytes is = let e : 512 * n ≡ 512 * (n - 0) = omega arith in is ∙ ap zeros e
+
+-- ---- labels that name the pages of a map
+
+module _ (d : List Sector) (id first : ℕ) where
+  pub named_none : (b : Bool) → SaysNamed b b d id first 0
+  named_none b = (λ yes_so. (yes_so, λ k below. absurd (omega (arith, below))), λ both. both.0)
+
+  pub named_more : (k : ℕ) (label : Label) (page : List ℕ) (before now after : Bool) → slice_get d (first + k) ≡ Some (label, page) → SaysNamed before now d id first k
+      → after ≡ (now && names label (record { id = id; page = k })) → SaysNamed before after d id first (k + 1)
+  named_more k label page before now after here so_far is = (
+    λ said.
+        let parts = and_parts now (names label (record { id = id; page = k })) (sym is ∙ said) in
+        let old = so_far.0 parts.0 in (
+          old.0,
+          λ j below. elim (cases_eq j k) [
+            | inl same ↦ subst (λ (i : ℕ). IsSomeAnd (slice_get d (first + i)) (λ s. IsTrue (names s.0 (record { id = id; page = i })))) (sym same) (subst (λ (o : Option Sector). IsSomeAnd o (λ s. IsTrue (names s.0 (record { id = id; page = k })))) (sym here) parts.1)
+            | inr apart ↦ old.1 j (omega (arith, below, apart))
+          ],
+        ),
+    λ both.
+        let right = subst (λ (o : Option Sector). IsSomeAnd o (λ s. IsTrue (names s.0 (record { id = id; page = k })))) here (both.1 k (omega arith)) in
+        is ∙ both_true now (names label (record { id = id; page = k })) (so_far.1 (both.0, λ j below. both.1 j (omega (arith, below)))) right,
+  )
+    where
+      both_true : (a b : Bool) → a ≡ true → b ≡ true → (a && b) ≡ true
+      both_true true b h k = k
+      both_true false b h k = absurd (false≢true h)
+
+pub both_named : (now named after : Bool) → now ≡ true → after ≡ named → after ≡ (now && named)
+both_named true named after on is = is
+both_named false named after on is = absurd (false≢true on)
+
+pub not_named : (now named after : Bool) → now ≡ false → after ≡ now → after ≡ (now && named)
+not_named true named after off is = absurd (false≢true (sym off))
+not_named false named after off is = is
+
+-- both maps have their labels
+pub maps_named : (d : List Sector) (n : ℕ) (one two : Bool) → SaysNamed true one d 1 1 (vam n) → SaysNamed one two d 2 (1 + vam n) (vfm n) → (two ≡ true) ↔ HasMaps n d
+maps_named d n one two bits file_map = (
+  λ said. let last = file_map.0 said in record { allocation = (bits.0 last.0).1; file_map = last.1 },
+  λ has. file_map.1 (bits.1 (refl, has.allocation), has.file_map),
+)

@@ -6,8 +6,11 @@ use Rattle.labelled_disk.specs.WriteLaws.{HasData}
 use Rattle.label_laws.specs.Counts.{needs_place, is_of_some_file}
 use Rattle.label_survey.specs.declared.standing.Standing.{Standing}
 use Rattle.label_survey.specs.declared.standing.Standing.TheVariants.{Free, Stray, Lost, Leader, Page}
+use Rattle.label_survey.specs.declared.runs.Run.{Run}
 use Rattle.label_survey.specs.declared.triples.Triple.{Triple}
+use Rattle.label_survey.specs.Runs.{all_triples}
 use Rattle.label_survey.specs.Triples.{triple_of}
+use Rattle.volume_view.specs.Rows.{AreJoined}
 
 -- the sector is neither free, nor needed, nor lost
 abbrev pub is_stray : Standing → Bool
@@ -24,7 +27,12 @@ pub record IsLeft (d : List Sector) (i : ℕ) (s : Sector) : Type 0 where
   pub of_none : is_of_some_file false d s ≡ false
 
 -- exactly these sectors, each once, with what its label says
-pub record AreLeftovers (d : List Sector) (triples : List Triple) : Type 0 where
+pub record AreLeft (d : List Sector) (triples : List Triple) : Type 0 where
   pub each : (k : ℕ) (t : Triple) → slice_get triples k ≡ Some t → (s : Sector) × HasData d t.sector s × IsLeft d t.sector s × (t ≡ triple_of t.sector s.0)
   pub all : (i : ℕ) (s : Sector) → HasData d i s → IsLeft d i s → (k : ℕ) × (slice_get triples k ≡ Some (triple_of i s.0))
   pub once : (sector : ℕ) → count_by (λ t. t.sector == sector) triples ≤ 1
+
+-- the same in runs, each as long as it can be
+pub record AreLeftovers (d : List Sector) (runs : List Run) : Type 0 where
+  pub joined : AreJoined runs
+  pub left : AreLeft d (all_triples runs)

@@ -1,4 +1,6 @@
 pub mod Pages
+pub mod Rows
+pub mod BitRuns
 pub mod Bits
 pub mod Walk
 pub mod Form
@@ -13,3 +15,4 @@ pub mod Leftovers
 pub mod Strays
 pub mod Found
 pub mod View
+pub mod Order

@@ -1,18 +1,21 @@
 -- The file map beside the labels.
-use Rattle.std.specs.Prelude.{◌≡◌, ◌↔◌, ◌⊎◌, ℕ, ◌-◌, true, false, not, ◌&&◌, ◌==◌, nat_le, List, [], slice_get, Option, Some, None}
+use Rattle.std.specs.Prelude.{◌≡◌, ◌↔◌, ◌⊎◌, ℕ, ◌+◌, ◌-◌, ◌<◌, ◌≤◌, true, false, not, ◌&&◌, ◌==◌, nat_le, List, [], length, slice_get, Option, Some, None}
 use Rattle.std.specs.Option.{option_map_or}
 use Rattle.labelled_disk.specs.declared.label.Label.{Label}
 use Rattle.labelled_disk.specs.Label.{is_free}
 use Rattle.labelled_disk.specs.Layout.{vfm}
 use Rattle.labelled_disk.specs.Sectors.{Sector}
 use Rattle.page_tree.specs.Tells.{TellsTree}
-use Rattle.file_map.specs.declared.run.Run.{Run}
+use Rattle.file_map.specs.declared.run.Run.{Run as MapRun}
 use Rattle.file_map.specs.FileMap.{Triples, AreNamed, names_triple}
 use Rattle.file_map.specs.InSectors.{label_triples}
-use Rattle.volume_view.specs.declared.names.NameDifference.{NameDifference}
-use Rattle.volume_view.specs.declared.names.NameDifference.TheVariants.{OnlyLabelled, OnlyMapped}
+use Rattle.label_survey.specs.declared.runs.Run.{Run}
+use Rattle.label_survey.specs.declared.triples.Triple.{Triple}
+use Rattle.label_survey.specs.Runs.{all_triples}
+use Rattle.volume_view.specs.declared.differences.NameDifferences.{NameDifferences}
 use Rattle.volume_view.specs.declared.names.Names.{Names}
 use Rattle.volume_view.specs.declared.names.Names.TheVariants.{Malformed, Read}
+use Rattle.volume_view.specs.Rows.{AreJoined}
 
 -- the label of the sector names the page; the first label is that of sector `first`
 abbrev pub labelled : ℕ → List Label → Triples
@@ -22,15 +25,7 @@ labelled first labels id page sector = nat_le first sector && option_map_or (λ 
 abbrev pub NamesIn : ℕ → List ℕ → Triples → Type 0
 NamesIn n bytes named = AreNamed n (TellsTree 24 12 (vfm n) (λ b. b ≡ bytes)) named
 
--- one of the two names the page there, and the other doesn't
-abbrev pub Differs : Triples → Triples → NameDifference → Type 0
-Differs named said (OnlyLabelled t) = (said t.id t.page t.sector ≡ true) × (named t.id t.page t.sector ≡ false)
-Differs named said (OnlyMapped t) = (named t.id t.page t.sector ≡ true) × (said t.id t.page t.sector ≡ false)
-
-abbrev pub AllDiffer : Triples → Triples → List NameDifference → Type 0
-AllDiffer named said differences = (k : ℕ) (x : NameDifference) → slice_get differences k ≡ Some x → Differs named said x
-
--- all that the first names, the second names too
+-- all that the second names, the first names too
 abbrev pub Covers : Triples → Triples → Type 0
 Covers named said = (id page sector : ℕ) → said id page sector ≡ true → named id page sector ≡ true
 
@@ -38,38 +33,64 @@ Covers named said = (id page sector : ℕ) → said id page sector ≡ true → 
 abbrev pub AreAlike : Triples → Triples → Type 0
 AreAlike named said = (id page sector : ℕ) → named id page sector ≡ said id page sector
 
--- the label of this sector is not free, and the map doesn't name its page there: this is the difference; or there is none
-abbrev pub IsDifferenceAt : Triples → Label → ℕ → Option NameDifference → Type 0
-IsDifferenceAt named l sector (Some x) = (is_free l ≡ false) × (named l.id l.page sector ≡ false) × (x ≡ OnlyLabelled (record { id = l.id; page = l.page; sector = sector }))
+-- the first names the page in its sector, and the second doesn't
+abbrev pub IsOnlyIn : Triples → Triples → Triple → Type 0
+IsOnlyIn one other t = (one t.id t.page t.sector ≡ true) × (other t.id t.page t.sector ≡ false)
+
+abbrev pub AllOnlyIn : Triples → Triples → List Triple → Type 0
+AllOnlyIn one other ts = (k : ℕ) (t : Triple) → slice_get ts k ≡ Some t → IsOnlyIn one other t
+
+abbrev pub IsListed : List Triple → Triple → Type 0
+IsListed ts t = (k : ℕ) × (slice_get ts k ≡ Some t)
+
+-- the label of this sector is not free, and the map doesn't name its page there: this is the page; or there is none
+abbrev pub IsDifferenceAt : Triples → Label → ℕ → Option Triple → Type 0
+IsDifferenceAt named l sector (Some t) = (is_free l ≡ false) × (named l.id l.page sector ≡ false) × (t ≡ record { id = l.id; page = l.page; sector = sector })
 IsDifferenceAt named l sector None = (is_free l ≡ true) ⊎ (named l.id l.page sector ≡ true)
 
--- each is a difference, and where there is none the map names all that the labels name
-pub record IsUnmapped (named said : Triples) (differences : List NameDifference) : Type 0 where
-  pub differ : AllDiffer named said differences
-  pub covers : differences ≡ [] → Covers named said
+-- exactly the pages that the labels name and the map doesn't, in rising sectors, in runs that are as long as they can be
+pub record IsUnmapped (named said : Triples) (runs : List Run) : Type 0 where
+  pub joined : AreJoined runs
+  pub each : AllOnlyIn said named (all_triples runs)
+  pub all : (t : Triple) → IsOnlyIn said named t → IsListed (all_triples runs) t
+  pub rising : (j k : ℕ) (a b : Triple) → j < k → slice_get (all_triples runs) j ≡ Some a → slice_get (all_triples runs) k ≡ Some b → a.sector < b.sector
 
--- each that came is a difference of a map with these runs, and where there is none the labels name all that they name
-pub record AddsUnlabelled (runs : List Run) (said : Triples) (old new : List NameDifference) : Type 0 where
-  pub differ : (named : Triples) → Covers named (names_triple runs) → AllDiffer named said old → AllDiffer named said new
-  pub before : new ≡ [] → old ≡ []
-  pub covers : new ≡ [] → Covers said (names_triple runs)
+-- pages that the map names and the labels don't: all of them, where they are fewer than n; in runs that are as long as they can be
+pub record IsUnlabelled (n : ℕ) (named said : Triples) (runs : List Run) : Type 0 where
+  pub joined : AreJoined runs
+  pub each : AllOnlyIn named said (all_triples runs)
+  pub all : length (all_triples runs) < n → (t : Triple) → IsOnlyIn named said t → IsListed (all_triples runs) t
 
--- each is a difference, and there is none exactly where both name the same
-pub record IsComparison (named said : Triples) (differences : List NameDifference) : Type 0 where
-  pub differ : AllDiffer named said differences
-  pub agrees : (differences ≡ []) ↔ AreAlike named said
+-- To these pages others came, so many fewer of which may still come: each is one of a map with these runs that the labels don't
+-- name, and all of them came unless no more could.
+pub record AddsUnlabelled (runs : List MapRun) (said : Triples) (left now : ℕ) (old new : List Triple) : Type 0 where
+  pub differ : (named : Triples) → Covers named (names_triple runs) → AllOnlyIn named said old → AllOnlyIn named said new
+  pub counted : now + length new ≡ left + length old
+  pub fewer : now ≤ left
+  pub kept : (t : Triple) → IsListed old t → IsListed new t
+  pub all : 1 ≤ now → (t : Triple) → IsOnlyIn (names_triple runs) said t → IsListed new t
+
+-- there is none
+abbrev pub AreNone : {A : Type 0} → NameDifferences A → Type 0
+AreNone differences = (differences.unmapped.items ≡ []) × (differences.unlabelled.items ≡ [])
+
+-- what map and labels of a volume of n sectors have not in common; there is nothing exactly where both name the same
+pub record IsComparison {A : Type 0} (n : ℕ) (named said : Triples) (differences : NameDifferences A) : Type 0 where
+  pub unmapped : IsUnmapped named said differences.unmapped.items
+  pub unlabelled : IsUnlabelled n named said differences.unlabelled.items
+  pub agrees : AreNone differences ↔ AreAlike named said
 
 -- what is told of a map in form that names these pages
 abbrev pub IsToldOf : {A : Type 0} → Triples → List Sector → Names A → Type 0
 IsToldOf named d (Malformed page) = ⊥
-IsToldOf named d (Read in_form differences) = IsComparison named (label_triples d) differences.items
+IsToldOf named d (Read in_form differences) = IsComparison (length d) named (label_triples d) differences
 
 -- it is said that the map names what the labels name
 abbrev pub SaysAlike : {A : Type 0} → Names A → Type 0
 SaysAlike (Malformed page) = ⊥
-SaysAlike (Read in_form differences) = differences.items ≡ []
+SaysAlike (Read in_form differences) = AreNone differences
 
 -- it is said that the map agrees: that it is in form as a whole, and names what the labels name
 abbrev pub SaysAgree : {A : Type 0} → Names A → Type 0
 SaysAgree (Malformed page) = ⊥
-SaysAgree (Read in_form differences) = (in_form ≡ true) × (differences.items ≡ [])
+SaysAgree (Read in_form differences) = (in_form ≡ true) × AreNone differences

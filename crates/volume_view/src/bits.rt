@@ -5,23 +5,17 @@ ghost use Rattle.alloc_map.specs.Bits.{is_used as is_used_in};
 ghost use Rattle.labelled_disk.specs.Calls.{ReadsAtMost, Rose};
 ghost use Rattle.labelled_disk.specs.Layout.{IsCount, layout_of, data_sectors, first_data, vam};
 ghost use Rattle.labelled_disk.specs.Sectors.{Sector};
-ghost use Rattle.volume_view.specs.Bits.{taken, AreCompared, AreWrongBits};
-ghost use Rattle.volume_view.specs.Pages.{IsDiskOrMemory};
+ghost use Rattle.volume_view.specs.BitRuns.{AreCompared};
+ghost use Rattle.volume_view.specs.Bits.{taken, AreWrongBits};
+ghost use Rattle.volume_view.specs.Pages.{IsDiskOrMemory, SaysNamed};
 
 use crate::LookFault;
+use crate::bit_runs::{BitRun, add_sector};
 use crate::pages::read_pages;
 use alloc_map::AllocMap;
 use flat_mem::VecMem;
 use labelled_disk::{Disk, Label, Layout};
 use std::alloc::{AllocError, Allocator};
-
-/// A sector of which map and labels say different things.
-#[derive(Clone, Copy, Debug, PartialEq, Eq)]
-pub struct BitDifference {
-    pub sector: u32,
-    /// The map has it as used; by root, maps and labels it isn't. Else it is the other way round.
-    pub used: bool,
-}
 
 // Whether a sector is of root or maps, or a data sector whose label is not free.
 fn is_taken(first: u32, labels: &[Label], sector: u32) -> bool
@@ -64,34 +58,39 @@ fn compare_bits<A: Allocator>(
     end: u32,
     first: u32,
     labels: &[Label],
-) -> Result<Vec<BitDifference, A>, AllocError>
+) -> Result<Vec<BitRun, A>, AllocError>
     requires size { length (vec_mem_bytes map.old) * 8 ≡ end }
     requires pages { (n : ℕ) × (end ≡ 4096 * n) }
-    ensures { IfOk result (λ differences.
-        AreCompared (vec_mem_bytes map.old) (taken first labels.now) end differences.items) }
+    ensures { IfOk result (λ runs.
+        AreCompared (is_used_in (vec_mem_bytes map.old)) (taken first labels.now) end runs.items) }
 {
-    let mut differences = Vec::new(alloc);
+    let mut runs = Vec::new(alloc);
     for sector in 0..end {
         let used = is_used(map, end, sector);
         if differ(used, is_taken(first, labels, sector)) {
-            differences.push(BitDifference { sector, used })?;
+            add_sector(&mut runs, sector, used)?;
         }
     }
-    Ok(differences)
+    Ok(runs)
 }
 
-/// The sectors, rising, of which the allocation map says something else than the labels.
+/// The runs of sectors, rising, of which the allocation map says something else than the labels. Where
+/// a label of its pages isn't right, `labelled` is false afterwards.
 pub(crate) fn look_at_bits<A: Allocator + Clone, D: Disk>(
     alloc: A,
     disk: &mut D,
     layout: &Layout,
     labels: &[Label],
-) -> Result<Vec<BitDifference, A>, LookFault>
+    labelled: &mut bool,
+) -> Result<Vec<BitRun, A>, LookFault>
     requires counted { IsCount (D.state disk.old).sectors }
     requires layout { layout.now ≡ layout_of (D.state disk.old).sectors }
-    ensures bits { IfOk result (λ differences.
+    ensures bits { IfOk result (λ runs.
         (d : List Sector) → (D.state disk.old).contents ≡ Some d
-        → labels.now ≡ map (λ s. s.0) (data_sectors d) → AreWrongBits d differences.items) }
+        → labels.now ≡ map (λ s. s.0) (data_sectors d) → AreWrongBits d runs.items) }
+    ensures labelled { IfOk result (λ runs. (d : List Sector)
+        → (D.state disk.old).contents ≡ Some d
+        → SaysNamed labelled.old labelled.new d 1 1 (vam (length d))) }
     ensures err { IfErr result IsDiskOrMemory }
     ensures cause { result ≡ Err LookFault.Disk
         → Rose (D.state disk.old).faults (D.state disk.new).faults }
@@ -101,9 +100,9 @@ pub(crate) fn look_at_bits<A: Allocator + Clone, D: Disk>(
     let Ok(own) = alloc.clone() else {
         return Err(LookFault::NoMemory);
     };
-    let mut map = read_pages(own, disk, 1, layout.vam)?;
+    let mut map = read_pages(own, disk, 1, 1, layout.vam, labelled)?;
     match compare_bits(alloc, &mut map, 4096 * layout.vam, layout.first, labels) {
-        Ok(differences) => Ok(differences),
+        Ok(runs) => Ok(runs),
         Err(_) => Err(LookFault::NoMemory),
     }
 }

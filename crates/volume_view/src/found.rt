@@ -6,7 +6,7 @@ ghost use Rattle.volume_view.specs.Found.{IsFound};
 
 use crate::files::{FileLine, list_files};
 use crate::leftovers::leftovers_of;
-use label_survey::{Run, Survey, Triple, needed_triples, runs_of, survey_labels};
+use label_survey::{Run, Survey, needed_triples, runs_of, survey_labels};
 use labelled_disk::{Label, NoMemory};
 use std::alloc::Allocator;
 
@@ -19,8 +19,9 @@ pub struct Found<A: Allocator> {
     pub files: Vec<FileLine, A>,
     /// Where they lie: for each file, rising, the runs of its pages, and then its leader.
     pub runs: Vec<Run, A>,
-    /// The sectors that are neither free nor of a permanent file, by the identifier and the page of their labels.
-    pub leftovers: Vec<Triple, A>,
+    /// The sectors that are neither free nor of a permanent file, as runs, by the identifier and the
+    /// page of their labels.
+    pub leftovers: Vec<Run, A>,
 }
 
 /// What these labels tell, the first of which is that of sector `first`.

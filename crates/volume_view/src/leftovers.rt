@@ -7,7 +7,8 @@ ghost use Rattle.label_survey.specs.Standings.{AreStandings};
 ghost use Rattle.volume_view.specs.Leftovers.{is_stray, AreLeftovers};
 ghost use Rattle.volume_view.specs.Strays.{AreStrays};
 
-use label_survey::{Standing, Triple};
+use crate::rows::join_pages;
+use label_survey::{Run, Standing, Triple};
 use labelled_disk::Label;
 use std::alloc::{AllocError, Allocator};
 
@@ -56,20 +57,20 @@ fn collect_leftovers<A: Allocator>(
     Ok(triples)
 }
 
-/// The sectors that are neither free nor of a permanent file, each with what its label says, by identifier and page.
-pub(crate) fn leftovers_of<A: Allocator>(
+/// The sectors that are neither free nor of a permanent file, with what their labels say, by identifier and page.
+pub(crate) fn leftovers_of<A: Allocator + Clone>(
     alloc: A,
     first: u32,
     labels: &[Label],
     standings: &[Standing],
-) -> Result<Vec<Triple, A>, AllocError>
+) -> Result<Vec<Run, A>, AllocError>
     requires few { first + length labels.now < 2 ^ 32 }
     requires same_length { length standings.now ≡ length labels.now }
-    ensures { IfOk result (λ triples. (d : List Sector) → first ≡ first_data (length d)
+    ensures { IfOk result (λ runs. (d : List Sector) → first ≡ first_data (length d)
         → labels.now ≡ map (λ s. s.0) (data_sectors d) → AreStandings d standings.now
-        → AreLeftovers d triples.items) }
+        → AreLeftovers d runs.items) }
 {
-    let mut triples = collect_leftovers(alloc, first, labels, standings)?;
+    let mut triples = collect_leftovers(alloc.clone()?, first, labels, standings)?;
     sort_triples(&mut triples);
-    Ok(triples)
+    Ok(join_pages(alloc, &triples)?)
 }

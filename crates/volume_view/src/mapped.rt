@@ -1,18 +1,18 @@
 //! Pages that the file map names and labels do not.
-ghost use Rattle.std.specs.Prelude.{◌≡◌, [], ◌∷◌, OnOk};
+ghost use Rattle.std.specs.Prelude.{◌≡◌, [], ◌∷◌, IfOk};
+ghost use Rattle.labelled_disk.specs.Layout.{IsCount};
+ghost use Rattle.file_map.specs.FileMap.{names_triple};
 ghost use Rattle.file_map.specs.Run.{IsRun};
-ghost use Rattle.volume_view.specs.Names.{labelled, AddsUnlabelled};
+ghost use Rattle.label_survey.specs.Runs.{all_triples};
+ghost use Rattle.volume_view.specs.Names.{labelled, AddsUnlabelled, IsUnlabelled};
 ghost use Rattle.volume_view.specs.Records.{AreAllInForm};
+ghost use Rattle.volume_view.specs.Rows.{AreJoined};
 
-use crate::names::NameDifference;
-use file_map::Run;
-use label_survey::Triple;
+use crate::rows::add_page;
+use file_map::Run as MapRun;
+use label_survey::{Run, Triple};
 use labelled_disk::Label;
 use std::alloc::{AllocError, Allocator};
-
-/// The search ends once so many differences were found: a map that breaks its form may name pages
-/// without end.
-const MOST: usize = 4096;
 
 // Whether the label of the sector names the page; the first label is that of sector `first`.
 fn is_labelled(first: u32, labels: &[Label], triple: Triple) -> bool
@@ -27,21 +27,26 @@ fn is_labelled(first: u32, labels: &[Label], triple: Triple) -> bool
     }
 }
 
-// The same for the pages of one run.
+// Adds the pages of one run that labels don't name, at most so many, and answers how many more
+// may come.
 fn add_unlabelled<A: Allocator>(
-    differences: &mut Vec<NameDifference, A>,
+    pages: &mut Vec<Run, A>,
+    left: u32,
     first: u32,
     labels: &[Label],
     sectors: u32,
-    run: Run,
-) -> Result<(), AllocError>
-    requires { IsRun sectors run }
-    ensures { OnOk result (AddsUnlabelled (run ∷ []) (labelled first labels.now)
-        differences.old.items differences.new.items) }
+    run: MapRun,
+) -> Result<u32, AllocError>
+    requires counted { IsCount sectors }
+    requires run { IsRun sectors run }
+    ensures adds { IfOk result (λ now. AddsUnlabelled (run ∷ []) (labelled first labels.now) left now
+        (all_triples pages.old.items) (all_triples pages.new.items)) }
+    ensures joined { IfOk result (λ now. AreJoined pages.old.items → AreJoined pages.new.items) }
 {
+    let mut now = left;
     for k in 0..run.pages {
-        if differences.len() >= MOST {
-            return Ok(());
+        if now == 0 {
+            return Ok(0);
         }
         let triple = Triple {
             id: run.id,
@@ -49,27 +54,31 @@ fn add_unlabelled<A: Allocator>(
             sector: run.sector + k,
         };
         if !is_labelled(first, labels, triple) {
-            differences.push(NameDifference::OnlyMapped(triple))?;
+            add_page(pages, triple)?;
+            now -= 1;
         }
     }
-    Ok(())
+    Ok(now)
 }
 
-/// Adds a difference for each page of these runs that the label of its sector doesn't name, until
-/// there are many.
+/// The pages of these runs that the labels of their sectors don't name: all of them, or as many as
+/// there are sectors, since a map may name pages without end.
 pub(crate) fn find_unlabelled<A: Allocator>(
-    differences: &mut Vec<NameDifference, A>,
+    alloc: A,
     first: u32,
     labels: &[Label],
     sectors: u32,
-    runs: &[Run],
-) -> Result<(), AllocError>
-    requires { AreAllInForm sectors runs.now }
-    ensures { OnOk result (AddsUnlabelled runs.now (labelled first labels.now)
-        differences.old.items differences.new.items) }
+    runs: &[MapRun],
+) -> Result<Vec<Run, A>, AllocError>
+    requires counted { IsCount sectors }
+    requires form { AreAllInForm sectors runs.now }
+    ensures { IfOk result (λ found. IsUnlabelled sectors (names_triple runs.now)
+        (labelled first labels.now) found.items) }
 {
+    let mut found = Vec::new(alloc);
+    let mut left = sectors;
     for j in 0..runs.len() {
-        add_unlabelled(differences, first, labels, sectors, runs[j])?;
+        left = add_unlabelled(&mut found, left, first, labels, sectors, runs[j])?;
     }
-    Ok(())
+    Ok(found)
 }

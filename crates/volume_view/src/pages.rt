@@ -4,12 +4,12 @@ ghost use Rattle.flat_mem.specs.Memory.{overwritten};
 ghost use Rattle.flat_mem.specs.Vec.{vec_mem_bytes};
 ghost use Rattle.labelled_disk.specs.Calls.{OnlyReads, ReadsAtMost, Rose};
 ghost use Rattle.labelled_disk.specs.Sectors.{Sector};
-ghost use Rattle.volume_view.specs.Pages.{IsDiskOrMemory, bytes_of, HasPage};
+ghost use Rattle.volume_view.specs.Pages.{IsDiskOrMemory, bytes_of, HasPage, SaysNamed};
 
 use crate::LookFault;
 use flat_mem::{FlatMem, VecMem};
 use label_survey::Run;
-use labelled_disk::{Disk, FileId, Page};
+use labelled_disk::{Disk, FileId, Page, Wanted};
 use std::alloc::Allocator;
 
 fn put_page<A: Allocator>(mem: &mut VecMem<A>, index: u32, page: &Page)
@@ -22,18 +22,22 @@ fn put_page<A: Allocator>(mem: &mut VecMem<A>, index: u32, page: &Page)
     }
 }
 
-/// The pages of so many sectors from this one on, one behind the other. The memory is taken before
-/// the first is read.
+/// The pages of a map in so many sectors from this one on, one behind the other. Where a label isn't
+/// that of its page, `labelled` is false afterwards. The memory is taken before the first is read.
 pub(crate) fn read_pages<A: Allocator, D: Disk>(
     alloc: A,
     disk: &mut D,
+    id: FileId,
     first: u32,
     count: u32,
+    labelled: &mut bool,
 ) -> Result<VecMem<A>, LookFault>
     requires inside { first + count ≤ (D.state disk.old).sectors }
     ensures bytes { IfOk result (λ mem. (d : List Sector) → (D.state disk.old).contents ≡ Some d
         → vec_mem_bytes mem ≡ bytes_of d first count) }
     ensures size { IfOk result (λ mem. length (vec_mem_bytes mem) ≡ 512 * count) }
+    ensures labels { IfOk result (λ mem. (d : List Sector) → (D.state disk.old).contents ≡ Some d
+        → SaysNamed labelled.old labelled.new d id first count) }
     ensures err { IfErr result IsDiskOrMemory }
     ensures cause { result ≡ Err LookFault.Disk
         → Rose (D.state disk.old).faults (D.state disk.new).faults }
@@ -44,9 +48,10 @@ pub(crate) fn read_pages<A: Allocator, D: Disk>(
     };
     let mut page = [0; 512];
     for index in 0..count {
-        let Ok(_) = disk.read(first + index, &mut page) else {
+        let Ok(label) = disk.read(first + index, &mut page) else {
             return Err(LookFault::Disk);
         };
+        *labelled = *labelled && label.names(Wanted { id, page: index });
         put_page(&mut mem, index, &page);
     }
     Ok(mem)

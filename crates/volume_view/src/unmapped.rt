@@ -1,5 +1,5 @@
 //! Pages that labels name and the file map does not.
-ghost use Rattle.std.specs.Prelude.{◌≡◌, ◌*◌, ◌+◌, ◌<◌, ◌≤◌, true, false, [], None, length, IfOk, MatchResult};
+ghost use Rattle.std.specs.Prelude.{◌≡◌, ◌*◌, ◌+◌, ◌<◌, ◌≤◌, true, false, [], None, length, IfOk, IfSome, MatchResult};
 ghost use Rattle.flat_mem.specs.Vec.{vec_mem_bytes};
 ghost use Rattle.labelled_disk.specs.Label.{is_free};
 ghost use Rattle.labelled_disk.specs.Layout.{IsCount, layout_of, vfm};
@@ -8,11 +8,11 @@ ghost use Rattle.volume_view.specs.Names.{labelled, NamesIn, IsUnmapped, IsDiffe
 ghost use Rattle.volume_view.specs.Recorded.{IsRecorded, AreRecorded};
 ghost use Rattle.volume_view.specs.Records.{IsNoMemory};
 
-use crate::names::NameDifference;
+use crate::rows::add_page;
 use crate::stop::Stop;
 use file_map::{FileMap, MapError};
 use flat_mem::VecMem;
-use label_survey::Triple;
+use label_survey::{Run, Triple};
 use labelled_disk::{Label, Layout};
 use std::alloc::Allocator;
 
@@ -38,17 +38,18 @@ fn is_mapped<A: Allocator>(map: &mut VecMem<A>, sectors: u32, triple: Triple) ->
     }
 }
 
-// The difference of a label that is not free, if the map doesn't name its page in this sector.
+// The page of a label that is not free, if the map doesn't name it in this sector.
 fn difference_at<A: Allocator>(
     map: &mut VecMem<A>,
     sectors: u32,
     label: &Label,
     sector: u32,
-) -> Result<Option<NameDifference>, Stop>
+) -> Result<Option<Triple>, Stop>
     requires counted { IsCount sectors }
     requires size { length (vec_mem_bytes map.old) ≡ 512 * vfm sectors }
     ensures difference { (named : Triples) → NamesIn sectors (vec_mem_bytes map.old) named
         → MatchResult result (IsDifferenceAt named label.now sector) IsNoMemory }
+    ensures place { IfOk result (λ found. IfSome found (λ page. page.sector ≡ sector)) }
     ensures recorded { IfOk result (λ found. found ≡ None → is_free label.now ≡ false
         → IsRecorded sectors (vec_mem_bytes map.old) label.now.id label.now.page sector) }
     ensures same { vec_mem_bytes map.new ≡ vec_mem_bytes map.old }
@@ -63,43 +64,43 @@ fn difference_at<A: Allocator>(
     };
     match is_mapped(map, sectors, triple) {
         Ok(true) => Ok(None),
-        Ok(false) => Ok(Some(NameDifference::OnlyLabelled(triple))),
+        Ok(false) => Ok(Some(triple)),
         Err(stop) => Err(stop),
     }
 }
 
-/// A difference for each sector whose label names a page that the map doesn't name there.
+/// The pages that labels name and the map doesn't name there.
 pub(crate) fn find_unmapped<A: Allocator>(
     alloc: A,
     map: &mut VecMem<A>,
     layout: &Layout,
     labels: &[Label],
-) -> Result<Vec<NameDifference, A>, Stop>
+) -> Result<Vec<Run, A>, Stop>
     requires counted { IsCount layout.now.sectors }
     requires size { length (vec_mem_bytes map.old) ≡ 512 * vfm layout.now.sectors }
     requires few { layout.now.first + length labels.now ≤ layout.now.sectors }
     ensures unmapped { (named : Triples)
         → NamesIn layout.now.sectors (vec_mem_bytes map.old) named
-        → MatchResult result (λ differences.
-        IsUnmapped named (labelled layout.now.first labels.now) differences.items) IsNoMemory }
-    ensures recorded { IfOk result (λ differences. differences.items ≡ [] → AreRecorded
+        → MatchResult result (λ runs.
+        IsUnmapped named (labelled layout.now.first labels.now) runs.items) IsNoMemory }
+    ensures recorded { IfOk result (λ runs. runs.items ≡ [] → AreRecorded
         layout.now.sectors (vec_mem_bytes map.old) (labelled layout.now.first labels.now)) }
     ensures same { vec_mem_bytes map.new ≡ vec_mem_bytes map.old }
 {
-    let mut differences = Vec::new(alloc);
+    let mut runs = Vec::new(alloc);
     for i in 0..labels.len() {
         let found = match difference_at(map, layout.sectors, &labels[i], layout.first + i as u32) {
             Ok(found) => found,
             Err(stop) => return Err(stop),
         };
         match found {
-            Some(difference) => {
-                let Ok(()) = differences.push(difference) else {
+            Some(page) => {
+                let Ok(()) = add_page(&mut runs, page) else {
                     return Err(Stop::NoMemory);
                 };
             }
             None => {}
         }
     }
-    Ok(differences)
+    Ok(runs)
 }

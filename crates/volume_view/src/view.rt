@@ -8,7 +8,8 @@ ghost use Rattle.volume_view.specs.Pages.{IsDiskOrMemory};
 ghost use Rattle.volume_view.specs.View.{IsView};
 
 use crate::LookFault;
-use crate::bits::{BitDifference, look_at_bits};
+use crate::bit_runs::BitRun;
+use crate::bits::look_at_bits;
 use crate::found::{Found, find_files};
 use crate::names::{Names, look_at_names};
 use label_survey::{SurveyFault, read_labels};
@@ -25,9 +26,11 @@ pub struct View<A: Allocator> {
     /// The labels of the data sectors, rising.
     pub labels: Vec<Label, A>,
     pub found: Found<A>,
-    /// The first sectors, rising, of which the allocation map says something else than the labels.
-    pub bits: Vec<BitDifference, A>,
+    /// The sectors, rising, of which the allocation map says something else than the labels.
+    pub bits: Vec<BitRun, A>,
     pub names: Names<A>,
+    /// The labels of both maps' sectors are those of their pages.
+    pub maps_labelled: bool,
 }
 
 // The labels of the data sectors.
@@ -104,8 +107,9 @@ fn look_inside<A: Allocator + Clone, D: Disk>(
     let Ok(own) = alloc.clone() else {
         return Err(LookFault::NoMemory);
     };
-    let bits = look_at_bits(own, disk, &layout, &labels)?;
-    let names = look_at_names(alloc, disk, &layout, &labels)?;
+    let mut maps_labelled = true;
+    let bits = look_at_bits(own, disk, &layout, &labels, &mut maps_labelled)?;
+    let names = look_at_names(alloc, disk, &layout, &labels, &mut maps_labelled)?;
     Ok(View {
         layout,
         root,
@@ -113,6 +117,7 @@ fn look_inside<A: Allocator + Clone, D: Disk>(
         found,
         bits,
         names,
+        maps_labelled,
     })
 }
 

@@ -2,7 +2,7 @@
 //! over it.
 ghost use Rattle.std.specs.Prelude.{◌≤◌, IfOk};
 
-use super::ImageDisk;
+use super::{ImageDisk, Trouble};
 use labelled_disk::{Disk, DiskError, Label, Page, Wanted};
 use std::cell::Cell;
 use std::fs::{Metadata, OpenFile};
@@ -147,6 +147,14 @@ fn a_page_is_written_only_where_the_label_names_it(rt: HostRuntime) {
     assert_eq!(rt; disk.faults(), 0);
 }
 
+/// The sector that a call failed at, if one did.
+fn failed_at(disk: &ImageDisk<Fake>) -> Option<u32> {
+    match disk.trouble()? {
+        Trouble::Sector { sector, .. } => Some(sector),
+        Trouble::Settling(_) => None,
+    }
+}
+
 #[test]
 fn each_error_of_the_system_is_one_fault(rt: HostRuntime) {
     let mut page: Page = [0; 512];
@@ -163,6 +171,14 @@ fn each_error_of_the_system_is_one_fault(rt: HostRuntime) {
         assert_eq!(rt; written.is_err(), 13 < failing && failing <= 20);
         assert_eq!(rt; disk.settle().is_err(), failing == 21);
         assert_eq!(rt; disk.faults(), u64::from(failing <= 21));
+        assert_eq!(rt; disk.trouble().is_some(), failing <= 21);
+        let sector = match failing {
+            1..=6 => Some(0),
+            7..=13 => Some(2),
+            14..=20 => Some(1),
+            _ => None,
+        };
+        assert_eq!(rt; failed_at(&disk), sector);
         assert_eq!(rt; disk.transfers(), 4);
     }
 }

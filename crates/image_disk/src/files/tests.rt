@@ -1,6 +1,6 @@
 //! Images in files of the system, in the folder that the test runs in.
 
-use super::{NoImage, new_image, open_image};
+use super::{NoImage, new_image, open_image, remove_image};
 use labelled_disk::{Disk, Label, Page};
 use std::fs;
 use std::io::ErrorKind;
@@ -70,6 +70,16 @@ fn an_image_is_opened_once_at_a_time(rt: HostRuntime) -> Result<(), Fail> {
     let opened = open_image(&rt, "locked")?;
     assert!(rt; matches!(open_image(&rt, "locked"), Err(NoImage::InUse)));
     assert_eq!(rt; opened.sectors(), 3);
+    Ok(())
+}
+
+#[test]
+fn an_image_that_is_removed_is_missing(rt: HostRuntime) -> Result<(), Fail> {
+    let made = new_image(&rt, 3, "removed")?;
+    remove_image(&rt, "removed")?;
+    drop(made);
+    let missing = refused(open_image(&rt, "removed"));
+    assert_eq!(rt; missing, Some(ErrorKind::NotFound));
     Ok(())
 }
 

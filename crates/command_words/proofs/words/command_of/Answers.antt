@@ -19,9 +19,16 @@ returns-in-format-clause-unknown c none =
 pub scavenge_of-requires : goal.scavenge_of-requires
 scavenge_of-requires c = record { named = first_named c.args.words.now c.first.result c.in-Some.word c.as_str.result.now _ c.first.ensures.value c.in-Some.is c.as_str.ensures.value c.in-scavenge.is }
 
+pub convert_of-requires : goal.convert_of-requires
+convert_of-requires c = record { named = first_named c.args.words.now c.first.result c.in-Some.word c.as_str.result.now _ c.first.ensures.value c.in-Some.is c.as_str.ensures.value c.in-convert.is }
+
 pub returns-in-scavenge-clause-unknown : goal.returns-in-scavenge-clause-unknown
 returns-in-scavenge-clause-unknown c none =
     absurd (none (command.Scavenge) (first_named c.args.words.now c.first.result c.in-Some.word c.as_str.result.now _ c.first.ensures.value c.in-Some.is c.as_str.ensures.value c.in-scavenge.is))
+
+pub returns-in-convert-clause-unknown : goal.returns-in-convert-clause-unknown
+returns-in-convert-clause-unknown c none =
+    absurd (none (command.Convert) (first_named c.args.words.now c.first.result c.in-Some.word c.as_str.result.now _ c.first.ensures.value c.in-Some.is c.as_str.ensures.value c.in-convert.is))
 
 pub trial_of-requires : goal.trial_of-requires
 trial_of-requires c = record { named = first_named c.args.words.now c.first.result c.in-Some.word c.as_str.result.now _ c.first.ensures.value c.in-Some.is c.as_str.ensures.value c.in-trial.is }
@@ -38,6 +45,9 @@ returns-in-format-clause-memory c is = (command.Format 1 1, first_named c.args.w
 
 pub returns-in-scavenge-clause-memory : goal.returns-in-scavenge-clause-memory
 returns-in-scavenge-clause-memory c is = (command.Scavenge, first_named c.args.words.now c.first.result c.in-Some.word c.as_str.result.now _ c.first.ensures.value c.in-Some.is c.as_str.ensures.value c.in-scavenge.is)
+
+pub returns-in-convert-clause-memory : goal.returns-in-convert-clause-memory
+returns-in-convert-clause-memory c is = (command.Convert, first_named c.args.words.now c.first.result c.in-Some.word c.as_str.result.now _ c.first.ensures.value c.in-Some.is c.as_str.ensures.value c.in-convert.is)
 
 pub returns-in-trial-clause-memory : goal.returns-in-trial-clause-memory
 returns-in-trial-clause-memory c is = (command.Trial 0 1000 64, first_named c.args.words.now c.first.result c.in-Some.word c.as_str.result.now _ c.first.ensures.value c.in-Some.is c.as_str.ensures.value c.in-trial.is)

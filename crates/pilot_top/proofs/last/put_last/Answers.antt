@@ -12,3 +12,8 @@ pub returns-in-Damaged-clause-put : goal.returns-in-Damaged-clause-put
 returns-in-Damaged-clause-put g c =
     let put = c.put-in-Damaged.ensures in
     puts c.put-in-Damaged.result _ _ _ c.deref.result.now (last_line c.args.cause) (c.deref.ensures.0 ∙ c.damage_line.ensures ∙ ap last_line (sym c.in-Damaged.is)) put.ok put.err put.cause.cause
+
+pub returns-in-Unfit-clause-put : goal.returns-in-Unfit-clause-put
+returns-in-Unfit-clause-put g c =
+    let put = c.put-in-Unfit.ensures in
+    puts c.put-in-Unfit.result _ _ _ c.deref-in-Unfit.result.now (last_line c.args.cause) (c.deref-in-Unfit.ensures.0 ∙ c.unfit_line.ensures ∙ ap last_line (sym c.in-Unfit.is)) put.ok put.err put.cause.cause

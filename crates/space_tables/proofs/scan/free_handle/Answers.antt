@@ -1,27 +1,46 @@
-use Rattle.std.proofs.Common.{◌≡◌, ℕ, ◌+◌, ◌-◌, ◌*◌, ◌≤◌, sym, ◌∙◌, arith}
-use Rattle.std.proofs.lemmas.Bool.{true≢false}
-use Rattle.space_tables.proofs.Passes.{still_hold, one_taken, paid_more}
+use Rattle.std.proofs.Common.{◌≡◌, ◌≤◌, ℕ, ◌+◌, ◌-◌, ◌*◌, ◌%◌, List, Option, subst, arith}
+use Rattle.std.proofs.lemmas.Nat.{mul-le}
+use Rattle.space_tables.specs.Form.{slot_page}
+use Rattle.space_tables.specs.Scan.{end_on, IsLowestFrom}
+use Rattle.space_tables.proofs.Passes.{both_taken}
+use Rattle.space_tables.proofs.scan.free_handle.Given as given
 use Rattle.space_tables.proofs.scan.free_handle.Goals as goal
+use Rattle.space_tables.proofs.scan.free_handle.Goals.{In_ok-load_page}
 
-pub returns-then-not-branch-clause-free : goal.returns-then-not-branch-clause-free
-returns-then-not-branch-clause-free g c = λ slots xs h ok.
-    let here = c.in_ok-has_space.ensures.space slots xs (still_hold g.M.FlatMem.tells c.args.mem.now c.scan.mem c.scan.invariant.unchanged slots xs h) in
-    (c.scan.invariant.above, here.0 c.if-not-branch.true, c.scan.invariant.taken slots xs h ok)
+-- the page that was read is that of the handles
+at_hand : (g : given.Over) (c : In_ok-load_page g) (b : List ℕ) → g.M.FlatMem.tells c.args.mem.now b → c.load_page.new.page ≡ slot_page b c.scan.from
+at_hand g c b told = c.in_ok-load_page.ensures.read b (c.scan.invariant.unchanged b told)
 
-more : (h k s t u : ℕ) → 1 ≤ h → s ≤ t + (h - 1) * k → u ≤ s + k → u ≤ t + (h + 1 - 1) * k
-more h k s t u above cost step = let p = paid_more (h - 1) k t s u cost step in let e : (h - 1) + 1 ≡ h + 1 - 1 = omega (arith, above) in rw e at p
+more : (n m k s t u : ℕ) → s ≤ t + n * k → u ≤ s + k → n + 1 ≤ m → u ≤ t + m * k
+more n m k s t u cost step few = let p = mul-le (n + 1) k m k few (omega arith) in omega (arith, p, cost, step)
+
+pub returns-in_err-load_page-clause-cost : goal.returns-in_err-load_page-clause-cost
+returns-in_err-load_page-clause-cost g c = more (c.scan.from - 1) 511 g.M.FlatMem.cost _ _ _ c.scan.invariant.cost c.load_page.ensures.cost (omega (arith, c.scan-test.true, c.scan.invariant.above))
+
+pub returns-in-Some-clause-free : goal.returns-in-Some-clause-free
+returns-in-Some-clause-free g c = λ slots xs h ok.
+    let page = at_hand g (goal.at.returns-in-Some-clause-free g c).In_ok-load_page h.bytes h.told in
+    let at = subst (λ (o : Option ℕ). IsLowestFrom slots c.scan.from (end_on c.scan.from) o) c.in-Some.is (c.free_on.ensures.free h.bytes slots xs page h.are) in
+    (omega (arith, at.0, c.scan.invariant.above), at.2, both_taken slots 1 c.scan.from c.in-Some.handle (c.scan.invariant.taken slots xs h ok) at.3)
+
+pub returns-in-Some-clause-cost : goal.returns-in-Some-clause-cost
+returns-in-Some-clause-cost g c = more (c.scan.from - 1) 511 g.M.FlatMem.cost _ _ _ c.scan.invariant.cost c.load_page.ensures.cost (omega (arith, c.scan-test.true, c.scan.invariant.above))
 
 pub scan-preserved : goal.scan-preserved
 scan-preserved g c = record {
-  above = omega arith;
+  above = omega (arith, c.scan.invariant.above);
   within = omega (arith, c.scan-test.true);
   taken = λ slots xs h ok.
-      let here = c.in_ok-has_space.ensures.space slots xs (still_hold g.M.FlatMem.tells c.args.mem.now c.scan.mem c.scan.invariant.unchanged slots xs h) in
-      one_taken slots c.scan.handle (c.scan.invariant.taken slots xs h ok) (λ free. true≢false (sym c.if-not-branch.false ∙ here.1 free));
-  unchanged = λ b h. c.has_space.ensures.unchanged b (c.scan.invariant.unchanged b h);
-  kept = g.met.M.FlatMem.beside_through _ _ _ c.scan.invariant.kept c.has_space.ensures.kept;
-  cost = more c.scan.handle g.M.FlatMem.cost _ _ _ c.scan.invariant.above c.scan.invariant.cost c.has_space.ensures.cost;
+      let page = at_hand g (goal.at.scan-preserved g c).In_ok-load_page h.bytes h.told in
+      let none = subst (λ (o : Option ℕ). IsLowestFrom slots c.scan.from (end_on c.scan.from) o) c.in_default.is (c.free_on.ensures.free h.bytes slots xs page h.are) in
+      both_taken slots 1 c.scan.from (end_on c.scan.from) (c.scan.invariant.taken slots xs h ok) none;
+  unchanged = λ b h. c.load_page.ensures.unchanged b (c.scan.invariant.unchanged b h);
+  kept = g.met.M.FlatMem.beside_through _ _ _ c.scan.invariant.kept c.load_page.ensures.kept;
+  cost = more (c.scan.from - 1) (c.scan.from - c.scan.from % 16 + 16 - 1) g.M.FlatMem.cost _ _ _ c.scan.invariant.cost c.load_page.ensures.cost (omega (arith, c.scan.invariant.above));
 }
 
 pub returns-clause-free : goal.returns-clause-free
 returns-clause-free g c = λ slots xs h ok j low below. c.scan.invariant.taken slots xs h ok j low (omega (arith, below, c.scan-test.false))
+
+pub returns-clause-cost : goal.returns-clause-cost
+returns-clause-cost g c = let p = mul-le (c.scan.from - 1) g.M.FlatMem.cost 511 g.M.FlatMem.cost (omega (arith, c.scan.invariant.within)) (omega arith) in omega (arith, p, c.scan.invariant.cost)

@@ -7,13 +7,13 @@ use Rattle.space_tables.proofs.scan.free_handle.Given as goal
 
 abbrev pub invariant-scan : goal.invariant-scan
 invariant-scan g l = record {
-  above : 1 ≤ l.handle;
-  within : l.handle ≤ 512;
-  taken : (slots : List (Option Space)) (xs : List Interval) → HoldTables (g.M.FlatMem.tells l.initial.mem) slots xs → AreReadable slots xs → AreTaken slots l.handle;
-  unchanged : (b : List ℕ) → g.M.FlatMem.tells l.initial.mem b → g.M.FlatMem.tells l.mem b;
-  kept : g.M.FlatMem.beside l.initial.mem l.mem;
-  cost : g.M.FlatMem.spent l.mem ≤ g.M.FlatMem.spent l.initial.mem + (l.handle - 1) * g.M.FlatMem.cost;
+  above : 1 ≤ l.from;
+  within : l.from ≤ 512;
+  taken : (slots : List (Option Space)) (xs : List Interval) → HoldTables (g.M.FlatMem.tells l.fn.mem) slots xs → AreReadable slots xs → AreTaken slots l.from;
+  unchanged : (b : List ℕ) → g.M.FlatMem.tells l.fn.mem b → g.M.FlatMem.tells l.mem b;
+  kept : g.M.FlatMem.beside l.fn.mem l.mem;
+  cost : g.M.FlatMem.spent l.mem ≤ g.M.FlatMem.spent l.fn.mem + (l.from - 1) * g.M.FlatMem.cost;
 }
 
 abbrev pub decreases-scan : goal.decreases-scan
-decreases-scan g l = 512 - l.handle
+decreases-scan g l = 512 - l.from

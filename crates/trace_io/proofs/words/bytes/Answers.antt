@@ -1,4 +1,4 @@
-use Rattle.std.proofs.Common.{◌≡◌, ◌<◌, ◌∙◌, sym, ap, length, arith, Ok}
+use Rattle.std.proofs.Common.{◌<◌, ◌∙◌, sym, ap, length, arith, Ok}
 use Rattle.std.proofs.lemmas.List.Sums.{list_all-from_AllPass}
 use Rattle.hex.specs.Hex.{is_hex_digit}
 use Rattle.trace_io.proofs.LongLines.{none_unless}

@@ -1,9 +1,9 @@
-use Rattle.std.proofs.Common.{◌≡◌, ℕ, ◌+◌, ◌∙◌, Ok, length, sym, ap}
+use Rattle.std.proofs.Common.{◌≡◌, ℕ, ◌+◌, ◌∙◌, Ok, length, sym, ap, subst}
 use Rattle.flat_mem.specs.Vec.{vec_mem_bytes}
 use Rattle.labelled_disk.specs.Layout.{first_data, vam, vfm}
 use Rattle.file_map.specs.InSectors.{label_triples}
-use Rattle.volume_view.specs.Names.{labelled}
-use Rattle.volume_view.specs.Pages.{bytes_of}
+use Rattle.volume_view.specs.Names.{labelled, IsComparison}
+use Rattle.volume_view.specs.Pages.{bytes_of, SaysNamed}
 use Rattle.volume_view.proofs.RecordedLemmas.{alike_on}
 use Rattle.volume_view.proofs.LayoutLemmas.{of_layout}
 use Rattle.volume_view.proofs.AgreeLemmas.{agrees_as_told}
@@ -19,7 +19,9 @@ returns-in-Ok-compare_names-clause-told g c = λ d told are named map_is.
     let pages : c.args.layout.now.vfm ≡ vfm (length d) = parts.names ∙ ap vfm (sym long) in
     let bytes = c.is_in_form.ensures.same ∙ c.in_ok-map.ensures.bytes d told ∙ ap (λ (n : ℕ). bytes_of d (1 + n) c.args.layout.now.vfm) bits ∙ ap (bytes_of d (1 + vam (length d))) pages in
     let there = names_in d c.args.layout.now.sectors (vec_mem_bytes c.is_in_form.new.map) named (long ∙ sym parts.sectors) bytes map_is in
-    comparison_alike named (labelled c.args.layout.now.first c.args.labels.now) (label_triples d) _ (labels_say d c.args.labels.now c.args.layout.now.first from are) (c.in-Ok-compare_names.ensures.compared named there)
+    let said = labels_say d c.args.labels.now c.args.layout.now.first from are in
+    let alike = comparison_alike (labelled c.args.layout.now.first c.args.labels.now) (label_triples d) said c.args.layout.now.sectors named c.in-Ok-compare_names.differences (c.in-Ok-compare_names.ensures.compared named there) in
+    subst (λ (n : ℕ). IsComparison n named (label_triples d) c.in-Ok-compare_names.differences) (parts.sectors ∙ sym long) alike
 
 pub returns-in-Err-Broken-clause-told : goal.returns-in-Err-Broken-clause-told
 returns-in-Err-Broken-clause-told g c = λ d told are named map_is.
@@ -53,3 +55,19 @@ returns-in-Ok-compare_names-clause-agrees g c = λ d told are.
 
 pub returns-in-Err-Broken-clause-agrees : goal.returns-in-Err-Broken-clause-agrees
 returns-in-Err-Broken-clause-agrees g c = λ d told are. (λ never. absurd never, returns-in-Err-Broken-clause-told g c d told are (label_triples d))
+
+pub returns-in-Ok-compare_names-clause-labelled : goal.returns-in-Ok-compare_names-clause-labelled
+returns-in-Ok-compare_names-clause-labelled g c = λ d told.
+    let parts = of_layout c.args.layout.now (g.D.Disk.state c.args.disk.now).sectors c.requires.layout in
+    let long : length d ≡ (g.D.Disk.state c.args.disk.now).sectors = g.met.D.Disk.whole c.args.disk.now d told in
+    let bits : c.args.layout.now.vam ≡ vam (length d) = parts.bits ∙ ap vam (sym long) in
+    let pages : c.args.layout.now.vfm ≡ vfm (length d) = parts.names ∙ ap vfm (sym long) in
+    subst (λ (n : ℕ). SaysNamed c.args.labelled.now c.read_pages.new.labelled d 2 (1 + vam (length d)) n) pages (subst (λ (n : ℕ). SaysNamed c.args.labelled.now c.read_pages.new.labelled d 2 (1 + n) c.args.layout.now.vfm) bits (c.in_ok-map.ensures.labels d told))
+
+pub returns-in-Err-Broken-clause-labelled : goal.returns-in-Err-Broken-clause-labelled
+returns-in-Err-Broken-clause-labelled g c = λ d told.
+    let parts = of_layout c.args.layout.now (g.D.Disk.state c.args.disk.now).sectors c.requires.layout in
+    let long : length d ≡ (g.D.Disk.state c.args.disk.now).sectors = g.met.D.Disk.whole c.args.disk.now d told in
+    let bits : c.args.layout.now.vam ≡ vam (length d) = parts.bits ∙ ap vam (sym long) in
+    let pages : c.args.layout.now.vfm ≡ vfm (length d) = parts.names ∙ ap vfm (sym long) in
+    subst (λ (n : ℕ). SaysNamed c.args.labelled.now c.read_pages.new.labelled d 2 (1 + vam (length d)) n) pages (subst (λ (n : ℕ). SaysNamed c.args.labelled.now c.read_pages.new.labelled d 2 (1 + n) c.args.layout.now.vfm) bits (c.in_ok-map.ensures.labels d told))

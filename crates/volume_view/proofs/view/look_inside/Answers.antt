@@ -1,7 +1,8 @@
-use Rattle.std.proofs.Common.{◌≡◌, ◌∙◌, length, refl, sym, ap}
-use Rattle.labelled_disk.specs.Layout.{first_data}
+use Rattle.std.proofs.Common.{◌≡◌, ◌∙◌, length, refl, sym, ap, subst}
+use Rattle.labelled_disk.specs.Layout.{IsCount, layout_of, first_data}
 use Rattle.labelled_disk.proofs.CallLemmas.{only_reads_then}
 use Rattle.volume_view.proofs.LayoutLemmas.{of_layout}
+use Rattle.volume_view.proofs.PageLemmas.{maps_named}
 use Rattle.volume_view.proofs.LookLemmas.{labels_cost, bits_cost, names_cost, labels_all, bits_all, names_all}
 use Rattle.volume_view.proofs.view.look_inside.Goals as goal
 
@@ -53,7 +54,12 @@ returns-clause-view g c = λ d told.
     let three = only_reads_then two c.look_at_bits.ensures.cost.only in
     let are = c.in_ok-labels.ensures.labels d (one.contents ∙ told) in
     let names = c.in_ok-names.ensures.told d (three.contents ∙ told) (c.deref-3.ensures.value ∙ are) in
+    let marks = c.in_ok-bits.ensures.labelled d (two.contents ∙ told) in
+    let pages = c.in_ok-names.ensures.labelled d (three.contents ∙ told) in
     record {
+      counted = subst IsCount (sym long) c.requires.counted;
+      layout = c.requires.layout ∙ ap layout_of (sym long);
+      maps_labelled = maps_named d (length d) c.look_at_bits.new.labelled c.look_at_names.new.labelled marks pages;
       root = λ s here. c.in_ok-root.ensures.root d told s here;
       labels = are;
       found = c.in-Ok-find_files.ensures d from (c.deref.ensures.value ∙ are);

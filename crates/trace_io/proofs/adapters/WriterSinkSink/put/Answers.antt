@@ -9,7 +9,12 @@ loop-at-preserved g c =
     let next = rw (take_rest piece c.loop-at.at) at c.in-Ok.ensures.bytes in
     (search rules, appends_part _ _ _ piece c.loop-at.at c.in-Ok.count c.loop-at.invariant.1 next, search rules)
 
-pub returns-in_default-clause-err : goal.returns-in_default-clause-err
-returns-in_default-clause-err g c =
+pub returns-in-Ok-2-clause-err : goal.returns-in-Ok-2-clause-err
+returns-in-Ok-2-clause-err g c =
     let piece = c.args.piece.now in
-    written_front _ _ _ piece c.loop-at.at c.write.result c.loop-at.invariant.1 (rw (take_rest piece c.loop-at.at) at c.write.ensures.bytes)
+    rw c.fault.ensures.writer (written_front _ _ _ piece c.loop-at.at c.write.result c.loop-at.invariant.1 (rw (take_rest piece c.loop-at.at) at c.write.ensures.bytes))
+
+pub returns-in-Err-clause-err : goal.returns-in-Err-clause-err
+returns-in-Err-clause-err g c =
+    let piece = c.args.piece.now in
+    rw c.fault-in-Err.ensures.writer (written_front _ _ _ piece c.loop-at.at c.write.result c.loop-at.invariant.1 (rw (take_rest piece c.loop-at.at) at c.write.ensures.bytes))

@@ -1,0 +1,21 @@
+pub mod UnitLemmas
+pub mod MomentLemmas
+pub mod CutLemmas
+pub mod SettleLemmas
+pub mod TurnLemmas
+pub mod PairLemmas
+pub mod SteadyLemmas
+pub mod StayLemmas
+mod ShapeLemmas
+mod RestoredLemmas
+mod RootLemmas
+pub mod OwnLemmas
+mod NumberLemmas
+pub mod SizeLemmas
+pub mod WholeLemmas
+mod WholeWriteLemmas
+mod ResizeLemmas
+mod MixLemmas
+mod ExampleLemmas
+pub mod OwnRunLemmas
+mod RootWriteLemmas

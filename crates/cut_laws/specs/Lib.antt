@@ -1,0 +1,15 @@
+pub mod Cut
+pub mod CutLaws
+pub mod Example
+pub mod Mixes
+pub mod OwnBytes
+pub mod OwnRuns
+pub mod ResizeLaws
+pub mod Restored
+pub mod RootWrites
+pub mod Roots
+pub mod Settles
+pub mod ShapeLaws
+pub mod SizeLaws
+pub mod StayLaws
+pub mod Windows

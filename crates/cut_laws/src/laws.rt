@@ -1,0 +1,73 @@
+//! Laws of cuts, as the contracts of functions that do nothing.
+
+ghost use Rattle.std.specs.Prelude.{ℕ, Bool, List};
+ghost use Rattle.cut_laws.specs.CutLaws.{CutLaws, WindowLaws};
+ghost use Rattle.cut_laws.specs.Example.{ExampleCuts};
+ghost use Rattle.cut_laws.specs.Mixes.{MixLaws};
+ghost use Rattle.cut_laws.specs.OwnBytes.{OwnBytes};
+ghost use Rattle.cut_laws.specs.OwnRuns.{OwnRunLaws};
+ghost use Rattle.cut_laws.specs.ResizeLaws.{ResizedHasSizeBetween};
+ghost use Rattle.cut_laws.specs.Restored.{RestoredKeepsFiles};
+ghost use Rattle.cut_laws.specs.RootWrites.{RootIsWhole};
+ghost use Rattle.cut_laws.specs.Roots.{FlagLaws};
+ghost use Rattle.cut_laws.specs.Settles.{SettleLaws};
+ghost use Rattle.cut_laws.specs.ShapeLaws.{LeaderFreed, LeaderWritten, NoLabelWritten, ShapesOfOneMoment};
+ghost use Rattle.cut_laws.specs.SizeLaws.{PagesAreOwn, RightIsWhole, SizeOfOneMoment};
+ghost use Rattle.cut_laws.specs.StayLaws.{NoneAppears, OthersStayInCuts, PagesOfFile};
+
+/// What a cut is: any part of the writes since the last settle.
+pub fn cuts_are_parts_of_writes()
+    ensures cuts { CutLaws }
+    ensures windows { WindowLaws }
+    ensures mixes { MixLaws }
+    ensures settles { (settles : List ℕ) (k : ℕ) → SettleLaws settles k }
+{}
+
+/// A file that no write is of is in a cut as it was, and one that there is at no moment is not in it.
+pub fn others_stay_in_cuts()
+    ensures stays { (with_temporary : Bool) → OthersStayInCuts with_temporary }
+    ensures none { (with_temporary : Bool) → NoneAppears with_temporary }
+    ensures pages { (with_temporary : Bool) → PagesOfFile with_temporary }
+{}
+
+/// The shape and the bytes in a cut of a file of which no label, or that of its leader alone, was written.
+pub fn shapes_stay_in_cuts()
+    ensures no_label { (with_temporary : Bool) → NoLabelWritten with_temporary }
+    ensures marks { (with_temporary : Bool) → LeaderWritten with_temporary }
+    ensures leaves { (with_temporary : Bool) → LeaderFreed with_temporary }
+    ensures all { (with_temporary : Bool) → ShapesOfOneMoment with_temporary }
+{}
+
+/// Sectors that no file needs are freed, and root and maps are written: each cut has the files.
+pub fn restored_keep_files_in_cuts()
+    ensures { (with_temporary : Bool) → RestoredKeepsFiles with_temporary }
+{}
+
+/// The root, and its clean flag, in a cut.
+pub fn root_in_cuts()
+    ensures laws { FlagLaws }
+    ensures written { RootIsWhole }
+{}
+
+/// A file has bytes of its own in a cut, where its sectors were no other's since the last settle.
+pub fn own_bytes_in_cuts()
+    ensures { (id : ℕ) → OwnBytes id }
+{}
+
+/// A file that gets more pages, or fewer, has a size in a cut that it had at some moment.
+pub fn sizes_in_cuts()
+    ensures size { (with_temporary : Bool) → SizeOfOneMoment with_temporary }
+    ensures pages { PagesAreOwn }
+    ensures whole { (with_temporary : Bool) → RightIsWhole with_temporary }
+    ensures resized { (with_temporary : Bool) → ResizedHasSizeBetween with_temporary }
+{}
+
+/// Cuts of disks that are written out: a root with the new flag and the old counter, and bytes of another file.
+pub fn example_cuts()
+    ensures { ExampleCuts }
+{}
+
+/// The label writes of one file among writes of all: its runs, said of each write.
+pub fn runs_of_one_file()
+    ensures { (id : ℕ) → OwnRunLaws id }
+{}

@@ -1,0 +1,12 @@
+//! What stays of the files of a disk where the power goes.
+#![tactic(auto)]
+
+mod laws;
+mod pages;
+
+pub use laws::{
+    cuts_are_parts_of_writes, example_cuts, others_stay_in_cuts, own_bytes_in_cuts,
+    restored_keep_files_in_cuts, root_in_cuts, runs_of_one_file, shapes_stay_in_cuts,
+    sizes_in_cuts,
+};
+pub use pages::lagging_page;

@@ -1,0 +1,100 @@
+//! The disk that an image word asks for, and a command on it.
+
+use crate::reasons::{self, no_command};
+use crate::{NOTHING, command};
+use command_words::{Command, Refused, command_of};
+use image_disk::{Image, ImageDisk, NoImage, image_of, new_image, open_image, remove_image};
+use labelled_disk::{Layout, MemoryDisk};
+use pilot_top::Status;
+use std::fs::File;
+use std::io;
+
+/// What a command on an image knows: the path of the file, the words, and the command that they mean.
+#[derive(Clone, Copy)]
+pub(crate) struct Task<'a> {
+    pub(crate) path: &'a str,
+    pub(crate) words: &'a [String],
+    pub(crate) meant: Command,
+}
+
+/// Carries out a command on a disk in memory.
+fn in_memory(rt: &HostRuntime, sectors: u32, task: Task<'_>) -> Status {
+    let Ok(mut disk) = MemoryDisk::new(rt.alloc(), sectors) else {
+        reasons::no_memory(rt, "the disk");
+        return Status::NoMemory;
+    };
+    let status = command(rt, &mut disk, task.words);
+    reasons::memory_stopped(rt, status, sectors, task.meant);
+    status
+}
+
+/// Carries out a command on a disk of no sector, since the image can't be had.
+fn on_none(rt: &HostRuntime, path: &str, why: NoImage, words: &[String]) -> Status {
+    reasons::no_image(rt, path, why);
+    command(rt, &mut ImageDisk::<File>::absent(), words)
+}
+
+/// Carries out a command on the disk in an image file.
+fn on_disk(rt: &HostRuntime, mut disk: ImageDisk<File>, task: Task<'_>) -> Status {
+    let status = command(rt, &mut disk, task.words);
+    reasons::image_stopped(rt, status, &mut disk, task);
+    status
+}
+
+/// Carries out a command on a new image file, which stays only where a volume was made in it. No
+/// file is made of a number of sectors that no volume has.
+fn on_new(rt: &HostRuntime, held: io::Result<()>, sectors: u32, task: Task<'_>) -> Status {
+    if Layout::of(sectors).is_err() {
+        return on_disk(rt, ImageDisk::without_file(sectors), task);
+    }
+    if let Err(why) = held {
+        return on_none(rt, NOTHING, NoImage::System(why), task.words);
+    }
+    match new_image(rt, sectors, task.path) {
+        Ok(disk) => {
+            let status = on_disk(rt, disk, task);
+            if !matches!(status, Status::Done | Status::StreamFault) {
+                let _ = remove_image(rt, task.path);
+            }
+            status
+        }
+        Err(why) => on_none(rt, task.path, why, task.words),
+    }
+}
+
+/// Carries out a command on an image file that is there.
+fn on_file(rt: &HostRuntime, held: io::Result<()>, task: Task<'_>) -> Status {
+    if let Err(why) = held {
+        return on_none(rt, NOTHING, NoImage::System(why), task.words);
+    }
+    match open_image(rt, task.path) {
+        Ok(disk) => on_disk(rt, disk, task),
+        Err(why) => on_none(rt, task.path, why, task.words),
+    }
+}
+
+/// Carries out a command on the disk that an image word asks for, once the words are known to mean
+/// one. No file is opened where a number of a standard stream may be free.
+pub(crate) fn on_image<'a>(
+    rt: &HostRuntime,
+    held: io::Result<()>,
+    image: &'a str,
+    words: &'a [String],
+) -> Status {
+    let meant = match command_of(rt.alloc(), words) {
+        Ok(meant) => meant,
+        Err(Refused::Usage) => return no_command(rt, words),
+        Err(Refused::NoMemory) => {
+            reasons::no_memory(rt, "the words");
+            return Status::NoMemory;
+        }
+    };
+    match image_of(image) {
+        Image::Memory(sectors) => {
+            let path = image;
+            in_memory(rt, sectors, Task { path, words, meant })
+        }
+        Image::New { sectors, path } => on_new(rt, held, sectors, Task { path, words, meant }),
+        Image::File(path) => on_file(rt, held, Task { path, words, meant }),
+    }
+}

@@ -1,0 +1,13 @@
+//! Tests of a queue in front of a disk, over its public calls.
+#![tactic(auto)]
+
+#[cfg(test)]
+mod disks;
+#[cfg(test)]
+mod drawn;
+#[cfg(test)]
+mod fickle;
+#[cfg(test)]
+mod memory;
+#[cfg(test)]
+mod rows;

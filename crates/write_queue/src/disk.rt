@@ -1,0 +1,114 @@
+//! A queue as a disk.
+ghost use Rattle.std.specs.Prelude.{◌≡◌, ◌<◌, true, OnOk};
+ghost use Rattle.labelled_disk.specs.Calls.{Reads, Writes, WritesData, Settles};
+ghost use Rattle.write_queue.specs.Beneath.{ReadsOne, PassesOn, TakesIn, Empties, CountsCall, CountsSettle};
+ghost use Rattle.write_queue.specs.Moments.{MomentsBetween};
+
+use crate::QueueOver;
+use labelled_disk::{Disk, DiskError, DiskWrite, Label, Page, Wanted};
+use std::alloc::Allocator;
+
+impl<D: Disk, A: Allocator> Disk for QueueOver<D, A> {
+    ghost use Rattle.write_queue.specs.Queue.{state_of, view_of, tally_of};
+    ghost use Rattle.write_queue.specs.QueueLaws.{told_whole, told_in_form};
+
+    ghost state = { λ q. state_of q };
+
+    ghost whole = { λ q all told. told_whole (D.state q.under) q.entries.items (D.whole q.under) all
+        told };
+
+    ghost in_form = { λ q all told. told_in_form (D.state q.under) q.entries.items q.waiting
+        (D.in_form q.under) all told };
+
+    ghost few = { λ q. D.few q.under };
+
+    fn sectors(&self) -> u32 {
+        self.under.sectors()
+    }
+
+    fn read(&mut self, sector: u32, page: &mut Page) -> Result<Label, DiskError>
+        requires { sector < (state_of self.old).sectors }
+        ensures reads { Reads (state_of self.old) sector page.new result (state_of self.new) }
+        ensures beneath { ReadsOne sector page.new (view_of self.old) result (view_of self.new) }
+        ensures moments { MomentsBetween (view_of self.old) (view_of self.new) }
+        ensures counts { CountsCall (tally_of self.old) (tally_of self.new) }
+    {
+        self.transfers = self.transfers.saturating_add(1);
+        match self.place_of(sector) {
+            Some(place) => {
+                let entry = self.entries[place];
+                let waiting = entry.page;
+                *page = waiting;
+                Ok(entry.label)
+            }
+            None => self.under.read(sector, page),
+        }
+    }
+
+    fn write(&mut self, sector: u32, label: &Label, page: &Page) -> Result<(), DiskError>
+        requires { sector < (state_of self.old).sectors }
+        ensures writes { Writes (DiskWrite.Whole sector label.now page.now) (state_of self.old) result
+            (state_of self.new) }
+        ensures beneath { PassesOn (DiskWrite.Whole sector label.now page.now) (view_of self.old)
+            result (view_of self.new) }
+        ensures moments { MomentsBetween (view_of self.old) (view_of self.new) }
+        ensures counts { CountsCall (tally_of self.old) (tally_of self.new) }
+    {
+        self.transfers = self.transfers.saturating_add(1);
+        self.empty()?;
+        self.under.write(sector, label, page)
+    }
+
+    fn write_label(&mut self, sector: u32, label: &Label) -> Result<(), DiskError>
+        requires { sector < (state_of self.old).sectors }
+        ensures writes { Writes (DiskWrite.LabelOnly sector label.now) (state_of self.old) result
+            (state_of self.new) }
+        ensures beneath { PassesOn (DiskWrite.LabelOnly sector label.now) (view_of self.old) result
+            (view_of self.new) }
+        ensures moments { MomentsBetween (view_of self.old) (view_of self.new) }
+        ensures counts { CountsCall (tally_of self.old) (tally_of self.new) }
+    {
+        self.transfers = self.transfers.saturating_add(1);
+        self.empty()?;
+        self.under.write_label(sector, label)
+    }
+
+    fn write_data(&mut self, sector: u32, wanted: Wanted, page: &Page) -> Result<(), DiskError>
+        requires { sector < (state_of self.old).sectors }
+        ensures writes { WritesData sector wanted page.now (state_of self.old) result
+            (state_of self.new) }
+        ensures beneath { TakesIn sector wanted page.now (view_of self.old) result
+            (view_of self.new) }
+        ensures moments { MomentsBetween (view_of self.old) (view_of self.new) }
+        ensures counts { CountsCall (tally_of self.old) (tally_of self.new) }
+    {
+        self.transfers = self.transfers.saturating_add(1);
+        match self.place_of(sector) {
+            Some(place) => self.replace(place, wanted, page),
+            None => self.take_in(sector, wanted, page),
+        }
+    }
+
+    fn settle(&mut self) -> Result<(), DiskError>
+        ensures settles { Settles (state_of self.old) result (state_of self.new) }
+        ensures synced { OnOk result ((view_of self.new).under.synced ≡ true) }
+        ensures beneath { Empties (view_of self.old) result (view_of self.new) }
+        ensures moments { MomentsBetween (view_of self.old) (view_of self.new) }
+        ensures counts { CountsSettle (tally_of self.old) result (tally_of self.new) }
+    {
+        let before = self.unsettled;
+        self.unsettled = before.saturating_add(1);
+        self.empty()?;
+        self.under.settle()?;
+        self.unsettled = before;
+        Ok(())
+    }
+
+    fn transfers(&self) -> u64 {
+        self.transfers
+    }
+
+    fn faults(&self) -> u64 {
+        self.under.faults().saturating_add(self.own)
+    }
+}
