@@ -1,6 +1,8 @@
-//! Times of small pieces of work: `benchmarks frames`, `benchmarks queue`. Without such a word it prints nothing.
+//! Times of pieces of work: `benchmarks frames`, `benchmarks queue`, `benchmarks convert`. Without
+//! such a word it prints nothing.
 #![tactic(auto)]
 
+mod conversions;
 mod frames;
 mod queue;
 
@@ -57,6 +59,9 @@ fn main(rt: HostRuntime) -> io::Result<()> {
             for frames in [24u32, 4096] {
                 report(&rt, frames)?;
             }
+        }
+        if word.as_str() == "convert" {
+            conversions::report(&rt)?;
         }
         if word.as_str() == "queue" {
             for room in [1u32, 256] {
