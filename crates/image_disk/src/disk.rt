@@ -8,6 +8,18 @@ use labelled_disk::{Disk, DiskError, DiskWrite, Label, Page, Wanted};
 use std::fs::OpenFile;
 use std::io;
 use std::os::unix::fs::FileExt;
+use thiserror::Error;
+
+/// What the system answered to a call on the file that failed, and where.
+#[derive(Clone, Copy, Debug, Drop, Error)]
+pub enum Trouble {
+    /// A sector could not be read or written.
+    #[error("sector {sector}: {error}")]
+    Sector { sector: u32, error: io::Error },
+    /// What was written could not be put on the medium.
+    #[error("fdatasync: {0}")]
+    Settling(io::Error),
+}
 
 /// The bytes of a sector in an image file.
 pub const SECTOR_BYTES: u64 = 528;
@@ -23,6 +35,7 @@ pub struct ImageDisk<F: FileExt + OpenFile> {
     transfers: u64,
     faults: u64,
     synced: bool,
+    trouble: Option<Trouble>,
     ghost few: { sectors < 2 ^ 32 },
 }
 
@@ -50,6 +63,7 @@ impl<F: FileExt + OpenFile> ImageDisk<F> {
             transfers: 0,
             faults: 0,
             synced: false,
+            trouble: None,
         }
     }
 
@@ -59,13 +73,29 @@ impl<F: FileExt + OpenFile> ImageDisk<F> {
         ensures counts { image_state result
             ≡ record (image_state result) { transfers = 0; faults = 0; synced = false } }
     {
+        ImageDisk::without_file(0)
+    }
+
+    /// A disk of so many sectors without a file, which can neither be read nor written: for an image
+    /// that is not made, since no volume has so many.
+    pub fn without_file(sectors: u32) -> ImageDisk<F>
+        ensures sectors { (image_state result).sectors ≡ sectors }
+        ensures counts { image_state result
+            ≡ record (image_state result) { transfers = 0; faults = 0; synced = false } }
+    {
         ImageDisk {
             file: None,
-            sectors: 0,
+            sectors,
             transfers: 0,
             faults: 0,
             synced: false,
+            trouble: None,
         }
+    }
+
+    /// What the system answered to the last call that failed, if one did.
+    pub fn trouble(&self) -> Option<Trouble> {
+        self.trouble
     }
 
     // Reads as many bytes as there are to fill, from this byte of the file on.
@@ -109,8 +139,8 @@ impl<F: FileExt + OpenFile> ImageDisk<F> {
         self.transfers = self.transfers.saturating_add(1);
     }
 
-    // Counts a fault of the system.
-    fn fault(&mut self) -> DiskError
+    // Counts a fault of the system, and keeps what it answered.
+    fn fault(&mut self, trouble: Trouble) -> DiskError
         ensures result { result ≡ DiskError.Failed }
         ensures cause { Rose self.old.faults self.new.faults }
         ensures never_falls { self.old.faults ≤ self.new.faults }
@@ -120,6 +150,7 @@ impl<F: FileExt + OpenFile> ImageDisk<F> {
         ensures synced { self.new.synced ≡ self.old.synced }
     {
         self.faults = self.faults.saturating_add(1);
+        self.trouble = Some(trouble);
         DiskError::Failed
     }
 }
@@ -183,7 +214,7 @@ impl<F: FileExt + OpenFile> Disk for ImageDisk<F> {
         let mut bytes = [0; 528];
         match self.get(label_at(sector), &mut bytes) {
             Ok(()) => Ok(parted(&bytes, page)),
-            Err(_) => Err(self.fault()),
+            Err(error) => Err(self.fault(Trouble::Sector { sector, error })),
         }
     }
 
@@ -198,7 +229,7 @@ impl<F: FileExt + OpenFile> Disk for ImageDisk<F> {
         self.synced = false;
         match self.put(label_at(sector), &joined(label, page)) {
             Ok(()) => Ok(()),
-            Err(_) => Err(self.fault()),
+            Err(error) => Err(self.fault(Trouble::Sector { sector, error })),
         }
     }
 
@@ -213,7 +244,7 @@ impl<F: FileExt + OpenFile> Disk for ImageDisk<F> {
         self.synced = false;
         match self.put(label_at(sector), &label.to_bytes()) {
             Ok(()) => Ok(()),
-            Err(_) => Err(self.fault()),
+            Err(error) => Err(self.fault(Trouble::Sector { sector, error })),
         }
     }
 
@@ -227,8 +258,8 @@ impl<F: FileExt + OpenFile> Disk for ImageDisk<F> {
         self.count_transfer();
         self.synced = false;
         let mut bytes = [0; 16];
-        if self.get(label_at(sector), &mut bytes).is_err() {
-            return Err(self.fault());
+        if let Err(error) = self.get(label_at(sector), &mut bytes) {
+            return Err(self.fault(Trouble::Sector { sector, error }));
         }
         let found = Label::from_bytes(&bytes);
         if !found.names(wanted) {
@@ -236,7 +267,7 @@ impl<F: FileExt + OpenFile> Disk for ImageDisk<F> {
         }
         match self.put_page(sector, found, wanted, page) {
             Ok(()) => Ok(()),
-            Err(_) => Err(self.fault()),
+            Err(error) => Err(self.fault(Trouble::Sector { sector, error })),
         }
     }
 
@@ -244,8 +275,8 @@ impl<F: FileExt + OpenFile> Disk for ImageDisk<F> {
         ensures settles { Settles (image_state self.old) result (image_state self.new) }
         ensures faults { CountsFault result self.old.faults self.new.faults }
     {
-        if self.sync().is_err() {
-            return Err(self.fault());
+        if let Err(error) = self.sync() {
+            return Err(self.fault(Trouble::Settling(error)));
         }
         self.synced = true;
         Ok(())
@@ -259,6 +290,3 @@ impl<F: FileExt + OpenFile> Disk for ImageDisk<F> {
         self.faults
     }
 }
-
-#[cfg(test)]
-mod tests;

@@ -3,7 +3,7 @@
 use crate::{ImageDisk, SECTOR_BYTES};
 use labelled_disk::Disk;
 use std::fs::{File, OpenOptions, TryLockError};
-use std::io;
+use std::{fs, io};
 use thiserror::Error;
 
 /// Why there is no image to work on.
@@ -20,19 +20,32 @@ pub enum NoImage {
     Short,
 }
 
-/// The disk in a new file of so many zero sectors. There must be no file of that path. Where the
-/// file can't be locked or can't get its length, it stays, and is empty.
-pub fn new_image(rt: &HostRuntime, sectors: u32, path: &str) -> Result<ImageDisk<File>, NoImage> {
-    let file = locked(new_file(rt, path))?;
-    match file.set_len(u64::from(sectors) * SECTOR_BYTES) {
-        Ok(()) => Ok(ImageDisk::over(file)),
-        Err(error) => Err(NoImage::System(error)),
+impl From<io::Error> for NoImage {
+    fn from(error: io::Error) -> Self {
+        NoImage::System(error)
     }
+}
+
+/// The disk in a new file of so many zero sectors. There must be no file of that path. Where the
+/// file can't be locked or can't get its length, it is removed again.
+pub fn new_image(rt: &HostRuntime, sectors: u32, path: &str) -> Result<ImageDisk<File>, NoImage> {
+    let file = new_file(rt, path).map_err(NoImage::System)?;
+    let disk = with_sectors(file, sectors);
+    if disk.is_err() {
+        let _ = remove_image(rt, path);
+    }
+    disk
+}
+
+/// Removes the file of an image that no volume was made in.
+pub fn remove_image(rt: &HostRuntime, path: &str) -> io::Result<()> {
+    fs::remove_file(rt, path)
 }
 
 /// The disk in the file that is there, which has a sector at least.
 pub fn open_image(rt: &HostRuntime, path: &str) -> Result<ImageDisk<File>, NoImage> {
-    let disk = ImageDisk::over(locked(file_there(rt, path))?);
+    let file = file_there(rt, path).map_err(NoImage::System)?;
+    let disk = ImageDisk::over(locked(file)?);
     if disk.sectors() == 0 {
         return Err(NoImage::Short);
     }
@@ -51,15 +64,20 @@ fn file_there(rt: &HostRuntime, path: &str) -> io::Result<File> {
     OpenOptions::new().read(true).write(true).open(rt, path)
 }
 
-// The file once it is opened and locked.
-fn locked(opened: io::Result<File>) -> Result<File, NoImage> {
-    let file = opened.map_err(NoImage::System)?;
+// The disk of so many zero sectors in a file that is empty.
+fn with_sectors(file: File, sectors: u32) -> Result<ImageDisk<File>, NoImage> {
+    let file = locked(file)?;
+    match file.set_len(u64::from(sectors) * SECTOR_BYTES) {
+        Ok(()) => Ok(ImageDisk::over(file)),
+        Err(error) => Err(NoImage::System(error)),
+    }
+}
+
+// The file once it is locked.
+fn locked(file: File) -> Result<File, NoImage> {
     match file.try_lock() {
         Ok(()) => Ok(file),
         Err(TryLockError::WouldBlock) => Err(NoImage::InUse),
         Err(TryLockError::Error(error)) => Err(NoImage::System(error)),
     }
 }
-
-#[cfg(test)]
-mod tests;

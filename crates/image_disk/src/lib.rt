@@ -5,6 +5,6 @@ mod disk;
 mod files;
 mod word;
 
-pub use disk::{ImageDisk, SECTOR_BYTES};
-pub use files::{NoImage, new_image, open_image};
+pub use disk::{ImageDisk, SECTOR_BYTES, Trouble};
+pub use files::{NoImage, new_image, open_image, remove_image};
 pub use word::{Image, image_of};
