@@ -290,6 +290,3 @@ impl<F: FileExt + OpenFile> Disk for ImageDisk<F> {
         self.faults
     }
 }
-
-#[cfg(test)]
-mod tests;

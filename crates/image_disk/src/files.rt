@@ -20,6 +20,12 @@ pub enum NoImage {
     Short,
 }
 
+impl From<io::Error> for NoImage {
+    fn from(error: io::Error) -> Self {
+        NoImage::System(error)
+    }
+}
+
 /// The disk in a new file of so many zero sectors. There must be no file of that path. Where the
 /// file can't be locked or can't get its length, it is removed again.
 pub fn new_image(rt: &HostRuntime, sectors: u32, path: &str) -> Result<ImageDisk<File>, NoImage> {
@@ -75,6 +81,3 @@ fn locked(file: File) -> Result<File, NoImage> {
         Err(TryLockError::Error(error)) => Err(NoImage::System(error)),
     }
 }
-
-#[cfg(test)]
-mod tests;

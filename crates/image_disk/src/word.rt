@@ -43,34 +43,3 @@ fn count_of(text: &str) -> Option<u32>
     }
     text.parse().ok()
 }
-
-#[cfg(test)]
-mod tests {
-    use super::*;
-
-    #[test]
-    fn each_kind_of_word(rt: HostRuntime) {
-        assert_eq!(rt; image_of(":256"), Image::Memory(256));
-        assert_eq!(rt; image_of(":4294967295"), Image::Memory(4_294_967_295));
-        assert_eq!(rt; image_of(":4294967296"), Image::File(":4294967296"));
-        assert_eq!(rt; image_of(":"), Image::File(":"));
-        assert_eq!(rt; image_of(":+1"), Image::File(":+1"));
-        assert_eq!(rt;
-            image_of("12:x"),
-            Image::New {
-                sectors: 12,
-                path: "x"
-            }
-        );
-        assert_eq!(rt;
-            image_of("12:x:y"),
-            Image::New {
-                sectors: 12,
-                path: "x:y"
-            }
-        );
-        assert_eq!(rt; image_of("a12:x"), Image::File("a12:x"));
-        assert_eq!(rt; image_of("x"), Image::File("x"));
-        assert_eq!(rt; image_of(""), Image::File(""));
-    }
-}

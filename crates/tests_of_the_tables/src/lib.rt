@@ -1,7 +1,7 @@
-//! Tests of tables of records and of pools of frames, over their public calls.
+//! Tests of memories of pages, and of what stands in them.
 #![tactic(auto)]
 
 #[cfg(test)]
-mod frames;
+mod memories;
 #[cfg(test)]
 mod tables;

@@ -1,5 +1,0 @@
-//! Tests of file maps, over their public calls.
-#![tactic(auto)]
-
-#[cfg(test)]
-mod maps;

@@ -1,0 +1,58 @@
+//! The blocks of a section, one after the other over one disk.
+
+use crate::part::Part;
+use crate::sector;
+use anyhow::Result;
+use image_disk::{new_image, open_image};
+use labelled_disk::{Disk, MemoryDisk};
+use std::alloc::Global;
+use std::fs;
+
+/// The image file of the sections.
+const IMAGE: &str = "image";
+
+/// What a block shows that is not as it says: a command with its rows, or lines on sectors.
+fn wrong<D: Disk>(alloc: Global, disk: &mut D, frames: &str, block: &str) -> Result<String> {
+    if block.starts_with('$') {
+        return Part::of_block(alloc, frames, block)?.wrong(alloc, disk);
+    }
+    for line in block.lines() {
+        let wrong = sector::wrong(alloc, disk, line)?;
+        if !wrong.is_empty() {
+            return Ok(wrong);
+        }
+    }
+    Ok(String::new(alloc))
+}
+
+/// What the first of such blocks shows over a disk in memory.
+pub(crate) fn wrong_in_memory(
+    alloc: Global,
+    sectors: u32,
+    frames: &str,
+    blocks: &str,
+) -> Result<String> {
+    let mut disk = MemoryDisk::new(alloc, sectors)?;
+    for block in blocks.split("\n\n") {
+        let wrong = wrong(alloc, &mut disk, frames, block)?;
+        if !wrong.is_empty() {
+            return Ok(format!(in alloc; "with {frames} frames: {wrong}\n{block}")?);
+        }
+    }
+    Ok(String::new(alloc))
+}
+
+/// The same over an image file, which is opened anew for each block, in 24 frames.
+pub(crate) fn wrong_in_a_file(rt: &HostRuntime, sectors: u32, blocks: &str) -> Result<String> {
+    let alloc = rt.alloc();
+    let _ = fs::remove_file(rt, IMAGE);
+    drop(new_image(rt, sectors, IMAGE)?);
+    for block in blocks.split("\n\n") {
+        let mut disk = open_image(rt, IMAGE)?;
+        let wrong = wrong(alloc, &mut disk, "24", block)?;
+        if !wrong.is_empty() {
+            return Ok(format!(in alloc; "over an image file: {wrong}\n{block}")?);
+        }
+    }
+    Ok(String::new(alloc))
+}

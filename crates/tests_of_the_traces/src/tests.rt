@@ -1,5 +1,0 @@
-mod grammar;
-mod lines;
-mod replies;
-mod streams;
-mod traces;
