@@ -9,6 +9,7 @@
 PILOT is the program or the script `pilot`, IMAGE the path of a volume's image. A kept file has the type 24320. Its page 0 begins
 with the length in bytes, 8 bytes big-endian, since the volume counts pages alone; the bytes follow.
 """
+import os
 import subprocess
 import sys
 
@@ -31,7 +32,7 @@ class Session:
     def ask(self, line):
         """Sends one call and gives the words of its reply."""
         try:
-            self.process.stdin.write(line.encode("ascii") + b"\n")
+            self.process.stdin.write(line.encode("ascii", "replace") + b"\n")
             self.process.stdin.flush()
         except BrokenPipeError:
             pass  # the last line that it wrote says why it stopped
@@ -52,6 +53,7 @@ class Session:
             self.process.stdin.close()
         except BrokenPipeError:
             pass  # it has stopped
+        self.process.stdout.close()
         self.process.wait()
 
 
@@ -85,11 +87,17 @@ def load(session, address, count):
     return b"".join(parts)
 
 
-def get(session, file):
-    """Gives the bytes of a kept file."""
+def pages_of(session, file):
+    """Gives how many pages a kept file has; a file of another type is refused."""
     _, pages, kind, *_ = session.ask(f"attr {file}")
     if int(kind) != TYPE:
         raise Refused(f"{file} is of type {kind}, and was not kept so")
+    return pages
+
+
+def get(session, file):
+    """Gives the bytes of a kept file."""
+    pages = pages_of(session, file)
     _, address = window(session, file, pages, "ro")
     length = int.from_bytes(load(session, address, HEAD), "big")
     return load(session, address + HEAD, length)
@@ -110,11 +118,14 @@ def kept(session):
 
 def main(words):
     match words:
+        case ["-h" | "--help"]:
+            print(__doc__)
         case [pilot, image, "put", path]:
             with open(path, "rb") as it, Session(pilot, image) as session:
                 print(put(session, it.read()))
         case [pilot, image, "save", old, path]:
             with open(path, "rb") as it, Session(pilot, image) as session:
+                pages_of(session, old)  # an identifier of no kept file puts nothing in
                 print(put(session, it.read()))
                 session.ask(f"delete {old}")
         case [pilot, image, "get", file]:
@@ -128,7 +139,15 @@ def main(words):
             raise SystemExit(__doc__)
 
 
+if sys.stdout is None:
+    raise SystemExit("keep.py: standard output is closed")
 try:
     main(sys.argv[1:])
+    sys.stdout.flush()
 except Refused as why:
     raise SystemExit(f"keep.py: {why}")
+except OSError as why:  # a missing file, a folder, no such program, an output that is full or closed
+    os.dup2(os.open(os.devnull, os.O_WRONLY), 1)  # what could not be written is not tried again
+    raise SystemExit(f"keep.py: {why}")
+except ValueError:
+    raise SystemExit("keep.py: what the program answered is no reply of pilot")
