@@ -8,6 +8,3 @@ mod pages;
 
 pub use error::AllocError;
 pub use map::AllocMap;
-
-#[cfg(test)]
-mod tests;

@@ -18,8 +18,8 @@ use Rattle.old_files.specs.Conversion.{IsStillThat}
 use Rattle.convert_laws.specs.Converted.{Conversion, convert_writes, settled_disk}
 use Rattle.convert_laws.specs.Orders.{first_writes}
 
--- It is the conversion of these sectors: the root there, all frees and leaders, both maps by the labels as they then are, and a
--- counter above the files.
+-- It is the conversion of these sectors: the root there, all frees and leaders, both maps by the labels as they then
+-- are, and a counter above the files.
 pub record IsFor (d : List Sector) (c : Conversion) : Type 0 where
   pub root : c.root ≡ root_in (root_page d)
   pub settle : c.settle ≡ first_writes d
@@ -47,11 +47,12 @@ pub record ConvertsAll (d : List Sector) (c : Conversion) : Type 0 where
 
 -- So it is for each disk with a valid old root whose files have room.
 abbrev pub ConversionsConvert : Type 0
-ConversionsConvert = RestoresEach → (d : List Sector) (c : Conversion) → AreSectors d → IsValidOldRoot (length d) c.root → total_room (files_old d) ≤ capacity (length d)
+ConversionsConvert = RestoresEach → (d : List Sector) (c : Conversion) → AreSectors d
+    → IsValidOldRoot (length d) c.root → total_room (files_old d) ≤ capacity (length d)
     → IsFor d c → ConvertsAll d c
 
--- Of a volume that was left: its root is judged as before, it wants the same room of as many sectors, and what it becomes is what
--- the volume before becomes.
+-- Of a volume that was left: its root is judged as before, it wants the same room of as many sectors, and what it
+-- becomes is what the volume before becomes.
 pub record ConvertsAgain (d e : List Sector) : Type 0 where
   pub sectors : length e ≡ length d
   pub root : slice_get e 0 ≡ slice_get d 0

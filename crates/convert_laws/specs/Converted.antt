@@ -21,7 +21,8 @@ use Rattle.old_files.specs.OldFiles.{files_old}
 use Rattle.old_files.specs.Settling.{IsSpareWrite, IsSettled}
 use Rattle.old_files.specs.Conversion.{IsMapWrite, IsStillThat}
 
--- What is written: the old root that was read, the writes of free labels and leaders, the bytes of both maps, and the counter.
+-- What is written: the old root that was read, the writes of free labels and leaders, the bytes of both maps, and the
+-- counter.
 pub record Conversion : Type 0 where
   pub root : Root
   pub settle : List DiskWrite
@@ -39,7 +40,8 @@ closed_today c = record (today c.root) { clean = true; counter = c.counter }
 
 -- both maps, each sector with its label
 abbrev pub both_maps : Conversion → List DiskWrite
-both_maps c = map_writes 1 1 c.bits (vam c.root.sectors) ++ map_writes 2 (1 + vam c.root.sectors) c.names (vfm c.root.sectors)
+both_maps c = map_writes 1 1 c.bits (vam c.root.sectors)
+    ++ map_writes 2 (1 + vam c.root.sectors) c.names (vfm c.root.sectors)
 
 -- free labels and leaders; both maps; the root, closed
 abbrev pub convert_writes : Conversion → List DiskWrite
@@ -60,7 +62,8 @@ pub record IsConversionOf (d : List Sector) (c : Conversion) : Type 0 where
   -- free labels and leaders
   pub spare : AllByRecursion (IsSpareWrite d) c.settle
   pub settled : IsSettled (data_sectors d) (data_sectors (after_writes c.settle d))
-  pub freed : (i : ℕ) (s : Sector) → slice_get (data_sectors (after_writes c.settle d)) i ≡ Some s → is_file s.0 ≡ false → is_free s.0 ≡ true
+  pub freed : (i : ℕ) (s : Sector) → slice_get (data_sectors (after_writes c.settle d)) i ≡ Some s
+      → is_file s.0 ≡ false → is_free s.0 ≡ true
   pub room : total_room (files_old d) ≤ capacity (length d)
   -- both maps, by the labels as they then are
   pub sectors : AreSectors (settled_disk d c)
@@ -79,7 +82,8 @@ pub record IsConverted (d : List Sector) (c : Conversion) (h : List Sector) : Ty
 -- so it is of each disk; and at each moment root and old files are those of d, or all is written
 pub record Converts (d : List Sector) (c : Conversion) : Type 0 where
   pub converted : IsConverted d c (after_writes (convert_writes c) d)
-  pub moments : (k : ℕ) → IsStillThat d (moment d (convert_writes c) k) ⊎ (moment d (convert_writes c) k ≡ after_writes (convert_writes c) d)
+  pub moments : (k : ℕ) → IsStillThat d (moment d (convert_writes c) k)
+      ⊎ (moment d (convert_writes c) k ≡ after_writes (convert_writes c) d)
 
 abbrev pub ConvertingConverts : Type 0
 ConvertingConverts = RestoresEach → (d : List Sector) (c : Conversion) → IsConversionOf d c → Converts d c

@@ -1,4 +1,5 @@
--- An old volume of 256 sectors, the files that it has, the sectors that they need, and the first writes of its conversion.
+-- An old volume of 256 sectors, the files that it has, the sectors that they need, and the first writes of its
+-- conversion.
 use Rattle.std.specs.Prelude.{◌≡◌, ℕ, zero, suc, ◌+◌, true, false, List, [], ◌∷◌, ◌++◌, filter, replicate, slice_set}
 use Rattle.std.specs.List.{range_with_len}
 use Rattle.labelled_disk.specs.declared.disk.DiskWrite.TheVariants.{Whole}
@@ -20,12 +21,14 @@ map_sectors id page zero = []
 map_sectors id page (suc n) = sector id page 0 0 [] ∷ map_sectors id (page + 1) n
 
 -- Root, maps and free data sectors; then, in the data:
--- a file of two pages, whose second page stands lower, with a lower page 0 that lacks the permanent bit, and both pages once more;
+-- a file of two pages, whose second page stands lower, with a lower page 0 that lacks the permanent bit, and both
+-- pages once more;
 -- a file that lacks its page 1, with a leader of a conversion that was stopped;
 -- a temporary file; a page of a file that has no page 0; and page 0 of an identifier that no file may have.
 unfoldable pub example : List Sector
 example =
-    slice_set (slice_set (slice_set (slice_set (slice_set (slice_set (slice_set (slice_set (slice_set (slice_set (slice_set
+    slice_set (slice_set (slice_set (slice_set (slice_set (slice_set
+    (slice_set (slice_set (slice_set (slice_set (slice_set
     (sector 4 0 0 0 [] ∷ sector 1 0 0 0 [] ∷ (map_sectors 2 0 34 ++ replicate 220 (free_label, [])))
     40 (sector 30064771073 0 7 0 (64 ∷ [])))
     41 (sector 30064771073 0 9 3 (65 ∷ 66 ∷ [])))
@@ -45,9 +48,16 @@ cut_file = record { id = 16; kind = 7; permanent = true; immutable = false; page
 
 -- the lowest page 0 with the permanent bit gives type, marks and bytes
 abbrev pub whole_file : File
-whole_file = record { id = 30064771073; kind = 9; permanent = true; immutable = true; pages = (byte 65 ∷ byte 66 ∷ []) ∷ (byte 67 ∷ []) ∷ [] }
+whole_file = record {
+  id = 30064771073;
+  kind = 9;
+  permanent = true;
+  immutable = true;
+  pages = (byte 65 ∷ byte 66 ∷ []) ∷ (byte 67 ∷ []) ∷ [];
+}
 
--- its files; the data sectors that they need; and what is freed, with both leaders in the lowest sectors that are free then
+-- its files; the data sectors that they need; and what is freed, with both leaders in the lowest sectors that are
+-- free then
 unfoldable pub ExampleOldFiles : Type 0
 ExampleOldFiles =
     (files_old example ≡ cut_file ∷ whole_file ∷ [])

@@ -30,11 +30,13 @@ leader_writes [] leaders = []
 leader_writes (i ∷ sectors) [] = []
 leader_writes (i ∷ sectors) (l ∷ leaders) = Whole i l (replicate 512 0) ∷ leader_writes sectors leaders
 
--- a free label for each freed sector, rising; then the leaders, files in rising identifiers, each on the lowest sector that is free
+-- a free label for each freed sector, rising; then the leaders, files in rising identifiers, each on the lowest
+-- sector that is free
 abbrev pub first_writes : List Sector → List DiskWrite
 first_writes d = freeing (old_unneeded d) ++ leader_writes (old_spare d) (old_leaders d)
 
 -- where there is a sector for each, these writes place the leaders
 abbrev pub FirstWritesPlace : Type 0
-FirstWritesPlace = (d : List Sector) → first_data (length d) ≤ length d → length (old_leaders d) ≤ spare_below (data_sectors d) (length (data_sectors d))
+FirstWritesPlace = (d : List Sector) → first_data (length d) ≤ length d
+    → length (old_leaders d) ≤ spare_below (data_sectors d) (length (data_sectors d))
     → IsPlaced (data_sectors d) (data_sectors (after_writes (first_writes d) d)) (old_leaders d)

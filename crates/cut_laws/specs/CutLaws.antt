@@ -12,20 +12,27 @@ between s k writes = drop s (take k writes)
 
 -- what was written after k is in no cut at k
 abbrev pub LaterIsNotThere : Type 0
-LaterIsNotThere = (d : List Sector) (first next : List DiskWrite) (s k : ℕ) (e : List Sector) → k ≤ length first → IsCut d (first ++ next) s k e ↔ IsCut d first s k e
+LaterIsNotThere = (d : List Sector) (first next : List DiskWrite) (s k : ℕ) (e : List Sector) → k ≤ length first
+    → IsCut d (first ++ next) s k e ↔ IsCut d first s k e
 
 pub record CutLaws : Type 0 where
   -- all was settled
-  pub settled : (d : List Sector) (writes : List DiskWrite) (k : ℕ) (e : List Sector) → IsCut d writes k k e → e ≡ moment d writes k
+  pub settled : (d : List Sector) (writes : List DiskWrite) (k : ℕ) (e : List Sector) → IsCut d writes k k e
+      → e ≡ moment d writes k
   -- a stop is a cut
-  pub moments : (d : List Sector) (writes : List DiskWrite) (s k j : ℕ) → s ≤ j → j ≤ k → IsCut d writes s k (moment d writes j)
+  pub moments : (d : List Sector) (writes : List DiskWrite) (s k j : ℕ) → s ≤ j → j ≤ k
+      → IsCut d writes s k (moment d writes j)
   -- settled earlier, or written more
-  pub wider : (d : List Sector) (writes : List DiskWrite) (r s k l : ℕ) (e : List Sector) → r ≤ s → k ≤ l → IsCut d writes s k e → IsCut d writes r l e
+  pub wider : (d : List Sector) (writes : List DiskWrite) (r s k l : ℕ) (e : List Sector) → r ≤ s → k ≤ l
+      → IsCut d writes s k e → IsCut d writes r l e
   pub later : LaterIsNotThere
 
--- A cut is a part of the writes since the last settle, made on the disk as it was then: so what is said of such writes is
--- said of each cut.
+-- A cut is a part of the writes since the last settle, made on the disk as it was then: so what is said of such
+-- writes is said of each cut.
 pub record WindowLaws : Type 0 where
-  pub cut : (d : List Sector) (writes : List DiskWrite) (s k : ℕ) (e : List Sector) → s ≤ k → IsCut d writes s k e → IsCutSince (moment d writes s) (between s k writes) e
-  pub moments : (d : List Sector) (writes : List DiskWrite) (s k j : ℕ) → s + j ≤ k → moment (moment d writes s) (between s k writes) j ≡ moment d writes (s + j)
-  pub lawful : (d : List Sector) (writes : List DiskWrite) (s k : ℕ) → AreLawful d writes → AreLawful (moment d writes s) (between s k writes)
+  pub cut : (d : List Sector) (writes : List DiskWrite) (s k : ℕ) (e : List Sector) → s ≤ k → IsCut d writes s k e
+      → IsCutSince (moment d writes s) (between s k writes) e
+  pub moments : (d : List Sector) (writes : List DiskWrite) (s k j : ℕ) → s + j ≤ k
+      → moment (moment d writes s) (between s k writes) j ≡ moment d writes (s + j)
+  pub lawful : (d : List Sector) (writes : List DiskWrite) (s k : ℕ) → AreLawful d writes
+      → AreLawful (moment d writes s) (between s k writes)

@@ -25,7 +25,8 @@ torn_root = replicate 11 0 ++ 1 ∷ replicate 4 0 ++ replicate 7 0 ++ 5 ∷ repl
 
 -- a cut may have the new flag and the old counter: so a root that raises both is not written as one
 pub record TornRoot : Type 0 where
-  pub cut : IsCutSince ((root_label, open_root) ∷ []) (Whole 0 root_label closed_root ∷ []) ((root_label, torn_root) ∷ [])
+  pub cut : IsCutSince ((root_label, open_root) ∷ []) (Whole 0 root_label closed_root ∷ [])
+      ((root_label, torn_root) ∷ [])
   pub flag : flag_of ((root_label, torn_root) ∷ []) ≡ 1
   pub counter : counter_of ((root_label, torn_root) ∷ []) ≡ 5
   pub flag_before : flag_of ((root_label, open_root) ∷ []) ≡ 0
@@ -33,19 +34,24 @@ pub record TornRoot : Type 0 where
 
 -- but no unit is torn
 abbrev pub UnitIsWhole : Type 0
-UnitIsWhole = IsCutSince ((free_label, replicate 16 0) ∷ []) (Whole 0 root_label (replicate 16 1) ∷ []) ((root_label, replicate 8 1 ++ replicate 8 0) ∷ []) → ⊥
+UnitIsWhole = IsCutSince ((free_label, replicate 16 0) ∷ []) (Whole 0 root_label (replicate 16 1) ∷ [])
+    ((root_label, replicate 8 1 ++ replicate 8 0) ∷ []) → ⊥
 
--- file 16 has no page; a page of file 17 holds these bytes; that page is freed, and its sector becomes page 0 of file 16
+-- file 16 has no page; a page of file 17 holds these bytes; that page is freed, and its sector becomes page 0 of file
+-- 16
 abbrev pub two_files : List ℕ → List Sector
-two_files bytes = (free_label, []) ∷ (free_label, []) ∷ (free_label, []) ∷ (free_label, []) ∷ (page_label 16 0 leader_page, []) ∷ (page_label 17 0 leader_page, []) ∷ (page_label 17 0 0, bytes) ∷ []
+two_files bytes = (free_label, []) ∷ (free_label, []) ∷ (free_label, []) ∷ (free_label, [])
+    ∷ (page_label 16 0 leader_page, []) ∷ (page_label 17 0 leader_page, []) ∷ (page_label 17 0 0, bytes) ∷ []
 
 abbrev pub given_on : List DiskWrite
 given_on = LabelOnly 6 free_label ∷ Whole 6 (page_label 16 0 0) zero_bytes ∷ []
 
 abbrev pub mixed_up : List ℕ → List Sector
-mixed_up bytes = (free_label, []) ∷ (free_label, []) ∷ (free_label, []) ∷ (free_label, []) ∷ (page_label 16 0 leader_page, []) ∷ (page_label 17 0 leader_page, []) ∷ (page_label 16 0 0, bytes) ∷ []
+mixed_up bytes = (free_label, []) ∷ (free_label, []) ∷ (free_label, []) ∷ (free_label, [])
+    ∷ (page_label 16 0 leader_page, []) ∷ (page_label 17 0 leader_page, []) ∷ (page_label 16 0 0, bytes) ∷ []
 
--- a cut may have bytes of the one file in the other: so a sector that was another's has to be free and zeros at a settle
+-- a cut may have bytes of the one file in the other: so a sector that was another's has to be free and zeros at a
+-- settle
 pub record ForeignBytes (bytes : List ℕ) : Type 0 where
   pub lawful : AreLawful (two_files bytes) given_on
   pub cut : IsCutSince (two_files bytes) given_on (mixed_up bytes)
@@ -53,7 +59,8 @@ pub record ForeignBytes (bytes : List ℕ) : Type 0 where
 
 -- file 16 has no page, and a free sector has zeros; that sector becomes its page 0
 abbrev pub one_file : List Sector
-one_file = (free_label, []) ∷ (free_label, []) ∷ (free_label, []) ∷ (free_label, []) ∷ (page_label 16 0 leader_page, []) ∷ (free_label, zero_bytes) ∷ []
+one_file = (free_label, []) ∷ (free_label, []) ∷ (free_label, []) ∷ (free_label, [])
+    ∷ (page_label 16 0 leader_page, []) ∷ (free_label, zero_bytes) ∷ []
 
 -- what a law asks of a file that is lengthened can be met
 pub record OnePageMore : Type 0 where

@@ -12,7 +12,9 @@ IsMixOf old new page = (u : ℕ) → (unit u page ≡ unit u old) ⊎ (unit u pa
 
 -- after one write of a page any mix of old and new units may stand, and nothing else
 pub record MixLaws : Type 0 where
-  pub may : (d : List Sector) (i : ℕ) (s : Sector) (wanted : Wanted) (new page : List ℕ) → slice_get d i ≡ Some s → names s.0 wanted ≡ true → IsMixOf s.1 new page
+  pub may : (d : List Sector) (i : ℕ) (s : Sector) (wanted : Wanted) (new page : List ℕ) → slice_get d i ≡ Some s
+      → names s.0 wanted ≡ true → IsMixOf s.1 new page
       → IsCutSince d (Page i wanted new ∷ []) (slice_set d i (s.0, page))
-  pub must : (d : List Sector) (i : ℕ) (s : Sector) (wanted : Wanted) (new : List ℕ) (e : List Sector) → slice_get d i ≡ Some s → names s.0 wanted ≡ true → IsCutSince d (Page i wanted new ∷ []) e
+  pub must : (d : List Sector) (i : ℕ) (s : Sector) (wanted : Wanted) (new : List ℕ) (e : List Sector)
+      → slice_get d i ≡ Some s → names s.0 wanted ≡ true → IsCutSince d (Page i wanted new ∷ []) e
       → (page : List ℕ) × IsMixOf s.1 new page × (e ≡ slice_set d i (s.0, page))

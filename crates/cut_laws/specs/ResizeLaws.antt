@@ -18,12 +18,14 @@ use Rattle.cut_laws.specs.Windows.{EachWrite, FreeIsUnwritten, IsLabelWriteOf, I
 -- the sector of the file's last page is freed
 abbrev pub FreesLastPage : ℕ → List Sector → DiskWrite → Type 0
 FreesLastPage id now (Whole sector label page) = ⊥
-FreesLastPage id now (LabelOnly sector label) = (label ≡ free_label) × (f : File) × (disk_file true now id ≡ Some f) × (s : Sector) × (slice_get now sector ≡ Some s) × (p : ℕ) × (size f ≡ suc p) × (is_page id p s ≡ true)
+FreesLastPage id now (LabelOnly sector label) = (label ≡ free_label) × (f : File) × (disk_file true now id ≡ Some f)
+    × (s : Sector) × (slice_get now sector ≡ Some s) × (p : ℕ) × (size f ≡ suc p) × (is_page id p s ≡ true)
 FreesLastPage id now (Page sector wanted page) = ⊥
 
 -- a sector gets the label of the page behind the file's last
 abbrev pub AddsNextPage : ℕ → List Sector → DiskWrite → Type 0
-AddsNextPage id now (Whole sector label page) = (f : File) × (disk_file true now id ≡ Some f) × (is_page id (size f) (label, page) ≡ true) × (suc (size f) < leader_page)
+AddsNextPage id now (Whole sector label page) = (f : File) × (disk_file true now id ≡ Some f)
+    × (is_page id (size f) (label, page) ≡ true) × (suc (size f) < leader_page)
 AddsNextPage id now (LabelOnly sector label) = ⊥
 AddsNextPage id now (Page sector wanted page) = ⊥
 
@@ -31,20 +33,26 @@ AddsNextPage id now (Page sector wanted page) = ⊥
 -- gets no other label, and one that becomes a page had zeros where it was free at first.
 pub record IsResized (d : List Sector) (writes : List DiskWrite) (id : ℕ) : Type 0 where
   pub whole : IsWholeOn d id
-  pub at_end : EachWrite (λ now write. IsLabelWriteOf id now write → FreesLastPage id now write ⊎ AddsNextPage id now write) d writes
-  pub one_label : (k l : ℕ) (write other : DiskWrite) → slice_get writes k ≡ Some write → IsLabelWriteOf id (moment d writes k) write → slice_get writes l ≡ Some other → gives_label other ≡ true
+  pub at_end : EachWrite (λ now write. IsLabelWriteOf id now write
+      → FreesLastPage id now write ⊎ AddsNextPage id now write) d writes
+  pub one_label : (k l : ℕ) (write other : DiskWrite) → slice_get writes k ≡ Some write
+      → IsLabelWriteOf id (moment d writes k) write → slice_get writes l ≡ Some other → gives_label other ≡ true
       → sector_of other ≡ sector_of write → l ≡ k
-  pub zeros : (k : ℕ) (write : DiskWrite) (s : Sector) → slice_get writes k ≡ Some write → IsLabelWriteOf id (moment d writes k) write → slice_get d (sector_of write) ≡ Some s → is_free s.0 ≡ true
+  pub zeros : (k : ℕ) (write : DiskWrite) (s : Sector) → slice_get writes k ≡ Some write
+      → IsLabelWriteOf id (moment d writes k) write → slice_get d (sector_of write) ≡ Some s → is_free s.0 ≡ true
       → s.1 ≡ zero_bytes
   pub free_unwritten : FreeIsUnwritten d writes
 
--- The file has the size of one moment, its pages are its own, and a page that was not written has the bytes that it had,
--- or is new and zeros.
-pub record SizeBetween (with_temporary : Bool) (d : List Sector) (writes : List DiskWrite) (e : List Sector) (id : ℕ) : Type 0 where
+-- The file has the size of one moment, its pages are its own, and a page that was not written has the bytes that it
+-- had, or is new and zeros.
+pub record SizeBetween (with_temporary : Bool) (d : List Sector) (writes : List DiskWrite) (e : List Sector) (id : ℕ)
+    : Type 0 where
   pub shape : AtSome 0 (length writes) (λ j. SameShape with_temporary (moment d writes j) e id)
   pub pages : PagesOfMoments d writes e id
-  pub unwritten : (p : ℕ) (cells : Cells) → p < leader_page → IsUnwritten id p d writes → disk_page e id p ≡ Some cells → (disk_page d id p ≡ Some cells) ⊎ (cells ≡ map byte zero_bytes)
+  pub unwritten : (p : ℕ) (cells : Cells) → p < leader_page → IsUnwritten id p d writes
+      → disk_page e id p ≡ Some cells → (disk_page d id p ≡ Some cells) ⊎ (cells ≡ map byte zero_bytes)
 
 abbrev pub ResizedHasSizeBetween : Bool → Type 0
-ResizedHasSizeBetween with_temporary = (d : List Sector) (writes : List DiskWrite) (e : List Sector) (id : ℕ) → AreLawful d writes → IsCutSince d writes e → IsResized d writes id
+ResizedHasSizeBetween with_temporary = (d : List Sector) (writes : List DiskWrite) (e : List Sector) (id : ℕ)
+    → AreLawful d writes → IsCutSince d writes e → IsResized d writes id
     → SizeBetween with_temporary d writes e id

@@ -12,10 +12,12 @@ module _ (with_temporary : Bool) where
   -- anything before the data, or a free label for a sector that no file of d needs
   abbrev pub IsRestoring : List Sector → DiskWrite → Type 0
   IsRestoring d (Whole sector label page) = sector < first_data (length d)
-  IsRestoring d (LabelOnly sector label) = (sector < first_data (length d)) ⊎ (IsUnneeded with_temporary d sector × (label ≡ free_label))
+  IsRestoring d (LabelOnly sector label) = (sector < first_data (length d))
+      ⊎ (IsUnneeded with_temporary d sector × (label ≡ free_label))
   IsRestoring d (Page sector wanted page) = sector < first_data (length d)
 
   -- whatever labels the disk has, each cut has its files
   abbrev pub RestoredKeepsFiles : Type 0
   RestoredKeepsFiles = (d : List Sector) (writes : List DiskWrite) (e : List Sector) → IsCutSince d writes e
-      → ((k : ℕ) (write : DiskWrite) → slice_get writes k ≡ Some write → IsRestoring d write) → files_among with_temporary e ≡ files_among with_temporary d
+      → ((k : ℕ) (write : DiskWrite) → slice_get writes k ≡ Some write → IsRestoring d write)
+      → files_among with_temporary e ≡ files_among with_temporary d

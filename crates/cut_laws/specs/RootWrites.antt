@@ -9,5 +9,6 @@ use Rattle.cut_laws.specs.Cut.{IsCutSince}
 
 -- where it is the one write since the last settle, a cut has the one or the other: the flag is set or cleared whole
 abbrev pub RootIsWhole : Type 0
-RootIsWhole = (d : List Sector) (old new : Root) (e : List Sector) → slice_get d 0 ≡ Some (root_label, root_bytes old) → new.serial ≡ old.serial → new.counter ≡ old.counter
+RootIsWhole = (d : List Sector) (old new : Root) (e : List Sector) → slice_get d 0 ≡ Some (root_label, root_bytes old)
+    → new.serial ≡ old.serial → new.counter ≡ old.counter
     → IsCutSince d (root_write new ∷ []) e → (e ≡ d) ⊎ (e ≡ written (root_write new) d)

@@ -8,7 +8,8 @@ use Rattle.cut_laws.specs.Cut.{IsCut}
 -- A settle is told as the number of the writes that were made before it. Of those that are at most k, the greatest.
 abbrev pub last_settle : List ℕ → ℕ → Option ℕ
 last_settle [] k = None
-last_settle (s ∷ settles) k = if nat_le s k then Some (option_map_or (max s) (last_settle settles k) s) else last_settle settles k
+last_settle (s ∷ settles) k = if nat_le s k then Some (option_map_or (max s) (last_settle settles k) s) else
+    last_settle settles k
 
 -- it was made, no later than k, and none between
 pub record IsLastSettle (settles : List ℕ) (k s : ℕ) : Type 0 where

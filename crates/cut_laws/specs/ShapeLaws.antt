@@ -21,7 +21,8 @@ IsWholeOn d id = (f : File) × (disk_file true d id ≡ Some f) × IsWhole (data
 -- the label of the file's leader is written over
 abbrev pub IsOnLeader : ℕ → List Sector → DiskWrite → Type 0
 IsOnLeader id now (Whole sector label page) = ⊥
-IsOnLeader id now (LabelOnly sector label) = (s : Sector) × (slice_get now sector ≡ Some s) × (leads_file true id s ≡ true)
+IsOnLeader id now (LabelOnly sector label) = (s : Sector) × (slice_get now sector ≡ Some s)
+    × (leads_file true id s ≡ true)
 IsOnLeader id now (Page sector wanted page) = ⊥
 
 -- the file's leader is freed
@@ -36,26 +37,34 @@ pub record PagesStay (d : List Sector) (writes : List DiskWrite) (e : List Secto
   pub unwritten : (p : ℕ) → p < leader_page → IsUnwritten id p d writes → disk_page e id p ≡ disk_page d id p
 
 module _ (with_temporary : Bool) where
-  -- no label of the file was written: it has the shape that it had throughout, and its bytes but for pages that were written
+  -- no label of the file was written: it has the shape that it had throughout, and its bytes but for pages that were
+  -- written
   abbrev pub NoLabelWritten : Type 0
-  NoLabelWritten = (d : List Sector) (writes : List DiskWrite) (e : List Sector) (id : ℕ) → AreLawful d writes → IsCutSince d writes e → NoLabelOf id d writes
+  NoLabelWritten = (d : List Sector) (writes : List DiskWrite) (e : List Sector) (id : ℕ) → AreLawful d writes
+      → IsCutSince d writes e → NoLabelOf id d writes
       → ((j : ℕ) → j ≤ length writes → SameShape with_temporary (moment d writes j) e id) × PagesStay d writes e id
 
-  -- labels of the leader alone were: the file has the marks of one moment, or is not there, as at that moment; it is there
-  -- with all its pages, or not at all
+  -- labels of the leader alone were: the file has the marks of one moment, or is not there, as at that moment; it is
+  -- there with all its pages, or not at all
   abbrev pub LeaderWritten : Type 0
-  LeaderWritten = (d : List Sector) (writes : List DiskWrite) (e : List Sector) (id : ℕ) → AreLawful d writes → IsCutSince d writes e → (whole : IsWholeOn d id)
+  LeaderWritten = (d : List Sector) (writes : List DiskWrite) (e : List Sector) (id : ℕ) → AreLawful d writes
+      → IsCutSince d writes e → (whole : IsWholeOn d id)
       → EachWrite (λ now write. IsLabelWriteOf id now write → IsOnLeader id now write) d writes
-      → AtSome 0 (length writes) (λ j. SameShape with_temporary (moment d writes j) e id) × ((g : File) → disk_file with_temporary e id ≡ Some g → size g ≡ size whole.0) × PagesStay d writes e id
+      → AtSome 0 (length writes) (λ j. SameShape with_temporary (moment d writes j) e id)
+      × ((g : File) → disk_file with_temporary e id ≡ Some g → size g ≡ size whole.0) × PagesStay d writes e id
 
   -- the leader was freed: the file is there whole, or it is not there
   abbrev pub LeaderFreed : Type 0
-  LeaderFreed = (d : List Sector) (writes : List DiskWrite) (e : List Sector) (id : ℕ) → AreLawful d writes → IsCutSince d writes e → IsWholeOn d id
+  LeaderFreed = (d : List Sector) (writes : List DiskWrite) (e : List Sector) (id : ℕ) → AreLawful d writes
+      → IsCutSince d writes e → IsWholeOn d id
       → EachWrite (λ now write. IsLabelWriteOf id now write → FreesLeader id now write) d writes
       → (SameShape with_temporary d e id ⊎ (disk_file with_temporary e id ≡ None)) × PagesStay d writes e id
 
   -- where labels of one file alone were written, or of files that there never are, all have the shapes of one moment
   abbrev pub ShapesOfOneMoment : Type 0
-  ShapesOfOneMoment = (d : List Sector) (writes : List DiskWrite) (e : List Sector) (id : ℕ) → AreLawful d writes → IsCutSince d writes e
-      → ((other : ℕ) → other ≢ id → NoLabelOf other d writes ⊎ ((j : ℕ) → j ≤ length writes → disk_file with_temporary (moment d writes j) other ≡ None))
-      → AtSome 0 (length writes) (λ j. SameShape with_temporary (moment d writes j) e id) → AtSome 0 (length writes) (λ j. (each : ℕ) → SameShape with_temporary (moment d writes j) e each)
+  ShapesOfOneMoment = (d : List Sector) (writes : List DiskWrite) (e : List Sector) (id : ℕ) → AreLawful d writes
+      → IsCutSince d writes e
+      → ((other : ℕ) → other ≢ id → NoLabelOf other d writes
+      ⊎ ((j : ℕ) → j ≤ length writes → disk_file with_temporary (moment d writes j) other ≡ None))
+      → AtSome 0 (length writes) (λ j. SameShape with_temporary (moment d writes j) e id)
+      → AtSome 0 (length writes) (λ j. (each : ℕ) → SameShape with_temporary (moment d writes j) e each)

@@ -27,15 +27,18 @@ IsOnPage now (Page sector wanted page) = ⊥
 
 -- the file has the size, and all else but its bytes, that it had at one moment
 abbrev pub SizeOfOneMoment : Bool → Type 0
-SizeOfOneMoment with_temporary = (d : List Sector) (writes : List DiskWrite) (e : List Sector) (id : ℕ) → AreLawful d writes → IsCutSince d writes e → IsWholeThroughout d writes id
+SizeOfOneMoment with_temporary = (d : List Sector) (writes : List DiskWrite) (e : List Sector) (id : ℕ)
+    → AreLawful d writes → IsCutSince d writes e → IsWholeThroughout d writes id
     → EachWrite (λ now write. IsLabelWriteOf id now write → IsOnPage now write) d writes
     → AtSome 0 (length writes) (λ j. SameShape with_temporary (moment d writes j) e id)
 
 -- and each unit of its pages stood there as that page at some moment, where their sectors were no other's
 abbrev pub PagesAreOwn : Type 0
-PagesAreOwn = (d : List Sector) (writes : List DiskWrite) (e : List Sector) (id : ℕ) → AreLawful d writes → IsCutSince d writes e → IsWholeThroughout d writes id
+PagesAreOwn = (d : List Sector) (writes : List DiskWrite) (e : List Sector) (id : ℕ) → AreLawful d writes
+    → IsCutSince d writes e → IsWholeThroughout d writes id
     → FreeIsUnwritten d writes → ((p : ℕ) → AreOwnOrFree (of_page id p) d writes) → PagesOfMoments d writes e id
 
 -- where labels are right, the file is whole
 abbrev pub RightIsWhole : Bool → Type 0
-RightIsWhole with_temporary = (serial counter : ℕ) (d : List Sector) (id : ℕ) (f : File) → FilesRight with_temporary serial counter d → disk_file with_temporary d id ≡ Some f → IsWholeOn d id
+RightIsWhole with_temporary = (serial counter : ℕ) (d : List Sector) (id : ℕ) (f : File)
+    → FilesRight with_temporary serial counter d → disk_file with_temporary d id ≡ Some f → IsWholeOn d id

@@ -12,6 +12,3 @@ pub use flaky::{Failed, FlakyMem};
 pub use memory::FlatMem;
 pub use part::Part;
 pub use vec_mem::{Never, NoPages, VecMem};
-
-#[cfg(test)]
-mod tests;

@@ -25,10 +25,13 @@ pub record IsStillThat (d e : List Sector) : Type 0 where
 
 -- so it is at each moment before the last write
 abbrev pub MomentsBeforeRoot : Type 0
-MomentsBeforeRoot = (d : List Sector) (writes : List DiskWrite) (last : DiskWrite) → AllByRecursion (λ w. IsSpareWrite d w ⊎ IsMapWrite d w) writes
+MomentsBeforeRoot = (d : List Sector) (writes : List DiskWrite) (last : DiskWrite)
+    → AllByRecursion (λ w. IsSpareWrite d w ⊎ IsMapWrite d w) writes
     → (k : ℕ) → k ≤ length writes → IsStillThat d (moment d (writes ++ last ∷ []) k)
 
 -- the maps and then the root make the same of a disk, whatever stands in sector 0
 abbrev pub RootIsOverwritten : Type 0
-RootIsOverwritten = (d : List Sector) (writes : List DiskWrite) (label : Label) (page : List ℕ) (t : Sector) → AllByRecursion (IsMapWrite d) writes
-    → after_writes (writes ++ Whole 0 label page ∷ []) (slice_set d 0 t) ≡ after_writes (writes ++ Whole 0 label page ∷ []) d
+RootIsOverwritten = (d : List Sector) (writes : List DiskWrite) (label : Label) (page : List ℕ) (t : Sector)
+    → AllByRecursion (IsMapWrite d) writes
+    → after_writes (writes ++ Whole 0 label page ∷ []) (slice_set d 0 t)
+    ≡ after_writes (writes ++ Whole 0 label page ∷ []) d

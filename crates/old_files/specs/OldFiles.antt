@@ -1,4 +1,5 @@
--- The permanent files that the labels of a volume of version 1 or 2 name: page 0 carries type and marks, and no file has a leader.
+-- The permanent files that the labels of a volume of version 1 or 2 name: page 0 carries type and marks, and no file
+-- has a leader.
 use Rattle.std.specs.Prelude.{ℕ, zero, suc, Bool, false, ◌&&◌, ◌||◌, ◌==◌, nat_lt, if◌then◌else◌, List, [], ◌∷◌, find, map, slice_get, Option, option_map}
 use Rattle.std.specs.Option.{option_map_or}
 use Rattle.labelled_disk.specs.declared.label.Label.{Label}
@@ -21,7 +22,8 @@ heads_file id s = heads s && s.0.id == id
 abbrev pub head_among : List Sector → ℕ → Option Sector
 head_among sectors id = find (heads_file id) sectors
 
--- the bytes of a page: page 0 stands in the lowest sector that has the permanent bit too, each other page in the lowest that is it
+-- the bytes of a page: page 0 stands in the lowest sector that has the permanent bit too, each other page in the
+-- lowest that is it
 abbrev pub old_page_at : List Sector → ℕ → ℕ → Option Page
 old_page_at sectors id zero = option_map (λ s. map byte s.1) (head_among sectors id)
 old_page_at sectors id (suc k) = page_at sectors id (suc k)
@@ -43,7 +45,8 @@ old_file_among sectors id = option_map (old_file_by sectors) (option_map (λ s. 
 -- the files of these, of two with one identifier that of the first
 abbrev pub old_files_by : List Sector → List Sector → List File
 old_files_by sectors [] = []
-old_files_by sectors (s ∷ rest) = if heads s then put_file (old_file_by sectors s.0) (old_files_by sectors rest) else old_files_by sectors rest
+old_files_by sectors (s ∷ rest) = if heads s then put_file (old_file_by sectors s.0) (old_files_by sectors rest) else
+    old_files_by sectors rest
 
 -- the files on the disk of an old volume, in rising identifiers
 abbrev pub files_old : List Sector → List File
@@ -56,6 +59,8 @@ old_file d id = old_file_among (data_sectors d) id
 -- sector i is a page of an old file
 abbrev pub is_old_needed : List Sector → ℕ → Bool
 is_old_needed sectors i =
-    option_map_or (λ s. option_map_or (λ f. is_first (heads_file s.0.id) sectors i || (nat_lt 0 s.0.page && (nat_lt s.0.page (size f) && is_first (is_page s.0.id s.0.page) sectors i)))
+    option_map_or (λ s. option_map_or
+    (λ f. is_first (heads_file s.0.id) sectors i ||
+    (nat_lt 0 s.0.page && (nat_lt s.0.page (size f) && is_first (is_page s.0.id s.0.page) sectors i)))
     (old_file_among sectors s.0.id) false)
     (slice_get sectors i) false

@@ -16,7 +16,14 @@ spare_below xs (suc i) = spare_below xs i + (if is_old_needed xs i then 0 else 1
 
 -- the label of a file's leader
 abbrev pub leader_of : File → Label
-leader_of f = record { id = f.id; page = leader_page; kind = f.kind; flags = (if f.permanent then 1 else 0) + (if f.immutable then 2 else 0); last = 0 }
+leader_of f = record {
+  id = f.id;
+  page = leader_page;
+  kind = f.kind;
+  flags = (if f.permanent then 1 else 0) +
+      (if f.immutable then 2 else 0);
+  last = 0;
+}
 
 -- those of the old files, in rising identifiers
 abbrev pub old_leaders : List Sector → List Label
@@ -24,11 +31,13 @@ old_leaders d = map leader_of (files_old d)
 
 -- these are the leaders of the old files, one for each
 pub record AreLeadersOf (xs : List Sector) (leaders : List Label) : Type 0 where
-  pub each : (k : ℕ) (l : Label) → slice_get leaders k ≡ Some l → (s : Sector) × (head_among xs l.id ≡ Some s) × (l ≡ as_leader s.0)
+  pub each : (k : ℕ) (l : Label) → slice_get leaders k ≡ Some l
+      → (s : Sector) × (head_among xs l.id ≡ Some s) × (l ≡ as_leader s.0)
   pub all : (id : ℕ) (s : Sector) → head_among xs id ≡ Some s → (k : ℕ) × (slice_get leaders k ≡ Some (as_leader s.0))
   pub once : (j k : ℕ) (a b : Label) → slice_get leaders j ≡ Some a → slice_get leaders k ≡ Some b → a.id ≡ b.id → j ≡ k
 
--- Each sector that a file needs is as it was, and each other one has the next leader, or is free once each file has one.
+-- Each sector that a file needs is as it was, and each other one has the next leader, or is free once each file has
+-- one.
 pub record IsPlaced (xs ys : List Sector) (leaders : List Label) : Type 0 where
   pub same_length : length ys ≡ length xs
   pub kept : (i : ℕ) → is_old_needed xs i ≡ true → slice_get ys i ≡ slice_get xs i

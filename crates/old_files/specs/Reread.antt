@@ -1,4 +1,5 @@
--- The labels of an old volume, read as those of today: page 0 stands where the leader does, and each page where the one before does.
+-- The labels of an old volume, read as those of today: page 0 stands where the leader does, and each page where the
+-- one before does.
 use Rattle.std.specs.Prelude.{◌≡◌, ℕ, zero, suc, ◌+◌, ◌<◌, false, nat_le, if◌then◌else◌, List, length, map, find, option_map, Some}
 use Rattle.labelled_disk.specs.declared.label.Label.{Label}
 use Rattle.labelled_disk.specs.Label.{leader_page}
@@ -25,13 +26,15 @@ all_reread xs = map reread xs
 
 -- each file has fewer pages than there are numbers
 abbrev pub IsShort : List Sector → Type 0
-IsShort xs = (id : ℕ) (h : Sector) → head_among xs id ≡ Some h → length (pages_from (page_at (all_reread xs) id) 0 leader_page) < leader_page
+IsShort xs = (id : ℕ) (h : Sector) → head_among xs id ≡ Some h
+    → length (pages_from (page_at (all_reread xs) id) 0 leader_page) < leader_page
 
 -- So read, a file has its page 0 as its leader, one page fewer, and needs the same sectors.
 pub record RereadLaws (xs : List Sector) : Type 0 where
   pub leader : (id : ℕ) → find (leads_file false id) (all_reread xs) ≡ option_map reread (head_among xs id)
   pub needed : (i : ℕ) → is_needed false (all_reread xs) i ≡ is_old_needed xs i
-  pub room : (id : ℕ) → option_map (λ f. size f + 1) (file_among false (all_reread xs) id) ≡ option_map size (old_file_among xs id)
+  pub room : (id : ℕ) → option_map (λ f. size f + 1) (file_among false (all_reread xs) id)
+      ≡ option_map size (old_file_among xs id)
 
 abbrev pub RereadAsToday : Type 0
 RereadAsToday = (xs : List Sector) → IsShort xs → RereadLaws xs

@@ -1,4 +1,5 @@
--- The first writes of a conversion: sectors that no old file needs become free, and then each old file gets a leader in one of them.
+-- The first writes of a conversion: sectors that no old file needs become free, and then each old file gets a leader
+-- in one of them.
 use Rattle.std.specs.Prelude.{◌≡◌, ◌⊎◌, ℕ, ◌-◌, ◌<◌, ◌≤◌, true, false, List, length, slice_get, Some}
 use Rattle.std.specs.List.{AllByRecursion}
 use Rattle.labelled_disk.specs.declared.disk.DiskWrite.{DiskWrite}
@@ -33,23 +34,28 @@ pub record IsStillOld (d e : List Sector) : Type 0 where
 
 -- at each moment of such writes
 abbrev pub SpareMoments : Type 0
-SpareMoments = (d : List Sector) (writes : List DiskWrite) → AllByRecursion (IsSpareWrite d) writes → (k : ℕ) → IsStillOld d (moment d writes k)
+SpareMoments = (d : List Sector) (writes : List DiskWrite) → AllByRecursion (IsSpareWrite d) writes → (k : ℕ)
+    → IsStillOld d (moment d writes k)
 
--- Each sector that a file needs is as it was, each other one is free or has a leader, and each file has one leader, with the type
--- and the marks of its page 0.
+-- Each sector that a file needs is as it was, each other one is free or has a leader, and each file has one leader,
+-- with the type and the marks of its page 0.
 pub record IsSettled (xs ys : List Sector) : Type 0 where
   pub same_length : length ys ≡ length xs
   pub kept : (i : ℕ) → is_old_needed xs i ≡ true → slice_get ys i ≡ slice_get xs i
   pub rest : (i : ℕ) (y : Sector) → is_old_needed xs i ≡ false → slice_get ys i ≡ Some y
       → (is_file y.0 ≡ false) ⊎ ((h : Sector) × (head_among xs y.0.id ≡ Some h) × (y.0 ≡ as_leader h.0))
-  pub placed : (id : ℕ) (h : Sector) → head_among xs id ≡ Some h → (j : ℕ) × (y : Sector) × (slice_get ys j ≡ Some y) × (y.0 ≡ as_leader h.0)
-  pub once : (j k : ℕ) (y z : Sector) → slice_get ys j ≡ Some y → slice_get ys k ≡ Some z → is_file y.0 ≡ true → y.0.page ≡ leader_page → z.0.page ≡ leader_page → y.0.id ≡ z.0.id → j ≡ k
+  pub placed : (id : ℕ) (h : Sector) → head_among xs id ≡ Some h
+      → (j : ℕ) × (y : Sector) × (slice_get ys j ≡ Some y) × (y.0 ≡ as_leader h.0)
+  pub once : (j k : ℕ) (y z : Sector) → slice_get ys j ≡ Some y → slice_get ys k ≡ Some z → is_file y.0 ≡ true
+      → y.0.page ≡ leader_page → z.0.page ≡ leader_page → y.0.id ≡ z.0.id → j ≡ k
 
 -- then each sector with a file's label is needed
 abbrev pub SettledAreNeeded : Type 0
 SettledAreNeeded = (d e : List Sector) → length e ≡ length d → IsSettled (data_sectors d) (data_sectors e)
-    → (i : ℕ) (y : Sector) → slice_get (data_sectors e) i ≡ Some y → is_file y.0 ≡ true → is_needed false (data_sectors e) i ≡ true
+    → (i : ℕ) (y : Sector) → slice_get (data_sectors e) i ≡ Some y → is_file y.0 ≡ true
+    → is_needed false (data_sectors e) i ≡ true
 
 -- then the files of today are the old ones
 abbrev pub SettledHasFiles : Type 0
-SettledHasFiles = (d e : List Sector) → length e ≡ length d → IsSettled (data_sectors d) (data_sectors e) → files_on e ≡ files_old d
+SettledHasFiles = (d e : List Sector) → length e ≡ length d → IsSettled (data_sectors d) (data_sectors e)
+    → files_on e ≡ files_old d

@@ -18,7 +18,8 @@ use Rattle.pilot_top.specs.declared.status.Status.TheVariants as status
 
 -- the line about a conversion: files and pages that stay, page 0 of each among them, and sectors that were freed
 abbrev pub conversion_line : ℕ → ℕ → ℕ → List ℕ
-conversion_line files pages freed = codes "converted " ++ decimal files ++ codes " " ++ decimal pages ++ codes " " ++ decimal freed ++ codes "\n"
+conversion_line files pages freed = codes "converted " ++ decimal files ++ codes " " ++ decimal pages ++ codes " "
+    ++ decimal freed ++ codes "\n"
 
 -- the text is such a line
 pub record IsConversionLine (text : List ℕ) : Type 0 where
@@ -41,7 +42,8 @@ pub record ConvertedBy (s : Status) (before after : World) : Type 0 where
   pub restored : (s ≡ status.Done) ⊎ (s ≡ status.StreamFault) → IsConverted before.disk after.disk
   pub synced : (s ≡ status.Done) ⊎ (s ≡ status.StreamFault) → after.disk.synced ≡ true
   pub line : s ≡ status.Done → (d : List Sector) → Holds before d → Writes before after (converted_text d)
-  pub part_of_line : s ≡ status.StreamFault → (d : List Sector) → Holds before d → WritesFront before after (converted_text d)
+  pub part_of_line : s ≡ status.StreamFault → (d : List Sector) → Holds before d
+      → WritesFront before after (converted_text d)
   -- Whatever the disk holds, it is the line of some conversion.
   pub some_line : s ≡ status.Done → (text : List ℕ) × IsConversionLine text × Writes before after text
   pub some_front : s ≡ status.StreamFault → (text : List ℕ) × IsConversionLine text × WritesFront before after text
@@ -51,15 +53,23 @@ pub record ConvertedBy (s : Status) (before after : World) : Type 0 where
   pub part_line : s ≡ status.DiskFault → WritesLast before after cause.DiskFault
   pub moments : StaysConvertible before.disk after.disk
   -- A disk that has no old volume; the count of sectors is told whatever it holds.
-  pub count : ¬ IsOldCount before.disk.sectors → (s ≡ status.NoMemory) ⊎ ((s ≡ status.NotOpened) × WritesLast before after (cause.Root (fault.BadCount before.disk.sectors)))
-  pub no_volume : (d : List Sector) → Holds before d → s ≡ status.NotOpened → (why : RootFault) × IsNoOldVolume d why × WritesLast before after (cause.Root why)
-  pub no_volume_refused : (d : List Sector) (why : RootFault) → Holds before d → IsNoOldVolume d why → s ≡ status.NotOpened ⊎ s ≡ status.DiskFault ⊎ s ≡ status.NoMemory
-  pub no_volume_unwritten : (d : List Sector) (why : RootFault) → Holds before d → IsNoOldVolume d why → StaysUnwritten before after
+  pub count : ¬ IsOldCount before.disk.sectors
+      → (s ≡ status.NoMemory)
+      ⊎ ((s ≡ status.NotOpened) × WritesLast before after (cause.Root (fault.BadCount before.disk.sectors)))
+  pub no_volume : (d : List Sector) → Holds before d → s ≡ status.NotOpened
+      → (why : RootFault) × IsNoOldVolume d why × WritesLast before after (cause.Root why)
+  pub no_volume_refused : (d : List Sector) (why : RootFault) → Holds before d → IsNoOldVolume d why
+      → s ≡ status.NotOpened ⊎ s ≡ status.DiskFault ⊎ s ≡ status.NoMemory
+  pub no_volume_unwritten : (d : List Sector) (why : RootFault) → Holds before d → IsNoOldVolume d why
+      → StaysUnwritten before after
   -- Files without room are left, and the line has what they want and what there is.
   pub unfit : (d : List Sector) → Holds before d → s ≡ status.Unfit
-      → IsOldVolume d × HasNoRoom d × StaysUnwritten before after × WritesLast before after (cause.Unfit (total_room (files_old d)) (capacity (length d)))
-  pub unfit_refused : (d : List Sector) → Holds before d → IsOldVolume d → HasNoRoom d → s ≡ status.Unfit ⊎ s ≡ status.DiskFault ⊎ s ≡ status.NoMemory
+      → IsOldVolume d × HasNoRoom d × StaysUnwritten before after
+      × WritesLast before after (cause.Unfit (total_room (files_old d)) (capacity (length d)))
+  pub unfit_refused : (d : List Sector) → Holds before d → IsOldVolume d → HasNoRoom d
+      → s ≡ status.Unfit ⊎ s ≡ status.DiskFault ⊎ s ≡ status.NoMemory
   pub no_room_unwritten : (d : List Sector) → Holds before d → HasNoRoom d → StaysUnwritten before after
   -- An old volume whose files have room is converted, where nothing failed.
-  pub complete : (d : List Sector) → Holds before d → IsOldVolume d → ¬ HasNoRoom d → ¬ DiskFailed before after → ¬ SinkFailed before after
+  pub complete : (d : List Sector) → Holds before d → IsOldVolume d → ¬ HasNoRoom d → ¬ DiskFailed before after
+      → ¬ SinkFailed before after
       → (s ≡ status.Done) ⊎ (s ≡ status.NoMemory)

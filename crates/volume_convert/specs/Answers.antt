@@ -21,16 +21,20 @@ AccordsOld (Err why.NoMemory) right = (root : Root) × (right ≡ Ok root)
 AccordsOld (Err (why.Unfit wanted capacity)) right = (root : Root) × (right ≡ Ok root)
 AccordsOld (Err why.Disk) right = Unit {0}
 
--- The root is refused exactly as an old root is judged: by the disk's count of sectors, and then by what stands in sector 0.
+-- The root is refused exactly as an old root is judged: by the disk's count of sectors, and then by what stands in
+-- sector 0.
 pub record JudgesRoot {T : Type 0} (disk : DiskState) (result : Result T ConvertFault) : Type 0 where
   pub count : ¬ IsOldCount disk.sectors → result ≡ Err (why.Root (fault.BadCount disk.sectors))
   pub bad_count : (n : ℕ) → result ≡ Err (why.Root (fault.BadCount n)) → ¬ IsOldCount disk.sectors × (n ≡ disk.sectors)
-  pub judged : IsOldCount disk.sectors → (d : List Sector) → disk.contents ≡ Some d → (s : Sector) → slice_get d 0 ≡ Some s → AccordsOld result (judged_old (length d) s)
+  pub judged : IsOldCount disk.sectors → (d : List Sector) → disk.contents ≡ Some d → (s : Sector)
+      → slice_get d 0 ≡ Some s → AccordsOld result (judged_old (length d) s)
 
 -- Files and pages are too many exactly where they are more than there is room for.
 pub record JudgesRoom {T : Type 0} (disk : DiskState) (result : Result T ConvertFault) : Type 0 where
-  pub wants : (wanted room : ℕ) → result ≡ Err (why.Unfit wanted room) → (room ≡ capacity disk.sectors) × (room < wanted)
-  pub unfit : (wanted room : ℕ) → result ≡ Err (why.Unfit wanted room) → (d : List Sector) → disk.contents ≡ Some d → wanted ≡ total_room (files_old d)
+  pub wants : (wanted room : ℕ) → result ≡ Err (why.Unfit wanted room)
+      → (room ≡ capacity disk.sectors) × (room < wanted)
+  pub unfit : (wanted room : ℕ) → result ≡ Err (why.Unfit wanted room) → (d : List Sector) → disk.contents ≡ Some d
+      → wanted ≡ total_room (files_old d)
   pub fits : (d : List Sector) → disk.contents ≡ Some d → OnOk result (total_room (files_old d) ≤ capacity (length d))
 
 -- these sectors have no old volume, and this is why
@@ -45,4 +49,5 @@ HasNoRoom d = capacity (length d) < total_room (files_old d)
 
 -- whatever else fails, nothing is written where there is no old volume, or its files have no room
 abbrev pub LeavesOthers : DiskState → DiskState → Type 0
-LeavesOthers old new = (d : List Sector) → old.contents ≡ Some d → ((why : RootFault) × IsNoOldVolume d why) ⊎ HasNoRoom d → OnlyReads old new
+LeavesOthers old new = (d : List Sector) → old.contents ≡ Some d
+    → ((why : RootFault) × IsNoOldVolume d why) ⊎ HasNoRoom d → OnlyReads old new

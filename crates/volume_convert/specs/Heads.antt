@@ -26,7 +26,8 @@ abbrev pub IsHeadUpTo : Head → Head → Type 0
 IsHeadUpTo a b = (a.id < b.id) ⊎ ((a.id ≡ b.id) × ((a.kind < b.kind) ⊎ ((a.kind ≡ b.kind) × (a.flags ≤ b.flags))))
 
 abbrev pub AreHeadsUp : List Head → Type 0
-AreHeadsUp heads = (i j : ℕ) (a b : Head) → i ≤ j → slice_get heads i ≡ Some a → slice_get heads j ≡ Some b → IsHeadUpTo a b
+AreHeadsUp heads = (i j : ℕ) (a b : Head) → i ≤ j → slice_get heads i ≡ Some a → slice_get heads j ≡ Some b
+    → IsHeadUpTo a b
 
 -- these, sorted
 pub record AreHeads (labels : List Label) (standings : List Standing) (heads : List Head) : Type 0 where

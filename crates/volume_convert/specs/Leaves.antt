@@ -23,24 +23,30 @@ pub record IsTold (d : List Sector) (told : Converted) : Type 0 where
 
 -- the disk told its sectors, and tells those of their conversion
 abbrev pub IsConverted : DiskState → DiskState → Type 0
-IsConverted old new = (d : List Sector) → old.contents ≡ Some d → (h : List Sector) × (new.contents ≡ Some h) × IsConvertedTo d h
+IsConverted old new = (d : List Sector) → old.contents ≡ Some d
+    → (h : List Sector) × (new.contents ≡ Some h) × IsConvertedTo d h
 
 -- all writes of the conversion were made
 abbrev pub AreMade : DiskState → DiskState → Type 0
-AreMade old new = (d : List Sector) → old.contents ≡ Some d → (c : Conversion) × IsFor d c × Appended (convert_writes c) old new
+AreMade old new = (d : List Sector) → old.contents ≡ Some d
+    → (c : Conversion) × IsFor d c × Appended (convert_writes c) old new
 
 -- none was made, or some first ones
 abbrev pub ArePartMade : DiskState → DiskState → Type 0
-ArePartMade old new = (d : List Sector) → old.contents ≡ Some d → TellsSame old new ⊎ ((c : Conversion) × IsFor d c × PartMade (convert_writes c) old new)
+ArePartMade old new = (d : List Sector) → old.contents ≡ Some d
+    → TellsSame old new ⊎ ((c : Conversion) × IsFor d c × PartMade (convert_writes c) old new)
 
 -- after each write that was made since, the disk is old or converted
 abbrev pub StaysConvertible : DiskState → DiskState → Type 0
-StaysConvertible old new = (d : List Sector) (before writes : List DiskWrite) → old.contents ≡ Some d → old.writes ≡ Some before
+StaysConvertible old new = (d : List Sector) (before writes : List DiskWrite) → old.contents ≡ Some d
+    → old.writes ≡ Some before
     → new.writes ≡ Some (before ++ writes) → (k : ℕ) → IsOldOrConverted d (moment d writes k)
 
--- one for the root, one for each data sector, one for each freed sector, one for each file, one for each map sector, one for the root
+-- one for the root, one for each data sector, one for each freed sector, one for each file, one for each map sector,
+-- one for the root
 abbrev pub most_transfers : List Sector → ℕ
-most_transfers d = 1 + (length d - first_data (length d)) + length (old_unneeded d) + length (files_old d) + (first_data (length d) - 1) + 1
+most_transfers d = 1 + (length d - first_data (length d)) + length (old_unneeded d) + length (files_old d) +
+    (first_data (length d) - 1) + 1
 
 -- so many sectors moved at most
 abbrev pub CostsAtMost : DiskState → DiskState → Type 0

@@ -20,7 +20,8 @@ use Rattle.volume_convert.specs.Settled.{is_spare}
 module _ {A : Type 0} where
   -- free labels and leaders, the first data sector being sector `first`
   abbrev pub settling : ℕ → Conversion A → List DiskWrite
-  settling first c = freeing (places_by is_freed first c.standings.items) ++ leader_writes (places_by is_spare first c.standings.items) (leaders_by c.heads.items)
+  settling first c = freeing (places_by is_freed first c.standings.items)
+      ++ leader_writes (places_by is_spare first c.standings.items) (leaders_by c.heads.items)
 
   -- the orders of a conversion
   abbrev pub orders_of : Root → ℕ → Conversion A → Orders
@@ -32,7 +33,8 @@ module _ {A : Type 0} where
     counter = c.maps.counter;
   }
 
-  -- all that is written: free labels and leaders, and what is written where these stand on a volume of today that is open
+  -- all that is written: free labels and leaders, and what is written where these stand on a volume of today that is
+  -- open
   abbrev pub all_writes : Root → ℕ → Conversion A → List DiskWrite
   all_writes root first c = settling first c ++ scavenge_writes (orders (today root) first c.maps)
 

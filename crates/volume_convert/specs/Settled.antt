@@ -22,18 +22,21 @@ abbrev pub settled_label : Option Label → Standing → Label → Label
 settled_label leader x l = if is_kept x then l else option_map_or (λ h. h) leader (if is_freed x then free_label else l)
 
 abbrev pub settled_label_at : List Label → List Standing → List Label → ℕ → Label
-settled_label_at labels standings leaders i = settled_label (slice_get leaders (gaps_in standings i)) (slice_index_or standings i Free) (slice_index_or labels i free_label)
+settled_label_at labels standings leaders i = settled_label (slice_get leaders (gaps_in standings i))
+    (slice_index_or standings i Free) (slice_index_or labels i free_label)
 
 -- all labels
 abbrev pub settled_labels : List Label → List Standing → List Label → List Label
-settled_labels labels standings leaders = map (settled_label_at labels standings leaders) (range_with_len 0 (length labels))
+settled_labels labels standings leaders = map (settled_label_at labels standings leaders)
+    (range_with_len 0 (length labels))
 
 -- what a sector is, for which there may be a leader
 abbrev pub settled_standing : Bool → Standing → Standing
 settled_standing led x = if is_kept x then Page else (if led then Leader else Free)
 
 abbrev pub settled_standing_at : List Standing → ℕ → ℕ → Standing
-settled_standing_at standings count i = settled_standing (nat_lt (gaps_in standings i) count) (slice_index_or standings i Free)
+settled_standing_at standings count i = settled_standing (nat_lt (gaps_in standings i) count)
+    (slice_index_or standings i Free)
 
 -- what each is, where there are so many leaders
 abbrev pub settled_standings : List Standing → ℕ → List Standing

@@ -10,7 +10,8 @@ use Rattle.volume_root.specs.Sound.{map_bytes, HasBits}
 use Rattle.volume_view.specs.declared.bit_runs.BitRun.{BitRun}
 use Rattle.volume_view.specs.BitRuns.{IsInSome, IsWrongRun, AreBitsApart}
 
--- the sector is of root or maps, or it is a data sector whose label is not free; the first label is that of sector `first`
+-- the sector is of root or maps, or it is a data sector whose label is not free; the first label is that of sector
+-- `first`
 abbrev pub taken : ℕ → List Label → ℕ → Bool
 taken first labels i = nat_lt i first || option_map_or (λ l. not (is_free l)) (slice_get labels (i - first)) false
 
@@ -18,7 +19,8 @@ taken first labels i = nat_lt i first || option_map_or (λ l. not (is_free l)) (
 abbrev pub is_taken : List Sector → ℕ → Bool
 is_taken d i = nat_lt i (first_data (length d)) || option_map_or (λ s. not (is_free s.0)) (slice_get d i) false
 
--- the runs are of exactly the sectors of which the map says something else, rising, each as long as it can be; there is none
+-- the runs are of exactly the sectors of which the map says something else, rising, each as long as it can be; there
+-- is none
 -- exactly where the map has the bits of a sound volume
 pub record AreWrongBits (d : List Sector) (runs : List BitRun) : Type 0 where
   pub each : (k : ℕ) (r : BitRun) → slice_get runs k ≡ Some r → IsWrongRun (is_used (map_bytes d)) (is_taken d) r

@@ -11,7 +11,8 @@ use Rattle.volume_view.specs.Leftovers.{AreLeftovers}
 use Rattle.volume_view.specs.Listed.{AreSorted}
 
 -- what each data sector is, and what would be freed and lost; a line for each permanent file, in rising identifiers;
--- where they lie: the runs of exactly the leaders and pages that the files need, by identifier and page; and what is left over
+-- where they lie: the runs of exactly the leaders and pages that the files need, by identifier and page; and what is
+-- left over
 pub record IsFound {A : Type 0} (d : List Sector) (found : Found A) : Type 0 where
   pub survey : Tells d found.survey.standings.items found.survey.tally found.survey.lost.items
   pub files : AreLinesOf d found.files.items (files_on d)

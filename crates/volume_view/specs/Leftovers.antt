@@ -28,8 +28,10 @@ pub record IsLeft (d : List Sector) (i : ℕ) (s : Sector) : Type 0 where
 
 -- exactly these sectors, each once, with what its label says
 pub record AreLeft (d : List Sector) (triples : List Triple) : Type 0 where
-  pub each : (k : ℕ) (t : Triple) → slice_get triples k ≡ Some t → (s : Sector) × HasData d t.sector s × IsLeft d t.sector s × (t ≡ triple_of t.sector s.0)
-  pub all : (i : ℕ) (s : Sector) → HasData d i s → IsLeft d i s → (k : ℕ) × (slice_get triples k ≡ Some (triple_of i s.0))
+  pub each : (k : ℕ) (t : Triple) → slice_get triples k ≡ Some t
+      → (s : Sector) × HasData d t.sector s × IsLeft d t.sector s × (t ≡ triple_of t.sector s.0)
+  pub all : (i : ℕ) (s : Sector) → HasData d i s → IsLeft d i s
+      → (k : ℕ) × (slice_get triples k ≡ Some (triple_of i s.0))
   pub once : (sector : ℕ) → count_by (λ t. t.sector == sector) triples ≤ 1
 
 -- the same in runs, each as long as it can be

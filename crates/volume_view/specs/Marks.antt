@@ -6,7 +6,8 @@ use Rattle.page_tree.specs.Tree.{frees}
 abbrev pub mark_at : List Bool → ℕ → Bool
 mark_at marks q = get_or marks q false
 
--- of the pages from 1 to `top`, those that were met once are marked, and the others were not met, nor was any page above; the header
+-- of the pages from 1 to `top`, those that were met once are marked, and the others were not met, nor was any page
+-- above; the header
 -- counts as met before
 pub record AreMarks (top : ℕ) (used : List ℕ) (marks : List Bool) : Type 0 where
   pub long : length marks ≡ suc top

@@ -19,7 +19,8 @@ use Rattle.volume_view.specs.Rows.{AreJoined}
 
 -- the label of the sector names the page; the first label is that of sector `first`
 abbrev pub labelled : ℕ → List Label → Triples
-labelled first labels id page sector = nat_le first sector && option_map_or (λ l. not (is_free l) && (l.id == id && l.page == page)) (slice_get labels (sector - first)) false
+labelled first labels id page sector = nat_le first sector
+    && option_map_or (λ l. not (is_free l) && (l.id == id && l.page == page)) (slice_get labels (sector - first)) false
 
 -- the map in these bytes is in form on a volume of n sectors, and names these pages
 abbrev pub NamesIn : ℕ → List ℕ → Triples → Type 0
@@ -45,26 +46,32 @@ IsListed ts t = (k : ℕ) × (slice_get ts k ≡ Some t)
 
 -- the label of this sector is not free, and the map doesn't name its page there: this is the page; or there is none
 abbrev pub IsDifferenceAt : Triples → Label → ℕ → Option Triple → Type 0
-IsDifferenceAt named l sector (Some t) = (is_free l ≡ false) × (named l.id l.page sector ≡ false) × (t ≡ record { id = l.id; page = l.page; sector = sector })
+IsDifferenceAt named l sector (Some t) = (is_free l ≡ false) × (named l.id l.page sector ≡ false)
+    × (t ≡ record { id = l.id; page = l.page; sector = sector })
 IsDifferenceAt named l sector None = (is_free l ≡ true) ⊎ (named l.id l.page sector ≡ true)
 
--- exactly the pages that the labels name and the map doesn't, in rising sectors, in runs that are as long as they can be
+-- exactly the pages that the labels name and the map doesn't, in rising sectors, in runs that are as long as they can
+-- be
 pub record IsUnmapped (named said : Triples) (runs : List Run) : Type 0 where
   pub joined : AreJoined runs
   pub each : AllOnlyIn said named (all_triples runs)
   pub all : (t : Triple) → IsOnlyIn said named t → IsListed (all_triples runs) t
-  pub rising : (j k : ℕ) (a b : Triple) → j < k → slice_get (all_triples runs) j ≡ Some a → slice_get (all_triples runs) k ≡ Some b → a.sector < b.sector
+  pub rising : (j k : ℕ) (a b : Triple) → j < k → slice_get (all_triples runs) j ≡ Some a
+      → slice_get (all_triples runs) k ≡ Some b → a.sector < b.sector
 
--- pages that the map names and the labels don't: all of them, where they are fewer than n; in runs that are as long as they can be
+-- pages that the map names and the labels don't: all of them, where they are fewer than n; in runs that are as long
+-- as they can be
 pub record IsUnlabelled (n : ℕ) (named said : Triples) (runs : List Run) : Type 0 where
   pub joined : AreJoined runs
   pub each : AllOnlyIn named said (all_triples runs)
   pub all : length (all_triples runs) < n → (t : Triple) → IsOnlyIn named said t → IsListed (all_triples runs) t
 
--- To these pages others came, so many fewer of which may still come: each is one of a map with these runs that the labels don't
+-- To these pages others came, so many fewer of which may still come: each is one of a map with these runs that the
+-- labels don't
 -- name, and all of them came unless no more could.
 pub record AddsUnlabelled (runs : List MapRun) (said : Triples) (left now : ℕ) (old new : List Triple) : Type 0 where
-  pub differ : (named : Triples) → Covers named (names_triple runs) → AllOnlyIn named said old → AllOnlyIn named said new
+  pub differ : (named : Triples) → Covers named (names_triple runs) → AllOnlyIn named said old
+      → AllOnlyIn named said new
   pub counted : now + length new ≡ left + length old
   pub fewer : now ≤ left
   pub kept : (t : Triple) → IsListed old t → IsListed new t

@@ -12,7 +12,8 @@ bytes_of d first count = flat_map (λ s. s.1) (take count (drop first d))
 
 -- the labels of so many sectors from one on name the pages of this file, in order
 abbrev pub NamePages : List Sector → ℕ → ℕ → ℕ → Type 0
-NamePages d id first count = (k : ℕ) → k < count → IsSomeAnd (slice_get d (first + k)) (λ s. IsTrue (names s.0 (record { id = id; page = k })))
+NamePages d id first count = (k : ℕ) → k < count
+    → IsSomeAnd (slice_get d (first + k)) (λ s. IsTrue (names s.0 (record { id = id; page = k })))
 
 -- afterwards it is said that the labels are right where it was said before and these are
 abbrev pub SaysNamed : Bool → Bool → List Sector → ℕ → ℕ → ℕ → Type 0

@@ -26,8 +26,10 @@ pub record IsRecorded (n : ℕ) (bytes : List ℕ) (id page sector : ℕ) : Type
 abbrev pub AreRecorded : ℕ → List ℕ → Triples → Type 0
 AreRecorded n bytes said = (id page sector : ℕ) → said id page sector ≡ true → IsRecorded n bytes id page sector
 
--- As many runs as the header counts were read, each from a leaf and in form, and what they name is said of these sectors; and
--- each page of which it is said is recorded. Whether the bytes are in form is open, and whether all runs are different: a record
+-- As many runs as the header counts were read, each from a leaf and in form, and what they name is said of these
+-- sectors; and
+-- each page of which it is said is recorded. Whether the bytes are in form is open, and whether all runs are
+-- different: a record
 -- that none of the searches met may stand in a leaf.
 pub record AreReadAlike (n : ℕ) (bytes : List ℕ) (said : Triples) : Type 0 where
   pub runs : List Run

@@ -14,8 +14,11 @@ pub record IsStrayAt (labels : List Label) (standings : List Standing) (i : ℕ)
   pub stray : is_stray x ≡ true
 
 -- exactly the strays among the first k sectors, each once; the first of all is sector `first`
-pub record AreStrays (first : ℕ) (labels : List Label) (standings : List Standing) (k : ℕ) (triples : List Triple) : Type 0 where
-  pub each : (j : ℕ) (t : Triple) → slice_get triples j ≡ Some t → (i : ℕ) × (l : Label) × (i < k) × IsStrayAt labels standings i l × (t ≡ triple_of (first + i) l)
-  pub all : (i : ℕ) (l : Label) → i < k → IsStrayAt labels standings i l → (j : ℕ) × (slice_get triples j ≡ Some (triple_of (first + i) l))
+pub record AreStrays (first : ℕ) (labels : List Label) (standings : List Standing) (k : ℕ) (triples : List Triple) :
+    Type 0 where
+  pub each : (j : ℕ) (t : Triple) → slice_get triples j ≡ Some t
+      → (i : ℕ) × (l : Label) × (i < k) × IsStrayAt labels standings i l × (t ≡ triple_of (first + i) l)
+  pub all : (i : ℕ) (l : Label) → i < k → IsStrayAt labels standings i l
+      → (j : ℕ) × (slice_get triples j ≡ Some (triple_of (first + i) l))
   pub once : (sector : ℕ) → count_by (λ t. t.sector == sector) triples ≤ 1
   pub ahead : (sector : ℕ) → first + k ≤ sector → count_by (λ t. t.sector == sector) triples ≡ 0

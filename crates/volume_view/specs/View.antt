@@ -13,9 +13,12 @@ use Rattle.volume_view.specs.Found.{IsFound}
 use Rattle.volume_view.specs.Names.{IsToldOf, SaysAlike, SaysAgree}
 use Rattle.volume_view.specs.Recorded.{AreReadAlike}
 
--- The layout, the root as it is judged, the labels, what they tell, and both maps beside them. The file map is said to agree
--- exactly where it has all that a sound volume asks of it, whatever its bytes are. One that has the form of a map is read as what
--- it names. Where it is said to name what the labels name, whatever its form is, the records that were read are labelled, and what
+-- The layout, the root as it is judged, the labels, what they tell, and both maps beside them. The file map is said
+-- to agree
+-- exactly where it has all that a sound volume asks of it, whatever its bytes are. One that has the form of a map is
+-- read as what
+-- it names. Where it is said to name what the labels name, whatever its form is, the records that were read are
+-- labelled, and what
 -- is labelled is recorded.
 pub record IsView {A : Type 0} (d : List Sector) (view : View A) : Type 0 where
   pub counted : IsCount (length d)

@@ -38,7 +38,8 @@ abbrev pub pages_used : List ℕ → List Item → ℕ → List ℕ
 pages_used b hs zero = []
 pages_used b hs (suc s) = pages_used b hs s ++ map (λ h. h.page) (level_at b hs s)
 
--- how many children a page s levels below the highest has at least, and how many records a leaf of a tree of so many levels
+-- how many children a page s levels below the highest has at least, and how many records a leaf of a tree of so many
+-- levels
 abbrev pub least_children : ℕ → ℕ
 least_children zero = 2
 least_children (suc s) = 16
@@ -103,9 +104,11 @@ pub record AreUsedOnce (top : ℕ) (used : List ℕ) : Type 0 where
 pub record IsWalked (pages : ℕ) (b : List ℕ) (records : List (List ℕ)) (free : List ℕ) : Type 0 where
   pub header : IsHeaderForm (page_at b 0) pages
   pub passed : IsPassed b pages (top_in (page_at b 0)) (levels_in (page_at b 0)) (root_in (page_at b 0))
-  pub listed : records ≡ flat_map (records_in b) (level_at b (tops (levels_in (page_at b 0)) (root_in (page_at b 0))) (levels_in (page_at b 0) - 1))
+  pub listed : records ≡ flat_map (records_in b)
+      (level_at b (tops (levels_in (page_at b 0)) (root_in (page_at b 0))) (levels_in (page_at b 0) - 1))
   pub rising : AreInKeyOrder (map (record_item 12) records)
   pub count : count_in (page_at b 0) ≡ length records
   pub capacity : length records ≤ 9 * (pages - 8)
   pub chain : IsChain b (free_in (page_at b 0)) free
-  pub once : AreUsedOnce (top_in (page_at b 0)) (pages_used b (tops (levels_in (page_at b 0)) (root_in (page_at b 0))) (levels_in (page_at b 0)) ++ free)
+  pub once : AreUsedOnce (top_in (page_at b 0))
+      (pages_used b (tops (levels_in (page_at b 0)) (root_in (page_at b 0))) (levels_in (page_at b 0)) ++ free)

@@ -32,19 +32,23 @@ pub record MetOther (before : ℕ) (new : View) : Type 0 where
 abbrev pub Meets : View → Result (Unit {0}) DiskError → View → Type 0
 Meets old result new = OnOk result (MetNone old new) × OnErr result (MetNone old new ⊎ MetOther old.own new)
 
--- A page that waits is read with the label that was kept, and nothing comes of it beneath; another sector is read beneath.
-pub record ReadsOne (sector : ℕ) (page : List ℕ) (old : View) (result : Result Label DiskError) (new : View) : Type 0 where
-  pub waits : (e : Entry) → waiting_at old.waiting sector ≡ Some e → (result ≡ Ok e.label) × (page ≡ e.page) × (new.under ≡ old.under)
-  pub free : waiting_at old.waiting sector ≡ None → Reads old.under sector page result new.under
-  pub waiting : new.waiting ≡ old.waiting
-  pub head : new.head ≡ old.head
-  pub met : MetNone old new
-  pub few : new.under.transfers ≤ old.under.transfers + 1
+-- A page that waits is read with the label that was kept, and nothing comes of it beneath; another sector is read
+-- beneath.
+pub record ReadsOne (sector : ℕ) (page : List ℕ) (old : View) (result : Result Label DiskError) (new : View) : Type 0
+  where
+    pub waits : (e : Entry) → waiting_at old.waiting sector ≡ Some e
+        → (result ≡ Ok e.label) × (page ≡ e.page) × (new.under ≡ old.under)
+    pub free : waiting_at old.waiting sector ≡ None → Reads old.under sector page result new.under
+    pub waiting : new.waiting ≡ old.waiting
+    pub head : new.head ≡ old.head
+    pub met : MetNone old new
+    pub few : new.under.transfers ≤ old.under.transfers + 1
 
 -- The disk beneath tells of these pages more; or of these and of the next page of the sweep, which waits still.
 abbrev pub StopsAfter : List Entry → View → View → Type 0
 StopsAfter swept old new = Appended (map page_write swept) old.under new.under
-    ⊎ ((next : Entry) × IsFirst new.head new.waiting next × Appended (map page_write swept ++ page_write next ∷ []) old.under new.under)
+    ⊎ ((next : Entry) × IsFirst new.head new.waiting next
+    × Appended (map page_write swept ++ page_write next ∷ []) old.under new.under)
 
 -- All that waited is written out in a sweep, or a front of it.
 pub record Empties (old : View) (result : Result (Unit {0}) DiskError) (new : View) : Type 0 where
@@ -61,7 +65,8 @@ pub record PassesOn (write : DiskWrite) (old : View) (result : Result (Unit {0})
   pub sweeps : Sweeps old.head old.waiting swept new.waiting
   pub head : new.head ≡ head_after old.head swept
   pub all : OnOk result ((new.waiting ≡ []) × Appended (map page_write swept ++ write ∷ []) old.under new.under)
-  pub part : OnErr result (StopsAfter swept old new ⊎ ((new.waiting ≡ []) × Appended (map page_write swept ++ write ∷ []) old.under new.under))
+  pub part : OnErr result (StopsAfter swept old new
+      ⊎ ((new.waiting ≡ []) × Appended (map page_write swept ++ write ∷ []) old.under new.under))
   pub met : Meets old result new
 
 -- nothing was written out
@@ -79,7 +84,8 @@ pub record FirstOut (old : View) (rest : List Entry) (new : View) : Type 0 where
   pub head : new.head ≡ first.sector
   pub wrote : TellsWrite (page_write first) old.under new.under
 
--- The page waits for its sector. Beside it waits what waited before; but where there was no room, all but the first of the sweep.
+-- The page waits for its sector. Beside it waits what waited before; but where there was no room, all but the first
+-- of the sweep.
 pub record Taken (sector : ℕ) (wanted : Wanted) (page : List ℕ) (old new : View) : Type 0 where
   pub entry : Entry
   pub in_sector : entry.sector ≡ sector
@@ -90,15 +96,19 @@ pub record Taken (sector : ℕ) (wanted : Wanted) (page : List ℕ) (old new : V
   pub made : (IsStill old rest new × (waiting_at old.waiting sector ≡ None → length old.waiting < old.room))
       ⊎ (FirstOut old rest new × (waiting_at old.waiting sector ≡ None))
 
--- What waits is as it was. Nothing was written beneath; or, where there was no room, the first page of the sweep, which waits still.
+-- What waits is as it was. Nothing was written beneath; or, where there was no room, the first page of the sweep,
+-- which waits still.
 pub record LeftOut (old new : View) : Type 0 where
   pub waiting : new.waiting ≡ old.waiting
   pub head : new.head ≡ old.head
   pub beneath : TellsSame old.under new.under
-      ⊎ ((first : Entry) × (length old.waiting ≡ old.room) × IsFirst old.head old.waiting first × TellsWrite (page_write first) old.under new.under)
+      ⊎ ((first : Entry) × (length old.waiting ≡ old.room) × IsFirst old.head old.waiting first
+      × TellsWrite (page_write first) old.under new.under)
 
--- A page is let wait, or it isn't. The label that was kept decides on a sector for which a page waits, and nothing moves beneath.
-pub record TakesIn (sector : ℕ) (wanted : Wanted) (page : List ℕ) (old : View) (result : Result (Unit {0}) DiskError) (new : View) : Type 0 where
+-- A page is let wait, or it isn't. The label that was kept decides on a sector for which a page waits, and nothing
+-- moves beneath.
+pub record TakesIn (sector : ℕ) (wanted : Wanted) (page : List ℕ) (old : View) (result : Result (Unit {0}) DiskError)
+    (new : View) : Type 0 where
   pub taken : OnOk result (Taken sector wanted page old new)
   pub left : OnErr result (LeftOut old new)
   pub waits : (e : Entry) → waiting_at old.waiting sector ≡ Some e

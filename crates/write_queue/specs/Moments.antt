@@ -19,13 +19,18 @@ labels_of d = map (λ s. s.0) d
 abbrev pub page_in : List Sector → ℕ → Option (List ℕ)
 page_in d k = option_map (λ s. s.1) (slice_get d k)
 
--- All labels are those at the entry, or all are those at the exit. Each page stood beneath at the entry, or is the one at the entry or at the exit.
+-- All labels are those at the entry, or all are those at the exit. Each page stood beneath at the entry, or is the
+-- one at the entry or at the exit.
 pub record IsBetween (beneath entry exit m : List Sector) : Type 0 where
   pub labels : (labels_of m ≡ labels_of entry) ⊎ (labels_of m ≡ labels_of exit)
-  pub pages : (k : ℕ) → (page_in m k ≡ page_in beneath k) ⊎ ((page_in m k ≡ page_in entry k) ⊎ (page_in m k ≡ page_in exit k))
+  pub pages : (k : ℕ) → (page_in m k ≡ page_in beneath k)
+      ⊎ ((page_in m k ≡ page_in entry k) ⊎ (page_in m k ≡ page_in exit k))
 
--- Where the disk beneath tells what it holds and its writes, each moment of the call's writes there is between what the queue told at its entry and at its exit.
+-- Where the disk beneath tells what it holds and its writes, each moment of the call's writes there is between what
+-- the queue told at its entry and at its exit.
 abbrev pub MomentsBetween : View → View → Type 0
 MomentsBetween old new =
-    (d entry exit : List Sector) (earlier writes : List DiskWrite) (k : ℕ) → old.under.contents ≡ Some d → told_by old ≡ Some entry → told_by new ≡ Some exit
-    → old.under.writes ≡ Some earlier → new.under.writes ≡ Some (earlier ++ writes) → IsBetween d entry exit (moment d writes k)
+    (d entry exit : List Sector) (earlier writes : List DiskWrite) (k : ℕ) → old.under.contents ≡ Some d
+    → told_by old ≡ Some entry → told_by new ≡ Some exit
+    → old.under.writes ≡ Some earlier → new.under.writes ≡ Some (earlier ++ writes)
+    → IsBetween d entry exit (moment d writes k)

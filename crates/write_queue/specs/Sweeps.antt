@@ -16,10 +16,12 @@ pub record IsFirst (head : ℕ) (es : List Entry) (e : Entry) : Type 0 where
 pub record IsLess (es : List Entry) (e : Entry) (fewer : List Entry) : Type 0 where
   pub rest : (k : ℕ) → waiting_at fewer k ≡ (if e.sector == k then None else waiting_at es k)
 
--- the pages that were written one after the other, each the first of the sweep from the one before it on, and what is left
+-- the pages that were written one after the other, each the first of the sweep from the one before it on, and what is
+-- left
 abbrev pub Sweeps : ℕ → List Entry → List Entry → List Entry → Type 0
 Sweeps head es [] left = left ≡ es
-Sweeps head es (e ∷ swept) left = (fewer : List Entry) × IsFirst head es e × IsLess es e fewer × (length fewer + 1 ≡ length es) × Sweeps e.sector fewer swept left
+Sweeps head es (e ∷ swept) left = (fewer : List Entry) × IsFirst head es e × IsLess es e fewer
+    × (length fewer + 1 ≡ length es) × Sweeps e.sector fewer swept left
 
 -- the sector that was written out last
 abbrev pub head_after : ℕ → List Entry → ℕ

@@ -5,8 +5,8 @@ use Rattle.labelled_disk.specs.declared.label.Wanted.{Wanted}
 use Rattle.labelled_disk.specs.State.{DiskState}
 use Rattle.write_queue.specs.declared.entry.Entry.{Entry}
 
--- The disk beneath, the pages that wait, how many may wait, the sector that was written out last, how many labels were met that
--- had changed, and the last of these.
+-- The disk beneath, the pages that wait, how many may wait, the sector that was written out last, how many labels
+-- were met that had changed, and the last of these.
 pub record View : Type 0 where
   pub under : DiskState
   pub waiting : List Entry
@@ -15,8 +15,8 @@ pub record View : Type 0 where
   pub own : ℕ
   pub changed : Option (ℕ × Wanted × Label)
 
--- How many sectors had been moved beneath when the queue was made, how many calls named a sector since, and how many calls of
--- `settle` did not answer Ok.
+-- How many sectors had been moved beneath when the queue was made, how many calls named a sector since, and how many
+-- calls of `settle` did not answer Ok.
 pub record Tally : Type 0 where
   pub begun : ℕ
   pub transfers : ℕ
@@ -30,8 +30,9 @@ new_view under room = record { under = under; waiting = []; room = room; head = 
 abbrev pub new_tally : DiskState → Tally
 new_tally under = record { begun = under.transfers; transfers = 0; unsettled = 0 }
 
--- The sectors that were moved beneath, and the pages that wait, are paid for: twice by each call that names a sector, and once by
--- each settling that did not answer Ok; so many are paid for beforehand. Nothing is said once the counts stand at their end.
+-- The sectors that were moved beneath, and the pages that wait, are paid for: twice by each call that names a sector,
+-- and once by each settling that did not answer Ok; so many are paid for beforehand. Nothing is said once the counts
+-- stand at their end.
 abbrev pub Covers : ℕ → ℕ → ℕ → ℕ → ℕ → ℕ → Type 0
 Covers spare begun transfers unsettled beneath waiting =
     transfers + unsettled < 2 ^ 64 - 1 → beneath + waiting + spare ≤ begun + 2 * transfers + unsettled
