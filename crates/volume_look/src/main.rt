@@ -76,9 +76,15 @@ fn on_image(rt: &HostRuntime, held: io::Result<()>, path: &str, request: Request
     }
 }
 
+/// Writes on standard error that the words ask for nothing, and how the program is called.
 fn usage(rt: &HostRuntime) -> Status {
-    let _ = eprintln!(rt; "look: these words ask for nothing; look --help says which do");
+    let help = about::HELP;
+    let _ = eprint!(rt; "look: these words ask for nothing\n{help}");
     Status::Usage
+}
+
+fn asks_for_help(word: &str) -> bool {
+    matches!(word, "--help" | "-h" | "help")
 }
 
 fn run(rt: &HostRuntime, held: io::Result<()>) -> Status {
@@ -88,7 +94,7 @@ fn run(rt: &HostRuntime, held: io::Result<()>) -> Status {
         Err(status) => return status,
     };
     match words.as_slice() {
-        [word] if word.as_str() == "--help" => tell(rt, about::HELP),
+        [word] if asks_for_help(word.as_str()) => tell(rt, about::HELP),
         [word] if word.as_str() == "--version" => tell(rt, about::VERSION),
         [image, rest @ ..] => match request_of(rest) {
             Some(request) => on_image(rt, held, image.as_str(), request),

@@ -1,7 +1,7 @@
 //! What is asked for, written to standard output or into a new file.
 use crate::status::Status;
 use image_disk::ImageDisk;
-use labelled_disk::{Disk, FileId, Page};
+use labelled_disk::{Disk, FileId, Page, RootFault};
 use look_text::{FileText, Request, json_of, write_file, write_listing, write_page, write_picture};
 use std::alloc::{AllocError, Global};
 use std::fs::{File, OpenOptions, remove_file};
@@ -146,6 +146,18 @@ fn tell_file(
     }
 }
 
+/// Writes on standard error what makes a volume of today of an old one, where the root is refused as one.
+fn tell_renewal(rt: &HostRuntime, image: &str, view: &View<Global>) {
+    match view.root {
+        Err(RootFault::Version(version)) if version == 1 || version == 2 => {
+            let _ = eprintln!(rt;
+                "look: {image:?}: the volume has version {version}; to bring it to version 3: pilot {image:?} convert"
+            );
+        }
+        _ => {}
+    }
+}
+
 /// Answers a request from a look.
 pub(crate) fn answer(
     rt: &HostRuntime,
@@ -154,10 +166,14 @@ pub(crate) fn answer(
     view: &View<Global>,
     request: Request<'_>,
 ) -> Status {
-    match request {
+    let status = match request {
         Request::Listing => tell_view(rt, view, listing(rt.alloc(), view)),
         Request::Json => tell_view(rt, view, json(rt.alloc(), view)),
         Request::Picture { path } => put_picture(rt, path, view),
         Request::File { id, page } => tell_file(rt, image, disk, view, id, page),
+    };
+    if matches!(status, Status::Refused | Status::NoFile) {
+        tell_renewal(rt, image, view);
     }
+    status
 }
