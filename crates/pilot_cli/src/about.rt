@@ -24,9 +24,9 @@ commands  format   makes an empty volume of the whole disk; what was there is
           convert  brings a volume of version 1 or 2 to version 3, with the same
                    files, and writes the counts
           trial    makes a volume of the whole disk, carries drawn calls out on
-                   it, and writes a line about them; options --seed n, by
-                   default 0, --calls n, up to 1000000, by default 1000, and
-                   --frames n, as for run
+                   it, and writes a line about them; what was there is lost;
+                   options --seed n, by default 0, --calls n, up to 1000000, by
+                   default 1000, and --frames n, as for run
 exit      0 done, 2 usage, 3 disk fault, 4 stream fault, 5 volume refused,
           6 trace too long, 7 no memory, 8 volume damaged, 9 files without room
 manual    docs/MANUAL.md in the repository

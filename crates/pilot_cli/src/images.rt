@@ -29,9 +29,14 @@ fn in_memory(rt: &HostRuntime, sectors: u32, task: Task<'_>) -> Status {
 }
 
 /// Carries out a command on a disk of no sector, since the image can't be had.
-fn on_none(rt: &HostRuntime, path: &str, why: NoImage, words: &[String]) -> Status {
-    reasons::no_image(rt, path, why);
+fn on_none(rt: &HostRuntime, words: &[String]) -> Status {
     command(rt, &mut ImageDisk::<File>::absent(), words)
+}
+
+/// Carries out a command on a disk of no sector, since a number of a standard stream may be free.
+fn on_loose(rt: &HostRuntime, why: io::Error, words: &[String]) -> Status {
+    reasons::no_image(rt, NOTHING, NoImage::System(why));
+    on_none(rt, words)
 }
 
 /// Carries out a command on the disk in an image file.
@@ -48,7 +53,7 @@ fn on_new(rt: &HostRuntime, held: io::Result<()>, sectors: u32, task: Task<'_>) 
         return on_disk(rt, ImageDisk::without_file(sectors), task);
     }
     if let Err(why) = held {
-        return on_none(rt, NOTHING, NoImage::System(why), task.words);
+        return on_loose(rt, why, task.words);
     }
     match new_image(rt, sectors, task.path) {
         Ok(disk) => {
@@ -58,18 +63,24 @@ fn on_new(rt: &HostRuntime, held: io::Result<()>, sectors: u32, task: Task<'_>) 
             }
             status
         }
-        Err(why) => on_none(rt, task.path, why, task.words),
+        Err(why) => {
+            reasons::no_new_image(rt, sectors, task.path, why);
+            on_none(rt, task.words)
+        }
     }
 }
 
 /// Carries out a command on an image file that is there.
 fn on_file(rt: &HostRuntime, held: io::Result<()>, task: Task<'_>) -> Status {
     if let Err(why) = held {
-        return on_none(rt, NOTHING, NoImage::System(why), task.words);
+        return on_loose(rt, why, task.words);
     }
     match open_image(rt, task.path) {
         Ok(disk) => on_disk(rt, disk, task),
-        Err(why) => on_none(rt, task.path, why, task.words),
+        Err(why) => {
+            reasons::no_old_image(rt, task.path, why);
+            on_none(rt, task.words)
+        }
     }
 }
 
@@ -83,7 +94,7 @@ pub(crate) fn on_image<'a>(
 ) -> Status {
     let meant = match command_of(rt.alloc(), words) {
         Ok(meant) => meant,
-        Err(Refused::Usage) => return no_command(rt, words),
+        Err(Refused::Usage) => return no_command(rt, image, words),
         Err(Refused::NoMemory) => {
             reasons::no_memory(rt, "the words");
             return Status::NoMemory;

@@ -94,7 +94,7 @@ fn run(rt: &HostRuntime, held: io::Result<()>) -> Status {
     match words.as_slice() {
         [word] if asks_for_help(word.as_str()) => tell(rt, about::HELP),
         [word] if word.as_str() == "--version" => tell(rt, about::VERSION),
-        [] => no_command(rt, &[]),
+        [] => no_command(rt, "", &[]),
         [image, rest @ ..] => on_image(rt, held, image.as_str(), rest),
     }
 }

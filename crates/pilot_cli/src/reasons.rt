@@ -10,12 +10,23 @@ use std::fs::File;
 use std::io;
 use volume_root::{read_old_root, read_root};
 
-/// The words mean no command: which words, and how the program is called.
-pub(crate) fn no_command(rt: &HostRuntime, words: &[String]) -> Status {
+/// What is said where a command stands in the place of the image.
+fn order(image: &str) -> &'static str {
+    match image {
+        "format" | "run" | "scavenge" | "convert" | "trial" => {
+            "; the image comes first: pilot IMAGE COMMAND"
+        }
+        _ => "",
+    }
+}
+
+/// The words behind the image word mean no command: which words, and how the program is called.
+pub(crate) fn no_command(rt: &HostRuntime, image: &str, words: &[String]) -> Status {
     let status = command(rt, &mut ImageDisk::<File>::absent(), words);
+    let order = order(image);
     let _ = match words {
         [] => eprintln!(rt; "pilot: no command"),
-        [_, ..] => eprintln!(rt; "pilot: no command: {words:?}"),
+        [_, ..] => eprintln!(rt; "pilot: no command: {words:?}{order}"),
     };
     let _ = eprint!(rt; "{}", about::HELP);
     status
@@ -35,6 +46,45 @@ pub(crate) fn no_memory(rt: &HostRuntime, something: &str) {
 /// The image can't be had.
 pub(crate) fn no_image(rt: &HostRuntime, path: &str, why: NoImage) {
     let _ = eprintln!(rt; "pilot: {path:?}: {why}");
+}
+
+/// The kind of what the system answered.
+fn kind_of(why: &NoImage) -> Option<io::ErrorKind> {
+    match why {
+        NoImage::System(error) => Some(error.kind()),
+        _ => None,
+    }
+}
+
+/// There is no file of that path, and how one is made.
+fn not_there(rt: &HostRuntime, path: &str, why: NoImage) {
+    let _ = if path.contains(':') {
+        eprintln!(rt; "pilot: {path:?}: {why}; a new file is n:FILE, n a number of sectors")
+    } else {
+        eprintln!(rt; "pilot: {path:?}: {why}; to make a volume there: pilot 256:{path:?} format")
+    };
+}
+
+/// The image file can't be had that was to be there.
+pub(crate) fn no_old_image(rt: &HostRuntime, path: &str, why: NoImage) {
+    match kind_of(&why) {
+        Some(io::ErrorKind::NotFound) if !path.is_empty() => not_there(rt, path, why),
+        _ => no_image(rt, path, why),
+    }
+}
+
+/// The image file of so many sectors can't be had that was to be new.
+pub(crate) fn no_new_image(rt: &HostRuntime, sectors: u32, path: &str, why: NoImage) {
+    if path.is_empty() {
+        let _ = eprintln!(rt; "pilot: no path behind \"{sectors}:\"");
+        return;
+    }
+    match kind_of(&why) {
+        Some(io::ErrorKind::AlreadyExists) => {
+            let _ = eprintln!(rt; "pilot: {path:?}: {why}; to work on it leave out \"{sectors}:\"");
+        }
+        _ => no_image(rt, path, why),
+    }
 }
 
 /// A standard stream failed: standard output, if the sink has an error.
@@ -61,11 +111,23 @@ fn too_long(rt: &HostRuntime) {
     );
 }
 
+/// What is said behind the fault of a root: the counts of sectors that a volume can have, or that
+/// a volume is not old.
+fn beside(fault: RootFault) -> &'static str {
+    match fault {
+        RootFault::BadCount(sectors) if Layout::of(sectors).is_err() => {
+            "; a volume has 256 to 1048576"
+        }
+        RootFault::Version(3) => ", which is that of today: there is nothing to convert",
+        _ => "",
+    }
+}
+
 /// A command on a disk in memory of so many sectors did not do its work.
 pub(crate) fn memory_stopped(rt: &HostRuntime, status: Status, sectors: u32, meant: Command) {
     match (status, Layout::of(sectors)) {
         (Status::NotOpened, Err(fault)) => {
-            let _ = eprintln!(rt; "pilot: {fault}");
+            let _ = eprintln!(rt; "pilot: {fault}{}", beside(fault));
         }
         (Status::NotOpened, Ok(_)) => {
             let _ = eprintln!(rt; "pilot: a disk in memory has no volume until it is formatted");
@@ -98,16 +160,23 @@ fn not_opened(rt: &HostRuntime, task: Task<'_>, disk: &mut ImageDisk<File>) {
         Err(RootFault::Unclean) => remedy(rt, task.path, "the volume was not closed"),
         Err(RootFault::Version(version @ (1 | 2))) => renewal(rt, task.path, version),
         Err(fault) => {
-            let _ = eprintln!(rt; "pilot: {:?}: {fault}", task.path);
+            let _ = eprintln!(rt; "pilot: {:?}: {fault}{}", task.path, beside(fault));
         }
         Ok(_) => {}
+    }
+}
+
+/// A standard stream failed: whether the volume was left open, and what restores it.
+fn left_open(rt: &HostRuntime, path: &str, disk: &mut ImageDisk<File>) {
+    if let Err(RootFault::Unclean) = read_root(disk, true) {
+        remedy(rt, path, "the volume was left open");
     }
 }
 
 /// The files of an old volume have no room.
 fn unfit(rt: &HostRuntime, path: &str) {
     let _ = eprintln!(rt;
-        "pilot: {path:?}: there are not sectors enough for the files and a leader of each"
+        "pilot: {path:?}: its files need more room than a volume of today has; nothing was written"
     );
 }
 
@@ -123,6 +192,7 @@ pub(crate) fn image_stopped(
             let _ = eprintln!(rt; "pilot: {:?}: {trouble}", task.path);
         }
         (Status::NotOpened, _) => not_opened(rt, task, disk),
+        (Status::StreamFault, _) => left_open(rt, task.path, disk),
         (Status::NoMemory, _) => no_memory(rt, what_takes_memory(task.meant)),
         (Status::Long, _) => too_long(rt),
         (Status::Damaged, _) => remedy(rt, task.path, "the volume is damaged"),
