@@ -1,5 +1,5 @@
 -- Runs that a page more is added to.
-use Rattle.std.proofs.Common.{◌≡◌, ℕ, zero, suc, ◌+◌, true, false, ◌&&◌, List, [], ◌∷◌, ◌++◌, refl, sym, ◌∙◌, ap, arith, eqb}
+use Rattle.std.proofs.Common.{◌≡◌, ◌⊎◌, inl, inr, ℕ, zero, suc, ◌+◌, ◌<◌, ◌≤◌, ◌^◌, true, false, ◌&&◌, List, [], ◌∷◌, ◌++◌, length, refl, sym, ◌∙◌, ap, arith, eqb, length-append}
 use Rattle.std.specs.List.{AllByRecursion}
 use Rattle.std.proofs.lemmas.Bool.{and_parts, eqb-true}
 use Rattle.label_survey.specs.declared.triples.Triple.{Triple}
@@ -76,6 +76,30 @@ more_apart (r ∷ q ∷ runs) last t ends all = (all.0, more_apart (q ∷ runs) 
 
 pub one_more_joined : (runs : List Run) (last : Run) (t : Triple) → goes_on last t ≡ false → AreJoined (runs ++ last ∷ []) → AreJoined ((runs ++ last ∷ []) ++ run_of t ∷ [])
 one_more_joined runs last t ends joined = record { long = more_long (runs ++ last ∷ []) t joined.long; apart = more_apart runs last t ends joined.apart }
+
+row_long : (id page sector n : ℕ) → length (triples_in_row id page sector n) ≡ n
+row_long id page sector zero = refl
+row_long id page sector (suc n) = ap suc (row_long id (page + 1) (sector + 1) n)
+
+last_within : (runs : List Run) (last : Run) → last.pages ≤ length (all_triples (runs ++ last ∷ []))
+last_within [] last =
+    let sum = length-append (triples_of last) [] in
+    let long = row_long last.id last.first last.sector last.pages in
+    omega (arith, sum, long)
+last_within (r ∷ runs) last =
+    let sum = length-append (triples_of r) (all_triples (runs ++ last ∷ [])) in
+    let within = last_within runs last in
+    omega (arith, sum, within)
+
+-- the last run has room for the page behind it, by its sector or by how many pages there are
+pub longer_fits : (runs : List Run) (last : Run) (t : Triple) → goes_on last t ≡ true → (t.sector + 1 < 2 ^ 32) ⊎ (length (all_triples (runs ++ last ∷ [])) + 1 < 2 ^ 32) → last.pages + 1 < 2 ^ 32
+longer_fits runs last t goes few = elim few [
+  | inl low ↦
+      let outer = and_parts (eqb t.id last.id && eqb t.page (last.first + last.pages)) (eqb t.sector (last.sector + last.pages)) goes in
+      let sector : t.sector ≡ last.sector + last.pages = eqb-true t.sector (last.sector + last.pages) outer.1 in
+      omega (arith, sector, low)
+  | inr short ↦ let within = last_within runs last in omega (arith, within, short)
+]
 
 pub first_joined : (t : Triple) → AreJoined (run_of t ∷ [])
 first_joined t = record { long = (omega arith, tt); apart = tt }

@@ -101,3 +101,9 @@ SaysAlike (Read in_form differences) = AreNone differences
 abbrev pub SaysAgree : {A : Type 0} → Names A → Type 0
 SaysAgree (Malformed page) = ⊥
 SaysAgree (Read in_form differences) = (in_form ≡ true) × AreNone differences
+
+-- what is said of the map's form is right: it is in form as a whole exactly where that is said, and one that is called
+-- malformed is not in form
+abbrev pub SaysForm : {A : Type 0} → Names A → Type 0 → Type 0
+SaysForm (Malformed page) form = ¬ form
+SaysForm (Read in_form differences) form = (in_form ≡ true) ↔ form

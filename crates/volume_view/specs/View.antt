@@ -9,17 +9,15 @@ use Rattle.volume_root.specs.RootPage.{judged}
 use Rattle.volume_root.specs.Sound.{HasFileMap}
 use Rattle.volume_view.specs.declared.view.View.{View}
 use Rattle.volume_view.specs.Bits.{AreWrongBits}
+use Rattle.volume_view.specs.Form.{HasForm}
 use Rattle.volume_view.specs.Found.{IsFound}
-use Rattle.volume_view.specs.Names.{IsToldOf, SaysAlike, SaysAgree}
+use Rattle.volume_view.specs.Names.{IsToldOf, SaysForm, SaysAlike, SaysAgree}
 use Rattle.volume_view.specs.Recorded.{AreReadAlike}
 
 -- The layout, the root as it is judged, the labels, what they tell, and both maps beside them. The file map is said
--- to agree
--- exactly where it has all that a sound volume asks of it, whatever its bytes are. One that has the form of a map is
--- read as what
--- it names. Where it is said to name what the labels name, whatever its form is, the records that were read are
--- labelled, and what
--- is labelled is recorded.
+-- to agree exactly where it has all that a sound volume asks of it, and to be in form exactly where it is, whatever
+-- its bytes are. One that has the form of a map is read as what it names. Where it is said to name what the labels
+-- name, whatever its form is, the records that were read are labelled, and what is labelled is recorded.
 pub record IsView {A : Type 0} (d : List Sector) (view : View A) : Type 0 where
   pub counted : IsCount (length d)
   pub layout : view.layout ≡ layout_of (length d)
@@ -28,6 +26,7 @@ pub record IsView {A : Type 0} (d : List Sector) (view : View A) : Type 0 where
   pub found : IsFound d view.found
   pub bits : AreWrongBits d view.bits.items
   pub names : (named : Triples) → MapNames d named → IsToldOf named d view.names
+  pub form : SaysForm view.names (HasForm (length d) (map_bytes d))
   pub maps_labelled : (view.maps_labelled ≡ true) ↔ HasMaps (length d) d
   pub agrees : SaysAgree view.names ↔ HasFileMap d
   pub alike : SaysAlike view.names → AreReadAlike (length d) (map_bytes d) (label_triples d)

@@ -6,7 +6,8 @@ ghost use Rattle.volume_view.specs.Found.{IsFound};
 
 use crate::files::{FileLine, list_files};
 use crate::leftovers::leftovers_of;
-use label_survey::{Run, Survey, needed_triples, runs_of, survey_labels};
+use crate::rows::join_pages;
+use label_survey::{Run, Survey, needed_triples, survey_labels};
 use labelled_disk::{Label, NoMemory};
 use std::alloc::Allocator;
 
@@ -17,7 +18,8 @@ pub struct Found<A: Allocator> {
     pub survey: Survey<A>,
     /// The permanent files, in rising identifiers.
     pub files: Vec<FileLine, A>,
-    /// Where they lie: for each file, rising, the runs of its pages, and then its leader.
+    /// Where they lie: for each file, rising, the runs of its pages, and then its leader; each run is
+    /// as long as it can be.
     pub runs: Vec<Run, A>,
     /// The sectors that are neither free nor of a permanent file, as runs, by the identifier and the
     /// page of their labels.
@@ -37,7 +39,7 @@ pub(crate) fn find_files<A: Allocator + Clone>(
     let survey = survey_labels(alloc.clone()?, first, labels)?;
     let triples = needed_triples(alloc.clone()?, first, labels, &survey.standings)?;
     let files = list_files(alloc.clone()?, first, labels, &triples)?;
-    let runs = runs_of(alloc.clone()?, &triples)?;
+    let runs = join_pages(alloc.clone()?, &triples)?;
     let leftovers = leftovers_of(alloc, first, labels, &survey.standings)?;
     Ok(Found {
         survey,

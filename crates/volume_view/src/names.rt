@@ -7,7 +7,8 @@ ghost use Rattle.labelled_disk.specs.Sectors.{Sector};
 ghost use Rattle.file_map.specs.FileMap.{Triples};
 ghost use Rattle.file_map.specs.InSectors.{MapNames, label_triples, map_bytes};
 ghost use Rattle.volume_root.specs.Sound.{HasFileMap};
-ghost use Rattle.volume_view.specs.Names.{labelled, AreNone, NamesIn, IsComparison, IsToldOf, SaysAlike, SaysAgree};
+ghost use Rattle.volume_view.specs.Form.{HasForm};
+ghost use Rattle.volume_view.specs.Names.{labelled, AreNone, NamesIn, IsComparison, IsToldOf, SaysForm, SaysAlike, SaysAgree};
 ghost use Rattle.volume_view.specs.Pages.{IsDiskOrMemory, SaysNamed};
 ghost use Rattle.volume_view.specs.Recorded.{AreReadAlike};
 ghost use Rattle.volume_view.specs.Records.{IsNoMemory};
@@ -87,6 +88,9 @@ pub(crate) fn look_at_names<A: Allocator + Clone, D: Disk>(
     ensures told { IfOk result (λ names. (d : List Sector) → (D.state disk.old).contents ≡ Some d
         → labels.now ≡ map (λ s. s.0) (data_sectors d)
         → (named : Triples) → MapNames d named → IsToldOf named d names) }
+    ensures form { IfOk result (λ names. (d : List Sector) → (D.state disk.old).contents ≡ Some d
+        → labels.now ≡ map (λ s. s.0) (data_sectors d)
+        → SaysForm names (HasForm (length d) (map_bytes d))) }
     ensures alike { IfOk result (λ names. (d : List Sector) → (D.state disk.old).contents ≡ Some d
         → labels.now ≡ map (λ s. s.0) (data_sectors d) → SaysAlike names
         → AreReadAlike (length d) (map_bytes d) (label_triples d)) }

@@ -1,5 +1,5 @@
 //! Pages in a row that stand in sectors in a row, as runs that are as long as they can be.
-ghost use Rattle.std.specs.Prelude.{◌≡◌, ◌+◌, ◌<◌, ◌^◌, ◌++◌, ◌∷◌, [], All, OnOk, IfOk};
+ghost use Rattle.std.specs.Prelude.{◌≡◌, ◌⊎◌, ◌+◌, ◌<◌, ◌^◌, ◌++◌, ◌∷◌, [], All, OnOk, IfOk, length};
 ghost use Rattle.label_survey.specs.Runs.{all_triples, run_of, goes_on};
 ghost use Rattle.volume_view.specs.Rows.{AreJoined};
 
@@ -29,7 +29,8 @@ fn run_of(page: Triple) -> Run
 
 /// Adds a page behind those of the runs: to the last run where it goes that on, or as a run of its own.
 pub(crate) fn add_page<A: Allocator>(runs: &mut Vec<Run, A>, page: Triple) -> Result<(), AllocError>
-    requires { page.sector + 1 < 2 ^ 32 }
+    requires few { (page.sector + 1 < 2 ^ 32)
+        ⊎ (length (all_triples runs.old.items) + 1 < 2 ^ 32) }
     ensures pages { OnOk result (all_triples runs.new.items
         ≡ all_triples runs.old.items ++ page ∷ []) }
     ensures joined { OnOk result (AreJoined runs.old.items → AreJoined runs.new.items) }
@@ -53,7 +54,7 @@ pub(crate) fn join_pages<A: Allocator>(
     alloc: A,
     pages: &[Triple],
 ) -> Result<Vec<Run, A>, AllocError>
-    requires { All (λ t. t.sector + 1 < 2 ^ 32) pages.now }
+    requires few { All (λ t. t.sector + 1 < 2 ^ 32) pages.now ⊎ (length pages.now < 2 ^ 32) }
     ensures pages { IfOk result (λ runs. all_triples runs.items ≡ pages.now) }
     ensures joined { IfOk result (λ runs. AreJoined runs.items) }
 {

@@ -1,6 +1,4 @@
-use Rattle.std.proofs.Common.{List, sym, subst}
-use Rattle.label_survey.specs.declared.triples.Triple.{Triple}
-use Rattle.label_survey.specs.Runs.{AreRunsOf}
+use Rattle.std.proofs.Common.{◌∙◌, sym, subst}
 use Rattle.label_survey.specs.Standings.{AreStandings}
 use Rattle.volume_view.specs.Listed.{AreSorted}
 use Rattle.volume_view.proofs.found.find_files.Goals as goal
@@ -15,6 +13,7 @@ returns g c = λ d at are.
       files = c.in_ok-files.ensures d at are (subst (AreSorted d) (sym c.deref-2.ensures.value) sorted);
       triples = c.in_ok-triples.triples.items;
       sorted = sorted;
-      runs = subst (λ (ts : List Triple). AreRunsOf ts c.in_ok-runs.runs.items) c.deref-3.ensures.value c.in_ok-runs.ensures;
+      runs = record { same = c.in_ok-runs.ensures.pages ∙ c.deref-3.ensures.value; long = c.in_ok-runs.ensures.joined.long };
+      joined = c.in_ok-runs.ensures.joined;
       leftovers = c.in_ok-leftovers.ensures d at are (subst (AreStandings d) (sym c.deref-4.ensures.value) tells.standings);
     }

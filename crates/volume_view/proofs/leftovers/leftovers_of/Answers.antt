@@ -1,4 +1,4 @@
-use Rattle.std.proofs.Common.{ℕ, ◌+◌, ◌<◌, ◌∙◌, List, length, sym, ap, subst, arith, slice_index_or}
+use Rattle.std.proofs.Common.{inl, ℕ, ◌+◌, ◌<◌, ◌∙◌, List, length, sym, ap, subst, arith, slice_index_or}
 use Rattle.std.specs.List.Sorted.{IsPermutation}
 use Rattle.std.proofs.lemmas.List.Sorted.{length_permutation}
 use Rattle.label_survey.specs.declared.triples.Triple.{Triple}
@@ -14,7 +14,7 @@ join_pages-requires g c =
     let filled = refilled c.in_ok-triples.triples.len c.in_ok-triples.triples.items c.sort_triples.new.triples (omega (arith, c.deref_mut.ensures.len, ap length was)) long in
     let strays = stray_moved c.args.first c.args.labels.now c.args.standings.now (length c.args.labels.now) c.in_ok-triples.triples.items c.sort_triples.new.triples moved c.in_ok-triples.ensures in
     let low = strays_low c.args.first c.args.labels.now c.args.standings.now (length c.args.labels.now) c.sort_triples.new.triples strays in
-    subst (λ (ts : List Triple). (k : ℕ) (t : Triple) → k < length ts → (slice_index_or ts k t).sector + 1 < 4294967296) (sym (c.deref.ensures.value ∙ filled)) (λ k t below. omega (arith, low k t below, c.requires.few))
+    record { few = inl (subst (λ (ts : List Triple). (k : ℕ) (t : Triple) → k < length ts → (slice_index_or ts k t).sector + 1 < 4294967296) (sym (c.deref.ensures.value ∙ filled)) (λ k t below. omega (arith, low k t below, c.requires.few))) }
 
 pub returns : goal.returns
 returns g c = λ d at labels are.

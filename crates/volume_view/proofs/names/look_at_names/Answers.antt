@@ -1,12 +1,13 @@
 use Rattle.std.proofs.Common.{◌≡◌, ℕ, ◌+◌, ◌∙◌, Ok, length, sym, ap, subst}
 use Rattle.flat_mem.specs.Vec.{vec_mem_bytes}
 use Rattle.labelled_disk.specs.Layout.{first_data, vam, vfm}
+use Rattle.file_map.specs.FileMap.{names_triple}
 use Rattle.file_map.specs.InSectors.{label_triples}
 use Rattle.volume_view.specs.Names.{labelled, IsComparison}
 use Rattle.volume_view.specs.Pages.{bytes_of, SaysNamed}
 use Rattle.volume_view.proofs.RecordedLemmas.{alike_on}
 use Rattle.volume_view.proofs.LayoutLemmas.{of_layout}
-use Rattle.volume_view.proofs.AgreeLemmas.{agrees_as_told}
+use Rattle.volume_view.proofs.AgreeLemmas.{agrees_as_told, form_named, form_as_told}
 use Rattle.volume_view.proofs.NameLemmas.{names_in, labels_say, comparison_alike, never_stopped}
 use Rattle.volume_view.proofs.names.look_at_names.Goals as goal
 
@@ -55,6 +56,18 @@ returns-in-Ok-compare_names-clause-agrees g c = λ d told are.
 
 pub returns-in-Err-Broken-clause-agrees : goal.returns-in-Err-Broken-clause-agrees
 returns-in-Err-Broken-clause-agrees g c = λ d told are. (λ never. absurd never, returns-in-Err-Broken-clause-told g c d told are (label_triples d))
+
+pub returns-in-Ok-compare_names-clause-form : goal.returns-in-Ok-compare_names-clause-form
+returns-in-Ok-compare_names-clause-form g c = λ d told are.
+    let parts = of_layout c.args.layout.now (g.D.Disk.state c.args.disk.now).sectors c.requires.layout in
+    let long : length d ≡ (g.D.Disk.state c.args.disk.now).sectors = g.met.D.Disk.whole c.args.disk.now d told in
+    let bits : c.args.layout.now.vam ≡ vam (length d) = parts.bits ∙ ap vam (sym long) in
+    let pages : c.args.layout.now.vfm ≡ vfm (length d) = parts.names ∙ ap vfm (sym long) in
+    let bytes = c.in_ok-map.ensures.bytes d told ∙ ap (λ (n : ℕ). bytes_of d (1 + n) c.args.layout.now.vfm) bits ∙ ap (bytes_of d (1 + vam (length d))) pages in
+    form_as_told d c.args.layout.now.sectors (vec_mem_bytes c.in_ok-map.map) c.in-Ok-is_in_form.in_form (parts.sectors ∙ sym long) bytes (λ is. c.in-Ok-is_in_form.ensures.yes (ap Ok is)) (λ is. c.in-Ok-is_in_form.ensures.no (ap Ok is))
+
+pub returns-in-Err-Broken-clause-form : goal.returns-in-Err-Broken-clause-form
+returns-in-Err-Broken-clause-form g c = λ d told are form. returns-in-Err-Broken-clause-told g c d told are (names_triple form.runs) (form_named d form)
 
 pub returns-in-Ok-compare_names-clause-labelled : goal.returns-in-Ok-compare_names-clause-labelled
 returns-in-Ok-compare_names-clause-labelled g c = λ d told.

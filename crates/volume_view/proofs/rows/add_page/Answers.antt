@@ -1,9 +1,15 @@
-use Rattle.std.proofs.Common.{◌∙◌, ◌++◌, ◌∷◌, [], List, sym, ap, subst}
+use Rattle.std.proofs.Common.{◌∙◌, ◌⊎◌, ◌+◌, ◌<◌, ◌^◌, ◌++◌, ◌∷◌, [], List, length, sym, ap, subst, arith}
 use Rattle.label_survey.specs.declared.runs.Run.{Run}
 use Rattle.label_survey.specs.Runs.{all_triples, run_of}
 use Rattle.volume_view.specs.Rows.{AreJoined}
-use Rattle.volume_view.proofs.RowLemmas.{longer_all, longer_joined, one_more_all, one_more_joined}
+use Rattle.volume_view.proofs.RowLemmas.{longer_fits, longer_all, longer_joined, one_more_all, one_more_joined}
 use Rattle.volume_view.proofs.rows.add_page.Goals as goal
+
+pub overflow_add-pages : goal.overflow_add-pages
+overflow_add-pages g c =
+    let fits = longer_fits c.pop.new.self.items c.in-Some.last c.args.page (sym c.goes_on.ensures ∙ c.if-goes_on.true)
+    (subst (λ (rs : List Run). (c.args.page.sector + 1 < 2 ^ 32) ⊎ (length (all_triples rs) + 1 < 2 ^ 32)) c.in-Some.ensures.items c.requires.few) in
+    omega (arith, fits)
 
 pub returns-then-goes_on-clause-pages : goal.returns-then-goes_on-clause-pages
 returns-then-goes_on-clause-pages g c =

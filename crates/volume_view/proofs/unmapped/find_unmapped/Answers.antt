@@ -1,4 +1,4 @@
-use Rattle.std.proofs.Common.{◌≡◌, ℕ, ◌+◌, ◌∙◌, List, refl, sym, ap, subst, arith, slice_index_or}
+use Rattle.std.proofs.Common.{◌≡◌, inl, ℕ, ◌+◌, ◌∙◌, List, refl, sym, ap, subst, arith, slice_index_or}
 use Rattle.std.proofs.lemmas.Option.{slice_get-get_or}
 use Rattle.labelled_disk.specs.Sectors.{free_label}
 use Rattle.flat_mem.specs.Vec.{vec_mem_bytes}
@@ -18,7 +18,7 @@ returns-in-Err-clause-unmapped g c = λ named is. c.in-Err.ensures.difference na
 pub add_page-requires : goal.add_page-requires
 add_page-requires g c =
     let at = in_some c.in-Ok.found c.in-Some.page (λ t. t.sector ≡ _) c.in-Some.is c.in-Ok.ensures.place in
-    omega (arith, at, c.requires.few, c.loop-i-test.true, c.requires.counted.1)
+    record { few = inl (omega (arith, at, c.requires.few, c.loop-i-test.true, c.requires.counted.1)) }
 
 pub loop-i-init : goal.loop-i-init
 loop-i-init g c =

@@ -65,6 +65,7 @@ returns-clause-view g c = λ d told.
       found = c.in-Ok-find_files.ensures d from (c.deref.ensures.value ∙ are);
       bits = c.in_ok-bits.ensures.bits d (two.contents ∙ told) (c.deref-2.ensures.value ∙ are);
       names = names;
+      form = c.in_ok-names.ensures.form d (three.contents ∙ told) (c.deref-3.ensures.value ∙ are);
       agrees = c.in_ok-names.ensures.agrees d (three.contents ∙ told) (c.deref-3.ensures.value ∙ are);
       alike = c.in_ok-names.ensures.alike d (three.contents ∙ told) (c.deref-3.ensures.value ∙ are);
     }
