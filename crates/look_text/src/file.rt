@@ -7,7 +7,8 @@ use volume_view::{FileLine, View};
 /// Whether a file was written.
 #[derive(Clone, Copy, Debug, PartialEq, Eq)]
 pub enum FileText {
-    Written,
+    /// The file has so many pages.
+    Written { pages: u32 },
     /// There is no permanent file of that identifier.
     NoFile,
 }
@@ -47,5 +48,5 @@ pub fn write_file(
             writeln!(out)?;
         }
     }
-    Ok(FileText::Written)
+    Ok(FileText::Written { pages })
 }

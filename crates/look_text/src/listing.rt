@@ -157,9 +157,10 @@ fn write_leftovers(out: &mut String, leftovers: &[Run]) -> Result<(), AllocError
     Ok(())
 }
 
-// What a restoration would do, with a line for each sector that it would lose.
+// What a restoration would do, or would do if it didn't refuse the root, with a line for each sector that it would lose.
 fn write_scavenge(
     out: &mut String,
+    refused: bool,
     first: u32,
     labels: &[Label],
     found: &Found<Global>,
@@ -168,9 +169,14 @@ fn write_scavenge(
     let pages = found.survey.tally.pages;
     let freed = found.survey.tally.freed;
     let lost = found.survey.lost.len();
+    let keep = if refused {
+        "refuse this root; by the labels it would keep"
+    } else {
+        "keep"
+    };
     writeln!(
         out,
-        "scavenge         would keep {files} files of {pages} pages, free {freed} sectors, and lose {lost} of these"
+        "scavenge         would {keep} {files} files of {pages} pages, free {freed} sectors, and lose {lost} of these"
     )?;
     for i in 0..found.survey.lost.len() {
         let sector = found.survey.lost[i];
@@ -215,5 +221,11 @@ pub fn write_listing(out: &mut String, view: &View<Global>) -> Result<(), AllocE
     write_maps(out, view)?;
     write_lacks(out, view)?;
     write_leftovers(out, &view.found.leftovers)?;
-    write_scavenge(out, view.layout.first, &view.labels, &view.found)
+    write_scavenge(
+        out,
+        view.root.is_err(),
+        view.layout.first,
+        &view.labels,
+        &view.found,
+    )
 }

@@ -1,4 +1,6 @@
 //! What is asked for, written to standard output or into a new file.
+ghost use Rattle.std.specs.Prelude.{◌≡◌, ◌≤◌, None};
+
 use crate::status::Status;
 use image_disk::ImageDisk;
 use labelled_disk::{Disk, FileId, Page, RootFault};
@@ -84,6 +86,16 @@ fn put_picture(rt: &HostRuntime, path: &str, view: &View<Global>) -> Status {
     }
 }
 
+/// The sector of a page of a file of so many pages. The runs know its leader as a page too, which is none of these.
+fn page_sector(view: &View<Global>, id: FileId, pages: u32, page: u32) -> Option<u32>
+    ensures { pages ≤ page → result ≡ None }
+{
+    if page >= pages {
+        return None;
+    }
+    sector_of(&view.found.runs, id, page)
+}
+
 /// The bytes of a sector, where the disk has it.
 fn page_at<D: Disk>(disk: &mut D, sector: u32) -> Option<Result<Page, LookFault>> {
     if sector >= disk.sectors() {
@@ -122,18 +134,18 @@ fn tell_file(
     page: Option<u32>,
 ) -> Status {
     let mut text = String::new(rt.alloc());
-    match write_file(&mut text, view, id) {
+    let pages = match write_file(&mut text, view, id) {
         Err(_) => return no_memory(rt),
         Ok(FileText::NoFile) => {
             let _ = eprintln!(rt; "look: {image:?}: no permanent file {id:016x}");
             return Status::NoFile;
         }
-        Ok(FileText::Written) => {}
-    }
+        Ok(FileText::Written { pages }) => pages,
+    };
     let Some(page) = page else {
         return tell(rt, text.as_str());
     };
-    let found = match sector_of(&view.found.runs, id, page) {
+    let found = match page_sector(view, id, pages, page) {
         Some(sector) => page_at(disk, sector),
         None => None,
     };

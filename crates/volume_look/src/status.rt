@@ -1,4 +1,7 @@
 //! How the program ends.
+ghost use Rattle.std.specs.Prelude.{◌≡◌};
+ghost use Rattle.volume_look.specs.Status.{exit_of};
+
 use volume_view::Condition;
 
 /// How the program ends.
@@ -18,7 +21,9 @@ pub(crate) enum Status {
 
 impl Status {
     /// The exit status.
-    pub(crate) fn exit(self) -> u8 {
+    pub(crate) fn exit(self) -> u8
+        ensures { result ≡ exit_of self }
+    {
         match self {
             Status::Done => 0,
             Status::Usage => 2,
@@ -35,6 +40,10 @@ impl Status {
 }
 
 impl From<Condition> for Status {
+    ghost use Rattle.volume_look.specs.Status.{status_of};
+
+    ghost from_gives = { λ condition given. given ≡ status_of condition };
+
     fn from(condition: Condition) -> Status {
         match condition {
             Condition::Sound => Status::Done,

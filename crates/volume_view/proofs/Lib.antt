@@ -16,6 +16,7 @@ mod LeafLemmas
 mod FormLemmas
 mod AgreeLemmas
 mod NameLemmas
+mod PlaceLemmas
 mod RecordedLemmas
 mod LeftoverLemmas
 mod FileLemmas

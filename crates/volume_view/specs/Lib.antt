@@ -8,6 +8,7 @@ pub mod Marks
 pub mod Level
 pub mod Records
 pub mod Names
+pub mod Placed
 pub mod Recorded
 pub mod Files
 pub mod Listed

@@ -4,7 +4,9 @@ ghost use Rattle.flat_mem.specs.Memory.{overwritten};
 ghost use Rattle.flat_mem.specs.Vec.{vec_mem_bytes};
 ghost use Rattle.labelled_disk.specs.Calls.{OnlyReads, ReadsAtMost, Rose};
 ghost use Rattle.labelled_disk.specs.Sectors.{Sector};
+ghost use Rattle.label_survey.specs.Runs.{triples_of, all_triples};
 ghost use Rattle.volume_view.specs.Pages.{IsDiskOrMemory, bytes_of, HasPage, SaysNamed};
+ghost use Rattle.volume_view.specs.Placed.{IsPlace};
 
 use crate::LookFault;
 use flat_mem::{FlatMem, VecMem};
@@ -57,11 +59,29 @@ pub(crate) fn read_pages<A: Allocator, D: Disk>(
     Ok(mem)
 }
 
+// The sector of a page of a file, if it stands in this run.
+fn sector_in(run: Run, id: FileId, page: u32) -> Option<u32>
+    ensures { IsPlace (triples_of run) id page result }
+{
+    if run.id != id {
+        return None;
+    }
+    if page < run.first {
+        return None;
+    }
+    if page - run.first >= run.pages {
+        return None;
+    }
+    run.sector.checked_add(page - run.first)
+}
+
 /// The sector of a page of a file, by runs.
-pub fn sector_of(runs: &[Run], id: FileId, page: u32) -> Option<u32> {
-    for run in runs {
-        if run.id == id && run.first <= page && page - run.first < run.pages {
-            return run.sector.checked_add(page - run.first);
+pub fn sector_of(runs: &[Run], id: FileId, page: u32) -> Option<u32>
+    ensures found { IsPlace (all_triples runs.now) id page result }
+{
+    for i in 0..runs.len() {
+        if let Some(sector) = sector_in(runs[i], id, page) {
+            return Some(sector);
         }
     }
     None
