@@ -115,9 +115,7 @@ fn too_long(rt: &HostRuntime) {
 /// a volume is not old.
 fn beside(fault: RootFault) -> &'static str {
     match fault {
-        RootFault::BadCount(sectors) if Layout::of(sectors).is_err() => {
-            "; a volume has 256 to 1048576"
-        }
+        RootFault::BadCount(_) => "; a volume has 256 to 1048576",
         RootFault::Version(3) => ", which is that of today: there is nothing to convert",
         _ => "",
     }
@@ -159,6 +157,12 @@ fn not_opened(rt: &HostRuntime, task: Task<'_>, disk: &mut ImageDisk<File>) {
     match root {
         Err(RootFault::Unclean) => remedy(rt, task.path, "the volume was not closed"),
         Err(RootFault::Version(version @ (1 | 2))) => renewal(rt, task.path, version),
+        Err(RootFault::BadCount(sectors)) if Layout::of(sectors).is_ok() => {
+            let _ = eprintln!(rt;
+                "pilot: {:?}: an old volume has 256 to 65536 sectors; this disk has {sectors}",
+                task.path
+            );
+        }
         Err(fault) => {
             let _ = eprintln!(rt; "pilot: {:?}: {fault}{}", task.path, beside(fault));
         }
