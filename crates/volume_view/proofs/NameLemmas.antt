@@ -340,6 +340,7 @@ pub unlabelled_all : (n now : ℕ) (map_runs : List MapRun) (said : Triples) (ru
 unlabelled_all n now map_runs said runs joined adds = record {
   joined = joined;
   each = adds.differ (names_triple map_runs) (λ id page sector h. h) (only_none (names_triple map_runs) said);
+  most = omega (arith, adds.counted);
   all = λ few t only. adds.all (omega (arith, few, adds.counted)) t only;
 }
 
@@ -412,10 +413,10 @@ module _ (named other : Triples) (same : (id page sector : ℕ) → named id pag
 
   -- the same, said of what names the same
   pub unlabelled_named : (n : ℕ) (said : Triples) (runs : List Run) → IsUnlabelled n named said runs → IsUnlabelled n other said runs
-  unlabelled_named n said runs is = record { joined = is.joined; each = λ k t at. only_first said t (is.each k t at); all = λ few t only. is.all few t (back_first said t only) }
+  unlabelled_named n said runs is = record { joined = is.joined; each = λ k t at. only_first said t (is.each k t at); most = is.most; all = λ few t only. is.all few t (back_first said t only) }
 
   unlabelled_said : (n : ℕ) (map_names : Triples) (runs : List Run) → IsUnlabelled n map_names named runs → IsUnlabelled n map_names other runs
-  unlabelled_said n map_names runs is = record { joined = is.joined; each = λ k t at. only_second map_names t (is.each k t at); all = λ few t only. is.all few t (back_second map_names t only) }
+  unlabelled_said n map_names runs is = record { joined = is.joined; each = λ k t at. only_second map_names t (is.each k t at); most = is.most; all = λ few t only. is.all few t (back_second map_names t only) }
 
   unmapped_said : (map_names : Triples) (runs : List Run) → IsUnmapped map_names named runs → IsUnmapped map_names other runs
   unmapped_said map_names runs is = record { joined = is.joined; each = λ k t at. only_first map_names t (is.each k t at); all = λ t only. is.all t (back_first map_names t only); rising = is.rising }

@@ -59,11 +59,12 @@ pub record IsUnmapped (named said : Triples) (runs : List Run) : Type 0 where
   pub rising : (j k : ℕ) (a b : Triple) → j < k → slice_get (all_triples runs) j ≡ Some a
       → slice_get (all_triples runs) k ≡ Some b → a.sector < b.sector
 
--- pages that the map names and the labels don't: all of them, where they are fewer than n; in runs that are as long
--- as they can be
+-- pages that the map names and the labels don't: n at most, and all of them, where they are fewer than n; in runs that
+-- are as long as they can be
 pub record IsUnlabelled (n : ℕ) (named said : Triples) (runs : List Run) : Type 0 where
   pub joined : AreJoined runs
   pub each : AllOnlyIn named said (all_triples runs)
+  pub most : length (all_triples runs) ≤ n
   pub all : length (all_triples runs) < n → (t : Triple) → IsOnlyIn named said t → IsListed (all_triples runs) t
 
 -- To these pages others came, so many fewer of which may still come: each is one of a map with these runs that the
