@@ -3,7 +3,7 @@ use Rattle.std.proofs.Common.{◌≡◌, ◌≢◌, ◌⊎◌, inl, inr, ℕ, ze
 use Rattle.std.specs.Prelude.{slice_get, nat_le, option_map, ◌==◌}
 use Rattle.std.specs.Option.{option_map_or}
 use Rattle.std.proofs.lemmas.Bool.{cases_lt, cases_eq, le-leb, leb-true, true≢false, false≢true, eqb-true, eq-eqb}
-use Rattle.std.proofs.lemmas.List.{length-append}
+use Rattle.std.proofs.lemmas.List.{length-append, length-take-le, get_or-take}
 use Rattle.std.proofs.lemmas.Option.{same_Some, none-some, slice_get-map, slice_get_within}
 use Rattle.labelled_disk.specs.declared.label.Label.{Label}
 use Rattle.labelled_disk.specs.Label.{is_free}
@@ -12,7 +12,7 @@ use Rattle.labelled_disk.specs.Layout.{first_data, data_sectors, vfm}
 use Rattle.page_tree.specs.Tells.{TellsTree}
 use Rattle.file_map.specs.declared.run.Run.{Run as MapRun}
 use Rattle.file_map.specs.Run.{holds, sector_at}
-use Rattle.file_map.specs.FileMap.{Triples, AreNamed, IsFound, IsNowhere, names_triple, run_names, run_at}
+use Rattle.file_map.specs.FileMap.{Triples, AreNamed, AreRuns, IsFound, IsNowhere, names_triple, run_names, run_at, no_run}
 use Rattle.file_map.specs.InSectors.{label_triples, map_bytes, MapNames}
 use Rattle.file_map.specs.Cause.{FromMemory}
 use Rattle.file_map.specs.declared.error.MapError.{MapError}
@@ -23,7 +23,7 @@ use Rattle.label_survey.specs.declared.runs.Run.{Run}
 use Rattle.label_survey.specs.declared.triples.Triple.{Triple}
 use Rattle.label_survey.specs.Runs.{triples_in_row, all_triples}
 use Rattle.volume_view.specs.declared.differences.NameDifferences.{NameDifferences}
-use Rattle.volume_view.specs.Names.{labelled, NamesIn, IsDifferenceAt, IsOnlyIn, AllOnlyIn, IsListed, Covers, IsUnmapped, IsUnlabelled, AddsUnlabelled, IsComparison}
+use Rattle.volume_view.specs.Names.{labelled, NamesIn, IsDifferenceAt, IsOnlyIn, AllOnlyIn, IsListed, AreOnce, StayOnce, Covers, IsUnmapped, IsUnlabelled, AddsUnlabelled, IsComparison}
 use Rattle.volume_view.specs.Rows.{AreJoined}
 use Rattle.volume_view.specs.Records.{IsNoMemory}
 use Rattle.volume_view.specs.declared.stop.Stop.{Stop}
@@ -68,6 +68,32 @@ module _ (ts new : List Triple) (t : Triple) (pushed : new ≡ ts ++ t ∷ []) w
 
   pub listed_last : IsListed new t
   listed_last = (length ts, ap (λ (l : List Triple). slice_get l (length ts)) pushed ∙ pushed_last ts t)
+
+once_more : (ts new : List Triple) (t : Triple) → AreOnce ts → (IsListed ts t → ⊥) → new ≡ ts ++ t ∷ [] → AreOnce new
+once_more ts new t so_far fresh pushed j k u at_j at_k = elim (cases_lt j (length ts)) [
+  | inl low_j ↦ elim (cases_lt k (length ts)) [
+    | inl low_k ↦ so_far j k u (pushed_below ts t j u low_j a) (pushed_below ts t k u low_k b)
+    | inr high_k ↦ absurd (fresh (j, pushed_below ts t j u low_j a ∙ ap (λ (x : Triple). Some x) (sym (at_end k high_k b))))
+  ]
+  | inr high_j ↦ elim (cases_lt k (length ts)) [
+    | inl low_k ↦ absurd (fresh (k, pushed_below ts t k u low_k b ∙ ap (λ (x : Triple). Some x) (sym (at_end j high_j a))))
+    | inr high_k ↦
+        let long = length-append ts (t ∷ []) in
+        omega (arith, high_j, high_k, slice_get_within (ts ++ t ∷ []) j u a, slice_get_within (ts ++ t ∷ []) k u b, long)
+  ]
+]
+  where
+    a : slice_get (ts ++ t ∷ []) j ≡ Some u
+    a = ap (λ (l : List Triple). slice_get l j) (sym pushed) ∙ at_j
+
+    b : slice_get (ts ++ t ∷ []) k ≡ Some u
+    b = ap (λ (l : List Triple). slice_get l k) (sym pushed) ∙ at_k
+
+    at_end : (i : ℕ) → length ts ≤ i → slice_get (ts ++ t ∷ []) i ≡ Some u → t ≡ u
+    at_end i high at = elim (in_pushed ts t i u at) [
+      | inl old ↦ absurd (omega (arith, high, slice_get_within ts i u old))
+      | inr last ↦ last
+    ]
 
 abbrev AreRising : List Triple → Type 0
 AreRising ts = (j k : ℕ) (a b : Triple) → j < k → slice_get ts j ≡ Some a → slice_get ts k ≡ Some b → a.sector < b.sector
@@ -210,6 +236,8 @@ pub record IsAddedTo (r : MapRun) (said : Triples) (k left now : ℕ) (old new :
   pub counted : now + length new ≡ left + length old
   pub fewer : now ≤ left
   pub kept : (t : Triple) → IsListed old t → IsListed new t
+  pub from : (t : Triple) → IsListed new t → IsListed old t ⊎ (t.page < r.first + k)
+  pub once : StayOnce r old new
   pub all : (m : ℕ) → m < k → said r.id (r.first + m) (r.sector + m) ≡ false → IsListed new (record { id = r.id; page = r.first + m; sector = r.sector + m })
 
 or_first : (a b : Bool) → a ≡ true → (a || b) ≡ true
@@ -226,7 +254,7 @@ run_names_own r m below =
 
 module _ (r : MapRun) (said : Triples) where
   pub added_none : (left : ℕ) (old : List Triple) → IsAddedTo r said 0 left left old old
-  added_none left old = record { differ = λ named covers h. h; counted = refl; fewer = omega arith; kept = λ t h. h; all = λ m below. absurd (omega (arith, below)) }
+  added_none left old = record { differ = λ named covers h. h; counted = refl; fewer = omega arith; kept = λ t h. h; from = λ t h. inl h; once = λ apart h. h; all = λ m below. absurd (omega (arith, below)) }
 
   module _ (k left now : ℕ) (old ts : List Triple) (so_far : IsAddedTo r said k left now old ts) where
     pub added_same : said r.id (r.first + k) (r.sector + k) ≡ true → IsAddedTo r said (k + 1) left now old ts
@@ -235,6 +263,8 @@ module _ (r : MapRun) (said : Triples) where
       counted = so_far.counted;
       fewer = so_far.fewer;
       kept = so_far.kept;
+      from = λ t h. elim (so_far.from t h) [ inl old ↦ inl old | inr low ↦ inr (omega (arith, low)) ];
+      once = so_far.once;
       all = λ m below missing. elim (cases_eq m k) [
         | inl same ↦ absurd (false≢true (sym missing ∙ ap (λ (j : ℕ). said r.id (r.first + j) (r.sector + j)) same ∙ there))
         | inr apart ↦ so_far.all m (omega (arith, below, apart)) missing
@@ -250,6 +280,14 @@ module _ (r : MapRun) (said : Triples) where
           counted = omega (arith, so_far.counted, one_less, ap (λ (l : List Triple). length l) pushed, length-append ts (t ∷ []));
           fewer = omega (arith, so_far.fewer, one_less);
           kept = λ u h. listed_more ts new t pushed u (so_far.kept u h);
+          from = λ u h. elim (in_pushed ts t h.0 u (ap (λ (l : List Triple). slice_get l h.0) (sym pushed) ∙ h.1)) [
+            | inl old ↦ elim (so_far.from u (h.0, old)) [ inl older ↦ inl older | inr low ↦ inr (omega (arith, low)) ]
+            | inr last ↦ inr (omega (arith, ap (λ (x : Triple). x.page) last))
+          ];
+          once = λ apart before. once_more ts new t (so_far.once apart before) (λ there. elim (so_far.from t there) [
+            | inl old ↦ true≢false (sym (run_names_own r k below) ∙ apart t old)
+            | inr low ↦ absurd (omega (arith, low))
+          ]) pushed;
           all = λ m before absent. elim (cases_eq m k) [
             | inl same ↦ subst (λ (j : ℕ). IsListed new (record { id = r.id; page = r.first + j; sector = r.sector + j })) (sym same) (listed_last ts new t pushed)
             | inr apart ↦ listed_more ts new t pushed _ (so_far.all m (omega (arith, before, apart)) absent)
@@ -340,8 +378,33 @@ pub unlabelled_all : (n now : ℕ) (map_runs : List MapRun) (said : Triples) (ru
 unlabelled_all n now map_runs said runs joined adds = record {
   joined = joined;
   each = adds.differ (names_triple map_runs) (λ id page sector h. h) (only_none (names_triple map_runs) said);
+  most = omega (arith, adds.counted);
   all = λ few t only. adds.all (omega (arith, few, adds.counted)) t only;
 }
+
+true_or_false : (a : Bool) → (a ≡ true) ⊎ (a ≡ false)
+true_or_false true = inl refl
+true_or_false false = inr refl
+
+-- the pages of the first j runs are none of run j
+pub next_apart : (n : ℕ) (runs : List MapRun) (j left now : ℕ) (said : Triples) (ts : List Triple) → AreRuns n runs → j < length runs → AddsUnlabelled (take j runs) said left now [] ts → (t : Triple) → IsListed ts t → names_triple (run_at runs j ∷ []) t.id t.page t.sector ≡ false
+next_apart n runs j left now said ts are within adds t listed = elim (true_or_false (names_triple (run_at runs j ∷ []) t.id t.page t.sector)) [
+  | inr none ↦ none
+  | inl some ↦
+      let only = adds.differ (names_triple (take j runs)) (λ id page sector h. h) (only_none (names_triple (take j runs)) said) listed.0 t listed.1 in
+      let a = named_by (take j runs) t.id t.page t.sector only.0 in
+      let b = named_by (run_at runs j ∷ []) t.id t.page t.sector some in
+      let long = length-take-le j runs (omega (arith, within)) in
+      let low : a.index < j = omega (arith, a.below, long, within) in
+      let held_a : holds (run_at runs a.index) t.id t.page ≡ true = ap (λ (q : MapRun). holds q t.id t.page) (sym (get_or-take j runs a.index no_run low)) ∙ a.held in
+      let held_b : holds (run_at runs j) t.id t.page ≡ true = subst (λ (q : MapRun). holds q t.id t.page ≡ true) (alone (run_at runs j) b.index b.below) b.held in
+      let same = are.once a.index j t.id t.page (omega (arith, low, within)) within held_a held_b in
+      absurd (omega (arith, same, low))
+]
+  where
+    alone : (r : MapRun) (i : ℕ) → i < length (r ∷ []) → run_at (r ∷ []) i ≡ r
+    alone r zero below = refl
+    alone r (suc i) below = absurd (omega (arith, below))
 
 -- ---- both
 
@@ -356,10 +419,6 @@ row_first id page sector (suc n) rest some = refl
 no_runs : (runs : List Run) → AreJoined runs → ((t : Triple) → IsListed (all_triples runs) t → ⊥) → runs ≡ []
 no_runs [] joined never = refl
 no_runs (r ∷ runs) joined never = absurd (never (record { id = r.id; page = r.first; sector = r.sector }) (0, row_first r.id r.first r.sector r.pages (all_triples runs) joined.long.0))
-
-true_or_false : (a : Bool) → (a ≡ true) ⊎ (a ≡ false)
-true_or_false true = inl refl
-true_or_false false = inr refl
 
 both_same : (a b : Bool) → (a ≡ true → b ≡ true) → (b ≡ true → a ≡ true) → a ≡ b
 both_same true b h k = sym (h refl)
@@ -383,10 +442,11 @@ pub unmapped_covers : (named said : Triples) (runs : List Run) → IsUnmapped na
 unmapped_covers named said runs is none = none_only said named (λ t only. no_page t (subst (λ (l : List Triple). IsListed l t) (ap all_triples none) (is.all t only)))
 
 module _ {A : Type 0} (n : ℕ) (some : 1 ≤ n) (named said : Triples) (ds : NameDifferences A) where
-  pub compared : IsUnmapped named said ds.unmapped.items → IsUnlabelled n named said ds.unlabelled.items → IsComparison n named said ds
-  compared first second = record {
+  pub compared : IsUnmapped named said ds.unmapped.items → IsUnlabelled n named said ds.unlabelled.items → AreOnce (all_triples ds.unlabelled.items) → IsComparison n named said ds
+  compared first second once = record {
     unmapped = first;
     unlabelled = second;
+    once = once;
     agrees = (
       λ none id page sector.
           both_same (named id page sector) (said id page sector) (unlabelled_covers n named said ds.unlabelled.items some second none.1 id page sector) (unmapped_covers named said ds.unmapped.items first none.0 id page sector),
@@ -412,10 +472,10 @@ module _ (named other : Triples) (same : (id page sector : ℕ) → named id pag
 
   -- the same, said of what names the same
   pub unlabelled_named : (n : ℕ) (said : Triples) (runs : List Run) → IsUnlabelled n named said runs → IsUnlabelled n other said runs
-  unlabelled_named n said runs is = record { joined = is.joined; each = λ k t at. only_first said t (is.each k t at); all = λ few t only. is.all few t (back_first said t only) }
+  unlabelled_named n said runs is = record { joined = is.joined; each = λ k t at. only_first said t (is.each k t at); most = is.most; all = λ few t only. is.all few t (back_first said t only) }
 
   unlabelled_said : (n : ℕ) (map_names : Triples) (runs : List Run) → IsUnlabelled n map_names named runs → IsUnlabelled n map_names other runs
-  unlabelled_said n map_names runs is = record { joined = is.joined; each = λ k t at. only_second map_names t (is.each k t at); all = λ few t only. is.all few t (back_second map_names t only) }
+  unlabelled_said n map_names runs is = record { joined = is.joined; each = λ k t at. only_second map_names t (is.each k t at); most = is.most; all = λ few t only. is.all few t (back_second map_names t only) }
 
   unmapped_said : (map_names : Triples) (runs : List Run) → IsUnmapped map_names named runs → IsUnmapped map_names other runs
   unmapped_said map_names runs is = record { joined = is.joined; each = λ k t at. only_first map_names t (is.each k t at); all = λ t only. is.all t (back_first map_names t only); rising = is.rising }
@@ -424,6 +484,7 @@ module _ (named other : Triples) (same : (id page sector : ℕ) → named id pag
   comparison_alike n map_names ds is = record {
     unmapped = unmapped_said map_names ds.unmapped.items is.unmapped;
     unlabelled = unlabelled_said n map_names ds.unlabelled.items is.unlabelled;
+    once = is.once;
     agrees = (λ none id page sector. is.agrees.0 none id page sector ∙ same id page sector, λ alike. is.agrees.1 (λ id page sector. alike id page sector ∙ sym (same id page sector)));
   }
 

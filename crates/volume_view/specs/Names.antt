@@ -1,5 +1,5 @@
 -- The file map beside the labels.
-use Rattle.std.specs.Prelude.{◌≡◌, ◌↔◌, ◌⊎◌, ℕ, ◌+◌, ◌-◌, ◌<◌, ◌≤◌, true, false, not, ◌&&◌, ◌==◌, nat_le, List, [], length, slice_get, Option, Some, None}
+use Rattle.std.specs.Prelude.{◌≡◌, ◌↔◌, ◌⊎◌, ℕ, ◌+◌, ◌-◌, ◌<◌, ◌≤◌, true, false, not, ◌&&◌, ◌==◌, nat_le, List, [], ◌∷◌, length, slice_get, Option, Some, None}
 use Rattle.std.specs.Option.{option_map_or}
 use Rattle.labelled_disk.specs.declared.label.Label.{Label}
 use Rattle.labelled_disk.specs.Label.{is_free}
@@ -44,6 +44,15 @@ AllOnlyIn one other ts = (k : ℕ) (t : Triple) → slice_get ts k ≡ Some t �
 abbrev pub IsListed : List Triple → Triple → Type 0
 IsListed ts t = (k : ℕ) × (slice_get ts k ≡ Some t)
 
+-- no page is there twice
+abbrev pub AreOnce : List Triple → Type 0
+AreOnce ts = (j k : ℕ) (t : Triple) → slice_get ts j ≡ Some t → slice_get ts k ≡ Some t → j ≡ k
+
+-- to pages of which none is one of the run, and none is there twice, none was added twice
+abbrev pub StayOnce : MapRun → List Triple → List Triple → Type 0
+StayOnce run old new = ((t : Triple) → IsListed old t → names_triple (run ∷ []) t.id t.page t.sector ≡ false) → AreOnce old
+    → AreOnce new
+
 -- the label of this sector is not free, and the map doesn't name its page there: this is the page; or there is none
 abbrev pub IsDifferenceAt : Triples → Label → ℕ → Option Triple → Type 0
 IsDifferenceAt named l sector (Some t) = (is_free l ≡ false) × (named l.id l.page sector ≡ false)
@@ -59,11 +68,12 @@ pub record IsUnmapped (named said : Triples) (runs : List Run) : Type 0 where
   pub rising : (j k : ℕ) (a b : Triple) → j < k → slice_get (all_triples runs) j ≡ Some a
       → slice_get (all_triples runs) k ≡ Some b → a.sector < b.sector
 
--- pages that the map names and the labels don't: all of them, where they are fewer than n; in runs that are as long
--- as they can be
+-- pages that the map names and the labels don't: n at most, and all of them, where they are fewer than n; in runs that
+-- are as long as they can be
 pub record IsUnlabelled (n : ℕ) (named said : Triples) (runs : List Run) : Type 0 where
   pub joined : AreJoined runs
   pub each : AllOnlyIn named said (all_triples runs)
+  pub most : length (all_triples runs) ≤ n
   pub all : length (all_triples runs) < n → (t : Triple) → IsOnlyIn named said t → IsListed (all_triples runs) t
 
 -- To these pages others came, so many fewer of which may still come: each is one of a map with these runs that the
@@ -81,10 +91,12 @@ pub record AddsUnlabelled (runs : List MapRun) (said : Triples) (left now : ℕ)
 abbrev pub AreNone : {A : Type 0} → NameDifferences A → Type 0
 AreNone differences = (differences.unmapped.items ≡ []) × (differences.unlabelled.items ≡ [])
 
--- what map and labels of a volume of n sectors have not in common; there is nothing exactly where both name the same
+-- what map and labels of a volume of n sectors have not in common, no page twice; there is nothing exactly where both
+-- name the same
 pub record IsComparison {A : Type 0} (n : ℕ) (named said : Triples) (differences : NameDifferences A) : Type 0 where
   pub unmapped : IsUnmapped named said differences.unmapped.items
   pub unlabelled : IsUnlabelled n named said differences.unlabelled.items
+  pub once : AreOnce (all_triples differences.unlabelled.items)
   pub agrees : AreNone differences ↔ AreAlike named said
 
 -- what is told of a map in form that names these pages

@@ -1,10 +1,10 @@
 //! Pages that the file map names and labels do not.
 ghost use Rattle.std.specs.Prelude.{◌≡◌, [], ◌∷◌, IfOk};
 ghost use Rattle.labelled_disk.specs.Layout.{IsCount};
-ghost use Rattle.file_map.specs.FileMap.{names_triple};
+ghost use Rattle.file_map.specs.FileMap.{names_triple, AreRuns};
 ghost use Rattle.file_map.specs.Run.{IsRun};
 ghost use Rattle.label_survey.specs.Runs.{all_triples};
-ghost use Rattle.volume_view.specs.Names.{labelled, AddsUnlabelled, IsUnlabelled};
+ghost use Rattle.volume_view.specs.Names.{labelled, AddsUnlabelled, AreOnce, IsUnlabelled, StayOnce};
 ghost use Rattle.volume_view.specs.Records.{AreAllInForm};
 ghost use Rattle.volume_view.specs.Rows.{AreJoined};
 
@@ -42,6 +42,8 @@ fn add_unlabelled<A: Allocator>(
     ensures adds { IfOk result (λ now. AddsUnlabelled (run ∷ []) (labelled first labels.now) left now
         (all_triples pages.old.items) (all_triples pages.new.items)) }
     ensures joined { IfOk result (λ now. AreJoined pages.old.items → AreJoined pages.new.items) }
+    ensures once { IfOk result (λ now. StayOnce run (all_triples pages.old.items)
+        (all_triples pages.new.items)) }
 {
     let mut now = left;
     for k in 0..run.pages {
@@ -72,8 +74,9 @@ pub(crate) fn find_unlabelled<A: Allocator>(
 ) -> Result<Vec<Run, A>, AllocError>
     requires counted { IsCount sectors }
     requires form { AreAllInForm sectors runs.now }
-    ensures { IfOk result (λ found. IsUnlabelled sectors (names_triple runs.now)
+    ensures unlabelled { IfOk result (λ found. IsUnlabelled sectors (names_triple runs.now)
         (labelled first labels.now) found.items) }
+    ensures once { IfOk result (λ found. AreRuns sectors runs.now → AreOnce (all_triples found.items)) }
 {
     let mut found = Vec::new(alloc);
     let mut left = sectors;

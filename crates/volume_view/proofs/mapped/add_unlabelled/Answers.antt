@@ -32,3 +32,6 @@ loop-k-preserved g c =
 pub returns-clause-adds : goal.returns-clause-adds
 returns-clause-adds g c =
     added_all c.args.run (labelled c.args.first c.args.labels.now) c.loop-k.k c.args.left c.loop-k.now (all_triples c.args.pages.now.items) (all_triples c.loop-k.pages.items) c.loop-k.invariant.added (omega (arith, c.loop-k-test.false))
+
+pub returns-clause-once : goal.returns-clause-once
+returns-clause-once g c = c.loop-k.invariant.added.once

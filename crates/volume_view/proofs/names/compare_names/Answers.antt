@@ -1,6 +1,6 @@
 use Rattle.std.proofs.Common.{ℕ, ◌≤◌, ◌∙◌, List, sym, subst, arith}
 use Rattle.file_map.specs.declared.run.Run.{Run}
-use Rattle.file_map.specs.FileMap.{names_triple}
+use Rattle.file_map.specs.FileMap.{names_triple, AreRuns}
 use Rattle.volume_view.specs.Names.{labelled, NamesIn, IsUnlabelled}
 use Rattle.volume_view.specs.Recorded.{AreRecorded}
 use Rattle.volume_view.specs.Records.{AreAllInForm}
@@ -24,9 +24,10 @@ returns-clause-compared g c = λ named is.
     let some : 1 ≤ n = omega (arith, c.requires.counted.0) in
     let read = c.in-Ok.ensures.read is.runs record { listed = is.listed; form = is.form } in
     let first = c.in-Ok-find_unmapped.ensures.unmapped named (subst (λ (b : List ℕ). NamesIn n b named) (sym c.in-Ok.ensures.same) is) in
-    let second = subst (λ (rs : List Run). IsUnlabelled n (names_triple rs) said c.in_ok-unlabelled.unlabelled.items) (c.deref.ensures.value ∙ read) c.in_ok-unlabelled.ensures in
+    let second = subst (λ (rs : List Run). IsUnlabelled n (names_triple rs) said c.in_ok-unlabelled.unlabelled.items) (c.deref.ensures.value ∙ read) c.in_ok-unlabelled.ensures.unlabelled in
     compared n some named said (record { unmapped = c.in-Ok-find_unmapped.unmapped; unlabelled = c.in_ok-unlabelled.unlabelled }) first
     (unlabelled_named (names_triple is.runs) named (λ id page sector. sym (is.are id page sector)) n said c.in_ok-unlabelled.unlabelled.items second)
+    (c.in_ok-unlabelled.ensures.once (subst (AreRuns n) (sym (c.deref.ensures.value ∙ read)) is.form))
 
 pub returns-in-Err-find_unmapped-clause-compared : goal.returns-in-Err-find_unmapped-clause-compared
 returns-in-Err-find_unmapped-clause-compared g c = λ named is. c.in-Err-find_unmapped.ensures.unmapped named (subst (λ (b : List ℕ). NamesIn c.args.layout.now.sectors b named) (sym c.in-Ok.ensures.same) is)
@@ -36,7 +37,7 @@ returns-clause-alike g c = λ none.
     let n = c.args.layout.now.sectors in
     let said = labelled c.args.layout.now.first c.args.labels.now in
     let some : 1 ≤ n = omega (arith, c.requires.counted.0) in
-    let unlabelled = subst (λ (rs : List Run). IsUnlabelled n (names_triple rs) said c.in_ok-unlabelled.unlabelled.items) c.deref.ensures.value c.in_ok-unlabelled.ensures in
+    let unlabelled = subst (λ (rs : List Run). IsUnlabelled n (names_triple rs) said c.in_ok-unlabelled.unlabelled.items) c.deref.ensures.value c.in_ok-unlabelled.ensures.unlabelled in
     record {
       runs = c.in-Ok.runs.items;
       counted = c.in-Ok.ensures.counted;
